@@ -70,8 +70,8 @@ static void tell(const struct bus *bus, FILE *to, bool is_physical, const char *
     if (left)
         fprintf(to, ", others %" PRIu64, left);
     if (it.unnamed)
-        fprintf(to, "%s at no register that is known %" PRIu64, it.unnamed == it.all ? ":" : ";", it.unnamed);
-    fprintf(to, " (--strays=FILE has each)\n");
+        fprintf(to, "%s at unknown addresses %" PRIu64, it.unnamed == it.all ? ":" : ";", it.unnamed);
+    fprintf(to, " (--strays=FILE lists each)\n");
 }
 
 void absent_tell(const struct bus *bus, FILE *to)

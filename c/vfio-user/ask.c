@@ -66,7 +66,7 @@ int ask(const char *path, int count, char **requests)
     enum answer worst = DONE;
     FILE *control = open_control(path);
     if (!control) {
-        fprintf(stderr, "no server is at %s: %s\n", path, strerror(errno));
+        fprintf(stderr, "no server at %s: %s\n", path, strerror(errno));
         return 2;
     }
     if (count == 0)
@@ -76,7 +76,7 @@ int ask(const char *path, int count, char **requests)
         worst = one > worst ? one : worst;
     }
     if (worst == GONE)
-        fprintf(stderr, "the server at %s has gone\n", path);
+        fprintf(stderr, "the server at %s is gone\n", path);
     fclose(control);
     return worst;
 }

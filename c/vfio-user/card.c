@@ -238,8 +238,8 @@ static void lose(struct card *it, const struct function *function, uint32_t offs
     uint32_t its = 1u << function->socket;
     it->lost_writes++;
     if (!(it->told_lost & its))
-        refused(it, "a write of a register while the card is being reset, the first of them. The register", where.of, 0,
-                where, sizeof(uint32_t));
+        refused(it, "a register write while the card is being reset (only the first is reported): register", where.of,
+                0, where, sizeof(uint32_t));
     it->told_lost |= its;
 }
 

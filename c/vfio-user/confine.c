@@ -41,7 +41,7 @@ static void drop_capabilities(void)
         prctl(PR_CAPBSET_DROP, one, 0, 0, 0);
     prctl(PR_CAP_AMBIENT, PR_CAP_AMBIENT_CLEAR_ALL, 0, 0, 0);
     if (syscall(SYS_capset, &head, none) != 0)
-        log_line(LOG_SERVER, "this process keeps its capabilities: %s", strerror(errno));
+        log_line(LOG_SERVER, "can't drop this process's capabilities: %s", strerror(errno));
 }
 
 /* Landlock's numbers, because the machine's headers may be older than its kernel. */
@@ -67,7 +67,7 @@ static void lock_files(void)
     size_t size = version >= 6 ? sizeof rights : version >= 4 ? 2 * sizeof rights.files : sizeof rights.files;
     int rules = version > 0 ? (int)syscall(LANDLOCK_CREATE, &rights, size, 0) : -1;
     if (rules < 0 || syscall(LANDLOCK_RESTRICT, rules, 0) != 0)
-        log_line(LOG_SERVER, "this kernel has no Landlock (%s), so files are kept away by system calls alone",
+        log_line(LOG_SERVER, "this kernel has no Landlock (%s), so only the system call filter restricts files",
                  strerror(errno));
     if (rules >= 0)
         close(rules);
@@ -282,7 +282,7 @@ void confine_files(enum confine_as what)
     if (KEEPS_RIGHTS)
         return;
     if (prctl(PR_SET_NO_NEW_PRIVS, 1, 0, 0, 0) != 0)
-        log_line(LOG_SERVER, "programs that this process starts may have more rights than it: %s", strerror(errno));
+        log_line(LOG_SERVER, "programs started by this process may gain rights: %s", strerror(errno));
     drop_capabilities();
     if (what != CONFINE_JANITOR)
         lock_files();
@@ -291,5 +291,5 @@ void confine_files(enum confine_as what)
 void confine_calls(enum confine_as what)
 {
     if (!KEEPS_RIGHTS && !filter(what))
-        log_line(LOG_SERVER, "system calls aren't filtered: %s", strerror(errno));
+        log_line(LOG_SERVER, "can't filter system calls: %s", strerror(errno));
 }

@@ -105,7 +105,7 @@ void connector_end(struct connector *it)
 
 static void lose(struct connector *it)
 {
-    log_line(LOG_WIRE, "the process that connects the wire has ended, so it isn't connected again");
+    log_line(LOG_WIRE, "the process that connects the wire has ended, so the wire won't reconnect");
     connector_end(it);
     it->is_asked = false;
 }

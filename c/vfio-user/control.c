@@ -15,7 +15,7 @@
 
 #define KEPT_MOST (4u << 20)
 
-static const char short_of_memory[] = "memory is short";
+static const char short_of_memory[] = "out of memory";
 
 /* ---- requests: each returns an error, or null for "ok" ---- */
 
@@ -37,7 +37,7 @@ static const char *link_up_or_down(struct request *it)
 {
     bool up = strcmp(it->rest, "up") == 0;
     if (!up && strcmp(it->rest, "down") != 0)
-        return "link up, or link down";
+        return "expected link up or link down";
     wire_cut(&it->server->wire, !up);
     it->server->is_wire_gone = false; /* the link is as requested */
     fprintf(it->to, "%s\n", nic_status_name(card_link(&it->server->card, up)));
@@ -54,7 +54,7 @@ static const char *frames(struct request *it)
 {
     unsigned int count, most;
     if (!two_numbers(it->rest, &count, &most) || count > TRAFFIC_MOST || most < FRAME_MIN || most > FRAME_JUMBO)
-        return "frames COUNT MOST: at most 1000000 frames, of 60 to 9014 bytes";
+        return "frames COUNT MOST: at most 1000000 frames of 60 to 9014 bytes";
     traffic_send(&it->server->traffic, count, (uint16_t)most);
     return NULL;
 }
@@ -70,7 +70,7 @@ static const char *expect(struct request *it)
         for (int i = 0; i < 6; i++)
             from[i] = (uint8_t)mac[i];
     if (!end || it->rest[behind ? behind : end] || count > TRAFFIC_MOST || most < FRAME_MIN || most > FRAME_JUMBO)
-        return "expect COUNT MOST [FROM]: at most 1000000 frames, of 60 to 9014 bytes, from this address";
+        return "expect COUNT MOST [FROM]: at most 1000000 frames of 60 to 9014 bytes, from this address";
     return traffic_expect(&it->server->traffic, count, (uint16_t)most, from) ? NULL : short_of_memory;
 }
 
@@ -90,7 +90,7 @@ static const char *came(struct request *it)
     fprintf(it->to, "%u of %u, twice %u, wrong %u\n", expected->good, expected->count, expected->twice,
             expected->wrong);
     if (!numbered_is_ready(expected))
-        fprintf(it->to, "%u of %u are made yet\n", expected->made, expected->count);
+        fprintf(it->to, "%u of %u are made so far\n", expected->made, expected->count);
     return NULL;
 }
 
@@ -179,7 +179,7 @@ static bool one_queue(const char *text, unsigned int *queue)
 static void tell_steps(struct request *it, uint64_t steps)
 {
     fprintf(it->to, "%" PRIu64 " descriptors%s\n", steps,
-            card_has_left_some(&it->server->card) ? "; more is left: ask again" : "");
+            card_has_left_some(&it->server->card) ? "; more are left: repeat the request" : "");
 }
 
 static const char *transmit(struct request *it)
@@ -229,7 +229,7 @@ static const char *peek(struct request *it)
     int end = 0;
     if (sscanf(it->rest, "%5x%n", &address, &end) != 1 || it->rest[end] ||
         nic_peek32(bus_device(it->server->card.bus), address, &word) != NIC_DONE)
-        return "peek ADDRESS: no register is there";
+        return "peek ADDRESS: no register at this address";
     fprintf(it->to, "%08" PRIx32 "\n", word);
     return NULL;
 }
@@ -241,26 +241,26 @@ static const struct {
     const char *(*answer)(struct request *it);
     const char *text;
 } requests[] = {
-    {"counts", tell, "what passed so far"},
+    {"counts", tell, "counts of all traffic so far"},
     {"link", link_up_or_down, "link up, link down"},
-    {"frames", frames, "frames COUNT MOST: numbered frames of 60 to MOST bytes go to the card"},
-    {"expect", expect, "expect COUNT MOST [FROM]: what the card sends is compared with these from now on"},
-    {"turn", turn, "turn IN OUT: a byte is turned of these of them, to try what compares"},
-    {"came", came, "how many of them have come"},
-    {"hold", hold, "the device makes no step but those that are asked for; hold at PLACE, hold at off: at accesses"},
-    {"go", go, "it makes its steps again"},
-    {"seed", seed, "seed N: from now on each step is at once or late, by this seed; seed off"},
-    {"snapshot", snapshot, "snapshot NAME: keeps the device as it is; without a name: which there are"},
-    {"restore", restore, "restore NAME: the device is as it was then; the guest isn't"},
-    {"due", due, "which steps are due"},
-    {"why", why, "what is in the way of what waits"},
-    {"tx", transmit, "tx QUEUE: all of its sending, some 8 MB at a time"},
-    {"rx", receive, "receive steps until there is nothing to do"},
-    {"int", interrupt, "all messages that are due"},
-    {"qstep", queue_step, "qstep rx QUEUE, qstep tx QUEUE: the queue is on or off as it was asked"},
-    {"eestep", eeprom, "the EEPROM answers"},
-    {"peek", peek, "peek ADDRESS: a register's word, without a read's effects"},
-    {"help", help, "these lines"},
+    {"frames", frames, "frames COUNT MOST: sends numbered frames of 60 to MOST bytes to the card"},
+    {"expect", expect, "expect COUNT MOST [FROM]: compares what the card sends with these frames from now on"},
+    {"turn", turn, "turn IN OUT: corrupts one byte of these frames, to test the comparison"},
+    {"came", came, "how many of the frames have arrived"},
+    {"hold", hold, "the device takes only requested steps; hold at PLACE, hold at off: at accesses"},
+    {"go", go, "the device takes its steps by itself again"},
+    {"seed", seed, "seed N: from now on each step happens immediately or late, depending on this seed; seed off"},
+    {"snapshot", snapshot, "snapshot NAME: saves the device's state; without a name: lists the snapshots"},
+    {"restore", restore, "restore NAME: restores the device's state, but not the guest's"},
+    {"due", due, "lists the steps that are due"},
+    {"why", why, "why pending work doesn't proceed"},
+    {"tx", transmit, "tx QUEUE: all its transmit steps, about 8 MB at a time"},
+    {"rx", receive, "receive steps until none is left"},
+    {"int", interrupt, "sends all messages that are due"},
+    {"qstep", queue_step, "qstep rx QUEUE, qstep tx QUEUE: turns the queue on or off as requested"},
+    {"eestep", eeprom, "completes an EEPROM read"},
+    {"peek", peek, "peek ADDRESS: a register's value, without the side effects of a read"},
+    {"help", help, "prints this list"},
 };
 
 static const char *help(struct request *it)

@@ -129,8 +129,8 @@ static void access_registers(struct function *it, uint64_t offset, uint8_t *byte
     if (offset % 4 || length % 4) {
         if (it->counts.odd_accesses++ == 0)
             log_client(it->socket, LOG_ACCESS,
-                       "%s: an access of %" PRIu32 " bytes at 0x%05" PRIx64 ", where registers have 4", it->path,
-                       length, offset);
+                       "%s: an access of %" PRIu32 " bytes at 0x%05" PRIx64 ", but registers have 4", it->path, length,
+                       offset);
         if (!write)
             memset(bytes, 0xFF, length);
         return;
@@ -282,12 +282,12 @@ void function_accept(struct function *it)
     if (file < 0)
         return;
     if (session_is_open(&it->session)) {
-        log_client(it->socket, LOG_CLIENT, "%s: a second client is turned away", it->path);
+        log_client(it->socket, LOG_CLIENT, "%s: a second client is rejected", it->path);
         closer_close_foreign(file, it->socket);
         return;
     }
     session_open(&it->session, file);
-    log_client(it->socket, LOG_CLIENT, "%s: a client has come", it->path);
+    log_client(it->socket, LOG_CLIENT, "%s: a client connected", it->path);
 }
 
 void function_polls(const struct function *it, struct pollfd polls[FUNCTION_POLLS])
@@ -319,7 +319,7 @@ bool function_is_busy(const struct function *it)
    after a reset. */
 static void gone(struct function *it)
 {
-    log_client(it->socket, LOG_CLIENT, "%s: its client has gone", it->path);
+    log_client(it->socket, LOG_CLIENT, "%s: its client disconnected", it->path);
     make_config(it);
     it->shows_sriov = it->is_leaving = false;
     reset_registers(it);

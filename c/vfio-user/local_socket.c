@@ -49,11 +49,11 @@ static const char *make_free(const struct sockaddr_un *name)
     if (lstat(name->sun_path, &about) != 0)
         return errno == ENOENT ? NULL : strerror(errno);
     if (!S_ISSOCK(about.st_mode))
-        return "a file that is no socket is there already; choose another name, or remove it";
+        return "a file that isn't a socket already exists; choose another name, or remove it";
     if (about.st_uid != geteuid())
-        return "a socket of another user is there already; choose another name";
+        return "another user's socket already exists; choose another name";
     if (!is_dead(name))
-        return "a server has this socket already; choose another name, or end that server";
+        return "a server already uses this socket; choose another name, or end that server";
     return unlink(name->sun_path) == 0 ? NULL : strerror(errno);
 }
 
@@ -80,7 +80,7 @@ static const char *remember(const char *path)
     given.inode = about.st_ino;
     given.made = about.st_mtim;
     if (!local_adopt(&given))
-        return "this process has too many sockets";
+        return "this process has too many open sockets";
     janitor_adopt(&given);
     return NULL;
 }
@@ -173,7 +173,7 @@ int local_accept(int listener)
 {
     int file = accept4(listener, NULL, NULL, SOCK_CLOEXEC | SOCK_NONBLOCK);
     if (file < 0 && (errno == EMFILE || errno == ENFILE || errno == ENOBUFS || errno == ENOMEM)) {
-        log_line(LOG_SERVER, "a client waits, since this process can't have one more file: %s", strerror(errno));
+        log_line(LOG_SERVER, "a client waits, because this process can't open another file: %s", strerror(errno));
         rests_until = now() + LOCAL_REST_MS;
     }
     return file;

@@ -182,6 +182,6 @@ void log_close(void)
 {
     each_left_out(say_what_was_left_out);
     if (output.lost)
-        say("%" PRIu64 " lines were lost, since nobody read standard error\n", output.lost);
+        say("%" PRIu64 " lines were lost because nothing read standard error\n", output.lost);
     output_end(&output, LAST_WORDS_MS);
 }

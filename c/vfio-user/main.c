@@ -35,7 +35,7 @@ static bool may_record(const char *name)
     struct stat about;
     if (!name || stat(name, &about) != 0 || S_ISREG(about.st_mode) || strcmp(name, "/dev/null") == 0)
         return true;
-    log_line(LOG_SERVER, "%s can't be recorded to: it is no regular file, and could make the server wait", name);
+    log_line(LOG_SERVER, "can't record to %s: it isn't a regular file and could block the server", name);
     return false;
 }
 
@@ -43,8 +43,8 @@ static bool create(struct output *it, const char *name)
 {
     if (output_create(it, name))
         return true;
-    log_line(LOG_SERVER, "%s can't be written: %s", name,
-             errno == ENXIO ? "nobody reads this FIFO; start its reader first" : strerror(errno));
+    log_line(LOG_SERVER, "can't write %s: %s", name,
+             errno == ENXIO ? "no process reads this FIFO; start its reader first" : strerror(errno));
     return false;
 }
 
@@ -64,7 +64,7 @@ static bool open_files(struct server *server, struct written *written)
     if (!may_record(options->record) || !may_record(getenv("NIC82599_RECORD")))
         return false;
     if (options->record && !nic_record(options->record)) {
-        log_line(LOG_SERVER, "%s can't be written", options->record);
+        log_line(LOG_SERVER, "can't write %s", options->record);
         return false;
     }
     return (!options->trace || open_trace(server)) && (!options->strays || create(&written->strays, options->strays));
@@ -76,15 +76,16 @@ static bool get_ready(const struct options *options)
 {
     log_open();
     if (!janitor_start(!options->is_unconfined)) {
-        log_line(LOG_SERVER, "no process can be started: %s", strerror(errno));
+        log_line(LOG_SERVER, "can't start a process: %s", strerror(errno));
         return false;
     }
     if (!ending_open() || !memory_map_guard()) {
-        log_line(LOG_SERVER, "signals can't be taken: %s", strerror(errno));
+        log_line(LOG_SERVER, "can't set up signals: %s", strerror(errno));
         return false;
     }
     if (!notifier_open())
-        log_line(LOG_SERVER, "this kernel has no asynchronous reads, so a client can hold the server by its eventfd");
+        log_line(LOG_SERVER,
+                 "this kernel has no asynchronous reads, so a client can block the server with its eventfd");
     return true;
 }
 
@@ -95,7 +96,7 @@ static bool settle(const struct options *options)
     if (!options->is_unconfined)
         confine_files(CONFINE_SERVER);
     if (!closer_start() || (options->control && !explain_start())) {
-        log_line(LOG_SERVER, "no thread can be started: %s", strerror(errno));
+        log_line(LOG_SERVER, "can't start a thread: %s", strerror(errno));
         return false;
     }
     if (!options->is_unconfined)
@@ -133,7 +134,7 @@ static bool end(struct server *server, struct written *written)
     output_end(&server->trace, LAST_WORDS_MS);
     bool is_written = !written->strays.error;
     if (!is_written)
-        log_line(LOG_SERVER, "%s can't be written: %s", server->options.strays, strerror(written->strays.error));
+        log_line(LOG_SERVER, "can't write %s: %s", server->options.strays, strerror(written->strays.error));
     log_close();
     janitor_finish();
     return is_written;

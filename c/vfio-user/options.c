@@ -19,39 +19,39 @@ static const char help[] =
     "An Intel 82599 for a virtual machine, over vfio-user (QEMU 10.1 and later: -device vfio-user-pci). The guest's\n"
     "memory must be shared: -object memory-backend-memfd,id=ram,size=SIZE,share=on -machine memory-backend=ram.\n"
     "\n"
-    "  --socket-path=PATH     listen there for the physical function's client\n"
-    "  --fd=N                 file N is the socket, connected or listening\n"
+    "  --socket-path=PATH     listen on this socket for the physical function's client\n"
+    "  --fd=N                 use open file N, a connected or listening socket\n"
     "  --functions=N          N virtual functions, 0 to 7: PATH.vf0 .. for other guests, PATH.shadow0 .. for the "
     "host's\n"
     "  --mac=ADDRESS          the card's hardware address (02:00:00:00:82:99)\n"
     "  --device=ID            its device id in hex (10f7)\n"
-    "  --interrupts=KIND      what the card can interrupt by: intx; msi, and INTx too; msix, and both (the default)\n"
-    "  --wire=none            nothing is at the other end\n"
-    "  --wire=respond[:IPV4]  ARP and ping are answered for this address (10.0.0.1): the default\n"
-    "  --wire=stream:PATH     connect there, as QEMU's -netdev stream\n"
-    "  --wire=listen:PATH     listen there, as -netdev stream,server=on\n"
+    "  --interrupts=KIND      the card's interrupts: intx; msi and INTx; msix, MSI and INTx (the default)\n"
+    "  --wire=none            no other end\n"
+    "  --wire=respond[:IPV4]  answer ARP and ping for this address (10.0.0.1): the default\n"
+    "  --wire=stream:PATH     connect to this socket, as QEMU's -netdev stream\n"
+    "  --wire=listen:PATH     listen on this socket, as -netdev stream,server=on\n"
     "  --wire=dgram:PATH,PEER UNIX datagrams, as -netdev dgram\n"
-    "  --hairpin              what goes out comes back in too: for frames between functions\n"
-    "  --capture=FILE         write what passes, as pcapng\n"
-    "  --play=FILE            send the frames of a pcap or pcapng file to the card, once it receives\n"
-    "  --without=NAME         leave out one of what the server does beyond the bench: offloads, legacy, SWSM, ANLP1,\n"
+    "  --hairpin              also receive what is sent: for frames between functions\n"
+    "  --capture=FILE         write all traffic to a pcapng file\n"
+    "  --play=FILE            send the frames of a pcap or pcapng file to the card when it receives\n"
+    "  --without=NAME         turn off one of the server's additions to the bench: offloads, legacy, SWSM, ANLP1,\n"
     "                         EICS, EERD, ABSENT, FWSM, RXPBSIZE, IPSEC\n"
-    "  --bare                 leave out all of them\n"
-    "  --control=PATH         listen there for requests: help lists them\n"
-    "  --seed=N               make each step of the device, and each reset, at once or late, by this seed\n"
-    "  --iommu-check          tell each access outside the guest's memory, with the accesses of registers before it\n"
-    "  --strays=FILE          at the end write the accesses outside the register table there\n"
-    "  --trace=FILE           write each access of a register there\n"
-    "  --record=FILE          write what the device is asked as a script, for nicview\n"
+    "  --bare                 turn off all of them\n"
+    "  --control=PATH         listen on this socket for requests: help lists them\n"
+    "  --seed=N               take each device step and reset immediately or late, depending on this seed\n"
+    "  --iommu-check          report each access outside the guest's memory, with the register accesses before it\n"
+    "  --strays=FILE          at the end, write accesses outside the register table to this file\n"
+    "  --trace=FILE           write each register access to this file\n"
+    "  --record=FILE          write the device's calls as a script, for nicview\n"
     "  --quiet                don't print counts at the end\n"
     "  --client-memory=GIB    how much memory each client may map (as much as the machine has, with swap)\n"
-    "  --trust-files          map any file as a guest's memory: a file system that doesn't answer holds all guests\n"
-    "  --unconfined           keep all rights after the start, for debuggers\n"
-    "  --ask=PATH             ask the server whose control socket that is: each word is a request, or each line of\n"
+    "  --trust-files          map any file as guest memory: a hanging file system blocks all guests\n"
+    "  --unconfined           don't drop privileges after the start, for debuggers\n"
+    "  --ask=PATH             send requests to the server with this control socket: each argument, or each line of\n"
     "                         standard input\n"
-    "  --help, --version      print this, or the version, and end\n"
+    "  --help, --version      print this or the version, and exit\n"
     "\n"
-    "Once it serves, the process has no capabilities, and opens, makes and removes no file. It may still read, write\n"
+    "While it serves, the process has no capabilities and opens, creates or removes no file. It may still read, write\n"
     "and close what is open, accept clients at its sockets and take files from them, map memory that isn't "
     "executable.\n"
     "A second process, which can do nothing else, removes the sockets at the end; with --wire=stream or dgram a third\n"
@@ -229,18 +229,18 @@ static bool read_plain_word(struct options *it, const char *word)
 
 static enum options_status wrong(const char *what, const char *word)
 {
-    fprintf(stderr, NAME ": %s%s; --help tells the words\n", what, word);
+    fprintf(stderr, NAME ": %s%s; --help lists the options\n", what, word);
     return OPTIONS_WRONG;
 }
 
 static enum options_status check(const struct options *it)
 {
     if (!it->socket_path == (it->file < 0))
-        return wrong("either --socket-path=PATH or --fd=N", "");
+        return wrong("give either --socket-path=PATH or --fd=N", "");
     if (it->file >= 0 && it->card.functions)
         return wrong("--functions needs --socket-path", "");
     if (it->socket_path && strlen(it->socket_path) + strlen(".shadow0") >= FUNCTION_PATH_MOST)
-        return wrong("a socket's name has at most 99 bytes, not: ", it->socket_path);
+        return wrong("a socket's name has at most 99 bytes: ", it->socket_path);
     return OPTIONS_GO;
 }
 
@@ -266,7 +266,7 @@ enum options_status options_read(struct options *it, int count, char **words)
         if (!read_number_word(it, words[i], &is_known))
             return wrong("bad value: ", words[i]);
         if (!is_known && !read_file_word(it, words[i]) && !read_plain_word(it, words[i]))
-            return wrong("what is ", words[i]);
+            return wrong("unknown option: ", words[i]);
     }
     it->wire.is_confined = !it->is_unconfined;
     it->card.is_recorded = it->record || getenv("NIC82599_RECORD");

@@ -81,7 +81,7 @@ bool resources_share(unsigned int clients, unsigned int vectors, uint64_t bytes,
                        clients * (CHANNEL_FILES + CLOSER_FOREIGN_MOST + CLOSER_OWN_MOST);
     if (all < least) {
         log_line(LOG_SERVER,
-                 "%u sockets need at least %" PRIu64 " open files, and this process may have %" PRIu64
+                 "%u sockets need at least %" PRIu64 " open files, but this process may open only %" PRIu64
                  ": raise the limit (ulimit -n)",
                  clients, least, all);
         return false;

@@ -170,8 +170,8 @@ static void take_place(struct rings *it, enum side side, uint16_t queue, uint32_
     uint32_t place = bytes <= RING_BYTES_MOST ? find_blocks(it, count) : 0;
     if (!place) {
         it->counts.without_room++;
-        refuse(it, "room for the ring: the bench has 116 MiB for all rings together, 512 KB each. The base", ring->base,
-               queue, bytes);
+        refuse(it, "no room for the ring (the bench has 116 MiB for all rings, at most 512 KB each): ring base",
+               ring->base, queue, bytes);
         return;
     }
     for (uint32_t i = 0; i < count; i++)
@@ -195,7 +195,7 @@ static void note_slot(struct rings *it, enum side side, uint16_t queue, uint32_t
     char text[128];
     if (!it->options.is_recorded)
         return;
-    snprintf(text, sizeof text, "guest: %s %u slot %" PRIu32 " at 0x%" PRIx64 ", its buffer at 0x%" PRIx64,
+    snprintf(text, sizeof text, "guest: %s %u slot %" PRIu32 " at 0x%" PRIx64 ", buffer at 0x%" PRIx64,
              side == TRANSMIT ? "tx" : "rx", queue, slot, slot_at(ring, slot).at, buffer);
     nic_note(it->options.device, text);
 }
@@ -344,7 +344,7 @@ static void enable(struct rings *it, enum side side, uint16_t queue, struct dma 
         forget_ahead(ring);
         ring->next_ahead = peek(it, side == TRANSMIT ? NIC_TDH(queue) : NIC_RDH(queue));
         if (word & NIC_RXDCTL_ENABLE)
-            check_owner(it, side, queue, client, "the start of another client's ring, which stops. The ring");
+            check_owner(it, side, queue, client, "start of another client's ring, which is now stopped: ring");
         if (it->options.offload && side == TRANSMIT)
             offload_give_up(it->options.offload, queue);
     }
@@ -359,7 +359,7 @@ static void enable(struct rings *it, enum side side, uint16_t queue, struct dma 
 static uint32_t set_control(struct rings *it, uint16_t queue, struct dma client, uint32_t word)
 {
     struct ring *ring = &it->rings[RECEIVE][queue];
-    check_owner(it, RECEIVE, queue, client, "a size of buffers for another client's ring, which stops. The ring");
+    check_owner(it, RECEIVE, queue, client, "buffer size set for another client's ring, which is now stopped: ring");
     ring->sizes_of = client;
     ring->is_legacy = it->options.has_legacy && legacy_is_receive(word);
     return add_drop(ring, client, ring->is_legacy ? legacy_receive(word) : word);
@@ -517,17 +517,17 @@ void rings_tail(struct rings *it, struct dma client, bool is_transmit, uint16_t 
         touch(it, ring);
     if (ring->slots == 0 && tail == 0) /* a driver clears a register that it doesn't use */
         return;
-    if (!check_owner(it, is_transmit, queue, client, "a tail in another client's ring, which stops. The ring"))
+    if (!check_owner(it, is_transmit, queue, client, "tail write to another client's ring, which is now stopped: ring"))
         return;
     if (tail >= ring->slots) {
         it->counts.tails_outside++;
-        refuse_ring(it, "a tail outside its ring: the ring's end", client, ring, queue);
+        refuse_ring(it, "tail outside its ring: ring end", client, ring, queue);
         return;
     }
     if (!is_on(it, is_transmit, queue) && tail != peek(it, is_transmit ? NIC_TDH(queue) : NIC_RDH(queue))) {
         it->counts.tails_off++;
-        const char *what = is_transmit ? "a tail in a transmit ring that is off, the first of them"
-                                       : "a tail in a receive ring that is off, the first of them";
+        const char *what = is_transmit ? "tail write to a disabled transmit ring (only the first is reported)"
+                                       : "tail write to a disabled receive ring (only the first is reported)";
         remark(it, &it->told_off, what, client, ring, queue);
     }
     budget_spend(it->options.budget, BUDGET_STEP);
@@ -569,13 +569,13 @@ static bool take_slot(struct rings *it, struct ring *ring, uint16_t queue, uint3
         *descriptor = ahead->descriptor;
         ahead->is_there = false;
     } else if (!read_slot(ring, slot, descriptor)) {
-        refuse(it, "a descriptor", slot_at(ring, slot), queue, NIC_DESC_BYTES);
+        refuse(it, "reading a descriptor", slot_at(ring, slot), queue, NIC_DESC_BYTES);
         return false;
     }
     if (!descriptor->first && !descriptor->second) {
         it->counts.zeros++;
-        remark(it, &it->told_zeros, "a descriptor of zeros; is the guest's memory shared (share=on)? The ring",
-               ring->base.of, ring, queue);
+        remark(it, &it->told_zeros, "descriptor of zeros; is the guest's memory shared (share=on)? Ring", ring->base.of,
+               ring, queue);
     }
     return true;
 }
@@ -610,7 +610,7 @@ static nic_desc data_for_device(struct rings *it, struct ring *ring, uint16_t qu
     uint32_t place = TRANSMIT_FIRST + TRANSMIT_BLOCKS * queue;
     const struct dma_address buffer = {ring->base.of, guest.first};
     if (!dma_read(buffer, it->copy, length)) {
-        refuse(it, "a frame's bytes", buffer, queue, length);
+        refuse(it, "reading a frame's bytes", buffer, queue, length);
         return (nic_desc){0, guest.second & ~(NIC_TXD_POPTS | NIC_TXD_TSE | NIC_TXD_VLE)};
     }
     budget_spend(it->options.budget, length);
@@ -723,7 +723,7 @@ static void filled(struct rings *it, uint64_t bus)
         return;
     uint64_t *to = dma_whole(slot_at(ring, slot), NIC_DESC_BYTES);
     if (!to) {
-        refuse(it, "a descriptor that is written back", slot_at(ring, slot), queue, NIC_DESC_BYTES);
+        refuse(it, "writing back a descriptor", slot_at(ring, slot), queue, NIC_DESC_BYTES);
         return;
     }
     if (ring->is_legacy) {
@@ -752,7 +752,7 @@ void rings_written(struct rings *it, uint64_t bus, size_t length)
     budget_spend(it->options.budget, length);
     it->counts.frames_bytes += length;
     if (!dma_write(to, it->copy, length))
-        refuse(it, "a buffer for a frame", to, queue, length);
+        refuse(it, "writing a received frame", to, queue, length);
 }
 
 static void head_written_back(struct rings *it, uint16_t queue, uint64_t bus)
@@ -769,7 +769,7 @@ static void head_written_back(struct rings *it, uint16_t queue, uint64_t bus)
     if (to)
         __atomic_store_n(to, head, RELEASE);
     else
-        refuse(it, "a head that is written back", address, queue, sizeof bytes);
+        refuse(it, "writing back the head", address, queue, sizeof bytes);
 }
 
 /* Only DD is set in a transmit descriptor. */
@@ -786,7 +786,7 @@ void rings_written_back(struct rings *it, uint16_t queue, uint64_t bus)
     if (to)
         __atomic_fetch_or(&to[1], NIC_TXWB_DD, RELEASE);
     else
-        refuse(it, "a descriptor that is written back", slot_at(ring, slot), queue, NIC_DESC_BYTES);
+        refuse(it, "writing back a descriptor", slot_at(ring, slot), queue, NIC_DESC_BYTES);
 }
 
 /* ---- creation and copies ---- */

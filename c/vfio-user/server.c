@@ -53,7 +53,7 @@ static bool listen_at(struct function *function)
 {
     const char *error = function_listen(function);
     if (error)
-        log_line(LOG_SERVER, "no socket %s: %s", function->path, error);
+        log_line(LOG_SERVER, "can't create the socket %s: %s", function->path, error);
     return !error;
 }
 
@@ -63,7 +63,7 @@ static bool take_file(struct function *function, int file)
     int listens = 0;
     socklen_t length = sizeof listens;
     if (getsockopt(file, SOL_SOCKET, SO_ACCEPTCONN, &listens, &length) != 0) {
-        log_line(LOG_SERVER, "--fd=%d is no socket: %s", file, strerror(errno));
+        log_line(LOG_SERVER, "--fd=%d isn't a socket: %s", file, strerror(errno));
         return false;
     }
     if (listens)
@@ -101,12 +101,12 @@ bool server_open(struct server *it)
     if (!wire_open(&it->wire, &it->options.wire)) /* starts its process while this one is small */
         return false;
     if (!card_open(&it->card, &it->options.card)) {
-        log_line(LOG_SERVER, "memory is short");
+        log_line(LOG_SERVER, "out of memory");
         return false;
     }
     const char *error = control_open(&it->control, it->options.control);
     if (error) {
-        log_line(LOG_SERVER, "no socket %s: %s", it->options.control, error);
+        log_line(LOG_SERVER, "can't create the socket %s: %s", it->options.control, error);
         return false;
     }
     traffic_begin(&it->traffic, it->options.card.mac);
@@ -266,8 +266,8 @@ static bool follow_wire(struct server *it)
         return false;
     it->is_wire_gone = is_gone;
     log_line(LOG_WIRE,
-             is_gone ? "%s: the wire's other end has gone, so the card's link is down"
-                     : "%s: the wire's other end is there again, so the card's link is up",
+             is_gone ? "%s: the wire's other end is gone, so the card's link is down"
+                     : "%s: the wire's other end is back, so the card's link is up",
              it->options.wire.path);
     card_link(&it->card, !is_gone);
     return true;

@@ -70,7 +70,7 @@ static void tell_of_memory(struct session *it, const struct vfu_dma_map *asked)
     it->is_told_of_memory = true;
     log_client(it->channel.owner, LOG_MESSAGE,
                "%s: memory at 0x%" PRIx64 ", 0x%" PRIx64
-               " bytes, isn't shared, so the card can't reach it. If it is the "
+               " bytes, isn't shared, so the card can't access it. If it is the "
                "guest's RAM, start QEMU with -object memory-backend-memfd,id=ram,size=SIZE,share=on "
                "-machine memory-backend=ram",
                it->name, asked->address, asked->size);
@@ -81,27 +81,26 @@ static void tell_of_file(const struct session *it, const struct vfu_dma_map *ask
 {
     if (error == EPERM)
         log_client(it->channel.owner, LOG_MESSAGE,
-                   "%s: memory at 0x%" PRIx64
-                   " is refused: it is of a file system that could make the server wait. Use "
-                   "memory-backend-memfd, or tmpfs or hugetlbfs; --trust-files takes any file",
+                   "%s: memory at 0x%" PRIx64 " is refused: its file system could block the server. Use "
+                   "memory-backend-memfd, tmpfs or hugetlbfs; --trust-files accepts any file",
                    it->name, asked->address);
     else if (error == ENOSPC)
         log_client(it->channel.owner, LOG_MESSAGE,
-                   "%s: memory at 0x%" PRIx64 " is refused: a client may have %u ranges at once", it->name,
+                   "%s: memory at 0x%" PRIx64 " is refused: a client may map at most %u ranges", it->name,
                    asked->address, memory_map_limits()->ranges);
     else if (error == EFBIG)
         log_client(it->channel.owner, LOG_MESSAGE,
-                   "%s: memory at 0x%" PRIx64 " is refused: a client may have %" PRIu64
-                   " MiB at once; --client-memory=GIB allows more",
+                   "%s: memory at 0x%" PRIx64 " is refused: a client may map at most %" PRIu64
+                   " MiB; --client-memory=GIB allows more",
                    it->name, asked->address, memory_map_limits()->bytes >> 20);
     else if (error == EMFILE)
         log_client(it->channel.owner, LOG_MESSAGE,
-                   "%s: memory at 0x%" PRIx64 " is refused: a client may have %u files of memory at once", it->name,
+                   "%s: memory at 0x%" PRIx64 " is refused: a client may map at most %u files", it->name,
                    asked->address, memory_map_limits()->files);
     else if (error == ENOBUFS)
         log_client(it->channel.owner, LOG_MESSAGE,
-                   "%s: memory at 0x%" PRIx64 " is refused: a client may have files mapped in %u pieces at once",
-                   it->name, asked->address, memory_map_limits()->windows);
+                   "%s: memory at 0x%" PRIx64 " is refused: a client may map files in at most %u pieces", it->name,
+                   asked->address, memory_map_limits()->windows);
 }
 
 static int dma_map(struct work *it)
@@ -508,7 +507,7 @@ static bool end_unless_open(struct session *it, enum channel_state state)
     if (state == CHANNEL_OPEN)
         return true;
     if (state == CHANNEL_WRONG)
-        log_client(it->channel.owner, LOG_MESSAGE, "%s: what the client sends isn't the protocol, so it is let go",
+        log_client(it->channel.owner, LOG_MESSAGE, "%s: the client violates the protocol and is disconnected",
                    it->name);
     session_close(it);
     return false;

@@ -4,7 +4,7 @@
 
 #define LETTERS "abcdefghijklmnopqrstuvwxyzABCDEFGHIJKLMNOPQRSTUVWXYZ0123456789_.-"
 
-static const char short_of_memory[] = "memory is short";
+static const char short_of_memory[] = "out of memory";
 
 static void drop(struct snapshot *it)
 {
@@ -40,9 +40,9 @@ const char *snapshots_take(struct snapshots *it, const struct card *card, const 
     struct snapshot made = {.rings = NULL};
     struct snapshot *place = find(it, name);
     if (!*name || strlen(name) >= sizeof made.name || name[strspn(name, LETTERS)])
-        return "snapshot NAME: 1 to 31 letters, digits, and of _ . -";
+        return "snapshot NAME: 1 to 31 letters, digits and _ . -";
     if (!place && it->count == SNAPSHOTS_MOST)
-        return "there are 16 snapshots already: one of their names takes a new one in its place";
+        return "there are already 16 snapshots: reuse one of their names to replace it";
     if (!take(&made, card))
         return short_of_memory;
     strcpy(made.name, name);
@@ -70,7 +70,7 @@ const char *snapshots_restore(struct snapshots *it, struct card *card, const cha
 {
     const struct snapshot *from = find(it, name);
     if (!from)
-        return "no snapshot has this name: snapshot, without one, tells them";
+        return "no snapshot has this name: snapshot without a name lists them";
     struct rings *rings = rings_copy(from->rings);
     struct offload *offload = from->offload ? offload_copy(from->offload) : NULL;
     if (!rings || (from->offload && !offload) || nic_restore(bus_device(card->bus), &from->device) != NIC_DONE) {

@@ -11,7 +11,7 @@ static void tell_function(const struct function *it, FILE *to)
     if (!counts->messages)
         return;
     fprintf(to,
-            "%s: %" PRIu64 " messages, %" PRIu64 " refused; regions: %" PRIu64 " reads, %" PRIu64 " writes, of them "
+            "%s: %" PRIu64 " messages, %" PRIu64 " refused; regions: %" PRIu64 " reads, %" PRIu64 " writes, of which "
             "configuration %" PRIu64 " and %" PRIu64 "; memory: %" PRIu64 " maps, %" PRIu64 " unmaps; interrupts:",
             it->path, counts->messages, counts->refused, counts->reads, counts->writes, it->counts.config_reads,
             it->counts.config_writes, counts->maps, counts->unmaps);
@@ -48,16 +48,16 @@ static void tell_wire(const struct wire_counts *it, FILE *to)
     fprintf(to, "wire: out %" PRIu64 " frames, %" PRIu64 " bytes; in %" PRIu64 " frames, %" PRIu64 " bytes", it->out,
             it->out_bytes, it->in, it->in_bytes);
     if (it->replies || it->hairpins || it->played)
-        fprintf(to, ", of them replies %" PRIu64 ", hairpin %" PRIu64 ", played %" PRIu64, it->replies, it->hairpins,
+        fprintf(to, ", of which replies %" PRIu64 ", hairpin %" PRIu64 ", played %" PRIu64, it->replies, it->hairpins,
                 it->played);
-    fprintf(to, "\nwire: lost: nobody there %" PRIu64 ", other end full %" PRIu64 ", too long %" PRIu64 "\n",
+    fprintf(to, "\nwire: lost: no other end %" PRIu64 ", other end full %" PRIu64 ", too long %" PRIu64 "\n",
             it->lost_nobody, it->lost_full, it->too_long);
 }
 
 static void tell_output(const struct output *it, FILE *to, const char *name)
 {
     if (it->lost)
-        fprintf(to, "%s: %" PRIu64 " records were lost, since nobody read them\n", name, it->lost);
+        fprintf(to, "%s: %" PRIu64 " records were lost because nothing read them\n", name, it->lost);
 }
 
 void tell_counts(const struct server *it, FILE *to)
@@ -84,7 +84,7 @@ void tell_counts(const struct server *it, FILE *to)
     fprintf(to,
             "rings: %" PRIu64 " descriptors, read ahead %" PRIu64 ", %" PRIu64 " bytes of frames; at most %" PRIu32
             " KB of rings; accesses "
-            "refused %" PRIu64 ", of them tails outside %" PRIu64 ", rings without room %" PRIu64
+            "refused %" PRIu64 ", of which tails outside %" PRIu64 ", rings without room %" PRIu64
             "; tails in rings that are off %" PRIu64 ", writes lost in resets %" PRIu64 ", rings stopped %" PRIu64 "\n",
             rings->descriptors, rings->ahead, rings->frames_bytes, rings->blocks_most * 2, rings->refused,
             rings->tails_outside, rings->without_room, rings->tails_off, it->card.lost_writes, rings->stopped);
@@ -98,6 +98,6 @@ void tell_counts(const struct server *it, FILE *to)
                 it->card.long_by_tag);
     }
     if (memory_map_cuts())
-        fprintf(to, "memory: %lu times a client cut a file that it had given\n", memory_map_cuts());
+        fprintf(to, "memory: %lu times a client truncated a file that it had shared\n", memory_map_cuts());
     fflush(to);
 }

@@ -11,9 +11,9 @@ static const char *place_of_function(struct watch_place *it, const char *words, 
     unsigned int number;
     int end = 0;
     if (sscanf(words, "%2u %n", &number, &end) != 1 || !end || number >= functions)
-        return "vr FUNCTION REGISTER, vw FUNCTION REGISTER: this server hasn't that function";
+        return "vr FUNCTION REGISTER, vw FUNCTION REGISTER: this server has no such function";
     it->function = number + 1;
-    return function_register_named(words + end, &it->offset) ? NULL : "a function has no such register";
+    return function_register_named(words + end, &it->offset) ? NULL : "functions have no such register";
 }
 
 static const char *place_of(struct watch_place *it, const char *words, unsigned int functions)
@@ -26,7 +26,7 @@ static const char *place_of(struct watch_place *it, const char *words, unsigned 
     words += 2;
     if (is_virtual)
         return place_of_function(it, words, functions);
-    return register_named(words, &it->offset) ? NULL : "no register has this name: docs/REGISTERS.md has them";
+    return register_named(words, &it->offset) ? NULL : "no register has this name: see docs/REGISTERS.md";
 }
 
 const char *watch_add(struct watch *it, const char *words, unsigned int functions)
@@ -38,7 +38,7 @@ const char *watch_add(struct watch *it, const char *words, unsigned int function
     if (error)
         return error;
     if (it->count == WATCH_PLACES)
-        return "there are 8 places already: hold at off forgets them";
+        return "there are already 8 places: hold at off clears them";
     strcpy(place.text, words);
     it->places[it->count++] = place;
     return NULL;

@@ -59,7 +59,7 @@ static const char *open_stream(struct wire *it)
     connector_ask(&it->connector);
     has_end(it, connector_wait(&it->connector));
     if (it->file < 0)
-        log_line(LOG_WIRE, "%s: nobody listens there yet; frames are lost until somebody does", it->options.path);
+        log_line(LOG_WIRE, "%s: nothing listens there yet; frames are lost until something does", it->options.path);
     return NULL;
 }
 
@@ -166,7 +166,7 @@ static void capture(struct wire *it, enum capture_direction direction, const uin
     capture_write(&it->capture, direction, frame, length);
     if (!it->capture.error)
         return;
-    log_line(LOG_WIRE, "%s can't be written, so it ends here: %s", it->options.capture, strerror(it->capture.error));
+    log_line(LOG_WIRE, "can't write %s, so it ends here: %s", it->options.capture, strerror(it->capture.error));
     output_end(&it->capture, 0);
 }
 
@@ -252,8 +252,8 @@ static size_t from_stream(struct wire *it)
     while (buffer_waiting(&it->in) >= LENGTH_BYTES) {
         size_t length = get_length(buffer_front(&it->in));
         if (length > WIRE_LENGTH_MOST) {
-            log_line(LOG_WIRE, "%s: a frame of %zu bytes is none, so the wire's other end is let go", it->options.path,
-                     length);
+            log_line(LOG_WIRE, "%s: a frame of %zu bytes isn't valid, so the wire's other end is disconnected",
+                     it->options.path, length);
             hang_up(it);
             return 0;
         }
@@ -294,7 +294,7 @@ static size_t from_file(struct wire *it)
         return length;
     }
     if (next == CAPTURE_BROKEN)
-        log_line(LOG_WIRE, "%s: what comes after %llu frames is none of Ethernet's that is whole", it->options.play,
+        log_line(LOG_WIRE, "%s: after %llu frames there is no complete Ethernet frame", it->options.play,
                  (unsigned long long)it->counts.played);
     fclose(it->played);
     it->played = NULL;
@@ -413,8 +413,8 @@ static const char *open_socket(struct wire *it)
 static bool open_capture(struct wire *it, const char *name)
 {
     if (!output_create(&it->capture, name)) {
-        log_line(LOG_SERVER, "%s can't be written: %s", name,
-                 errno == ENXIO ? "nobody reads this FIFO; start its reader first" : strerror(errno));
+        log_line(LOG_SERVER, "can't write %s: %s", name,
+                 errno == ENXIO ? "no process reads this FIFO; start its reader first" : strerror(errno));
         return false;
     }
     capture_begin(&it->capture);
@@ -431,7 +431,7 @@ static bool open_played(struct wire *it, const char *name)
         close(file);
     if (it->played && capture_open(&it->play, it->played))
         return true;
-    log_line(LOG_SERVER, "%s is no capture of Ethernet frames", name);
+    log_line(LOG_SERVER, "%s isn't a capture of Ethernet frames", name);
     return false;
 }
 
@@ -441,7 +441,7 @@ bool wire_open(struct wire *it, const struct wire_options *options)
     connector_begin(&it->connector);
     const char *error = open_socket(it);
     if (error) {
-        log_line(LOG_SERVER, "no wire at %s: %s", options->path, error);
+        log_line(LOG_SERVER, "can't connect the wire at %s: %s", options->path, error);
         return false;
     }
     return (!options->capture || open_capture(it, options->capture)) &&

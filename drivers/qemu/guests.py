@@ -326,7 +326,7 @@ def clean(told: str) -> None:
     """Requires that the server reported no fault and no refused access."""
     has(told, "server", r"^device: .* faults 0$")
     has(told, "server", r"^rings: .* accesses refused 0,")
-    has(told, "server", r"^wire: lost: nobody there 0, other end full 0, too long 0$")
+    has(told, "server", r"^wire: lost: no other end 0, other end full 0, too long 0$")
 
 
 def passed_frames(text: str, many: int, count: int = FRAMES) -> None:
@@ -392,7 +392,7 @@ def ipxe(place: Place) -> str:
     text = "\n".join(guest.lines)
     has(text, "iPXE", r"seq=4")
     has(text, "iPXE", r"using 82599")
-    has(told, "server", r"^wire: out .*, of them replies 5,")
+    has(told, "server", r"^wire: out .*, of which replies 5,")
     has(told, "server", r"^device: received 5 frames in 5 descriptors, .* faults 0$")
     return "4 of 4 pings, descriptors legacy both ways"
 

@@ -46,7 +46,7 @@ static void obey(const char *line)
     } else if (sscanf(line, "expect %7u %5u", &count, &most) == 2 && most >= FRAME_MIN && most <= FRAME_JUMBO) {
         first = last = 0;
         if (!traffic_expect(&traffic, count, (uint16_t)most, card))
-            puts("error: memory is short");
+            puts("error: out of memory");
     } else if (strcmp(line, "came") == 0) {
         printf("%u of %u, twice %u, wrong %u, in %.6f s\n", expected->good, expected->count, expected->twice,
                expected->wrong, last - first);

@@ -275,7 +275,7 @@ static void endless(struct peer *host, struct peer *function)
         peer_read(host, NIC_STATUS);
     CHECK(peer_count(control, "large sends in ") > segments && peer_read(function, NIC_VFTDH(0)) < tail);
     pass_both_ways(host);
-    CHECK(strstr(peer_request(control, "hold"), "ok") && strstr(peer_request(control, "tx 0"), "more is left"));
+    CHECK(strstr(peer_request(control, "hold"), "ok") && strstr(peer_request(control, "tx 0"), "more are left"));
     CHECK(strstr(peer_request(control, "go"), "ok"));
 }
 
@@ -313,7 +313,7 @@ static void expected(struct peer *host)
         times++;
     CHECK(times < EXPECTED_TIMES);
     CHECK(strstr(peer_request(control, "expect 10 60"), "ok"));
-    while (strstr(peer_request(control, "came"), "are made yet"))
+    while (strstr(peer_request(control, "came"), "are made so far"))
         ;
 }
 

@@ -392,9 +392,9 @@ static void held(const char *path, const char *control_path)
     peer_read(&peer, 0x10160);
     peer_write(&peer, 0x10160, 0);
     peer_read(&peer, 0x10160);
-    CHECK(says("counts", "not modelled: 3 accesses of the host: SW_FW_SYNC 3 (--strays=FILE has each)"));
+    CHECK(says("counts", "not modelled: 3 accesses of the host: SW_FW_SYNC 3 (--strays=FILE lists each)"));
     peer_read(&peer, 0x1FFF0);
-    CHECK(says("counts", "not modelled: 4 accesses of the host: SW_FW_SYNC 3; at no register that is known 1"));
+    CHECK(says("counts", "not modelled: 4 accesses of the host: SW_FW_SYNC 3; at unknown addresses 1"));
     close(control);
     peer_close(&peer);
 }
@@ -410,7 +410,7 @@ static void hostile_snapshots(void)
         snprintf(words, sizeof words, "snapshot s%d", i);
         CHECK(says(words, "ok"));
     }
-    CHECK(says("snapshot more", "error: there are 16") && says("snapshot s3", "ok") && says("snapshot", "s14"));
+    CHECK(says("snapshot more", "error: there are already 16") && says("snapshot s3", "ok") && says("snapshot", "s14"));
 }
 
 /* A restore brings back registers, the rings' locations and waiting frames. The guest's memory doesn't change. */

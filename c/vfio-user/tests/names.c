@@ -79,14 +79,14 @@ static void other_things(const struct way *way, bool is_long)
     int file = open(path, O_WRONLY | O_CREAT | O_EXCL | O_CLOEXEC, 0600);
     CHECK(file >= 0 && write(file, "precious", 8) == 8);
     close(file);
-    is_refused(way, "no socket is there already");
+    is_refused(way, "isn't a socket already exists");
     CHECK(unlink(path) == 0);
     if (!is_long)
         return;
     CHECK(mkdir(path, 0700) == 0);
-    is_refused(way, "no socket is there already");
+    is_refused(way, "isn't a socket already exists");
     CHECK(rmdir(path) == 0 && symlink("/nowhere", path) == 0);
-    is_refused(way, "no socket is there already");
+    is_refused(way, "isn't a socket already exists");
     CHECK(unlink(path) == 0);
 }
 
@@ -97,7 +97,7 @@ static void other_sockets(const struct way *way, bool is_long)
     struct stat about;
     for (unsigned int i = 0; i < (is_long ? 3 : 1); i++) {
         int file = bound(types[i]);
-        is_refused(way, "a server has this socket already");
+        is_refused(way, "a server already uses this socket");
         close(file);
         CHECK(chmod(path, 0640) == 0);
         pid_t server = start(way, -1);
@@ -118,7 +118,7 @@ static void two_servers(const struct way *way)
     umask(mask);
     wait_for_name();
     CHECK(lstat(path, &about) == 0 && S_ISSOCK(about.st_mode) && (about.st_mode & 0777) == 0600);
-    is_refused(way, "a server has this socket already");
+    is_refused(way, "a server already uses this socket");
     CHECK(program_rests(first) && program_end(first) == 0 && access(path, F_OK) != 0);
 }
 
@@ -144,15 +144,15 @@ static void is_no_client(void)
     close(ends[1]);
     peer_open(&peer, path);
     CHECK(peer_version(&peer) == 0);
-    is_refused(&ways[0], "a server has this socket already");
+    is_refused(&ways[0], "a server already uses this socket");
     CHECK(peer_config(&peer, 0, 4) == 0x10F78086);
     peer_close(&peer);
     CHECK(program_end(server) == 0);
     size_t length = 0;
     for (ssize_t got = 1; got > 0; length += got > 0 ? (size_t)got : 0)
         got = read(ends[0], said + length, sizeof said - 1 - length);
-    const char *first = strstr(said, "a client has come");
-    CHECK(first && !strstr(first + 1, "a client has come") && !strstr(said, "turned away"));
+    const char *first = strstr(said, "a client connected");
+    CHECK(first && !strstr(first + 1, "a client connected") && !strstr(said, "turned away"));
     close(ends[0]);
 }
 

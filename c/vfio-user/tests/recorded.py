@@ -19,8 +19,8 @@ from nic82599.tools.recording import of_recording  # noqa: E402
 WANTED = [
     "guest: the ring of rx 0 is at 0x40001000, 64 slots, of function 0",
     "guest: the ring of tx 0 is at 0x40002000, 64 slots, of function 0",
-    "guest: rx 0 slot 5 at 0x40001050, its buffer at 0x40012800",
-    "guest: tx 0 slot 3 at 0x40002030, its buffer at 0x40080014",
+    "guest: rx 0 slot 5 at 0x40001050, buffer at 0x40012800",
+    "guest: tx 0 slot 3 at 0x40002030, buffer at 0x40080014",
 ]
 
 
@@ -41,7 +41,7 @@ def main(words: list[str]) -> int:
     traced = json.loads(perfetto.trace(run))["traceEvents"]
     assert sum(it.get("args", {}).get("note") == WANTED[3] for it in traced) >= 2
     assert sum(it.get("name", "").startswith("frame out") and it["ph"] == "b" for it in traced) == 40
-    print(f"recorded: {len(run.steps)} events, of them idle {idle}")
+    print(f"recorded: {len(run.steps)} events, of which idle {idle}")
     return 0
 
 

@@ -28,7 +28,7 @@ LOCKUP = """[   35.242358] watchdog: BUG: soft lockup - CPU#1 stuck for 13s! [ip
 [   35.243421] CPU: 1 PID: 129 Comm: ip Not tainted 6.1.0
 [   35.243421] RIP: 0010:ixgbe_clean_tx_ring+0x90/0x190 [ixgbe]""".splitlines()
 COUNTS = ["device: received 5 frames in 5 descriptors, sent 5 from 5; faults {faults}",
-          "rings: 9 descriptors, 9 bytes of frames; at most 4 KB of rings; accesses refused {refused}, of them tails "
+          "rings: 9 descriptors, 9 bytes of frames; at most 4 KB of rings; accesses refused {refused}, of which tails "
           "outside {outside}, rings without room 0; tails in rings that are off {off}, writes lost in resets {lost}"]
 GOOD = """@search carrier 1
 @search answered 1

@@ -192,7 +192,7 @@ def check_points(kit: Kit) -> str:
     printed, out = kit.card("points", small, 1, "--require", path, "--rows", "receive-empty")
     for wanted in (
         "some: 3 of 1,004 points\n",
-        "  setup-crc                  1 point lost: check: RDRXCTL.CRCSTRIP isn't what",
+        "  setup-crc                  1 point lost: check: RDRXCTL.CRCSTRIP differs",
         "  send-one                   1,000 points lost: not applicable: no send\n",
         "receive-empty ",
     ):

@@ -151,7 +151,7 @@ def check_growing(folder: Path, expect: Expect) -> None:
         with open(file, "ab") as to:
             to.write(b"d 0x00080000\nr sideways # word 1\nr 0x00008 # word 0x00080000\n")
         told = it.until(lambda it: it["said"] != "")
-        expect(f":{len(lines) + 2}: this is no line" in told["said"], f"live: a broken line: {told['said']!r}")
+        expect(f":{len(lines) + 2}: this line of a recording" in told["said"], f"live: a broken line: {told['said']!r}")
         expect(told["until"] == events + 1, f"live: {told['until']} events are shown up to it")
         file.write_bytes(b"".join(lines[:40]))
         told = it.until(lambda it: it["number"] > 1 and it.get("until", 0) > 0)
@@ -294,8 +294,8 @@ def check_guest(folder: Path, expect: Expect) -> None:
             "hold": ("hold", [], ""), "step": ("tx 3", ["3 descriptors"], ""),
             "why": ("why", ["CTRL.Master 0 <b>"], ""),
             "link down": ("link down", ["done"], ""), "rx": ("rx", [], "unknown request"),
-            "frames 5 60": ("", [], "a page can't ask this"), "hold\ngo": ("", [], "a page can't ask this"),
-            "snapshot x": ("", [], "a page can't ask this"), "tx ٣": ("", [], "a page can't ask this"),
+            "frames 5 60": ("", [], "not allowed from a page"), "hold\ngo": ("", [], "not allowed from a page"),
+            "snapshot x": ("", [], "not allowed from a page"), "tx ٣": ("", [], "not allowed from a page"),
         }  # fmt: skip
         for request, wanted in rows.items():
             made = json.loads(it.ask("ask", "POST", request.encode().decode("latin-1"))[1])
@@ -444,7 +444,7 @@ def check_following(browser: Browser, folder: Path, expect: Expect) -> None:
         seen.until("the last ones are shown", f"live.until === {events} && position === count")
         check_widths(browser, expect)
         it.end()
-        seen.until("that nicview has ended is said", "element('notice').textContent.includes('has ended')")
+        seen.until("that nicview has exited is said", "element('notice').textContent.includes('has ended')")
     browser.errors = [it for it in browser.errors if "net::ERR" not in it]
     expect(not browser.errors, f"live page: the console says {browser.errors}")
     browser.errors.clear()

@@ -40,10 +40,10 @@ STRANGE = [
 HOSTILE = ["#: snapshot 1", "#: lend 0 to 7 # done", "data d1 00  #: no bytes", "arrive d1 # dropped off", ""]
 # Files that can't be drawn, and the message for each, with status 2.
 REFUSED = {
-    "#: nic vfs 0": "has no whole first line",
-    HEAD + "w RXCTRL\n": ":2: this is no line of a recording",
-    HEAD + "poke 0x00000 d0 # done\n": ":2: this is no line of a recording",
-    HEAD + "#: restore 3\n": ":2: this is no line of a recording that can be made again",
+    "#: nic vfs 0": "incomplete first line",
+    HEAD + "w RXCTRL\n": ":2: this line of a recording",
+    HEAD + "poke 0x00000 d0 # done\n": ":2: this line of a recording",
+    HEAD + "#: restore 3\n": ":2: this line of a recording can't be replayed",
     HEAD + "#: restore 0\nrx # idle\n": "it restores a snapshot that isn't in this recording",
     HEAD + "lend 1 # done\xfc\n": "isn't ASCII from byte 45 on",
 }
@@ -320,10 +320,10 @@ def check_lent(folder: Path, expect: Expect) -> None:
     expect("# left out: lend 256 to 599" in text and "# CUT: line 7" in text, "600 blocks: what a script can't say")
     answers = Bench().run(text, 4_096)
     expect([line.split(" ", 1)[1] for line in answers[-4:]] == ["done", "done", "taken 3", "258"], f"{answers[-4:]}")
-    check_tool(["niclint", made], "", 0, ["258 instructions, nothing to say"], expect)
+    check_tool(["niclint", made], "", 0, ["258 instructions, no warnings"], expect)
     for line in ("#: lend 5 to 4", "#: lend 0 to 65536", "#: lend 0 to 4000000000", "#: lend 1 to", "#: lend x"):
         file.write_text(HEAD + line + " # done\n")
-        check_tool(["nicview", file, "--text"], "", 2, [":2: this is no line of a recording"], expect)
+        check_tool(["nicview", file, "--text"], "", 2, [":2: this line of a recording"], expect)
 
 
 def check_no_bytes(folder: Path, expect: Expect) -> None:
@@ -469,7 +469,7 @@ def check_in_place(folder: Path, expect: Expect) -> None:
     check_tool(["nicview", one, "--text"], "", 0, ["lend 5"], expect)
     file = folder / "bad.recording"
     file.write_text(HEAD + "#: in place 5 to 4\nrx # idle\n")
-    check_tool(["nicview", file, "--text"], "", 2, [":2: this is no line of a recording"], expect)
+    check_tool(["nicview", file, "--text"], "", 2, [":2: this line of a recording"], expect)
 
 
 def cut_recording(folder: Path) -> Path | None:

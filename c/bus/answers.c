@@ -21,22 +21,22 @@ static const struct {
     unsigned int bit;
     const char *what, *why;
 } answers[] = {
-    {"SWSM", BUS_SWSM, "SWSM (0x10140) by itself: what was written, bit 0 set by each read",
-     "the table lacks it, and drivers wait for it"},
-    {"ANLP1", BUS_ANLP1, "ANLP1 (0x042B0) by itself: bits 19:16 read 1",
-     "the table lacks it, and drivers take 0 for an error"},
-    {"EICS", BUS_EICS, "reads of EICS (0x00808): the causes of EICR, none of them cleared",
-     "the bench reads 0, where Linux looks for the causes of its other vector"},
-    {"EERD", BUS_EERD, "EERD (0x10014) under master disable: CTRL bit 2 is lifted for the EEPROM's step",
-     "the bench is idle then, and drivers read their EEPROM meanwhile"},
-    {"ABSENT", BUS_ABSENT, "functions that the mode has no pool for: STATUS, LINKS, mailbox and causes",
-     "the bench reads all ones, which Linux takes for a card that is gone"},
-    {"FWSM", BUS_FWSM, "FWSM (0x10148) by itself: bit 15, there is valid firmware",
-     "the table lacks it, and Linux 6.12 warns of a firmware error every two seconds"},
-    {"RXPBSIZE", BUS_RXPBSIZE, "RXPBSIZE[0] (0x03C00) by itself: 512 KB",
-     "the table lacks it, and Linux warns that it has no headroom"},
-    {"IPSEC", BUS_IPSEC, "SECTXSTAT (0x08804) and SECRXSTAT (0x08D04) by themselves: ready, and IPsec off",
-     "the table lacks them, and Linux takes 0 for a card that encrypts"},
+    {"SWSM", BUS_SWSM, "SWSM (0x10140) answered by the shim: the value last written; each read sets bit 0",
+     "the register table lacks it, and drivers wait for it"},
+    {"ANLP1", BUS_ANLP1, "ANLP1 (0x042B0) answered by the shim: bits 19:16 read 1",
+     "the register table lacks it, and drivers take 0 for an error"},
+    {"EICS", BUS_EICS, "reads of EICS (0x00808) return the causes of EICR without clearing any",
+     "the bench returns 0, but Linux looks there for the causes of its other vector"},
+    {"EERD", BUS_EERD, "EERD (0x10014) during master disable: CTRL bit 2 is cleared for the EEPROM's step",
+     "the bench is idle then, but drivers still read their EEPROM"},
+    {"ABSENT", BUS_ABSENT, "STATUS, LINKS, mailbox and causes of functions without a pool in this mode",
+     "the bench returns all ones, which Linux takes for a removed card"},
+    {"FWSM", BUS_FWSM, "FWSM (0x10148) answered by the shim: bit 15, valid firmware",
+     "the register table lacks it, and Linux 6.12 warns of a firmware error every two seconds"},
+    {"RXPBSIZE", BUS_RXPBSIZE, "RXPBSIZE[0] (0x03C00) answered by the shim: 512 KB",
+     "the register table lacks it, and Linux warns about missing headroom"},
+    {"IPSEC", BUS_IPSEC, "SECTXSTAT (0x08804) and SECRXSTAT (0x08D04) answered by the shim: ready, IPsec off",
+     "the register table lacks them, and Linux takes 0 for a card that supports IPsec"},
 };
 
 static bool given(struct bus *it, enum bus_answer answer)

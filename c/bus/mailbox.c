@@ -77,8 +77,7 @@ static void tell_message(const struct message *message)
 
 void mailbox_tell(const struct bus *it)
 {
-    printf("  %-18s %5s %12s %7s  the first: what is asked; what is answered\n", "request", "many", "acknowledged",
-           "refused");
+    printf("  %-18s %5s %12s %7s  first request; its answer\n", "request", "many", "acknowledged", "refused");
     for (unsigned int i = 0; i < MAILBOX_REQUESTS; i++) {
         const struct request *request = &it->mailboxes.requests[i];
         const struct mailbox_counts *counts = &request->counts;
@@ -94,5 +93,5 @@ void mailbox_tell(const struct bus *it)
         tell_message(&request->answered);
         printf("\n");
     }
-    printf("  messages of the host's own: %" PRIu64 "\n", it->mailboxes.own_messages);
+    printf("  messages that the host started: %" PRIu64 "\n", it->mailboxes.own_messages);
 }

@@ -42,7 +42,7 @@ static void collect(struct bus *it, uint16_t queue)
     nic_told told;
     uint8_t status = nic_collect(&it->device, it->frame, sizeof it->frame, &told);
     if (status != NIC_FRAME) { /* it would block all frames sent after it */
-        bus_problem(it, "a frame of %zu bytes of queue %u can't be collected: %s", nic_next_out(&it->device), queue,
+        bus_problem(it, "can't collect a frame of %zu bytes from queue %u: %s", nic_next_out(&it->device), queue,
                     nic_status_name(status));
         return;
     }
@@ -63,7 +63,7 @@ void bus_transmit(struct bus *it, uint16_t queue)
         if (status == NIC_FAULT)
             fault(it, true, &told);
         if (status == NIC_OUT_OF_MEMORY)
-            bus_problem(it, "queue %u can't send: memory is short", queue);
+            bus_problem(it, "queue %u can't send: out of memory", queue);
         if (status != NIC_ADVANCED && status != NIC_SENT)
             return;
         it->counts.transmit_steps++;

@@ -78,15 +78,15 @@ int main(int argc, char **argv)
 }
 """
 ADAPTERS = {
-    ".close = my_close, .receive = my_receive": "its name isn't of 1 to 40 letters",
-    '.name = "a b", .close = my_close, .receive = my_receive': "its name isn't of 1 to 40 letters",
-    '.name = "a", .receive = my_receive': "it has no open or no close",
-    '.name = "a", .close = my_close': "it has neither receive nor send",
-    '.name = "a", .close = my_close, .receive = my_receive, .queues = 5': "its queues are above 4",
-    '.name = "a", .close = my_close, .receive = my_receive, .slots = 12': "its slots aren't 8, 16, .. 64",
-    '.name = "a", .close = my_close, .receive = my_receive, .frame = 9': "its frame isn't 1,514 to 9,724",
-    '.name = "a", .close = my_close, .receive = my_receive, .threads = 1': "or it has no thread",
-    '.name = "a", .close = my_close, .receive = my_receive, .can = 512': "its can has bits that enum nicd_can hasn't",
+    ".close = my_close, .receive = my_receive": "the name must have 1 to 40 letters",
+    '.name = "a b", .close = my_close, .receive = my_receive': "the name must have 1 to 40 letters",
+    '.name = "a", .receive = my_receive': "open and close must be set",
+    '.name = "a", .close = my_close': "receive or send must be set",
+    '.name = "a", .close = my_close, .receive = my_receive, .queues = 5': "queues is above 4",
+    '.name = "a", .close = my_close, .receive = my_receive, .slots = 12': "slots must be 8, 16, .. 64",
+    '.name = "a", .close = my_close, .receive = my_receive, .frame = 9': "frame must be 1,514 to 9,724",
+    '.name = "a", .close = my_close, .receive = my_receive, .threads = 1': "or thread isn't set",
+    '.name = "a", .close = my_close, .receive = my_receive, .can = 512': "can has bits that enum nicd_can doesn't",
 }
 
 
@@ -232,9 +232,8 @@ def check_counts(folder: Path) -> None:
     how: list[object] = ["--rows", "stats-receive", "--runs", 200, "--no-pages", *PATIENT]
     for source, more, size in ((HERE / "corpus/driver.c", "", 8), (copied, f"-Werror -I{HERE}/corpus", 24)):
         nicdrive(folder, [source, f"--flags=-DPLAIN_COUNTS {more}", *how], 1)
-        expect(
-            rows_of(folder)["stats-receive"], rf"race: driver\+0x\w+, {size} bytes: .* no order between", source.name
-        )
+        wanted = rf"race: driver\+0x\w+, {size} bytes: .* without an order between"
+        expect(rows_of(folder)["stats-receive"], wanted, source.name)
 
 
 def check_accesses(kit: Kit) -> str:
@@ -244,7 +243,8 @@ def check_accesses(kit: Kit) -> str:
     how: list[object] = ["--rows", row, "--runs", 200, "--every", 200, "--no-pages", *PATIENT]
     wrong, folder = changed(right, PLAIN_WORD, kit.folder / "plain_word.c"), kit.folder / "accesses"
     found = nicdrive(folder, [wrong, *how], 1)
-    expect(rows_of(folder)[row], r"race: card\+0x\w+, 4 bytes: .* at plain_word\.c:\d+ .*no order between", "a word")
+    wanted = r"race: card\+0x\w+, 4 bytes: .* at plain_word\.c:\d+ .*without an order between"
+    expect(rows_of(folder)[row], wanted, "a word")
     passes = nicdrive(folder, [right, *how], 0)
     if "aren't seen" in found + passes:
         raise Wrong(f"accesses of {right} aren't seen:\n{passes}")
@@ -382,7 +382,7 @@ def check_aliases(kit: Kit) -> str:
         source = kit.folder / "writes_late.c"
         source.write_text(here.replace(enable, f"{{ {enable} nicx_write32({address}, nicx_read32({address})); }}"))
         row = kit.card(kit.build(source), 1, "--rows", "setup-reception-last", *words)["setup-reception-last"]
-        expect(row, f"{name} is set up after RXCTRL.RXEN", address)
+        expect(row, f"{name} is written after RXCTRL.RXEN", address)
     return f"registers' other addresses: {states.count('passed')} rows passed, {len(LATE)} late writes named"
 
 
@@ -426,7 +426,7 @@ def check_stores(kit: Kit) -> str:
     for mode in ("STORE_BEHIND_A_PIECE", "STORE_GIVEN_BACK"):
         folder = kit.folder / f"stores-{mode}"
         nicdrive(folder, [HERE / "tests/faulty.c", f"--flags=-DMODE={mode}", *words], 1)
-        wanted = r"memory: receive0 at faulty\.c:\d+( < \S+)? writes 0x\w+, which isn't lent: \d+ bytes beyond"
+        wanted = r"memory: receive0 at faulty\.c:\d+( < \S+)? writes 0x\w+, which isn't lent: \d+ bytes past the end"
         expect(rows_of(folder)["receive-one"], wanted, mode)
     return "lines of stores by pointers"
 
@@ -549,12 +549,12 @@ def check_adapter(kit: Kit, sanitized: list[str] | None) -> str:
 # Rows in which a driver that does nothing doesn't fail, and what they report about it.
 IDLE = {
     "setup-transmit-order": "TXDCTL.ENABLE was never written",
-    "setup-tail-order": "RDT was never moved",
+    "setup-tail-order": "RDT was never advanced",
     "setup-head-order": "neither RDH nor TDH was written",
     "setup-reception-last": "RXCTRL.RXEN was never written",
     "setup-masked-before-reset": "CTRL.RST was never written",
     "setup-masked-after-reset": "CTRL.RST was never written",
-    "setup-ring-values": "RDLEN was never written; RDT was never moved",
+    "setup-ring-values": "RDLEN was never written; RDT was never advanced",
     "setup-buffer-values": "SRRCTL was never written",
     "setup-address-values": "RAH was never written",
     "setup-thresholds": "TXDCTL.ENABLE was never written",
@@ -562,15 +562,15 @@ IDLE = {
     "setup-moderation": "EITR was never written",
     "setup-hash": "MRQC never asked for a hash",
     "interrupt-rearm-alone": "all queues share one vector",
-    "open-amid-frames": "no frame came to queue 0; no frame was on its way in during open",
-    "close-amid-frames": "no frame came to queue 0; no frame was on its way in during close",
-    "close-amid-sends": "no frame went out by queue 0; no frame was on its way out during close",
-    "close-amid-all": "no message came for queue 0",
-    "memory-refused": "memory was never refused; no frame came to queue 0",
-    "suspend-quiet": "no frame came to queue 0; no frame was on its way in during suspend",
-    "reset-amid-receive": "no frame came to queue 0; no frame was on its way in during reset",
-    "mtu-shrinks": "no frame was dropped for its length",
-    "function-close": "no frame went out by queue 0",
+    "open-amid-frames": "no frame arrived in queue 0; no frame was being received during open",
+    "close-amid-frames": "no frame arrived in queue 0; no frame was being received during close",
+    "close-amid-sends": "no frame was transmitted by queue 0; no frame was being transmitted during close",
+    "close-amid-all": "no message was sent for queue 0",
+    "memory-refused": "no allocation was refused; no frame arrived in queue 0",
+    "suspend-quiet": "no frame arrived in queue 0; no frame was being received during suspend",
+    "reset-amid-receive": "no frame arrived in queue 0; no frame was being received during reset",
+    "mtu-shrinks": "no frame was dropped because of its length",
+    "function-close": "no frame was transmitted by queue 0",
 }
 
 
@@ -588,7 +588,7 @@ class Edit:
 TAKES_RSS = "    driver.rss = *wanted;\n"
 NO_RSS = {"        .rss = rss,\n": "", "driver.has_rss = driver.setup.queues > 1;": "driver.has_rss = false;"}
 EDITS = {
-    "rings are longer": Edit(
+    "the rings are longer": Edit(
         {"driver.setup = *setup;": "driver.setup = *setup; driver.setup.slots = 32;"},
         {
             "receive-burst": "not reached: the receive ring was never full",
@@ -600,15 +600,15 @@ EDITS = {
     "all flows go to queue 0": Edit(
         {TAKES_RSS: TAKES_RSS + "    memset(driver.rss.table, 0, sizeof driver.rss.table);\n"},
         {
-            "two-queues": "not reached: no frame came to queue 1",
-            "interrupt-two-queues": "not reached: no frame came to queue 1; no message came for queue 1",
+            "two-queues": "not reached: no frame arrived in queue 1",
+            "interrupt-two-queues": "not reached: no frame arrived in queue 1; no message was sent for queue 1",
         },
     ),
     "no rss": Edit(NO_RSS, dict.fromkeys(("two-queues", "interrupt-two-queues"), "all frames came to queue 0")),
     "mtu does nothing": Edit(
         {"static bool mtu(uint32_t frame)\n{": "static bool mtu(uint32_t frame)\n{ if (frame) return true;",
          "        .send = send,\n": ""},
-        {"mtu-grows": "not reached: the longest frame was never handed up"},
+        {"mtu-grows": "not reached: the longest frame was never delivered"},
     ),
     "one vector": Edit(
         {"low = 0x80 | 2 * pair, high = low + 1": "low = 0x80, high = low",
@@ -618,7 +618,7 @@ EDITS = {
     ),
     "large buffers": Edit(
         {"PART = 2048": "PART = 6144"},
-        {"resize-amid-chains": "not reached: no frame came in several slots"},
+        {"resize-amid-chains": "not reached: no frame filled several slots"},
         "NICD_ONE_BUFFER",
     ),
     "no intervals": Edit(
@@ -641,7 +641,7 @@ EDITS = {
          "        poll(number, BUG": "        for (; BUG == NONE; nicx_wait())\n"
          "            if (number < driver.setup.queues) deliver_all(number, (uint16_t)number);\n"
          "    if (BUG != NONE)\n        poll(number, BUG"},
-        {"interrupt-receive": "not reached: no message came for queue 0"},
+        {"interrupt-receive": "not reached: no message was sent for queue 0"},
         defines=("THREADS",),
     ),
 }  # fmt: skip
@@ -703,12 +703,12 @@ def check_reached(kit: Kit, each: int = 1) -> str:
 
 # What is reported if a setting was lost.
 KEPT = {
-    "filter": "came in, and the filter doesn't say so \\(all frames were let in, and no longer are; then ",
-    "list": "didn't come in, and the filter says so|came in, and the filter doesn't say so",
-    "promiscuous": "didn't come in, and the filter says so \\(all frames are let in; then ",
-    "mtu": "of 4096 bytes didn't come in, and 4096 bytes were agreed|send is refused in queue 0 for ever",
-    "rss": "came by queue \\d, and is to come by \\d",
-    "rings": "came to a ring of 128 bytes, and 16 slots were asked for|was never handed up",
+    "filter": "was received, but the filter doesn't accept it \\(all frames were accepted, then no longer; then ",
+    "list": "wasn't received, but the filter accepts it|was received, but the filter doesn't accept it",
+    "promiscuous": "wasn't received, but the filter accepts it \\(all frames are accepted; then ",
+    "mtu": "of 4096 bytes wasn't received, but the agreed length|send on queue 0 fails forever",
+    "rss": "arrived in queue \\d instead of \\d",
+    "rings": "by a ring of 128 bytes, but 16 slots were requested|never reached the caller",
 }
 
 # Prints what the command does about pages if a row failed, given a toolchain and the programs of ./nicbench that exist.
@@ -788,7 +788,7 @@ def check_files(kit: Kit) -> str:
     if (suite.get("tests"), suite.get("failures"), suite.get("skipped")) != ("3", "1", "1"):
         raise Wrong(f"card.xml counts {suite.attrib}")
     page = (before / "card.html").read_text()
-    for wanted in ("setup-crc", "RDRXCTL.CRCSTRIP isn&#x27;t what HLREG0.RXCRCSTRP is", "not applicable: no send"):
+    for wanted in ("setup-crc", "RDRXCTL.CRCSTRIP differs from HLREG0.RXCRCSTRP", "not applicable: no send"):
         if wanted not in page:
             raise Wrong(f"card.html has no {wanted}")
     found = re.search(r'href="(setup-crc\.html)#p(\d+)"', page)

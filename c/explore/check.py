@@ -181,10 +181,10 @@ def check_corpus(kit: Kit, runs: int, preemptions: int, each: int = 1) -> str:
 # How each bug of these drivers must be reported.
 OUTSIDE = {
     "interrupt_moderation": "end: a frame wasn't taken",
-    "mailbox_withdrawn_request": "end: the function doesn't know its address",
-    "ring_resize_jumbo": "check: a frame isn't whole",
+    "mailbox_withdrawn_request": "end: the function never learned its address",
+    "ring_resize_jumbo": "check: a frame is incomplete",
     "rss_rebalance": "end: the frames of a flow are out of order",
-    "transmit_watchdog": "end: (the frames that went out aren't those that were sent|more frames went out)",
+    "transmit_watchdog": "end: (the frames on the wire aren't the ones sent|more frames were transmitted)",
 }
 
 
@@ -202,10 +202,10 @@ def check_outside(kit: Kit, runs: int, each: int = 1) -> str:
 # --- the examples ---
 
 PMD_BUGS = {
-    1: "check: a packet was handed out that isn't one",
-    2: "end: a frame went out with the bytes of another",
-    3: "end: a frame didn't go out",
-    4: "end: idle is reported, and a packet is outstanding",
+    1: "check: the driver handed out a block that holds no packet",
+    2: "end: a frame was transmitted with another frame's bytes",
+    3: "end: a frame was never transmitted",
+    4: "end: the driver reports idle while a packet is outstanding",
 }
 
 
@@ -214,8 +214,8 @@ def check_examples(kit: Kit, runs: int) -> str:
     out = kit.out("examples")
     words = ["--quiet", "--jobs", 2, "--out", out]
     race, pmd = HERE / "examples/race.c", HERE / "examples/pmd.c"
-    told(ran([kit.build(race), *words], 1), "FAILED end: a frame lies in the ring", "race")
-    told(ran([kit.build(race, "FIXED"), *words, "--strategy", "exhaustive"]), "these are all schedules", "race, fixed")
+    told(ran([kit.build(race), *words], 1), "FAILED end: a frame is in the ring", "race")
+    told(ran([kit.build(race, "FIXED"), *words, "--strategy", "exhaustive"]), "searched all schedules", "race, fixed")
     for bug, wanted in PMD_BUGS.items():
         told(ran([kit.build(pmd, f"BUG={bug}"), *words], 1), f"FAILED {wanted}", f"pmd, bug {bug}")
     right = kit.build(pmd)
@@ -234,34 +234,35 @@ FAULTS = {
     "lines": "end: rx 0: nobody\u00e9 takes it; int 5: no message\n",
     "always": "always: the head moved",
     "locks": "deadlock: (up|down) waits for (first|second), which (up|down) holds",
-    "waits": r"deadlock: faulty waits( at faulty\.c:\d+)?, and nobody can act\n",
-    "endless": r"endless: no end after 200 points; last came task faulty: does its loop need nicx_wait\?",
-    "ticks": r"endless: no end after 200 points; last came .*: tick fires over and over: is it armed each time\?",
+    "waits": r"deadlock: faulty waits( at faulty\.c:\d+)?, and no actor can act\n",
+    "endless": r"endless: no end after 200 points; the last to act was task faulty: does its loop need nicx_wait\?",
+    "ticks": r"endless: .*; the last to act was .*: tick fires again and again: is it re-armed each time\?",
     "memory": r"memory: faulty at faulty\.c:\d+ reads 0x0, which isn't lent\n",
-    "unlock": "misuse: faulty unlocks first, which it doesn't hold",
-    "interrupts": "misuse: faulty ends with its interrupts off",
+    "unlock": "misuse: faulty unlocks first without holding it",
+    "interrupts": "misuse: faulty ends with its interrupts disabled",
     "check": "check: the head moved",
-    "crash": r"crash: the process (was ended by signal 11 .*|ended with status 1)",
-    "exit": "crash: the process ended with status 5",
-    "hang": r"hang: task faulty made no further point: does its loop need nicx_wait\?",
-    "look": "misuse: always makes a call that acts: it may only look",
+    "crash": r"crash: the process (was killed by signal 11 .*|exited with status 1)",
+    "exit": "crash: the process exited with status 5",
+    "hang": r"hang: task faulty reached no further point: does its loop need nicx_wait\?",
+    "look": "misuse: always calls a function with side effects: it may only read",
     "look_fails": "check: always asks",
-    "condition": "misuse: a condition of nicx_wait_until makes a call that acts: it may only look",
-    "settle": "misuse: faulty calls nicx_settle, which is for bring_up",
-    "settle_at_end": "misuse: nicx_settle is for bring_up",
-    "lend_all": "misuse: faulty calls nicx_lend_all, which is for bring_up",
-    "memory_in_place": "misuse: faulty calls nic_lend_memory, whose stores no search sees",
-    "memory_elsewhere": "misuse: faulty calls nic_lend_memory, whose stores no search sees",
-    "held": "misuse: faulty ends and holds second",
+    "condition": "misuse: a condition of nicx_wait_until calls a function with side effects: it may only read",
+    "settle": "misuse: faulty calls nicx_settle, which only bring_up may call",
+    "settle_at_end": "misuse: only bring_up may call nicx_settle",
+    "lend_all": "misuse: faulty calls nicx_lend_all, which only bring_up may call",
+    "memory_in_place": "misuse: faulty calls nic_lend_memory, but the search can't see stores",
+    "memory_elsewhere": "misuse: faulty calls nic_lend_memory, but the search can't see stores",
+    "held": "misuse: faulty ends while it holds second",
     "left": "misuse: begin doesn't initialize all of the driver's state: .* check: the twentieth schedule",
-    "beyond": r"deadlock: faulty waits at faulty\.c:\d+, and nobody can act; if that is a delay, call nicx_pause there",
+    "beyond": r"deadlock: faulty waits at faulty\.c:\d+, and no actor can act; if that is a delay, call "
+    r"nicx_pause there",
 }
 
 # Notes printed in addition, with the search's status.
 NOTES = {
-    "stray": (0, r"note: \d+ access(es)? of no register, the first by faulty: r 0x1f000 = 0x00000000 \(stray\)"),
+    "stray": (0, r"note: \d+ access(es)? to addresses without a register, the first by faulty: r 0x1f000 .*\(stray"),
     "beyond": (1, r"note: queue 5 isn't below \.queues, so it never goes on"),
-    "left": (1, "it doesn't fail alone: the same options, with as many processes, find it again"),
+    "left": (1, "it doesn't fail by itself: to find it again, use the same options"),
 }
 
 # Exactly what is reported as never having run, for each scenario.
@@ -269,99 +270,99 @@ NEVER = {
     "fine": [],
     "faults": [],
     "vector": [
-        "task poll never came past its first wait",
-        "handler isr never started: no message pf vector 5 came; there came pf vector 6",
+        "task poll never got past its first wait",
+        "handler isr never started: no message pf vector 5 was sent; these were sent: pf vector 6",
     ],
     "filter": [
-        "task poll never came past its first wait",
-        "handler isr never started: no message pf vector 5 came",
+        "task poll never got past its first wait",
+        "handler isr never started: no message pf vector 5 was sent",
         "no frame was ever written to memory: dropped filter",
     ],
     "all": [
-        "task poll never came past its first wait",
-        "handler isr never started: no message pf vector 5 came",
+        "task poll never got past its first wait",
+        "handler isr never started: no message pf vector 5 was sent",
         "no frame was ever written to memory: dropped filter",
     ],
     "slots": [
-        "task poll never came past its first wait",
-        "handler isr never started: no message pf vector 5 came",
-        "no frame was ever written to memory: it waits inside the device",
+        "task poll never got past its first wait",
+        "handler isr never started: no message pf vector 5 was sent",
+        "no frame was ever written to memory: it still waits inside the device",
     ],
-    "waits": ["task poll never came past its first wait"],
-    "queue": ["queue 0 was on, and sent nothing"],
-    "link": ["change 0 of the link, up, never changed it"],
+    "waits": ["task poll never got past its first wait"],
+    "queue": ["queue 0 was on but sent nothing"],
+    "link": ["link change 0 (up) had no effect"],
 }
 
 # Modes that must pass: loops that end, and two handlers for one vector.
 FINE = ("fine", "polls", "spins", "two", "descriptor", "handlers")
 
 REFUSALS = {
-    "stuck": "bring_up waits for ever, .*its last access: r RXDCTL.1. = 0x00000000; queue 1 isn't below .queues",
-    "stuck_spinning": "bring_up waits for ever, .*its last access: r RXDCTL.1. = 0x00000000; queue 1",
-    "begin_waits": "begin waits for ever, .*its last access: r RDH.0. = 0x00000000",
+    "stuck": "bring_up waits forever: .*its last access: r RXDCTL.1. = 0x00000000; queue 1 isn't below .queues",
+    "stuck_spinning": "bring_up waits forever: .*its last access: r RXDCTL.1. = 0x00000000; queue 1",
+    "begin_waits": "begin waits forever: .*its last access: r RDH.0. = 0x00000000",
     "refused": "bring_up: there is no cable",
     "checked": "bring_up: a check of the bring-up",
-    "memory_early": "bring_up: the scenario calls nic_lend_memory, whose stores no search sees",
-    "no_tasks": "begin names no task",
+    "memory_early": "bring_up: the scenario calls nic_lend_memory, but the search can't see stores",
+    "no_tasks": "begin creates no task",
     "name": "a task's or a handler's name has 1 to 63 letters",
-    "fifo": "there is no such device: bad fifo",
-    "queues": "its queues aren't 1 to 128",
-    "twice": "two tasks or handlers have the name faulty",
-    "group": "a handler is of a virtual function that there isn't",
-    "nowhere": "a handler is on a task that there isn't",
-    "stack": "its stack is below 16,384 bytes",
-    "memory_kind": "its memory isn't of enum nicx_memory",
-    "two_memories": "its memory is NICX_WEAK and NICX_TSO: choose one",
-    "vfs": "there is no such device: ",
-    "points": "its points are above 1,000,000",
-    "no_end": "it has no bring_up, begin or end",
-    "scenario": "its name isn't of 1 to 63 letters",
+    "fifo": "can't open the device: bad fifo",
+    "queues": ".queues must be 1 to 128",
+    "twice": "two tasks or handlers are named faulty",
+    "group": "a handler belongs to a virtual function that doesn't exist",
+    "nowhere": "a handler runs on a task that doesn't exist",
+    "stack": ".stack is below 16,384 bytes",
+    "memory_kind": ".memory isn't a value of enum nicx_memory",
+    "two_memories": ".memory is both NICX_WEAK and NICX_TSO: choose one",
+    "vfs": "can't open the device: ",
+    "points": ".points is above 1,000,000",
+    "no_end": ".bring_up, .begin and .end must all be set",
+    "scenario": ".name must have 1 to 63 letters",
 }
 
 WORDS = {
-    "--runs": "--runs: it wants a word after it",
-    "--runs 0": '"0" is no number of 1 to',
-    "--runs 12x": '"12x" is no number of 1 to',
-    "--seconds -1": '--seconds: "-1" is no number of seconds above 0 and up to 1000000000',
-    "--seconds 0x10": '"0x10" is no number of seconds',
-    "--seconds nan": '"nan" is no number of seconds',
-    "--seconds 1e10": '"1e10" is no number of seconds',
-    "--seconds": "--seconds: it wants a word after it",
-    "--strategy": "--strategy: it wants a word after it",
-    "--strategy best": "--strategy: it is random, priorities, exhaustive or mixed",
-    "--depth 17": '"17" is no number of 1 to 16',
-    "--jobs 257": '"257" is no number of 1 to 256',
-    "--jobs 1.5": '"1.5" is no number of 1 to 256',
-    "--jobs +4": '"\\+4" is no number of 1 to 256',
-    "--frames 3": "--frames: there is no such option",
-    "--nonsense 1": "--nonsense: there is no such option",
-    "words": "words: there is no such option",
-    "--memory": "--memory: it wants a word after it",
-    "--memory week": "--memory: it is weak, tso or strong",
-    "--seed 18446744073709551616": "is no number of 0 to",
-    "--preemptions 1001": '"1001" is no number of 0 to 1000',
-    "--shard": "--shard: it wants a word after it",
-    "--shard 2": "--shard: it is K/N, as 1/4",
-    "--shard /2": "--shard: it is K/N, as 1/4",
-    "--shard 1/": "--shard: it is K/N, as 1/4",
-    "--shard 0/2": '"0" is no number of 1 to 2',
-    "--shard 3/2": '"3" is no number of 1 to 2',
-    "--shard 1/65537": '"65537" is no number of 1 to 65536',
-    "--shard 1/2/3": '"2/3" is no number of 1 to 65536',
-    "--hang 0": '"0" is no number of 1 to 86400',
-    "--out /nowhere": "there is no such folder",
-    "--out /dev/null": "there is no such folder",
-    "--out": "--out: it wants a word after it",
-    "--out " + "./" * 510: "--out: the path of the folder is too long",
-    "--junit /nowhere/result.xml": "--junit: /nowhere/result.xml can't be written",
-    "--junit /tmp": "--junit: /tmp can't be written",
-    "--junit": "--junit: it wants a word after it",
-    "--result": "--result: it wants a word after it",
-    "--result /tmp": "--result: /tmp can't be written",
-    "--merge": "--merge: it wants a word after it",
-    "--lenient": "--lenient: it is for --replay",
-    "--replay /tmp": "/tmp: it can't be read",
-    "--replay /nowhere": "/nowhere: it can't be read",
+    "--runs": "--runs: missing value",
+    "--runs 0": "\"0\" isn't a number from 1 to",
+    "--runs 12x": "\"12x\" isn't a number from 1 to",
+    "--seconds -1": "--seconds: \"-1\" isn't a number of seconds above 0 and up to 1000000000",
+    "--seconds 0x10": "\"0x10\" isn't a number of seconds",
+    "--seconds nan": "\"nan\" isn't a number of seconds",
+    "--seconds 1e10": "\"1e10\" isn't a number of seconds",
+    "--seconds": "--seconds: missing value",
+    "--strategy": "--strategy: missing value",
+    "--strategy best": "--strategy: expected random, priorities, exhaustive or mixed",
+    "--depth 17": "\"17\" isn't a number from 1 to 16",
+    "--jobs 257": "\"257\" isn't a number from 1 to 256",
+    "--jobs 1.5": "\"1.5\" isn't a number from 1 to 256",
+    "--jobs +4": "\"\\+4\" isn't a number from 1 to 256",
+    "--frames 3": "--frames: no such option",
+    "--nonsense 1": "--nonsense: no such option",
+    "words": "words: no such option",
+    "--memory": "--memory: missing value",
+    "--memory week": "--memory: expected weak, tso or strong",
+    "--seed 18446744073709551616": "isn't a number from 0 to",
+    "--preemptions 1001": "\"1001\" isn't a number from 0 to 1000",
+    "--shard": "--shard: missing value",
+    "--shard 2": "--shard: expected K/N, for example 1/4",
+    "--shard /2": "--shard: expected K/N, for example 1/4",
+    "--shard 1/": "--shard: expected K/N, for example 1/4",
+    "--shard 0/2": "\"0\" isn't a number from 1 to 2",
+    "--shard 3/2": "\"3\" isn't a number from 1 to 2",
+    "--shard 1/65537": "\"65537\" isn't a number from 1 to 65536",
+    "--shard 1/2/3": "\"2/3\" isn't a number from 1 to 65536",
+    "--hang 0": "\"0\" isn't a number from 1 to 86400",
+    "--out /nowhere": "no such folder",
+    "--out /dev/null": "no such folder",
+    "--out": "--out: missing value",
+    "--out " + "./" * 510: "--out: the folder's path is too long",
+    "--junit /nowhere/result.xml": "--junit: can't write /nowhere/result.xml",
+    "--junit /tmp": "--junit: can't write /tmp",
+    "--junit": "--junit: missing value",
+    "--result": "--result: missing value",
+    "--result /tmp": "--result: can't write /tmp",
+    "--merge": "--merge: missing value",
+    "--lenient": "--lenient: only valid with --replay",
+    "--replay /tmp": "/tmp: can't read the file",
+    "--replay /nowhere": "/nowhere: can't read the file",
 }
 
 
@@ -388,7 +389,7 @@ def check_faults(kit: Kit) -> str:
     said = ran([program, "check", "--quiet", "--jobs", 2, "--out", f"{out}/"], 1)
     told(said, f"the schedule is {out}/faulty.schedule, the device's side of it {out}/faulty.nic", "a folder and a /")
     words = [program, "strange", "--quiet", "--jobs", 1, "--strategy", "exhaustive", "--out", out]
-    told(ran(words, 1), "misuse: a schedule went another way", "strange")
+    told(ran(words, 1), "misuse: a schedule ran differently the second time", "strange")
     for mode, (status, wanted) in NOTES.items():
         told(ran([program, mode, "--quiet", "--jobs", 2, "--runs", 100, "--out", out], status), wanted, mode)
     for mode in FINE:
@@ -418,7 +419,7 @@ def check_never(kit: Kit) -> str:
             suite = xml.etree.ElementTree.parse(out / "result.xml").getroot()
             if (suite.find("testcase/failure") is not None) != bool(wanted) or "FAILED" in strict:
                 raise Wrong(f"vacuous {mode}: by --strict the JUnit file has another end")
-    told(ran([program, "faults", "--runs", 9]), "note: faults are allowed, and none was met", "faults")
+    told(ran([program, "faults", "--runs", 9]), "note: faults are allowed, but none occurred", "faults")
     one = ran([program, "fine", "--quiet", "--jobs", 1, "--runs", 300])
     two = ran([program, "fine", "--quiet", "--jobs", 2, "--runs", 300])
     counts = [re.findall(r"(\d+) distinct schedules", said) for said in (one, two)]
@@ -429,27 +430,27 @@ def check_never(kit: Kit) -> str:
 
 # Chosen values and timers: what is printed, and the status.
 CHOICES = {
-    "fine": (0, "nothing was found"),
+    "fine": (0, "no failure was found"),
     "values": (1, "check: a value from 2 on, and one from 1 on"),
     "all": (1, "check: the last of all"),
     "inputs": (1, "end: three frames came"),
-    "endless": (1, "endless: no end after 200 points; last came nicx_choose"),
-    "none": (1, "misuse: nicx_choose has 1 to 256 values, and not 0"),
-    "many": (1, "misuse: nicx_choose has 1 to 256 values, and not 257"),
-    "hang": (1, "hang: task chooses made no further point"),
-    "early": (2, "bring_up: nicx_choose is for begin, tasks and handlers"),
-    "late": (1, "misuse: nicx_choose is for begin, tasks and handlers"),
-    "rest": (0, "note: timer other never fired\n.*nothing was found"),
-    "begin": (0, "note: timer other never fired\n.*nothing was found"),
-    "again": (0, "note: timer other never fired\n.*nothing was found"),
-    "twice": (0, "note: timer other never fired\n.*nothing was found"),
-    "bound": (0, "note: timer other never fired\n.*nothing was found"),
+    "endless": (1, "endless: no end after 200 points; the last to act was nicx_choose"),
+    "none": (1, "misuse: nicx_choose takes 1 to 256 values, not 0"),
+    "many": (1, "misuse: nicx_choose takes 1 to 256 values, not 257"),
+    "hang": (1, "hang: task chooses reached no further point"),
+    "early": (2, "bring_up: only begin, tasks and handlers may call nicx_choose"),
+    "late": (1, "misuse: only begin, tasks and handlers may call nicx_choose"),
+    "rest": (0, "note: timer other never fired\n.*no failure was found"),
+    "begin": (0, "note: timer other never fired\n.*no failure was found"),
+    "again": (0, "note: timer other never fired\n.*no failure was found"),
+    "twice": (0, "note: timer other never fired\n.*no failure was found"),
+    "bound": (0, "note: timer other never fired\n.*no failure was found"),
     "never": (0, "note: timer timer never fired\n.*note: timer other never fired"),
     "disarm": (1, "check: a timer fires that was disarmed"),
     "disarmed": (0, "note: timer timer never fired\n.*note: timer other never fired"),
     "sixth": (1, "check: the sixth point"),
     "first": (1, "check: the first point"),
-    "unknown": (1, "misuse: there is no timer 99"),
+    "unknown": (1, "misuse: no such timer: 99"),
 }
 
 # The values in the shrunk schedule: the lowest ones that fail.
@@ -474,9 +475,10 @@ def check_choices(kit: Kit) -> str:
             if status == 1 and mode not in ("hang", "endless"):
                 told(ran([program, mode, "--replay", schedule], 1), wanted, f"choices {mode}, again")
     whole = [program, "fine", "--quiet", "--jobs", 1, "--strategy", "exhaustive", "--preemptions", 0, "--no-sleep"]
-    told(ran(whole), "these are all schedules", "choices fine")
+    told(ran(whole), "searched all schedules", "choices fine")
     (out / "choices.schedule").write_text("scenario choices\ntask chooses\nvalue 5\n")
-    told(ran([program, "fine", "--replay", out / "choices.schedule"], 2), ':3: "value 5" can\'t act here', "a value")
+    refused = ran([program, "fine", "--replay", out / "choices.schedule"], 2)
+    told(refused, ':3: "value 5" can\'t act at this point', "a value")
     return f"{len(CHOICES)} scenarios with values and timers"
 
 
@@ -498,11 +500,11 @@ def check_weak(kit: Kit) -> str:
     ran([program, "--replay", schedule], 1)
     ran([program, "--replay", schedule, "--memory", "strong"], 1)
     schedule.write_text("\n".join(line for line in lines if line != "memory weak") + "\n")
-    told(ran([program, "--replay", schedule], 2), "can't act here|has no \"store|is over|somebody can", "no weak line")
+    told(ran([program, "--replay", schedule], 2), "can't act at this point|has no \"store|run ends|still", "no line")
     strong = kit.build(HERE / "corpus/length_before_dd.c", "FIXED")
     words = [strong, "--quiet", "--jobs", 2, "--out", out]
     ran(words)
-    told(ran([*words, "--memory", "weak"], 1), "FAILED end: a frame has another length than came", "by --memory weak")
+    told(ran([*words, "--memory", "weak"], 1), "FAILED end: a frame has the wrong length", "by --memory weak")
     ran([strong, "--replay", out / "length_before_dd.schedule"], 1)
     return said
 
@@ -532,7 +534,7 @@ def check_shards(kit: Kit) -> str:
 
     def made(*words: object, jobs: int = 1) -> int:
         said = ran([fixed, "--quiet", "--jobs", jobs, "--out", out, *words])
-        if "exhaustive" in words and "these are all schedules" not in said:
+        if "exhaustive" in words and "searched all schedules" not in said:
             raise Wrong(f"a shard doesn't come to its end:\n{said}")
         return int(re.findall(r": (\d+) schedules?,", said)[0])
 
@@ -575,27 +577,27 @@ def check_refusals(kit: Kit) -> str:
     schedule = out / "bad.schedule"
     fine = "scenario faulty\ntask faulty\n"
     for text, wanted in {
-        "": r"bad.schedule:0: it has no line",
-        "task faulty\n": r':1: the first line is "scenario NAME"',
-        "scenario other\n": r":1: it is a schedule of scenario other",
+        "": r"bad.schedule:0: missing line",
+        "task faulty\n": r':1: the first line must be "scenario NAME"',
+        "scenario other\n": r":1: the schedule is of scenario other",
         f"{fine}\n# words\ntask nobody\n": r':5: the scenario has no "task nobody"',
-        f"{fine}rx\n": r':3: "rx" can\'t act here',
-        f"{fine}handler isr\n": r':3: "handler isr" can\'t act here',
-        fine: r":2: the schedule ends, and somebody can act",
+        f"{fine}rx\n": r':3: "rx" can\'t act at this point',
+        f"{fine}handler isr\n": r':3: "handler isr" can\'t act at this point',
+        fine: r":2: the schedule ends, but an actor can still act",
         "scenario faulty\n" + "x" * 1100: r":2: the line is longer",
-        f"{fine}rx\0\n": r":3: it is no text",
-        "scenario faulty\npoints memory\n": r':2: points: "memory": no access is known',
-        "\0" * 600: r":1: it is no text",
+        f"{fine}rx\0\n": r":3: the line isn't printable ASCII",
+        "scenario faulty\npoints memory\n": r':2: points: "memory": no accesses are visible',
+        "\0" * 600: r":1: the line isn't printable ASCII",
     }.items():
         schedule.write_text(text)
         told(ran([program, "fine", "--replay", schedule], 2), wanted, repr(text))
     ran([program, "check", "--quiet", "--out", out], 1)
     schedule.write_text((out / "faulty.schedule").read_text() + "task other\n")
-    told(ran([program, "check", "--replay", schedule], 2), "all is over before this point", "a longer schedule")
+    told(ran([program, "check", "--replay", schedule], 2), "the run ends before this point", "a longer schedule")
     lost = out / "lost"
     (lost / "faulty.schedule").mkdir(parents=True, exist_ok=True)
     said = ran([program, "check", "--quiet", "--out", lost], 1)
-    told(said, "faulty.schedule: it can't be written", "a schedule without a file")
+    told(said, "faulty.schedule: can't write the file", "a schedule without a file")
     told(said, "scenario faulty\n(?:.*\n)*task faulty +# r RDH", "a schedule without a file")
     return f"{len(REFUSALS) + len(WORDS) + 13} refusals"
 
@@ -604,9 +606,9 @@ def check_refusals(kit: Kit) -> str:
 
 MISSING = {
     "count": r"note: count\(\) in task \w+ (reads and writes driver|touches driver at unpointed.c:\d+ and driver) at "
-    r"unpointed.c:\d+ with no point in between, and count\(\) in task \w+ touches driver too, at unpointed.c:\d+: call "
-    r"nicx_point\(\) in between, or compile with -fsanitize=thread and link with @nic82599_threads.opts",
-    "push": r"note: push\(\) in task \w+ touches .* with no point in between, and push\(\) in task",
+    r"unpointed.c:\d+ without a point in between, and count\(\) in task \w+ touches driver too, at unpointed.c:\d+: "
+    r"call nicx_point\(\) in between, or compile with -fsanitize=thread and link with @nic82599_threads.opts",
+    "push": r"note: push\(\) in task \w+ touches .* without a point in between, and push\(\) in task",
 }
 POINTED = {"count": "FAILED end: a count is lost", "push": "FAILED end: a slot is lost"}
 
@@ -626,10 +628,10 @@ def check_unpointed(kit: Kit) -> str:
         told(ran([silent, mode, *words, "--strategy", "exhaustive", "--preemptions", 2]), wanted, mode)
         found = ran([pointed, mode, *words], 1) + ran([seen, mode, *words], 1)
         told(found, f"{POINTED[mode]}(.*\n)*.*FAILED race: driver", mode)
-        if "no point in between" in found:
+        if "without a point in between" in found:
             raise Wrong(f"unpointed {mode}: a point is reported as missing that is there:\n{found}")
     for mode in ("locked", "flags", "atomic"):
-        if "no point in between" in ran([silent, mode, *words]):
+        if "without a point in between" in ran([silent, mode, *words]):
             raise Wrong(f"unpointed {mode}: a point is reported as missing that no schedule needs")
     wanted = r"note: interrupted\(\) in task one .* and interrupt\(\) in handler"
     told(ran([silent, "interrupt", *words]), wanted, "interrupt")
@@ -667,9 +669,9 @@ def check_apart(kit: Kit) -> str:
     words = ["--quiet", "--jobs", 1, "--strategy", "exhaustive", "--preemptions", "any", "--out", out]
     for mode in ("fine", "free"):
         said = ran([program, mode, *words])
-        told(said, "these are all schedules", f"apart {mode}")
+        told(said, "searched all schedules", f"apart {mode}")
         counts.append(int(re.findall(r": (\d+) schedules?,", said)[0]))
-        told(ran([program, mode.replace("fine", "bug").replace("free", "bug-free"), *words], 1), "didn't go out", mode)
+        told(ran([program, mode.replace("fine", "bug").replace("free", "bug-free"), *words], 1), "transmitted", mode)
     if counts[1] * 3 > counts[0]:
         raise Wrong(f"apart: {counts[0]} schedules, and {counts[1]} where it is race-free")
     return f"{counts[0]} schedules, {counts[1]} where the scenario is race-free"
@@ -689,24 +691,24 @@ FORM_FAULTS = {
     "orders": r"deadlock: (run|thread-1) waits for (first|second) at pthreads\.c:\d+, held by (run|thread-1) since "
     r"pthreads\.c:\d+; (run|thread-1) waits for (first|second) at pthreads\.c:\d+, held by",
     "again": r"deadlock: run waits for first at pthreads\.c:\d+, and holds it itself since pthreads\.c:\d+",
-    "held": r"misuse: thread-1 ends and holds first, which it took at pthreads\.c:\d+",
-    "not_held": r"misuse: run unlocks first at pthreads\.c:\d+, and doesn't hold it",
-    "destroyed": r"misuse: run uses first at pthreads\.c:\d+, which was destroyed",
-    "without": r"misuse: run calls pthread_cond_wait at pthreads\.c:\d+ with first, which it doesn't hold",
-    "lost": r"deadlock: run waits in pthread_cond_wait for changed at pthreads\.c:\d+, and nobody can act",
-    "wait_for_nobody": r"deadlock: run waits in sem_wait for semaphore at pthreads\.c:\d+, and nobody can act",
-    "cancel": r"misuse: run calls pthread_cancel at pthreads\.c:\d+, which isn't turned into steps",
-    "poll": r"misuse: run calls poll at pthreads\.c:\d+, which isn't turned into steps",
-    "too_many": r"misuse: run calls pthread_create at pthreads\.c:\d+, and all 16 tasks are taken",
-    "overflow": "crash: thread-1 runs over its stack of 65536 bytes",
-    "small_stack": "crash: thread-1 runs over its stack of 32768 bytes",
+    "held": r"misuse: thread-1 ends while it holds first, taken at pthreads\.c:\d+",
+    "not_held": r"misuse: run unlocks first at pthreads\.c:\d+ without holding it",
+    "destroyed": r"misuse: run uses first at pthreads\.c:\d+ after it was destroyed",
+    "without": r"misuse: run calls pthread_cond_wait at pthreads\.c:\d+ with first, but doesn't hold it",
+    "lost": r"deadlock: run waits in pthread_cond_wait for changed at pthreads\.c:\d+, and no actor can act",
+    "wait_for_nobody": r"deadlock: run waits in sem_wait for semaphore at pthreads\.c:\d+, and no actor can act",
+    "cancel": r"misuse: run calls pthread_cancel at pthreads\.c:\d+, which the explorer can't schedule",
+    "poll": r"misuse: run calls poll at pthreads\.c:\d+, which the explorer can't schedule",
+    "too_many": r"misuse: run calls pthread_create at pthreads\.c:\d+, but all 16 tasks are in use",
+    "overflow": "crash: thread-1 overflows its stack of 65536 bytes",
+    "small_stack": "crash: thread-1 overflows its stack of 32768 bytes",
 }
 
 # What is reported for these modes without the link form.
 REAL_FAULTS = {
-    "thread": r"misuse: a thread that is no task makes a call of the explorer's: link with @nic82599_threads\.opts",
-    "lock": r"hang: task \w+ waits for a lock of the process, .*: link with @nic82599_threads\.opts",
-    "stack": "crash: two runs over its stack of 20480 bytes",
+    "thread": r"misuse: a thread that isn't a task calls the explorer: link with @nic82599_threads\.opts",
+    "lock": r"hang: task \w+ waits for a lock that the explorer doesn't control, .*: link with @nic82599_threads\.opts",
+    "stack": "crash: two overflows its stack of 20480 bytes",
 }
 
 
@@ -730,19 +732,19 @@ def check_form(kit: Kit) -> str:
     for mode in ("orders", "again", "held", "lost"):
         ran([program, mode, *words], 1)
         told(ran([program, mode, "--replay", out / "pthreads.schedule"], 1), f"FAILED {FORM_FAULTS[mode]}", mode)
-    told(ran([program, "early", "--quiet"], 2), "pthread_create at .*: threads are made in tasks", "early")
+    told(ran([program, "early", "--quiet"], 2), "pthread_create at .*: only tasks may create threads", "early")
     real = replace(kit, flags=[*kit.flags, "-pthread"]).build(HERE / "tests/real_threads.c")
     for mode, wanted in REAL_FAULTS.items():
         if mode != "stack" or "-fsanitize=address,undefined" not in kit.flags:
             told(ran([real, mode, *words, "--no-shrink"], 1), f"FAILED {wanted}", mode)
-    told(ran([real, "thread_early", "--quiet"], 2), "a thread that is no task makes a call", "thread_early")
+    told(ran([real, "thread_early", "--quiet"], 2), "a thread that isn't a task calls the explorer", "thread_early")
     return f"{len(modes)} uses of a driver's own threads"
 
 
 CPP = {
-    "MUTEX": "nothing was found",
+    "MUTEX": "no failure was found",
     "LOST": r"FAILED deadlock: run waits in pthread_cond_wait",
-    "ORDER=seq_cst": "nothing was found",
+    "ORDER=seq_cst": "no failure was found",
     "ORDER=relaxed": r"FAILED race: \(anonymous namespace\)::driver\+0x\w+, 4 bytes: run at std_threads\.cc:\d+ "
     r"reads, and thread-1 at std_threads\.cc:\d+ wrote it before",
 }
@@ -773,9 +775,9 @@ def check_points_line(program: Path, schedule: Path) -> None:
         told(ran([*words, *more], 1), "FAILED race: data", "a line of points")
     for bad in ("registers", "memory:", "memory:two names", "memory:" + "x" * 96, "memories"):
         schedule.write_text(text.replace(line, f"points {bad}\n"))
-        told(ran(words, 2), f'points: "{bad[:100]}": it is memory, or memory:NAME', f"points {bad}")
+        told(ran(words, 2), f'points: "{bad[:100]}": expected memory, or memory:NAME', f"points {bad}")
     schedule.write_text(text.replace(line, "") + line)
-    told(ran([*words, "--points", "memory:data"], 2), "stands in front of the first point", "a late line of points")
+    told(ran([*words, "--points", "memory:data"], 2), "must precede the first point", "a late line of points")
     schedule.write_text(text.replace(line, ""))
     ran(words, 2)
     told(ran([*words, "--points", "memory:data"], 1), "FAILED race: data", "no line of points")
@@ -790,7 +792,7 @@ def check_races(kit: Kit) -> str:
         for mode in modes:
             said = ran([program, mode, *words, "--runs", 500], 1 if mode.startswith("no_") else 0)
             if mode.startswith("no_"):
-                told(said, r"FAILED race: .*races\.c:\d+ (it before|writes|reads)?.*with no order between them", mode)
+                told(said, r"FAILED race: .*races\.c:\d+ (it before|writes|reads)?.*without an order between", mode)
         points = ["--points", "memory:data"]
         told(ran([program, "no_lock", *words, *points], 1), "again: .*/races.schedule\n", "points")
         check_points_line(program, out / "races.schedule")
@@ -842,7 +844,7 @@ def check_freed(kit: Kit) -> str:
             told(ran([right, mode, "--replay", out / "freed.schedule", "--lenient"]), ": fine", f"{mode}, fixed")
     bounds = ["--strategy", "exhaustive", "--preemptions", 2]
     told(ran([wrong, "timer", *words, *bounds], 1), "FAILED memory: use after free", "timer, exhaustive")
-    told(ran([right, "timer", *words, *bounds]), "these are all schedules", "timer, fixed")
+    told(ran([right, "timer", *words, *bounds]), "searched all schedules", "timer, fixed")
     return f"{sum(map(bool, FREED.values()))} uses of freed memory"
 
 
@@ -862,12 +864,12 @@ NAMED: dict[str, tuple[str, list[str], str]] = {
     ),
     "signals": (
         "check: shown",
-        ["pthread_cond_signal changed, and nobody waits", "pthread_cond_broadcast changed, and nobody waits"],
+        ["pthread_cond_signal changed, while nothing waited", "pthread_cond_broadcast changed, while nothing waited"],
         "condition changed",
     ),
     "helper": (
         r"race: flag, 4 bytes: \w+ at named\.c:\d+ < named\.c:\d+ (reads|writes), and \w+ at named\.c:\d+ < "
-        r"named\.c:\d+ (read|wrote) it before, with no order between them",
+        r"named\.c:\d+ (read|wrote) it before, without an order between them",
         [],
         "",
     ),
@@ -890,7 +892,7 @@ NAMED: dict[str, tuple[str, list[str], str]] = {
         "rx 0 slot 1",
     ),
     "delay": (
-        r"deadlock: receive waits at named\.c:\d+ < named\.c:\d+, and nobody can act; if that is a delay, call "
+        r"deadlock: receive waits at named\.c:\d+ < named\.c:\d+, and no actor can act; if that is a delay, call "
         "nicx_pause there",
         [],
         "",
@@ -937,10 +939,10 @@ def check_named(kit: Kit) -> str:
     return f"{len(NAMED)} failures by names"
 
 
-UNSEEN = "plain accesses and atomics aren't seen, so no bug in their order is found: compile with -fsanitize=thread"
+UNSEEN = "the search can't see plain accesses and atomics, so it misses bugs in their order: compile with -fsanitize"
 
 # What is reported for these drivers, which break only if another thread acts just before a call takes effect.
-IN_VAIN = r".*, and nobody can act; thread-1 signalled it at points\.c:\d+, and nobody waited\n"
+IN_VAIN = r".*, and no actor can act; thread-1 signalled it at points\.c:\d+, but nothing was waiting\n"
 POINTS = {
     "wait": rf"deadlock: run waits in pthread_cond_wait for changed at points\.c:\d+{IN_VAIN}",
     "broadcast": rf"deadlock: run waits in pthread_cond_wait for changed at points\.c:\d+{IN_VAIN}",
@@ -965,7 +967,7 @@ def check_points(kit: Kit) -> str:
             told(schedule, r"# thrd_create wake11 at points\.c:\d+ .*\n", "a thread of C11")
             told(schedule, r"task thread-1 +# begins at points\.c:\d+\n", "a thread of C11")
         bounds = ["--strategy", "exhaustive", "--preemptions", 2]
-        told(ran([right, mode, *words, *bounds]), "these are all schedules", f"{mode}, fixed")
+        told(ran([right, mode, *words, *bounds]), "searched all schedules", f"{mode}, fixed")
     source = HERE / "tests/main_returns.c"
     program, twin = (
         kit.build_form(source, *defines, of_memory=True, form="program") for defines in ([], ["FIXED"])
@@ -993,7 +995,7 @@ def check_assembly(kit: Kit) -> str:
     words = ["--quiet", "--jobs", 1, "--runs", 5]
     for define, name in barriers.items():
         said = ran([kit.build_form(source, f"BARRIER={define}", of_memory=True), *words])
-        wanted = rf"assembly: inline assembly isn't seen, so {name} at assembly\.c:\d+ orders nothing"
+        wanted = rf"assembly: the search can't see inline assembly, so {name} at assembly\.c:\d+ orders nothing"
         told(said.splitlines()[0], wanted, define)
     distance = ["BARRIER=DISTANCE", "PADDED"] if os.uname().machine == "x86_64" else []
     if "inline assembly" in ran([kit.build_form(source, *distance, of_memory=True), *words]):
@@ -1006,8 +1008,8 @@ def check_assembly(kit: Kit) -> str:
     return f"{len(barriers)} barriers by inline assembly"
 
 
-STOPPED = "end: the queue stays stopped, though a descriptor is free"
-UNSEEN_ATOMICS = "with weak memory the search has to see the driver's atomics and fences: compile it with -fsanitize"
+STOPPED = "end: the queue stays stopped, although a descriptor is free"
+UNSEEN_ATOMICS = "weak memory needs the driver's atomics and fences: compile the driver with -fsanitize"
 
 
 def check_own_memory(kit: Kit) -> str:
@@ -1029,7 +1031,7 @@ def check_own_memory(kit: Kit) -> str:
             told(ran([wrong, mode, "--replay", schedule], 1), late, f"{mode}, {memory}")
             told(ran([right, mode, "--replay", schedule, "--lenient"]), ": fine", f"{mode}, {memory}, fixed")
             ran([right, *words, "--memory", memory, "--runs", 1000])
-    told(ran([right, "flags", *words[1:], *every, "--memory", "tso"]), "these are all schedules", "tso, fixed")
+    told(ran([right, "flags", *words[1:], *every, "--memory", "tso"]), "searched all schedules", "tso, fixed")
     blind = kit.build_form(source)
     for memory in ("tso", "weak"):
         told(ran([blind, "flags", "--memory", memory], 2), UNSEEN_ATOMICS, f"{memory}, unseen")
@@ -1051,7 +1053,7 @@ def check_program(kit: Kit, runs: int) -> str:
         said = ran([twin, *words, "--runs", runs, "--strict"])
         if (UNSEEN in said) == of_memory:
             raise Wrong(f"it isn't said whether accesses are seen:\n{said}")
-        told(ran([twin, *words, "--runs", 2, "--", 1]), "nothing was found", "forwarder with one frame")
+        told(ran([twin, *words, "--runs", 2, "--", 1]), "no failure was found", "forwarder with one frame")
     with open(schedule.replace(".schedule", ".nic"), encoding="ascii") as script:
         if not ran([kit.nicbench, "run", "--fifo", 64], stdin=script).splitlines()[-1].startswith("ok "):
             raise Wrong("the script of a program doesn't end with ok")

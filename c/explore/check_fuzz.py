@@ -11,7 +11,7 @@ from explore.check import HERE, STRICT, C, Kit, Wrong, ran, told
 
 RACE = HERE / "examples/race.c"
 HARNESS = HERE / "fuzz/fuzz.c"
-FAILS = "a frame lies in the ring, and nobody comes for it"
+FAILS = "a frame is in the ring, but nothing will poll it"
 
 
 def built(kit: Kit, name: str, compiler: str, *words: str) -> Path:
@@ -35,8 +35,8 @@ def check_inputs(kit: Kit) -> int:
         again = ran([race, "--replay", kit.folder / "race.schedule"], int(is_failing))
         told(again, f"FAILED end: {FAILS}" if is_failing else "race: fine", f"input {given.hex()}")
         failing += is_failing
-    told(ran([show, "/nowhere"], 2), "/nowhere: it can't be read", "an input that isn't there")
-    told(ran([show], 2), "it wants the file of an input", "no input")
+    told(ran([show, "/nowhere"], 2), "/nowhere: can't read the file", "an input that isn't there")
+    told(ran([show], 2), "give it an input file", "no input")
     return failing
 
 

@@ -37,7 +37,7 @@ def points_of(schedule: str) -> list[str]:
 
 def check_shrinking(kit: Kit, program: Path) -> str:
     """What a failure doesn't need is left out; what `end` counts isn't."""
-    left = "without 2 tasks, 1 handler, 4 frames, 4 changes of the link"
+    left = "without 2 tasks, 1 handler, 4 frames, 4 link changes"
     seen = []
     for seed in range(1, 6):
         said, schedule = found_by(kit, program, "much", "--seed", seed)
@@ -45,10 +45,10 @@ def check_shrinking(kit: Kit, program: Path) -> str:
         if not numbers or not int(numbers[1]) > 40 or not int(numbers[3]) < 18 or left not in said:
             raise Wrong(f"reported much isn't shrunk to what it needs:\n{said}")
         told(schedule, "without task watch\nwithout task count\nwithout handler isr\n", "reported much")
-        told(said, "it goes wrong at point", "reported much")
+        told(said, "point of no return: point", "reported much")
         seen.append((int(numbers[1]), int(numbers[3])))
     said, schedule = found_by(kit, program, "counted")
-    if "without 2 tasks, 1 handler, 4 changes of the link\n" not in said or points_of(schedule).count("arrive") != 6:
+    if "without 2 tasks, 1 handler, 4 link changes\n" not in said or points_of(schedule).count("arrive") != 6:
         raise Wrong(f"reported counted is shrunk by frames that its end asks for:\n{said}{schedule}")
     ran([program, "fixed", "--quiet", "--runs", 500, "--out", kit.folder])
     return ", ".join(f"{found} points shrunk to {shrunk}" for found, shrunk in seen)
@@ -57,30 +57,30 @@ def check_shrinking(kit: Kit, program: Path) -> str:
 def check_cycle(kit: Kit, program: Path) -> str:
     """An endless schedule is reported with its cycle, once."""
     said, schedule = found_by(kit, program, "round")
-    told(said, r"FAILED endless: .*\n.*shrunk by \d+ tries to \d+ and \d+, the last \d over and over", "reported round")
+    told(said, r"FAILED endless: .*\n.*shrunk by \d+ tries to \d+ and \d+, the last \d points repeating", "round")
     points, lines = points_of(schedule), schedule.splitlines()
     where = next(number for number, line in enumerate(lines) if line.startswith("cycle "))
     round_of = points_of("\n".join(lines[where + 1 :]))
     if len(points) > 12 or not {"task one", "task other"} == set(round_of):
         raise Wrong(f"reported round: a longer cycle than it needs, or another:\n{schedule}")
     again = ran([program, "round", "--replay", kit.folder / "reported-out/reported.schedule"], 1)
-    told(again, f"and so on: the last {len(round_of)} over and over", "reported round")
+    told(again, f"and so on: the last {len(round_of)} points repeat", "reported round")
     script = (kit.folder / "reported-out/reported.nic").read_text()
     if script.count("# task one: ") != points.count("task one"):
         raise Wrong(f"reported round: its script has other steps than its schedule:\n{script}")
     file = kit.folder / "reported-out/round.schedule"
     for text, wanted in {
         "scenario reported\ntask one\ncycle\n": ":3: the cycle has no point",
-        "scenario reported\ncycle\ntask one\ncycle\n": ":4: there is another cycle before it",
-        "scenario reported\ntask one\nwithout task other\n": ":3: what is left out stands in front of the first point",
+        "scenario reported\ncycle\ntask one\ncycle\n": ":4: the file already has a cycle",
+        "scenario reported\ntask one\nwithout task other\n": ":3: \"without\" lines must precede the first point",
         "scenario reported\nwithout frame 2\n": ':2: the scenario has no "frame 2"',
         "scenario reported\nwithout frame 18446744073709551617\n": ":2: the scenario has no",
         "scenario reported\nwithout task nobody\n": ':2: the scenario has no "task nobody"',
         "scenario reported\nwithout task \x7f\n": ':2: the scenario has no "task \\?"',
         "scenario reported\ntask \x9b31m\n": ':2: the scenario has no "task \\?\\?31m"',
         "scenario reported\nwithout rx\n": ':2: the scenario has no "rx"',
-        "scenario reported\nwithout task other\ntask other\n": ':3: "task other" can\'t act here',
-        "scenario reported\ntask one\ncycle\nrx\n": ':4: "rx" can\'t act here',
+        "scenario reported\nwithout task other\ntask other\n": ':3: "task other" can\'t act at this point',
+        "scenario reported\ntask one\ncycle\nrx\n": ':4: "rx" can\'t act at this point',
     }.items():
         file.write_text(text)
         told(ran([program, "round", "--replay", file], 2), wanted, repr(text))
@@ -138,19 +138,19 @@ def check_late_lines(kit: Kit, program: Path, name: str) -> None:
 
 
 PARTS = {
-    "reader": ["it never parts from the schedule", "FAILED check: the head moved"],
+    "reader": ["the run follows the whole schedule", "FAILED check: the head moved"],
     "mended": [
-        r"parts from the schedule here, at .*:\d+\n.*it was: task reader, r RDH\[0\] = 0x00000001.*\n"
+        r"departs from the schedule here, at .*:\d+\n.*it was: task reader, r RDH\[0\] = 0x00000001.*\n"
         r".*it is:  task reader, w EIMC 0x00000020",
         "FAILED check: the head moved",
     ],
     "renamed": [
-        r"parts from the schedule here, at .*:\d+ \(it can't act now\)\n"
-        r'.*it was: "task reader", which the scenario hasn\'t\n',
+        r"departs from the schedule here, at .*:\d+ \(this actor can't act now\)\n"
+        r'.*it was: "task reader" \(not in the scenario\)\n',
         r"reported: (fine|FAILED check: the head moved)$",
     ],
     "frameless": [
-        r"parts from the schedule here, at .*:\d+ \(it can't act now\)\n.*it was: arrive, done\n"
+        r"departs from the schedule here, at .*:\d+ \(this actor can't act now\)\n.*it was: arrive, done\n"
         r".*it is:  task reader, r RDH\[0\] = 0x00000000",
         "reported: fine$",
     ],
@@ -185,11 +185,11 @@ def check_page(kit: Kit, program: Path) -> str:
         if [step["actor"] for step in data["steps"]] != points_of(schedule):
             raise Wrong(f"{name}: its page has other points than its schedule")
         seen = {one for step in data["steps"] for one in step["objects"]}
-        turn = re.search(r"it goes wrong at point (\d+)", said)
+        turn = re.search(r"point of no return: point (\d+)", said)
         if not wanted <= seen or not turn or int(turn[1]) != data["turn"]:
             raise Wrong(f"{name}: its page has {sorted(seen)}, and goes wrong at {data.get('turn')}:\n{said}")
         lines = schedule.splitlines()
-        where = next(number for number, line in enumerate(lines) if line.startswith("# here it goes wrong: had "))
+        where = next(number for number, line in enumerate(lines) if line.startswith("# point of no return: if "))
         if points_of("\n".join(lines[:where])) != points_of(schedule)[: data["turn"]]:
             raise Wrong(f"{name}: its schedule goes wrong elsewhere than its page")
     faulty = kit.build(HERE / "tests/faulty.c")
@@ -216,16 +216,16 @@ def check_lenient(kit: Kit, program: Path) -> str:
         for wanted in parts:
             if not re.search(wanted, said, re.M):
                 raise Wrong(f"reported {mode} --lenient: it isn't reported that {wanted}:\n{said}")
-        if said.count("parts from the schedule") != 1:
-            raise Wrong(f"reported {mode} --lenient: it parts more than once:\n{said}")
+        if len(re.findall("departs from the schedule|follows the whole schedule", said)) != 1:
+            raise Wrong(f"reported {mode} --lenient: it departs more than once:\n{said}")
     other = schedule.with_name("other.schedule")
     other.write_text(schedule.read_text().replace("scenario reported\n", "scenario old\n"))
     said = ran([program, "reader", "--replay", other, "--lenient"], 1)
-    told(said, r"^reported: note: it is a schedule of scenario old\n", "another scenario's, --lenient")
-    told(said, "it never parts from the schedule", "another scenario's, --lenient")
+    told(said, r"^reported: note: the schedule is of scenario old\n", "another scenario's, --lenient")
+    told(said, "the run follows the whole schedule", "another scenario's, --lenient")
     said = ran([program, "reader", "--replay", other], 2)
-    told(said, "it is a schedule of scenario old, and this is reported", "other")
-    told(ran([program, "reader", "--lenient"], 2), "--lenient: it is for --replay", "--lenient")
+    told(said, "the schedule is of scenario old, but this program is reported", "other")
+    told(ran([program, "reader", "--lenient"], 2), "--lenient: only valid with --replay", "--lenient")
     return f"{len(PARTS)} drivers follow a schedule as far as it goes"
 
 
@@ -253,7 +253,7 @@ def check_same_answer(kit: Kit) -> str:
     runs, seconds = ["--runs", 50], ["--seconds", "0.05"]
     for end in (runs, ["--shard", "1/2", *runs], seconds, ["--runs", 10**9, *seconds]):
         said = ran([*few, "--jobs", 2, *end])
-        told(said, f"these aren't all schedules: {end[-2]} ended the search\n", "an exhaustive search that was ended")
+        told(said, f"didn't search all schedules: {end[-2]} ended the search\n", "an exhaustive search that was ended")
     if "aren't all" in ran([right, *words]) or "aren't all" in ran([right, "--quiet", "--runs", 50]):
         raise Wrong("a search that came to its end, or that is by chance, is reported not to be all")
     if len(schedules) != 1:

@@ -35,7 +35,7 @@ def check_sums(kit: Kit) -> str:
         merged = ran([program, "--merge", *files, "--out", out])
         got, wanted = numbers(merged), numbers(whole)
         if "exhaustive" in way:
-            told(merged, "these are all schedules", "shards of the exhaustive search")
+            told(merged, "searched all schedules", "shards of the exhaustive search")
             firsts = 2 * (2 + 1 + 2)  # (each process of each shard runs the first schedule of both bounds)
             if not wanted["schedules"] <= got["schedules"] <= wanted["schedules"] + firsts:
                 raise Wrong(f"the shards made {got}, and one search {wanted}")
@@ -45,10 +45,10 @@ def check_sums(kit: Kit) -> str:
         if numbers(alone) != wanted:
             raise Wrong(f"a result by itself has {numbers(alone)}, and its search made {wanted}")
         part = ran([program, "--merge", files[0], files[2], "--out", out])
-        told(part, r"note: shards that aren't there: 2 \(1 of 3\)", "two shards of three")
-        if "these are all schedules" in part or ("aren't all schedules\n" in part) != ("exhaustive" in way):
+        told(part, r"note: missing shards: 2 \(1 of 3\)", "two shards of three")
+        if "searched all schedules" in part or ("didn't search all schedules\n" in part) != ("exhaustive" in way):
             raise Wrong(f"two shards of three are reported to be all:\n{part}")
-        told(ran([program, "--merge", files[0], files[0]], 2), "shard 1/3 of the same search as", "a shard twice")
+        told(ran([program, "--merge", files[0], files[0]], 2), "shard 1/3 of this search is also in", "a shard twice")
         ran([program, "--merge", *files, "--out", out, "--strict"])
     return "shards are one search"
 
@@ -72,7 +72,7 @@ def check_causes(kit: Kit) -> str:
         ran([*words, "--seed", len(mode), "--result", out / mode], status)
     said = ran([faulty, "end", "--merge", *(out / one for one in ("end", "check", "fine")), "--out", out, "--junit",
                 out / "all.xml"], 1)  # fmt: skip
-    told(said, r"it doesn't fail so in this program: the schedule is \S+/faulty-2.schedule", "another program's")
+    told(said, r"doesn't reproduce the failure: the schedule is \S+/faulty-2.schedule", "another program's")
     ran([faulty, "lines", "--quiet", "--jobs", 1, "--runs", 200, "--out", out, "--result", out / "lines"], 1)
     said = ran([faulty, "lines", "--merge", out / "lines", "--out", out], 1)
     told(said, r"FAILED end: rx 0: nobody\?\? takes it; int 5: no message\n", "words of several lines")
@@ -85,7 +85,7 @@ def check_causes(kit: Kit) -> str:
     for seed in (1, 2):
         ran([vacuous, "waits", "--quiet", "--runs", 20, "--seed", seed, "--out", out, "--result", out / f"v{seed}"])
     said = ran([vacuous, "waits", "--merge", out / "v1", out / "v2", "--strict", "--out", out], 3)
-    told(said, "task poll never came past its first wait", "what never ran in two results")
+    told(said, "task poll never got past its first wait", "what never ran in two results")
     return "each cause once"
 
 
@@ -98,22 +98,22 @@ def summed(lines: list[str]) -> str:
 
 
 FIELDS = {
-    "nicx-result 1": ("nicx-result 2", ":1: nicx-result: this program reads version 1"),
-    "scenario race": ("scenario other", ":2: it is a result of scenario other, and this is race"),
-    "strategy mixed": ("strategy best", ':3: strategy: there is no strategy "best"'),
-    "seed 1": ("seed 18446744073709551616", ':4: seed: "18446744073709551616" is no number of 0 to'),
-    "first 0": ("first -1", ':5: first: "-1" is no number'),
+    "nicx-result 1": ("nicx-result 2", ":1: nicx-result: wrong version: this program reads version 1"),
+    "scenario race": ("scenario other", ":2: the result is of scenario other, but this program is race"),
+    "strategy mixed": ("strategy best", ':3: strategy: unknown strategy "best"'),
+    "seed 1": ("seed 18446744073709551616", ":4: seed: \"18446744073709551616\" isn't a number from 0 to"),
+    "first 0": ("first -1", ":5: first: \"-1\" isn't a number"),
     "runs 10000": ("runs 010000", ':6: runs: "010000" is no number'),
-    "shard 1": ("shard 0", ": shard 0 isn't one of 3"),
-    "tasks 1": ("tasks 2", ": tasks: it is 2, and the scenario has 1"),
-    "task 1 poll": ("task 1 pall", ': task: here stands "1 pall", and the scenario has poll'),
-    "frames 2": ("frames 3", ": frames: it is 3, and the scenario has 2"),
-    "distinct exact": ("distinct maybe", ": distinct: it is exact, about or none"),
-    "failure 1": ("failure 2", ': failure: "2" is no number of 0 to 1'),
-    "outcome end": ("outcome bad", ': outcome: there is no "bad"'),
-    "without-threads 0": ("without-threads 2", ': here stands "without-frames 0" and not "without"'),
+    "shard 1": ("shard 0", ": no shard 0 among 3"),
+    "tasks 1": ("tasks 2", ": tasks: the file has 2, but the scenario has 1"),
+    "task 1 poll": ("task 1 pall", ': task: the file has "1 pall", but the scenario has poll'),
+    "frames 2": ("frames 3", ": frames: the file has 3, but the scenario has 2"),
+    "distinct exact": ("distinct maybe", ": distinct: expected exact, about or none"),
+    "failure 1": ("failure 2", ": failure: \"2\" isn't a number from 0 to 1"),
+    "outcome end": ("outcome bad", ': outcome: unknown outcome "bad"'),
+    "without-threads 0": ("without-threads 2", ': expected "without" but found "without-frames 0"'),
     "point arrive": ("point nobody", ': point: the scenario has no "nobody"'),
-    "whole 0": ("whole", ': here stands "whole" and not "whole"'),
+    "whole 0": ("whole", ': expected "whole" but found "whole"'),
 }
 
 
@@ -129,18 +129,18 @@ def check_refused(kit: Kit, tries: int) -> str:
         bad.write_text(summed([*lines[:at], f"{new}\n", *lines[at + 1 :]]))
         told(ran([race, "--merge", bad, "--out", out], 2), re.escape(wanted), f"{old} as {new}")
     for text, wanted in {
-        "": ":1: it ends here, before its end",
-        "".join(lines): "it ends here, before its end",
-        file.read_text() + "\n": "there is more after its end",
-        file.read_text().replace("seed 1\n", "seed 2\n"): "sum: it isn't that of the lines before it",
-        "x" * 600: ":1: the line has no end",
-        "nicx-result 1\nscenario \x01\n": ":2: it is no text",
+        "": ":1: the file is truncated",
+        "".join(lines): "the file is truncated",
+        file.read_text() + "\n": "the file continues after its last line",
+        file.read_text().replace("seed 1\n", "seed 2\n"): "sum: doesn't match the lines before it",
+        "x" * 600: ":1: the line has no newline",
+        "nicx-result 1\nscenario \x01\n": ":2: the line isn't printable ASCII",
     }.items():
         bad.write_text(text)
         told(ran([race, "--merge", bad, "--out", out], 2), re.escape(wanted), repr(text[:40]))
-    told(ran([race, "--merge", "/nowhere"], 2), "/nowhere: it can't be read", "no file")
-    told(ran([race, "--merge"], 2), "--merge: it wants a word after it", "no word")
-    told(ran([race, "--result", "/nowhere/file"], 2), "--result: /nowhere/file can't be written", "no folder")
+    told(ran([race, "--merge", "/nowhere"], 2), "/nowhere: can't read the file", "no file")
+    told(ran([race, "--merge"], 2), "--merge: missing value", "no word")
+    told(ran([race, "--result", "/nowhere/file"], 2), "--result: can't write /nowhere/file", "no folder")
     chance, taken = random.Random(1), 0
     for _ in range(tries):
         taken += is_taken(race, out, changed(lines, chance))

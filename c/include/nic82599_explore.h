@@ -255,8 +255,8 @@ void nicx_settle(void);
 
 /* --- a whole program --- */
 
-/* Searches as the arguments say (docs/explore.md, or --help). Returns 0 if nothing was found, 1 if a failure was found,
-   2 if an argument, a schedule or the scenario is refused. */
+/* Searches as the arguments say (docs/explore.md, or --help). Returns 0 if no failure was found, 1 if one was found, 2
+   if an argument, a schedule or the scenario is refused. */
 int nicx_main(int argc, char **argv, const nicx_scenario *scenario);
 
 /* --- what nicx_main is built on, for other front ends (a fuzzer, another language) --- */

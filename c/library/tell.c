@@ -171,7 +171,7 @@ static void say_absent(const struct teller *it, const struct absent *found, uint
     char index[16] = "";
     if (found->last > found->first && !strpbrk(found->name, " .,"))
         snprintf(index, sizeof index, "[%" PRIu32 "]", (address - found->first) / found->stride);
-    say(it, "stray: %s: this is %s%s, which the bench hasn't: %s", line, found->name, index, found->what);
+    say(it, "stray: %s: this is %s%s, which the bench doesn't model: %s", line, found->name, index, found->what);
 }
 
 void nicl_tell_stray(const nic *n, uint32_t address, const char *line)

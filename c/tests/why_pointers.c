@@ -39,7 +39,7 @@ static void has(nic *n, bool is_there, const char *format, uint64_t first, uint6
 }
 
 #define HEX "0x%" PRIx64
-#define POINTER HEX " is a pointer of the program's own; the bus address of that byte is " HEX "\n"
+#define POINTER HEX " is a pointer in the program; the bus address of that byte is " HEX "\n"
 #define LOW HEX " is the low half of the program's pointer " HEX "; the bus address there is " HEX "\n"
 
 static void rings(void)

@@ -7,18 +7,18 @@
 
 enum { ROOM = 4096, MOST = 2000 };
 
-static const char whole[] = "rx: 1 frame waits, the one in front for queue 0\n"
-                            "rx 0: RXDCTL[0].ENABLE 1: it was asked to go off, but no `qstep rx 0` followed\n"
+static const char whole[] = "rx: 1 frame waits, the first for queue 0\n"
+                            "rx 0: RXDCTL[0].ENABLE 1: turning it off was requested, but no `qstep rx 0` followed\n"
                             "rx 0: RDH[0] 0, RDT[0] 0: head and tail meet, so the device owns no slot until the "
                             "driver advances the tail\n"
                             "rx 0: SRRCTL[0].Drop_En 0: a frame that finds no slot waits\n"
                             "int pf: LSC: the mask is 0\n"
                             "int pf: RTxQ[0]: already reported; neither cause nor mask was 0 since\n";
-static const char part[] = "rx 0: RDH[0] 0, RDT[0] 0: head and tail meet, so the device owns no slot until the "
-                           "driver advances the tail\n"
-                           "int pf: LSC: the mask is 0\n"
-                           "there is no memory for a copy: which frames wait, which enables are asked for and which "
-                           "causes were reported isn't known\n";
+static const char part[] =
+    "rx 0: RDH[0] 0, RDT[0] 0: head and tail meet, so the device owns no slot until the "
+    "driver advances the tail\n"
+    "int pf: LSC: the mask is 0\n"
+    "out of memory for a copy: waiting frames, requested enables and reported causes are unknown\n";
 
 static void set_up(nic *n)
 {

@@ -127,8 +127,8 @@ static bool settle_refused(size_t k)
 /* nic_why can do with less memory; its last line says so. */
 static void why_refused(size_t k)
 {
-    static const char end[] = "there is no memory for a copy: which frames wait, which enables are asked for and "
-                              "which causes were reported isn't known\n";
+    static const char end[] = "out of memory for a copy: waiting frames, requested enables and reported causes are "
+                              "unknown\n";
     struct event of = event;
     of.room = of.length = ROOM;
     struct asked asked = make(k, &of, &answers[k], 1 + (long)chance_below(60));

@@ -81,7 +81,7 @@ static void give(const struct dma_memory *memory, const struct bus_access *acces
     if (ring.tail >= ring.slots || tail >= ring.slots || (!access->is_transmit && !legacy.of[queue].is_legacy))
         return;
     if (!access->is_transmit && !has_room(queue, ring.slots)) {
-        problem("memory is short for the addresses of a legacy ring");
+        problem("out of memory for the addresses of a legacy ring");
         return;
     }
     for (uint32_t slot = ring.tail; slot != tail; slot = (slot + 1) % ring.slots) {

@@ -64,6 +64,6 @@ bool run_save_strays(const char *name)
     if (file)
         strays_write(run_bus, file);
     if (!file || fclose(file) != 0)
-        problem("%s can't be written: %s", name, strerror(errno));
+        problem("can't write %s: %s", name, strerror(errno));
     return file != NULL;
 }

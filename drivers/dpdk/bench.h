@@ -5,7 +5,7 @@
 
 #include "bus.h"
 
-/* Opens the bench. Returns false if memory is short. */
+/* Opens the bench. Returns false if out of memory. */
 bool bench_open(const struct bus_options *options);
 void bench_close(void);
 uint32_t bench_read(unsigned int function, uint32_t offset);

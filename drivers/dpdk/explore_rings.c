@@ -163,11 +163,11 @@ static const char *went_out(void)
     nic_told told;
     for (unsigned int k = 0; k < way->frames; k++) {
         if (nic_collect(nicx_device(), bytes, sizeof bytes, &told) != NIC_FRAME)
-            return "a frame didn't go out";
+            return "a frame was never transmitted";
         if (told.len != fill(wanted, k) || memcmp(bytes, wanted, told.len) != 0)
             return "a frame went out with other bytes, or out of order";
     }
-    return nic_next_out(nicx_device()) ? "a frame went out twice" : NULL;
+    return nic_next_out(nicx_device()) ? "a frame was transmitted twice" : NULL;
 }
 
 /* ---- bring-up ---- */

@@ -184,7 +184,7 @@ static bool launch(void)
     for (uint16_t i = 0; i < LCORES; i++) {
         lcores[i].queue = i;
         if (!line_up_begin(&lcores[i].in, setting.frames) || !line_up_begin(&lcores[i].out, setting.frames))
-            rte_exit(1, "memory is short\n");
+            rte_exit(1, "out of memory\n");
         if (failed("rte_eal_remote_launch", rte_eal_remote_launch(work, &lcores[i], i + 1u)))
             return false;
     }

@@ -41,7 +41,7 @@ static void clear(unsigned int first, unsigned int last)
             line_up_end(&in[which][queue]);
             line_up_end(&out[which][queue]);
             if (!line_up_begin(&in[which][queue], setting.frames) || !line_up_begin(&out[which][queue], setting.frames))
-                rte_exit(1, "memory is short\n");
+                rte_exit(1, "out of memory\n");
         }
     }
 }

@@ -24,7 +24,7 @@ static void clear(struct line_up *lists)
     for (unsigned int queue = 0; queue < QUEUES; queue++) {
         line_up_end(&lists[queue]);
         if (!line_up_begin(&lists[queue], frames_of_pass + SLOTS))
-            rte_exit(1, "memory is short\n");
+            rte_exit(1, "out of memory\n");
     }
 }
 

@@ -262,7 +262,7 @@ void traffic_run(void)
            card_function() == BUS_PHYSICAL ? "the physical function" : "virtual function 0", own[0], own[1], own[2],
            own[3], own[4], own[5]);
     if (!line_up_begin(&due_in, 2 * frames) || !line_up_begin(&due_out, 2 * frames)) {
-        problem("memory is short");
+        problem("out of memory");
         return;
     }
     pass(0);

@@ -230,7 +230,7 @@ int main(int count, char **words)
         return 3;
     }
     if (nic_open(&device, 0, 64, 1) != NIC_DONE) {
-        fprintf(stderr, "selftest: no device: memory is short\n");
+        fprintf(stderr, "selftest: no device: out of memory\n");
         return 2;
     }
     try_status();

@@ -78,7 +78,7 @@ static bool open_trace(const char *name, FILE **file)
 {
     *file = name ? fopen(name, "w") : NULL;
     if (name && !*file)
-        fprintf(stderr, "%s can't be written: %s\n", name, strerror(errno));
+        fprintf(stderr, "can't write %s: %s\n", name, strerror(errno));
     if (*file)
         setvbuf(*file, NULL, _IOLBF, 0); /* lets a debugger's user see its last line */
     return !name || *file;
@@ -99,7 +99,7 @@ static bool open_all(const struct words *words, FILE *trace)
         .turn_out = words->turn_out,
     };
     if (!run_open(&options, true)) {
-        problem("no bench: memory is short, or its EEPROM text was refused");
+        problem("no bench: out of memory, or its EEPROM text was refused");
         return false;
     }
     bus_send_to(run_bus, peer_takes, NULL);
@@ -137,6 +137,6 @@ int main(int count, char **arguments)
         run_close();
     }
     if (trace && fclose(trace) != 0)
-        problem("%s can't be written: %s", words.trace, strerror(errno));
+        problem("can't write %s: %s", words.trace, strerror(errno));
     return verdict();
 }

@@ -123,7 +123,7 @@ bool vhost_listen(struct vhost *vhost, const char *path)
     unlink(name.sun_path);
     if (vhost->listener < 0 || bind(vhost->listener, (struct sockaddr *)&name, sizeof name) != 0 ||
         listen(vhost->listener, 1) != 0 || rename(name.sun_path, path) != 0) {
-        problem("no socket %s: %s", path, strerror(errno));
+        problem("can't create the socket %s: %s", path, strerror(errno));
         return false;
     }
     return true;

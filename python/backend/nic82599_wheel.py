@@ -14,7 +14,7 @@ import subprocess
 import sys
 
 if sys.version_info < (3, 11):  # noqa: UP036
-    sys.exit("nic82599_wheel: it needs Python 3.11 or newer, and this is {}.{}".format(*sys.version_info))
+    sys.exit("nic82599_wheel: needs Python 3.11 or newer; this is {}.{}".format(*sys.version_info))
 
 import tempfile
 import time

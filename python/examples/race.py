@@ -63,7 +63,7 @@ class Race(Scenario):
             self.frame(bytes.fromhex("02000000000102000000000288b5") + bytes(46))
 
     def end(self) -> str | None:
-        return None if self.got == FRAMES else "a frame lies in the ring, and nobody comes for it"
+        return None if self.got == FRAMES else "a frame is in the ring, but nothing will poll it"
 
 
 class Fixed(Race):
@@ -96,7 +96,7 @@ def main() -> int:
     except Failure as failure:
         print(failure)
         return 1
-    print("nothing was found")
+    print("no failure was found")
     return 0
 
 

@@ -26,7 +26,7 @@ from __future__ import annotations
 import sys
 
 if sys.version_info < (3, 11):  # noqa: UP036
-    raise ImportError(f"nic82599 needs Python 3.11 or newer, and this is {sys.version_info[0]}.{sys.version_info[1]}")
+    raise ImportError(f"nic82599 needs Python 3.11 or newer; this is {sys.version_info[0]}.{sys.version_info[1]}")
 
 if not getattr(sys, "_is_gil_enabled", lambda: True)():
     raise ImportError("nic82599 needs the interpreter's lock, which keeps calls apart: start Python with PYTHON_GIL=1")
@@ -126,7 +126,7 @@ class NoGroup(NicError, IndexError):
 
 
 class TooLong(NicError, ValueError):
-    """The input of a hash may have at most 36 bytes."""
+    """The input of a hash has at most 36 bytes."""
 
 
 class NoSuchRegister(NicError, KeyError):
@@ -378,7 +378,7 @@ def _library(path: str | os.PathLike[str] | None = None) -> ctypes.PyDLL:
             library.nic_is_proved.argtypes, library.nic_is_proved.restype = [], ctypes.c_bool
             library.nic_edition.argtypes, library.nic_edition.restype = [], ctypes.c_char_p
         except (OSError, AttributeError) as fault:
-            raise LibraryMissing(f"{place} is no library of the controller: {fault}") from fault
+            raise LibraryMissing(f"{place} isn't a library of the controller: {fault}") from fault
         _loaded[place] = library
     return _loaded[place]
 
@@ -421,7 +421,7 @@ def record(path: str | os.PathLike[str] | None) -> bool:
     """
     name = None if path is None else os.fsencode(path)
     if name and b"\0" in name:
-        raise ValueError(f"a path has no zero byte: {path!r}")
+        raise ValueError(f"a path can't contain a zero byte: {path!r}")
     return bool(_library().nic_record(name))
 
 
@@ -434,7 +434,7 @@ def _whole(value: int, bits: int, what: str) -> int:
     """Checks that a number fits in `bits` bits, because ctypes would truncate it. Raises ValueError."""
     number = operator.index(value)
     if not 0 <= number < 1 << bits:
-        raise ValueError(f"{what} {shown_number(number)} is no number of {bits} bits")
+        raise ValueError(f"{what} {shown_number(number)} doesn't fit into {bits} bits")
     return number
 
 
@@ -464,7 +464,7 @@ _NAME_SHOWN = 40
 def _no_name(name: str, names: Iterable[str]) -> NoSuchRegister:
     near = get_close_matches(name[:_NAME_SHOWN].split("[")[0].upper(), list(names), 3, 0.6)
     shown = name if len(name) <= _NAME_SHOWN else f"{name[:_NAME_SHOWN]}.. ({len(name):,} letters)"
-    return NoSuchRegister(f"no register {shown}" + (f"; there are {', '.join(near)}" if near else ""))
+    return NoSuchRegister(f"no register {shown}" + (f"; did you mean {', '.join(near)}?" if near else ""))
 
 
 @cache
@@ -493,7 +493,7 @@ def offset_of(name: str) -> int:
     index = int(found[2] or 0)
     if index >= count:
         raise NoSuchRegister(
-            f"no register {name}: a function has at most eight queues, 16 words of memory, and some registers once"
+            f"no register {name}: a function has at most eight queues and 16 words of mailbox memory"
         )
     return offset + stride * index
 
@@ -543,7 +543,7 @@ class _OneOwner:
     _copied_by = ""
 
     def __reduce_ex__(self, _protocol: SupportsIndex) -> NoReturn:
-        raise TypeError(f"a {type(self).__name__} is neither copied nor pickled: {self._copied_by}")
+        raise TypeError(f"a {type(self).__name__} can't be copied or pickled: {self._copied_by}")
 
 
 class _Registers:
@@ -620,10 +620,10 @@ class Function(_Registers):
     def _why_stray(self, name: str | int, at: int) -> str:
         function, vfs = f"virtual function {self.number}", self.nic.vfs
         if self.number >= vfs:
-            return f"there is no {function}: the controller has {f'{vfs}, numbered from 0' if vfs else 'none'}"
+            return f"no {function}: the controller has {f'{vfs}, numbered from 0' if vfs else 'none'}"
         pools, queues = _POOLS[self.nic.peek("GCR_EXT") & 3]
         if self.number >= pools:
-            return f"{function} has no pool: GCR_EXT bits 1:0 give {pools or 'no'} pools"
+            return f"{function} has no pool: GCR_EXT bits 1:0 select {pools or 'no'} pools"
         if isinstance(name, str):
             return f"{function} has no {name} (0x{at:05x}): its pool has {queues} queues"
         return f"0x{at:05x} names no register of {function}"
@@ -711,7 +711,7 @@ class Memory:
 
     def _range(self, part: slice) -> tuple[int, int]:
         if part.start is None or part.stop is None or part.step is not None:
-            raise ValueError("a range of memory has two ends and no step: memory[0x800:0x83c]")
+            raise ValueError("a range of memory needs both ends and no step: memory[0x800:0x83c]")
         start, stop = operator.index(part.start), operator.index(part.stop)
         if stop < start:
             raise ValueError(
@@ -758,7 +758,7 @@ class Memory:
 class Snapshot(_OneOwner):
     """A saved state of a controller, made by `Nic.snapshot`. Freed by `drop`, or at the end of a `with` block."""
 
-    _copied_by = "restore it as often as you like"
+    _copied_by = "you can restore it any number of times"
 
     def __init__(self, nic: Nic) -> None:
         if "_kept" in vars(self):
@@ -797,7 +797,7 @@ class Nic(_Registers, _OneOwner):
     or at the end of a `with` block. Raises TooManyVfs, BadFifo, BadBlocks, OutOfMemory or LibraryMissing."""
 
     _names = REGISTERS
-    _copied_by = "`snapshot` saves its state, and `restore` puts it into another one"
+    _copied_by = "`snapshot` saves its state, and `restore` loads it into another controller"
 
     def __init__(
         self, vfs: int = 0, fifo: int = 64, blocks: int = 256, *, library: str | os.PathLike[str] | None = None
@@ -1075,7 +1075,7 @@ class Nic(_Registers, _OneOwner):
         ...     nic.lend()
         ...     nic["RDLEN"], nic["SRRCTL"], nic["RXDCTL"], nic["RXCTRL"] = 128, 0x0200_0002, 0x0200_0000, 1
         ...     print(nic.why())
-        rx 0: RXDCTL[0].ENABLE 0: the queue is off; it was asked for, but no `qstep rx 0` followed
+        rx 0: RXDCTL[0].ENABLE 0: the queue is off; turning it on was requested, but no `qstep rx 0` followed
         """
         text = ctypes.create_string_buffer(4096)
         while (length := self._count("nic_why", text, len(text))) >= len(text):

@@ -45,5 +45,5 @@ def bytes_of(data: HasBytes) -> bytes:
     except TypeError:
         if hasattr(data, "__index__"):
             shown = shown_number(operator.index(data))  # type: ignore[arg-type]
-            raise TypeError(f"{type(data).__name__} {shown} is a number, and bytes are wanted") from None
+            raise TypeError(f"{type(data).__name__} {shown} is a number; expected bytes") from None
     return memoryview(bytes(data)).tobytes()  # `__bytes__` may return a subclass of bytes with a different length

@@ -52,7 +52,7 @@ def halves_of(data: HasBytes) -> tuple[int, int]:
     """Returns the two halves of a descriptor, low half first. Raises ValueError unless it is 16 bytes long."""
     given = bytes_of(data)
     if len(given) != BYTES:
-        raise ValueError(f"a descriptor has {BYTES} bytes, and this has {len(given)}")
+        raise ValueError(f"a descriptor has {BYTES} bytes, not {len(given)}")
     low, high = struct.unpack("<QQ", given)
     return low, high
 
@@ -77,7 +77,7 @@ def packed(fields: Fields, **values: int) -> bytes:
 def rx_descriptor(buffer: int) -> bytes:
     """Returns a receive descriptor to post the buffer at this bus address. Raises ValueError if the address is odd."""
     if buffer & 1:
-        raise ValueError(f"a receive buffer begins at an even address, and 0x{buffer:x} is odd")
+        raise ValueError(f"a receive buffer must have an even address, but 0x{buffer:x} is odd")
     return packed(RX_READ, BUFFER=buffer >> 1)
 
 
@@ -124,5 +124,5 @@ def head(data: HasBytes) -> int:
     TDWBAH."""
     given = bytes_of(data)
     if len(given) != 4:
-        raise ValueError(f"a written head has 4 bytes, and this has {len(given)}")
+        raise ValueError(f"a written-back head has 4 bytes, not {len(given)}")
     return int.from_bytes(given, "little")

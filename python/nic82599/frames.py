@@ -39,7 +39,7 @@ def mac(text: str) -> bytes:
     """Parses an Ethernet address such as 02:00:00:00:00:01. Raises ValueError if it is malformed."""
     parts = text.replace("-", ":").split(":")
     if len(parts) != 6 or any(len(part) not in (1, 2) for part in parts):
-        raise ValueError(f"{text} is no Ethernet address: it is written as 02:00:00:00:00:01")
+        raise ValueError(f"{text} isn't an Ethernet address such as 02:00:00:00:00:01")
     return bytes(int(part, 16) for part in parts)
 
 
@@ -60,7 +60,7 @@ def ethernet(
     frame = to + source + b"".join(struct.pack(">HH", _TAG, tag) for tag in tags) + struct.pack(">H", kind) + payload
     frame += bytes(max(0, length - len(frame)))
     if len(frame) > MOST:
-        raise ValueError(f"the frame has {len(frame)} bytes, where a script takes at most {MOST:,}")
+        raise ValueError(f"the frame has {len(frame)} bytes, but a script takes at most {MOST:,}")
     return frame
 
 
@@ -95,7 +95,7 @@ def _packet(protocol: int, ends: tuple[Address, Address], data: bytes) -> tuple[
 def _ends(source: str, destination: str) -> tuple[Address, Address]:
     ends = ip_address(source), ip_address(destination)
     if ends[0].version != ends[1].version:
-        raise ValueError(f"{source} is of IPv{ends[0].version}, and {destination} of IPv{ends[1].version}")
+        raise ValueError(f"{source} is IPv{ends[0].version}, but {destination} is IPv{ends[1].version}")
     return ends
 
 

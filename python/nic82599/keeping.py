@@ -74,11 +74,11 @@ def _refuse_movable(buffer: object) -> None:
     while (below := _below(owner)) is not None:
         owner = below
     if type(owner).__name__ == _WRAPPER:
-        raise TypeError("whose memory a `__buffer__` in Python gives can't be seen: lend what it gives, as a bytearray")
+        raise TypeError("with a Python `__buffer__` can't be lent: lend the underlying object, such as a bytearray")
     if _of_ctypes(owner, "_b_needsfree_"):
         raise TypeError(
             f"ctypes.resize can move the memory of {type(owner).__name__} while it is lent: lend a bytearray, "
-            f"or an object of ctypes that `from_buffer` makes over one"
+            f"or a ctypes object made from one with `from_buffer`"
         )
 
 

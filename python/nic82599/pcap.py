@@ -39,14 +39,14 @@ def frames_of(data: bytes) -> Iterator[bytes]:
         return _pcap_frames(data, MAGICS[data[:4]])
     if data[:4] == struct.pack("<I", SECTION):
         return _pcapng_frames(data)
-    raise NoCapture("no capture: neither pcap nor pcapng")
+    raise NoCapture("not a capture: neither pcap nor pcapng")
 
 
 def _whole(data: bytes, at: int, kept: int, length: int) -> bytes:
     if kept != length:
-        raise NoCapture(f"a frame of {length} bytes was captured in part: {kept} bytes")
+        raise NoCapture(f"a frame of {length} bytes was only partly captured: {kept} bytes")
     if at + kept > len(data):
-        raise NoCapture("a frame is cut off, by the end of the capture or of its block")
+        raise NoCapture("a frame is cut off at the end of the capture or of its block")
     return data[at : at + kept]
 
 
@@ -71,7 +71,7 @@ def _pcapng_frames(data: bytes) -> Iterator[bytes]:
             order, links = _order_of(data[at + 8 : at + 12]), []
         (size,) = _unpacked(order + "I", data, at + 4)
         if size % 4 or not 12 + HEADS.get(kind, 0) <= size <= BLOCK_MOST:
-            raise NoCapture(f"a block of type {kind} has {size} bytes, which it can't have")
+            raise NoCapture(f"a block of type {kind} has the impossible size of {size} bytes")
         if at + size > len(data):
             raise NoCapture("the capture is cut off")
         if kind == INTERFACE:
@@ -84,7 +84,7 @@ def _pcapng_frames(data: bytes) -> Iterator[bytes]:
 def _order_of(number: bytes) -> str:
     """Returns the byte order of a section."""
     if number not in ORDERS:
-        raise NoCapture("a section whose byte order is none")
+        raise NoCapture("a section has an invalid byte order")
     return ORDERS[number]
 
 
@@ -92,7 +92,7 @@ def _packet_in(data: bytes, order: str, kind: int, links: list[tuple[int, ...]])
     """Returns the frame in the body of a pcapng block."""
     number = _unpacked(order + "I", data, 0)[0] if kind == ENHANCED else 0
     if number >= len(links):
-        raise NoCapture("a packet of an interface that the capture doesn't describe")
+        raise NoCapture("a packet belongs to an interface that the capture doesn't describe")
     link, longest = links[number]
     if link != ETHERNET:
         raise NoCapture(f"a packet has link type {link}, not Ethernet")

@@ -54,15 +54,15 @@ WORDS = ("runs", "seed", "strategy", "depth", "preemptions", "hang", "shrink", "
 
 def pytest_addoption(parser: pytest.Parser) -> None:
     group = parser.getgroup("nic82599")
-    group.addoption("--nic-out", metavar="FOLDER", help="where the schedules of failures go")
-    group.addoption("--nic-jobs", metavar="N", type=int, help="so many processes for each search")
-    group.addoption("--nic-shard", metavar="K/N", help="of N machines that share each search the K-th")
-    group.addoption("--nic-replay", metavar="FILE", help="makes the schedule of this file in place of a search")
+    group.addoption("--nic-out", metavar="FOLDER", help="folder for the schedules of failures")
+    group.addoption("--nic-jobs", metavar="N", type=int, help="number of processes for each search")
+    group.addoption("--nic-shard", metavar="K/N", help="this is machine K of N that share each search")
+    group.addoption("--nic-replay", metavar="FILE", help="replays this schedule file instead of searching")
 
 
 def pytest_configure(config: pytest.Config) -> None:
     config.addinivalue_line(
-        "markers", "nic_schedules(runs, ...): searches the scenario that the test gives, as nic82599.explore.search"
+        "markers", "nic_schedules(runs, ...): searches the scenario that the test returns (nic82599.explore.search)"
     )
     jobs, out = config.getoption("--nic-jobs"), config.getoption("--nic-out")
     try:
@@ -90,7 +90,7 @@ def words_of(marker: pytest.Mark) -> dict[str, Any]:
     """Returns a marker's arguments as keyword arguments of `search`."""
     words = dict(marker.kwargs)
     if len(marker.args) > 1 or marker.args and "runs" in words:
-        pytest.fail("nic_schedules: only the number of schedules has no name", pytrace=False)
+        pytest.fail("nic_schedules: only the number of schedules may be positional", pytrace=False)
     if marker.args:
         words["runs"] = marker.args[0]
     for name in words:

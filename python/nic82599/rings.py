@@ -73,7 +73,7 @@ class Ring:
         count = len(self.slots)
         first = self.head - BEHIND if count > ROWS and self.head < count else 0
         shown = [self.slots[(first + row) % count] for row in range(min(count, ROWS))]
-        left = f" ({count - len(shown)} slots more aren't shown)" if count > len(shown) else ""
+        left = f" ({count - len(shown)} more slots not shown)" if count > len(shown) else ""
         names = "".join(f"<th>{it}</th>" for it in ("slot", "", "address", "", "descriptor"))
         title = escape(draw.ring_lines(self._ring, self._known)[0] + left)
         rows = "\n".join(self._row(it) for it in shown)

@@ -102,7 +102,7 @@ class Mutex:
 def _word(word: int) -> int:
     """Checks a register value. Raises ValueError unless it fits in 32 bits."""
     if not 0 <= word < 1 << 32:
-        raise ValueError(f"{word} is no word of a register, which has 32 bits")
+        raise ValueError(f"{word} doesn't fit into a 32-bit register")
     return word
 
 

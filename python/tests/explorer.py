@@ -219,7 +219,7 @@ class Found(unittest.TestCase):
     def test_race(self) -> None:
         for strategy in ("random", "priorities", "mixed", "exhaustive"):
             told = self.failure(Race(), None if strategy == "exhaustive" else 1_000, strategy=strategy)
-            self.assertIn("end: a frame lies in the ring", told, strategy)
+            self.assertIn("end: a frame is in the ring", told, strategy)
         search(Fixed(), 300)
         search(Fixed(), None, strategy="exhaustive", preemptions=0)
 
@@ -232,21 +232,21 @@ class Found(unittest.TestCase):
             ("up", "down"): "deadlock: t",
             ("wait",): "deadlock: t0 waits at explorer.py:",
             ("await",): "deadlock: t0 waits at explorer.py:",
-            ("loop",): "endless: no end after 200 points; last came task t0",
+            ("loop",): "endless: no end after 200 points; the last to act was task t0",
             ("check", "count"): "check: it wasn't counted",
             ("assert",): "check: an assertion",
             ("raise",): "crash: t0: KeyError: 'here'",
             ("read",): "reads 0x800, which isn't lent",
-            ("unlock",): "misuse: t0 unlocks first, which it doesn't hold",
-            ("lend_memory",): "misuse: t0 lends memory in place, whose stores no search sees",
+            ("unlock",): "misuse: t0 unlocks first without holding it",
+            ("lend_memory",): "misuse: t0 lends memory in place, but the search can't see stores to it",
         }.items():
             self.assertIn(wanted, self.failure(Faulty(*steps), 200, shrink=False), steps)
-        delay = r"waits at explorer\.py:\d+.*, and nobody can act; if that is a delay, call pause there\n"
+        delay = r"waits at explorer\.py:\d+.*, and no actor can act; if that is a delay, call pause there\n"
         self.assertRegex(self.failure(Faulty("await"), 200), delay)
         self.assertNotRegex(self.failure(Faulty("wait"), 200), delay)
         self.assertIn("always: it was counted", self.failure(Looking("count", "pause")))
         self.assertRegex(self.failure(Faulty("read"), 200), r"memory: t0 at explorer\.py:\d+.* reads 0x800, which")
-        self.assertIn("hang: task t0 made no further point: does its loop need wait?",
+        self.assertIn("hang: task t0 reached no further point: does its loop need wait?",
                       self.failure(Faulty("hang"), hang=0.2))  # fmt: skip
         for strategy in ("random", "priorities", "exhaustive"):
             self.assertIn("end: 1 and not 2", self.failure(Twice("add", "add"), 500, strategy=strategy), strategy)
@@ -281,8 +281,8 @@ class Found(unittest.TestCase):
             def do_search(self) -> None:
                 search(Fixed(), 5)
 
-        self.assertIn("misuse: a thread that is no task makes a call", self.failure(Own("own"), 5, shrink=False))
-        self.assertIn("race_fixed is searched by a task", self.failure(Own("search"), 5, shrink=False))
+        self.assertIn("misuse: a thread that isn't a task calls", self.failure(Own("own"), 5, shrink=False))
+        self.assertIn("race_fixed can't be searched", self.failure(Own("search"), 5, shrink=False))
 
     def test_interrupted(self) -> None:
         """An interrupt ends a search with all its processes, even if background processes ignore it."""
@@ -307,7 +307,7 @@ class Found(unittest.TestCase):
             def bring_up(self) -> None:
                 self.do_lend_memory()
 
-        with self.assertRaisesRegex(BadMemory, "faulty lends memory in place, whose stores no search sees"):
+        with self.assertRaisesRegex(BadMemory, "faulty lends memory in place, but the search can't see stores to it"):
             search(Early("pause"), 10)
 
     def test_fine(self) -> None:
@@ -319,15 +319,16 @@ class Found(unittest.TestCase):
 
     def test_never(self) -> None:
         """What never ran in a scenario is reported in the words of C; a strict search raises it."""
-        wrong = ["task poll never came past its first wait", "handler isr never started: no message pf vector 5 came"]
+        unsent = "handler isr never started: no message pf vector 5 was sent"
+        wrong = ["task poll never got past its first wait", unsent]
         filtered = "no frame was ever written to memory: dropped filter"
         for jobs in (1, 2):
-            for is_filtered, lines in ((False, [wrong[0], f"{wrong[1]}; there came pf vector 6"]),
+            for is_filtered, lines in ((False, [wrong[0], f"{wrong[1]}; these were sent: pf vector 6"]),
                                        (True, [*wrong, filtered])):  # fmt: skip
                 for how in ({"runs": 60}, {"runs": None, "strategy": "exhaustive", "preemptions": 0}):
                     report = search(Vector(is_filtered), jobs=jobs, **how)
                     self.assertEqual(report.never, lines)
-            with self.assertRaisesRegex(Vacuous, "some of it never ran: task poll never came"):
+            with self.assertRaisesRegex(Vacuous, "part of the scenario never ran: task poll never got"):
                 search(Vector(True), 30, strict=True, jobs=jobs)
             report = search(Fixed(), 60, strict=True, jobs=jobs)
             self.assertEqual((report.never, report.faults), ([], 0))
@@ -352,7 +353,7 @@ class Found(unittest.TestCase):
         search(Fixed(), 60, jobs=3)
         search(Faulty("up", "up"), None, strategy="exhaustive", preemptions=2, jobs=3)
         told = self.failure(Faulty("die", "point"), 200, jobs=2, shrink=False)
-        self.assertIn("crash: the process was ended by signal 11", told)
+        self.assertIn("crash: the process was killed by signal 11", told)
         self.assertRegex(told, r"(in|before) run \d+ of seed 1")
 
     def test_shares(self) -> None:
@@ -381,7 +382,7 @@ class Found(unittest.TestCase):
         self.assertRaises(BadWord, replay, Race(), HERE / "race.schedule", 0)
         wrong = Interrupted()
         wrong.where = "nobody"
-        for scenario, told in ((Faulty(), "begin names no task"), (wrong, "handler isr is on a task that there isn't")):
+        for scenario, told in ((Faulty(), "begin creates no task"), (wrong, "isr runs on a task that doesn't exist")):
             with self.assertRaisesRegex(ValueError, told):
                 search(scenario, 5)
         for name in ("", "a name", "a/b", "x" * 64):
@@ -424,7 +425,7 @@ def ran(script: str, *words: str) -> str:
 
 def without_place(text: str) -> str:
     """Returns a file's text without the source lines, the name of a condition, and the point of no return."""
-    text = re.sub(r"# here it goes wrong: .*\n", "", text)
+    text = re.sub(r"# point of no return: .*\n", "", text)
     text = re.sub(r"waited until \S+\(.*\)", "waited until", text)
     return re.sub(r"(:|,)? at \S+:\d+( < \S+:\d+)*$", "", text, flags=re.M)
 
@@ -542,7 +543,7 @@ class Told(unittest.TestCase):
         failure = self.found(Race())
         turn, lines = failure.result.turn, str(failure).splitlines()
         self.assertIsNotNone(turn)
-        place = next(number for number, line in enumerate(lines) if "# here it goes wrong: had task poll acted" in line)
+        place = next(number for number, line in enumerate(lines) if "# point of no return: if task poll acted" in line)
         self.assertEqual((turn.point, turn.other), (place - 2, "task poll"), failure)
         self.assertRegex(lines[place - 1], r"task poll +# peek 0x\w+, 8 bytes at race\.py:\d+$")
         self.assertRegex(lines[place + 1], r"rx +# wrote queue 0 slot \d end$")
@@ -552,7 +553,7 @@ class Told(unittest.TestCase):
             self.assertEqual(replay(Race(), path).outcome, "end")
         always = self.found(Faulty("wait")).result
         self.assertIsNone(always.turn.point, always)
-        self.assertIn("the order of the steps doesn't matter", always.turn.line)
+        self.assertIn("the order of steps doesn't matter", always.turn.line)
         self.assertEqual(self.found(Polite()).result.turn.other, "task other")
 
     def test_hang(self) -> None:
@@ -561,7 +562,7 @@ class Told(unittest.TestCase):
             path = self.found(Faulty("hang"), hang=1, out=folder).path
             for _ in range(2):
                 told = replay(Faulty("hang"), path, 1)
-                self.assertEqual((told.outcome, told.words), ("hang", "t0 runs and makes no point"))
+                self.assertEqual((told.outcome, told.words), ("hang", "t0 runs without reaching a point"))
         self.assertEqual(search(Fixed(), 20).never, [])
 
     def test_seconds(self) -> None:
@@ -576,14 +577,14 @@ class Told(unittest.TestCase):
             self.assertEqual((failure.result.outcome, failure.result.cycle), ("endless", 4), failure)
             self.assertLess(len(failure.result.points), 12)
             text, again = failure.path.read_text(), replay(Polite(), failure.path)
-            self.assertIn("cycle                    # from here on over and over:\n", text)
+            self.assertIn("cycle                    # repeats from here on:\n", text)
             self.assertEqual((again.outcome, again.points, again.cycle), ("endless", failure.result.points, 4))
             script = (Path(folder) / "polite.nic").read_text()
             self.assertEqual(script.count("# task one: "), failure.result.actors.count("task one"))
             for wrong, told in {
                 "task one\ncycle\n": "the cycle has no point",
-                "cycle\ntask one\ncycle\n": ":4: there is another cycle",
-                "task one\nwithout task one\n": ":3: what is left out stands in front",
+                "cycle\ntask one\ncycle\n": ":4: the file already has a cycle",
+                "task one\nwithout task one\n": ":3: \"without\" lines must precede",
                 "without rx\n": ':2: the scenario has no "rx"',
             }.items():
                 failure.path.write_text(f"scenario polite\n{wrong}")
@@ -594,12 +595,12 @@ class Told(unittest.TestCase):
         with tempfile.TemporaryDirectory() as folder:
             path = self.found(Reader(), out=folder).path
             same = replay(Reader(), path, lenient=True)
-            self.assertEqual((same.outcome, str(same.parting)), ("check", "it never parts from the schedule"))
+            self.assertEqual((same.outcome, str(same.parting)), ("check", "the run follows the whole schedule"))
             mended = Reader()
             mended.is_mended = True
             result = replay(mended, path, lenient=True)
             self.assertEqual(result.outcome, "check")
-            self.assertRegex(str(result.parting), r"^it parts from the schedule at \S+/reader.schedule:\d+; "
+            self.assertRegex(str(result.parting), r"^the run departs from the schedule at \S+/reader.schedule:\d+; "
                              r"it was: task reader, r RDH\[0\] = 0x00000001.*; "
                              r"it is: task reader, w EIMC 0x00000001 at explorer\.py:\d+$")  # fmt: skip
             self.assertRaises(BadSchedule, replay, mended, path)
@@ -629,7 +630,7 @@ class Single(unittest.TestCase):
             self.assertEqual(result.actors.count("task t0"), 2)
             self.assertEqual(searching.run(lambda _can: None).points, [])
             self.assertTrue(searching.is_cut)
-            with self.assertRaisesRegex(ValueError, "scenario faulty is open yet"):
+            with self.assertRaisesRegex(ValueError, "scenario faulty is still open"):
                 Search(Faulty("add"))
 
 
@@ -656,7 +657,7 @@ class Files(unittest.TestCase):
         self.assertIn("w RDT[0] 7                   # bring-up\n", script)
         self.assertRegex(script, r"w EICR 0x20                  # task poll: at race\.py:\d+\npeek 0x0 2 ")
         self.assertIn("expect 0x00000003 0xffffffff\n", script)
-        self.assertEqual(script.splitlines()[-1], "# FAILED end: a frame lies in the ring, and nobody comes for it")
+        self.assertEqual(script.splitlines()[-1], "# FAILED end: a frame is in the ring, but nothing will poll it")
         self.assertEqual(ran(script, "--vfs", "0", "--fifo", "64").splitlines()[-1].split()[0], "ok")
 
     def test_script(self) -> None:
@@ -674,14 +675,14 @@ class Files(unittest.TestCase):
         with tempfile.TemporaryDirectory() as folder:
             file = Path(folder) / "bad"
             for text, wanted in {
-                "": "has no line",
-                "task poll\n": ":1: the first line is",
-                "scenario other\n": ":1: it is a schedule of scenario other, and this is race",
+                "": "missing line",
+                "task poll\n": ":1: the first line must be",
+                "scenario other\n": ":1: the schedule is of scenario other, but this program is race",
                 "scenario race\n\ntask nobody\n": ':3: the scenario has no "task nobody"',
-                "scenario race\ntask \x1b[31m\n": ":2: it is no text",
+                "scenario race\ntask \x1b[31m\n": ":2: the line isn't printable ASCII",
                 "scenario race\ntask \u202e\n": ':2: the scenario has no "task ???"',
-                "scenario race\nrx\n": ':2: "rx" can\'t act here',
-                "scenario race\narrive\n": ":2: the schedule ends, and somebody can act",
+                "scenario race\nrx\n": ':2: "rx" can\'t act at this point',
+                "scenario race\narrive\n": ":2: the schedule ends, but an actor can still act",
             }.items():
                 file.write_text(text)
                 with self.assertRaises(BadSchedule) as caught:
@@ -742,7 +743,7 @@ class Plugin(unittest.TestCase):
             told = self.pytest(folder, "--nic-out", folder, "--strict-markers", "--nic-jobs", "2")
             self.assertTrue((Path(folder) / "race.nic").exists())
             self.assertIn("4 failed, 2 passed", told)
-            self.assertIn("end: a frame lies in the ring", told)
+            self.assertIn("end: a frame is in the ring", told)
             self.assertIn("test_nothing returns no Scenario", told)
             self.assertIn("nic_schedules: walks is none of runs, seed", told)
             self.assertIn("nic_schedules: depth: 17 isn't a whole number from 1 to 16", told)
@@ -750,7 +751,7 @@ class Plugin(unittest.TestCase):
             self.assertIn("--nic-shard: (3, 2) isn't (K, N)",
                           self.pytest(folder, "--nic-shard", "3/2"))  # fmt: skip
             self.assertIn("1 passed", self.pytest(folder, "--nic-shard", "1/2", "-k", "fixed"))
-            self.assertIn("--nic-out: there is no such folder", self.pytest(folder, "--nic-out", "/nowhere"))
+            self.assertIn("--nic-out: no such folder", self.pytest(folder, "--nic-out", "/nowhere"))
             told = self.pytest(folder, "--nic-replay", "race.schedule", "-k", "race or fixed")
             self.assertIn("1 failed, 1 skipped", told)
             self.assertIn("replayed", told)

@@ -25,9 +25,9 @@ ESCAPES = "\x1b]0;title\x07\x1b[31m red \x1b[2J \x9b31m \u202e turned \x7f\r"
 ACTS = re.compile("[\x00-\x08\x0b-\x1f\x7f-\x9f\u202a-\u202e]")
 # A file, the tools to run on it, their status, and a pattern of the line that they print.
 LONG_NUMBERS: list[tuple[str, list[str], int, str]] = [
-    (f"#: nic vfs {DIGITS} fifo 64 blocks 256\n", ["nicview --text", "niclint", "nicdebug"], 2, ":1: it has no whole"),
-    (HEAD + f"w 0x00000 {DIGITS} # done\n", ["nicview --text", "niclint", "nicview --script"], 2, ":2: this is no"),
-    (HEAD + f"#: restore {DIGITS}\n", ["nicview --text"], 2, ":2: this is no line"),
+    (f"#: nic vfs {DIGITS} fifo 64 blocks 256\n", ["nicview --text", "niclint", "nicdebug"], 2, ":1: incomplete"),
+    (HEAD + f"w 0x00000 {DIGITS} # done\n", ["nicview --text", "niclint", "nicview --script"], 2, ":2: this line"),
+    (HEAD + f"#: restore {DIGITS}\n", ["nicview --text"], 2, ":2: this line of a recording"),
     (
         "#: nic vfs 64 fifo 64 blocks 2\nrx # idle\n",
         ["nicview --text", "nicview --script"],
@@ -40,7 +40,7 @@ LONG_NUMBERS: list[tuple[str, list[str], int, str]] = [
         2,
         " can't be made again: From 1 to 4,096 frames may wait. (0 virtual functions, 0 frames, 2 blocks)",
     ),
-    (f"w RDT[0] {DIGITS}\n", ["niclint"], 2, ":1:10: refused Range: VALUE is at most 4294967295, and this is 999"),
+    (f"w RDT[0] {DIGITS}\n", ["niclint"], 2, ":1:10: refused Range: VALUE is at most 4294967295, not 999"),
     (f"w RDT[{DIGITS}] 1\n", ["niclint"], 2, ":1:3: refused Range: RDT has 128 registers"),
     (f"# a\n# b, by: nicbench run --vfs {DIGITS} --fifo 3\nrx\n", ["nicview --text"], 0, "line 3: rx"),
 ]
@@ -78,7 +78,7 @@ class Files(unittest.TestCase):
             with self.file(f"0 done\n{line}\n").open() as file:
                 made = started("nic2pcap", str(self.folder / "out"), stdin=file)
             self.assertEqual(made.returncode, 1, made.stderr)
-            self.assertRegex(made.stderr, r"^nic2pcap: standard input:2: no line of a frame: .{0,100}\n$")
+            self.assertRegex(made.stderr, r"^nic2pcap: standard input:2: not a line of a frame: .{0,100}\n$")
 
     def test_escapes(self) -> None:
         script = self.file(f"r STATUS # {ESCAPES}\nw RDT[0] 1 # {ESCAPES}\nexpect 5 # {ESCAPES}\n")
@@ -190,7 +190,7 @@ class Files(unittest.TestCase):
             (section + interface + frame.replace(struct.pack("<II", 64, 64), struct.pack("<II", 68, 68)), "its block"),
             (section + interface + simple, "its block"),
             (section + struct.pack("<IIII", INTERFACE, 16, 1, 16), "16 bytes"),
-            (section + struct.pack("<II", 5, 1 << 28), "268435456 bytes, which it can't have"),
+            (section + struct.pack("<II", 5, 1 << 28), "impossible size of 268435456 bytes"),
         ):  # fmt: skip
             with self.subTest(why), self.assertRaisesRegex(NoCapture, why):
                 list(frames_of(data))

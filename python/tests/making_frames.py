@@ -154,15 +154,15 @@ class Command(unittest.TestCase):
             ("tcp", "1.1.1.1:1", "2.2.2.2:70000"): "a port is 0 to 65,535",
             ("ip", "10.0.0.1"): "ip takes two addresses",
             ("ether", "10.0.0.1"): "ether takes no address",
-            ("ip", "10.0.0.1", "::1"): "10.0.0.1 is of IPv4, and ::1 of IPv6",
-            ("ip", *FOUR, "--to", "2:3"): "argument --to: 2:3: 2:3 is no Ethernet address",
-            ("ip", *FOUR, "--tag", "4096"): "4096 is no number from 0 to 4095",
+            ("ip", "10.0.0.1", "::1"): "10.0.0.1 is IPv4, but ::1 is IPv6",
+            ("ip", *FOUR, "--to", "2:3"): "argument --to: 2:3: 2:3 isn't an Ethernet address",
+            ("ip", *FOUR, "--tag", "4096"): "4096 isn't a number from 0 to 4095",
             ("ip", *FOUR, "--key", "00"): "a key has 40 bytes, not 1",
-            ("ip", *FOUR, "--length", "59"): "59 is no number from 60 to 16384",
+            ("ip", *FOUR, "--length", "59"): "59 isn't a number from 60 to 16384",
             ("ether", "--type", "0x10000"): "a type is 0 to 0xffff",
             ("ip", *FOUR, "--payload", "0"): "argument --payload",
         }.items():
             with self.subTest(words):
                 status, printed, refused = said(*words)
                 self.assertEqual((status, printed), (3, ""))
-                self.assertRegex(refused, f"^nicframe: .*{wanted}.*; nicframe --help lists the words\n$")
+                self.assertRegex(refused, f"^nicframe: .*{wanted}.*; nicframe --help lists the options\n$")

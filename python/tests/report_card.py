@@ -42,30 +42,30 @@ NO_RESET = "no reset of the device (NICD_SHARED_DEVICE)"
 # For each class of card_drivers.py, the row that fails and a pattern of its message.
 WRONG = {
     "SlotWithoutDd": ("receive-empty", "check: receive returned true, but no frame came"),
-    "StopThatDoesNotWait": ("close-amid-frames", "queue 0 is on, and the driver is closed"),
-    "IdleToldEarly": ("send-wrap", r"check: reclaim says that all of queue 0 went out, and frame \d+ .*hasn't"),
-    "LengthBeforeDd": ("receive-one", "check: a frame of 0 bytes is handed up in queue 0"),
+    "StopThatDoesNotWait": ("close-amid-frames", "queue 0 is on although the driver is closed"),
+    "IdleToldEarly": ("send-wrap", r"check: reclaim reports all of queue 0 as transmitted, but frame \d+ .*isn't"),
+    "LengthBeforeDd": ("receive-one", "check: a frame of 0 bytes is delivered from queue 0"),
     "LockTwice": ("receive-one", "deadlock: receive0 waits for counters, which receive0 holds"),
     "RaisesInReceive": ("receive-one", r"check: IndexError: list index out of range \(card_drivers.py:\d+\)"),
     "RaisesInOpen": ("open-close", r"check: the EEPROM has no address \(card_drivers.py:\d+\)"),
     "RaisesInInit": ("open-close", r"AttributeError: .* no attribute 'nowhere' \(card_drivers.py:\d+\)"),
     "RaisesInACondition": ("receive-one", r"check: IndexError: list index out of range \(card_drivers.py:\d+\)"),
-    "HangsInReceive": ("receive-one", "hang: task receive0 made no further point"),
-    "WaitsForAThreadsLock": ("both-ways", "hang: task (receive|send)0 made no further point"),
-    "TakesEveryException": ("receive-one", "misuse: receive0 goes on where its schedule is over"),
+    "HangsInReceive": ("receive-one", "hang: task receive0 reached no further point"),
+    "WaitsForAThreadsLock": ("both-ways", "hang: task (receive|send)0 reached no further point"),
+    "TakesEveryException": ("receive-one", "misuse: receive0 continues after its schedule has ended"),
     "Recurses": ("receive-one", "check: RecursionError: "),
     "OpenAnswersNone": ("receive-one", "TypeError: open returned NoneType, not True or False"),
     "CountsInTwoSteps": ("stats-receive", "check: stats: rx_frames is 1 and rx_bytes 0, of frames of 60 bytes"),
     "StatsAnswersText": ("stats-send", "check: TypeError: stats returned str, not Stats"),
     "ReceiveAnswersText": ("receive-one", "check: TypeError: receive returned str, not bytes"),
     "ReclaimAnswersBelowZero": ("send-one", "check: TypeError: reclaim returned -1, not a number"),
-    "FrameTooLong": ("receive-one", "check: a frame of 9725 bytes is handed up in queue 0"),
+    "FrameTooLong": ("receive-one", "check: a frame of 9725 bytes is delivered from queue 0"),
     "WordTooLong": ("interrupt-receive", "check: ValueError: 4294967296 is no word of a register"),
     "OutsideDma": ("receive-one", r"memory: receive0 at \S+\.py:\d+.* writes 0x1000, which isn't lent"),
     "ReadsTooMuch": ("receive-one", r"memory: receive0 at \S+\.py:\d+.* reads 0x0, which isn't lent"),
     "ExitsInReceive": ("receive-one", "check: SystemExit: 0"),
-    "EndsTheProcess": ("receive-one", "crash: the process ended with status 0"),
-    "AbortsInClose": ("open-close", "crash: the process was ended by signal 6"),
+    "EndsTheProcess": ("receive-one", "crash: the process exited with status 0"),
+    "AbortsInClose": ("open-close", "crash: the process was killed by signal 6"),
     "PieceLeft": ("open-close", "1 piece of nicd_alloc wasn't given back"),
     "FromAThread": ("receive-one", "a call comes from a thread that the driver made itself"),
     "StateLeft": ("receive-wrap", "misuse: begin doesn't initialize all of the driver's state"),
@@ -165,12 +165,12 @@ class Refusals(unittest.TestCase):
         sys.path.remove(folder)
 
     def test_files(self) -> None:
-        self.refused("it can't be loaded: NameError: .* \\(given.py:2\\)", "nothing\n")
-        self.refused("it can't be loaded: SystemExit", "raise SystemExit\n")
+        self.refused("can't load it: NameError: .* \\(given.py:2\\)", "nothing\n")
+        self.refused("can't load it: SystemExit", "raise SystemExit\n")
         self.refused("it has 0 classes of Driver$", "")
         self.refused("it has 2 classes of Driver: A, B; FILE.py:CLASS", "class A(Driver): ...\nclass B(Driver): ...\n")
         self.refused("it has no class C of Driver: A; FILE.py:CLASS", "class A(Driver): ...\n", "C")
-        with self.assertRaisesRegex(Refused, "there is no such file of Python"):
+        with self.assertRaisesRegex(Refused, "no such Python file"):
             load(Path("/nowhere.py"))
 
     def test_classes(self) -> None:
@@ -179,14 +179,14 @@ class Refusals(unittest.TestCase):
         self.refused("A.receive is no function", begin + "    receive = 3\n")
         self.refused("A.queues is 'two', not an allowed number", begin + "    queues = 'two'\n")
         self.refused("A.threads is -1, not an allowed number", begin + "    threads = -1\n")
-        self.refused("A.name is no text, or its can is none of Can", begin + "    name = 3\n")
+        self.refused("A.name isn't a string, or its can isn't a value of Can", begin + "    name = 3\n")
 
     def test_what_the_card_refuses(self) -> None:
         fields = {"name": "a b", "queues": 5, "slots": 12, "frame": 9, "threads": 1}
         for field, value in fields.items():
             status, told = ran(type("Wrong", (drivers.Both,), {field: value}), "--list")
             self.assertEqual(status, 2)
-            self.assertRegex(told, "card: the driver can't be taken: its name|its queues|its slots|its frame|no thread")
+            self.assertRegex(told, "card: the driver is refused: the name|queues is|slots must|frame must|thread isn't")
 
     def test_lengths_are_bytes(self) -> None:
         """Item sizes don't matter, nor does what the driver's bytes claim about themselves."""
@@ -207,7 +207,7 @@ class Refusals(unittest.TestCase):
         )
 
     def test_a_call_without_a_card(self) -> None:
-        with self.assertRaisesRegex(RuntimeError, "read32 is called by a driver on its card"):
+        with self.assertRaisesRegex(RuntimeError, "only a driver in a report card may call read32"):
             drivers.Both().read32("STATUS")
 
 

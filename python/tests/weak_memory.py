@@ -131,7 +131,7 @@ class Weak(unittest.TestCase):
 
     def test_words(self) -> None:
         self.assertRaisesRegex(BadWord, "memory: 'week' is none of", search, Litmus("mb", "mb"), memory="week")
-        self.assertRaisesRegex(ValueError, "memory is strong or weak", search, Litmus("mb", "mb", "week"))
+        self.assertRaisesRegex(ValueError, "memory must be strong, weak", search, Litmus("mb", "mb", "week"))
         self.assertRaises(ValueError, search, Litmus("mb", "mb", "weak", frozenset({"all"})))
 
 
@@ -166,7 +166,7 @@ class Send(Scenario):
     def end(self) -> str | None:
         gone = [self.nic.collect() for _ in range(2)]
         numbers = [None if one is None else frame_number(one.data) for one in gone]
-        return None if numbers == [0, 1] else "a frame didn't go out"
+        return None if numbers == [0, 1] else "a frame was never transmitted"
 
 
 class Files(unittest.TestCase):
@@ -245,7 +245,7 @@ class Values(unittest.TestCase):
             with self.assertRaisesRegex(Failure, f"misuse: a choice has 1 to 256 values, not {bound}"):
                 search(Choosing(lambda it, bound=bound: it.choose(bound)), 5)
         search(Choosing(lambda it: it.check(it.choose(1) == 0, "one value is 0")), 5)
-        with self.assertRaisesRegex(Failure, "endless: no end after 200 points; last came choose"):
+        with self.assertRaisesRegex(Failure, "endless: no end after 200 points; the last to act was choose"):
             search(Choosing(lambda it: [it.choose(2) for _ in range(300)]), 5, shrink=False)
 
     def test_timers(self) -> None:

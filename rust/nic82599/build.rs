@@ -12,7 +12,7 @@ use std::io;
 use std::path::{Path, PathBuf};
 use std::process::Command;
 
-const HELP: &str = "`make -C c` in a clone makes it, and a release has it; the variable NIC82599_DIR names its folder";
+const HELP: &str = "`make -C c` in a clone builds it, and a release contains it; NIC82599_DIR can name its folder";
 
 /// Each feature with a separate archive, and the archive's name. An archive precedes the ones that it calls.
 const FEATURES: [(&str, &str); 2] = [("drive", "nic82599_drive"), ("explore", "nic82599_explore")];
@@ -47,7 +47,7 @@ fn main() {
             format!("compile_error!({:?});\n", format!("nic82599: {why}"))
         }
     };
-    fs::write(out_dir().join("library.rs"), text).expect("the folder of the build can be written to");
+    fs::write(out_dir().join("library.rs"), text).expect("the build folder must be writable");
 }
 
 /// Returns the library's folder, and the version of its headers if known.
@@ -57,7 +57,7 @@ fn library() -> Result<(PathBuf, Option<String>), String> {
         let places = [given.clone(), given.join("lib"), given.join(multiarch()), given.join("c/out")];
         return match places.into_iter().find(|it| has_library(it)) {
             Some(folder) => Ok((folder.clone(), version_beside(&folder))),
-            None => Err(format!("no library in {}, which NIC82599_DIR names: {HELP}", given.display())),
+            None => Err(format!("no library in {} (NIC82599_DIR): {HELP}", given.display())),
         };
     }
     let here = PathBuf::from(env::var_os("CARGO_MANIFEST_DIR").unwrap_or_default());
@@ -86,7 +86,7 @@ fn library() -> Result<(PathBuf, Option<String>), String> {
 fn of_sources(sources: &Path) -> Result<(PathBuf, Option<String>), String> {
     println!("cargo:rerun-if-changed={}", sources.display());
     let copy = out_dir().join("sources");
-    copy_folder(sources, &copy).map_err(|why| format!("{} can't be copied ({why})", sources.display()))?;
+    copy_folder(sources, &copy).map_err(|why| format!("can't copy {} ({why})", sources.display()))?;
     make(&copy, &archives())?;
     let folder = copy.join("c/out");
     Ok((folder.clone(), version_beside(&folder)))
@@ -120,7 +120,7 @@ fn make(clone: &Path, targets: &[String]) -> Result<(), String> {
     for name in ["MAKEFLAGS", "MFLAGS", "MAKELEVEL", "CARGO_MAKEFLAGS", "TARGET", "OUT_DIR", "V"] {
         command.env_remove(name);
     }
-    let told = command.output().map_err(|why| format!("make can't be started ({why}): {HELP}"))?;
+    let told = command.output().map_err(|why| format!("can't start make ({why}): {HELP}"))?;
     if told.status.success() {
         return Ok(());
     }
@@ -169,7 +169,7 @@ fn check_version(folder: &Path, found: Option<String>) -> Result<(), String> {
     let own = env::var("CARGO_PKG_VERSION").unwrap_or_default();
     match found.filter(|it| *it != own) {
         Some(other) => {
-            Err(format!("the library in {} has the version {other}, and this crate {own}", folder.display()))
+            Err(format!("the library in {} has version {other}, but this crate has {own}", folder.display()))
         }
         None => Ok(()),
     }

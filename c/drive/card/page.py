@@ -69,7 +69,7 @@ def failure(row: Row) -> str:
 def reached(row: Row) -> str:
     parts = []
     if row.delivered or row.sent:
-        parts.append(f"{row.delivered:,} frames handed up, {row.sent:,} sent")
+        parts.append(f"{row.delivered:,} frames delivered, {row.sent:,} sent")
     parts += [f"reached: {name}" for name, count in row.reached.items() if count]
     return "; ".join(parts)
 

@@ -47,7 +47,7 @@ static void end_call(bool is_done)
     if (nicd.era == DURING && call == nicd.reached->call)
         nicd.era = AFTER;
     if (!is_done)
-        nicd_failed("%s answered false", nicd_call_name(call));
+        nicd_failed("%s returned false", nicd_call_name(call));
     if (nicd.reached->call == call)
         nicd_reach(CALLED);
 }
@@ -98,7 +98,7 @@ bool nicd_try_to_resize(uint16_t slots)
 void nicd_resize(uint16_t slots)
 {
     if (!nicd_try_to_resize(slots))
-        nicd_failed("resize answered false");
+        nicd_failed("resize returned false");
 }
 
 void nicd_mtu(uint32_t frame)
@@ -682,7 +682,7 @@ void nicd_begin(void)
     nicd_judge_begin();
     nicd_watch_begin();
     if (!(nicd.scenario->ways & OPENS) && !nicd_open())
-        nicd_note("open answered false");
+        nicd_note("open returned false");
     name_all(nicd.scenario);
     nicxo_hold_back(nicd.late);
     add_threads();

@@ -176,7 +176,7 @@ static uint64_t write_run(uint64_t from, uint64_t end)
     uint8_t status = nicxo_write(from, bytes_at, (size_t)(to - from));
     memcpy(known + from, bytes_at(from, (size_t)(to - from)), (size_t)(to - from));
     if (status != NIC_DONE && !nicxo_is_over())
-        nicd_failed("a pointer of the driver's writes 0x%llx, which isn't lent: %s", (unsigned long long)from,
+        nicd_failed("the driver writes through a pointer to 0x%llx, which isn't lent: %s", (unsigned long long)from,
                     nicd_memory_near(from));
     return to;
 }

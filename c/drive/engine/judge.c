@@ -59,7 +59,7 @@ static bool is_frame(uint16_t number, const uint8_t *bytes, uint32_t length)
 static void tell_too_early(uint16_t queue, uint16_t number)
 {
     uint16_t next = nicd.written[queue][nicd.next[queue]];
-    nicd_failed("frame %u in slot %u is handed up before frame %u in slot %u of queue %u", number,
+    nicd_failed("frame %u in slot %u is delivered before frame %u in slot %u of queue %u", number,
                 nicd.frames[number].slot, next, nicd.frames[next].slot, queue);
 }
 
@@ -70,18 +70,18 @@ static void tell_strange(uint16_t queue, const uint8_t *bytes, uint32_t length)
         if (!is_frame(k, bytes, length))
             continue;
         if (nicd.frames[k].state == IS_DELIVERED)
-            nicd_failed("frame %u is handed up a second time, in queue %u, where it lay in slot %u", k, queue,
-                        nicd.frames[k].slot);
+            nicd_failed("frame %u is delivered a second time, from slot %u of queue %u", k, queue, nicd.frames[k].slot);
         else if (nicd.frames[k].state == IS_WRITTEN && nicd.frames[k].queue != nicd.base + queue)
-            nicd_failed("frame %u of queue %u is handed up in queue %u", k, nicd.frames[k].queue - nicd.base, queue);
+            nicd_failed("frame %u of queue %u is delivered from queue %u", k, nicd.frames[k].queue - nicd.base, queue);
         else if (nicd.frames[k].state == IS_WRITTEN)
             tell_too_early(queue, k);
         else
-            nicd_failed("frame %u is handed up, and the device has written no such frame", k);
+            nicd_failed("frame %u is delivered, but the device never wrote it", k);
         return;
     }
     if (nicd.next[queue] == nicd.written_count[queue]) {
-        nicd_failed("%u bytes are handed up in queue %u, where no frame has been written", (unsigned)length, queue);
+        nicd_failed("%u bytes are delivered from queue %u, but the device wrote no frame there", (unsigned)length,
+                    queue);
         return;
     }
     uint16_t number = nicd.written[queue][nicd.next[queue]];
@@ -89,10 +89,10 @@ static void tell_strange(uint16_t queue, const uint8_t *bytes, uint32_t length)
     while (at < length && at < wanted && bytes[at] == whole[at])
         at++;
     if (length != wanted)
-        nicd_failed("frame %u of %u bytes is handed up with %u: it ends in slot %u of queue %u", number,
+        nicd_failed("frame %u of %u bytes is delivered with %u: it ends in slot %u of queue %u", number,
                     (unsigned)wanted, (unsigned)length, nicd.frames[number].slot, queue);
     else
-        nicd_failed("frame %u is handed up with other bytes, from byte %u on: it ends in slot %u of queue %u", number,
+        nicd_failed("frame %u is delivered with wrong bytes from byte %u on: it ends in slot %u of queue %u", number,
                     (unsigned)at, nicd.frames[number].slot, queue);
 }
 
@@ -120,11 +120,11 @@ static bool take_next(uint16_t queue, const uint8_t *bytes, uint32_t length)
 void nicd_deliver(uint16_t queue, const uint8_t *bytes, uint32_t length)
 {
     if (queue >= nicd.setup.queues)
-        nicd_failed("a frame is handed up in queue %u, and there are %u", queue, nicd.setup.queues);
+        nicd_failed("a frame is delivered from queue %u, but the driver has %u", queue, nicd.setup.queues);
     else if (!length || length > NICD_FRAME_MOST)
-        nicd_failed("a frame of %u bytes is handed up in queue %u", (unsigned)length, queue);
+        nicd_failed("a frame of %u bytes is delivered from queue %u", (unsigned)length, queue);
     else if (nicd.is_ended)
-        nicd_failed("a frame is handed up in queue %u, and close has returned", queue);
+        nicd_failed("a frame is delivered from queue %u after close returned", queue);
     else if (!take_next(queue, bytes, length))
         tell_strange(queue, bytes, length);
 }
@@ -140,7 +140,7 @@ static const char *tell_cause(unsigned queue)
     if (!nicd.setup.interrupts || !nicd.driver->interrupt)
         return "";
     if (!(byte & 0x80))
-        return ": its byte of IVAR isn't valid";
+        return ": its IVAR byte isn't valid";
     uint32_t causes = nicd_peek(port ? NIC_PVTEICR(port - 1) : NIC_EICR);
     uint32_t masks = nicd_peek(port ? NIC_PVTEIMS(port - 1) : NIC_EIMS);
     bool is_raised = causes >> (byte & 0x1F) & 1, is_enabled = masks >> (byte & 0x1F) & 1;
@@ -153,7 +153,7 @@ static const char *tell_cause(unsigned queue)
 static const char *tell_loss(uint8_t why)
 {
     static const char *const words[] = {[BY_A_FAULT] = "its queue met a fault",
-                                        [BY_A_QUEUE] = "its queue went off while it was written",
+                                        [BY_A_QUEUE] = "its queue was disabled while the device wrote it",
                                         [BY_A_RESET] = "the device was reset"};
     return words[why];
 }
@@ -166,7 +166,7 @@ static void tell_waiting(uint16_t number)
     for (char *at = why; *at; at++)
         if (*at == '\n')
             *at = at[1] ? ';' : 0;
-    nicd_note("frame %u waits inside the device at rest: %.190s", number, *why ? why : "nothing takes it");
+    nicd_note("frame %u still waits inside the idle device: %.190s", number, *why ? why : "nothing receives it");
 }
 
 /* Whether a frame was dropped as the driver requested: DROP_EN is set, the ring was full then, and it has room
@@ -190,7 +190,7 @@ static void judge_frame(uint16_t number)
         return;
     case IS_WRITTEN:
         if (!may_be_lost)
-            nicd_note("frame %u is in slot %u of queue %u but was never handed up%s", number, frame->slot,
+            nicd_note("frame %u is in slot %u of queue %u but never reached the caller%s", number, frame->slot,
                       frame->queue - nicd.base, tell_cause((unsigned)(frame->queue - nicd.base)));
         return;
     case WAITS:
@@ -219,16 +219,17 @@ static void tell_strange_out(unsigned queue, uint16_t slot, uint64_t length, uin
     const struct sent *sent = nicd.sent[queue];
     for (uint32_t k = 0; k < next; k++)
         if (length == sent[k].length && first_other(&sent[k], length) == length) {
-            nicd_note("sent frame %u went out a second time, by slot %u of queue %u", sent[k].number, slot, queue);
+            nicd_note("sent frame %u was transmitted a second time, from slot %u of queue %u", sent[k].number, slot,
+                      queue);
             return;
         }
     if (next == nicd.accepted[queue])
-        nicd_note("slot %u of queue %u sent a frame that nobody gave it", slot, queue);
+        nicd_note("slot %u of queue %u transmitted a frame that send never accepted", slot, queue);
     else if (length != sent[next].length)
-        nicd_note("what slot %u of queue %u sent isn't frame %u: it has %u bytes, not %u", slot, queue,
+        nicd_note("slot %u of queue %u didn't transmit frame %u: %u bytes instead of %u", slot, queue,
                   sent[next].number, (unsigned)length, (unsigned)sent[next].length);
     else
-        nicd_note("what slot %u of queue %u sent isn't frame %u, from byte %u on", slot, queue, sent[next].number,
+        nicd_note("slot %u of queue %u didn't transmit frame %u: wrong from byte %u on", slot, queue, sent[next].number,
                   first_other(&sent[next], length));
 }
 
@@ -238,7 +239,7 @@ static void judge_out(const nic_told *told, uint32_t next[NICD_QUEUES], uint32_t
 {
     unsigned queue = (unsigned)(told->queue - nicd.base);
     if (queue >= nicd.setup.queues) {
-        nicd_note("a frame of %u bytes went out by queue %u, which isn't the driver's", (unsigned)told->len,
+        nicd_note("a frame of %u bytes was transmitted by queue %u, which isn't the driver's", (unsigned)told->len,
                   told->queue);
         return;
     }
@@ -260,7 +261,7 @@ static void judge_sent(void)
     nic_told told;
     while (!nicd.fault && nic_next_out(nicx_device())) {
         if (nic_collect(nicx_device(), out, sizeof out, &told) != NIC_FRAME) {
-            nicd_note("a frame went out that is longer than any that was sent");
+            nicd_note("a transmitted frame is longer than any frame passed to send");
             return;
         }
         judge_out(&told, next, count);
@@ -270,7 +271,7 @@ static void judge_sent(void)
     for (unsigned queue = 0; queue < nicd.setup.queues && !nicd.fault; queue++)
         for (uint32_t k = next[queue]; k < nicd.accepted[queue] && !nicd.fault; k++)
             if (!is_lossy() || (nicd.sent[queue][k].life == nicd.life && nicd.is_open))
-                nicd_note("frame %u was taken by send in queue %u, and never went out: TDH is %u, TDT is %u",
+                nicd_note("send accepted frame %u in queue %u, but it was never transmitted: TDH is %u, TDT is %u",
                           nicd.sent[queue][k].number, queue, (unsigned)nicd_peek(NIC_TDH(nicd.base + queue)),
                           (unsigned)nicd_peek(NIC_TDT(nicd.base + queue)));
 }
@@ -285,9 +286,9 @@ static const char *tell_kept(unsigned queue)
     const struct went *it = &nicd.out_slots[queue][(went - kept) % MOST_OUT];
     bool has_head = nicd_peek(NIC_TDWBAL(nicd.base + queue)) & NIC_TDWBAL_HEAD_WB_EN;
     snprintf(words, sizeof words, ": slot %u was never reclaimed, %s", it->slot,
-             !it->back  ? "which has no RS, so no DD"
-             : has_head ? "though the head after it was written"
-                        : "though it has DD");
+             !it->back  ? "because it has no RS, so no DD"
+             : has_head ? "although the device wrote back a later head"
+                        : "although it has DD");
     return words;
 }
 
@@ -297,9 +298,10 @@ static void judge_stuck(unsigned queue)
     if (nicd.went[queue] != nicd.accepted[queue] || !nicd.is_open)
         return;
     if (nicd.is_refused[queue])
-        nicd_note("send is refused in queue %u for ever, and all of its frames went out%s", queue, tell_kept(queue));
+        nicd_note("send on queue %u fails forever, although all its frames were transmitted%s", queue,
+                  tell_kept(queue));
     else if (nicd.is_awaited[queue] && nicd.out[queue])
-        nicd_note("reclaim says for ever that %u frame%s of queue %u ha%s gone out, and all have%s",
+        nicd_note("reclaim reports forever that %u frame%s of queue %u ha%s been transmitted, although all have%s",
                   (unsigned)nicd.out[queue], nicd.out[queue] == 1 ? "" : "s", queue,
                   nicd.out[queue] == 1 ? "sn't" : "ven't", tell_kept(queue));
 }
@@ -312,12 +314,13 @@ void nicd_judge_reclaimed(unsigned queue, uint32_t accepted)
         return;
     if (head == tail)
         nicd_failed(
-            "reclaim says that all of queue %u went out, and frame %u hasn't: no slot has it, since TDH and TDT "
+            "reclaim reports all of queue %u as transmitted, but frame %u isn't: no slot holds it, because TDH and TDT "
             "are both %u",
             queue, nicd.sent[queue][first % MOST_OUT].number, head);
     else
-        nicd_failed("reclaim says that all of queue %u went out, and frame %u in slot %u hasn't: TDH is %u, TDT is %u",
-                    queue, nicd.sent[queue][first % MOST_OUT].number, head, head, tail);
+        nicd_failed(
+            "reclaim reports all of queue %u as transmitted, but frame %u in slot %u isn't: TDH is %u, TDT is %u",
+            queue, nicd.sent[queue][first % MOST_OUT].number, head, head, tail);
 }
 
 const char *nicd_judge_end(void)

@@ -64,7 +64,7 @@ const char *nicd_bring_up(void)
 
 static void give_up(int number)
 {
-    static const char words[] = "hang: open makes no end, before the first schedule\n";
+    static const char words[] = "hang: open didn't return before the first schedule\n";
     (void)number;
     if (write(STDERR_FILENO, words, sizeof words - 1) < 0)
         _exit(REFUSED);
@@ -148,7 +148,7 @@ static const char *lack_of(const struct scenario *it)
     if (it->setup.queues > 1 && it->setup.queues > d->queues)
         return "fewer queues";
     if (it->setup.queues > 2 && d->slots > 8)
-        return "longer rings, of which four queues have no room";
+        return "rings too long for four queues";
     if (it->setup.frame > 1514 && it->setup.frame > d->frame)
         return "shorter frames";
     return never_of(it);
@@ -225,7 +225,7 @@ static int search(int argc, char **argv, const char *coverage)
     alarm(PATIENCE);
     int status = nicx_main(argc, argv, &scenario);
     if (coverage && !nicd_coverage_write(coverage)) {
-        fprintf(stderr, "%s: it can't be written\n", coverage);
+        fprintf(stderr, "%s: can't write the file\n", coverage);
         return REFUSED;
     }
     return status;
@@ -238,7 +238,7 @@ static int row(int argc, char **argv)
     int count = 1;
     nicd.scenario = find(argv[2]);
     if (!nicd.scenario) {
-        fprintf(stderr, "%s: there is no scenario %s: --list has them\n", argv[0], argv[2]);
+        fprintf(stderr, "%s: unknown scenario %s: --list prints them all\n", argv[0], argv[2]);
         return REFUSED;
     }
     nicd.reached = nicd_reached(nicd.scenario);
@@ -263,27 +263,27 @@ static const char *fault_of(const nicd_driver *d)
     size_t length = d->name ? strlen(d->name) : 0;
     if (!length || length > 40 ||
         strspn(d->name, "abcdefghijklmnopqrstuvwxyzABCDEFGHIJKLMNOPQRSTUVWXYZ0123456789_-") != length)
-        return "its name isn't of 1 to 40 letters, digits, '-' and '_'";
+        return "the name must have 1 to 40 letters, digits, '-' and '_'";
     if (!d->open || !d->close)
-        return "it has no open or no close";
+        return "open and close must be set";
     if (!d->receive && !d->threads && !d->send)
-        return "it has neither receive nor send";
+        return "receive or send must be set";
     if (d->queues > NICD_QUEUES)
-        return "its queues are above 4";
+        return "queues is above 4";
     if (d->slots % 8 || d->slots > 64)
-        return "its slots aren't 8, 16, .. 64";
+        return "slots must be 8, 16, .. 64";
     if (d->frame && (d->frame < 1514 || d->frame > NICD_FRAME_MOST))
-        return "its frame isn't 1,514 to 9,724";
+        return "frame must be 1,514 to 9,724";
     if (d->threads > MOST_THREAD || (d->threads && !d->thread))
-        return "its threads are above 4, or it has no thread";
+        return "threads is above 4, or thread isn't set";
     if (d->can & ~(uint32_t)NICD_CAN)
-        return "its can has bits that enum nicd_can hasn't";
+        return "can has bits that enum nicd_can doesn't define";
     return NULL;
 }
 
 static const char usage[] = "usage: %s --list\n"
                             "       %s --row NAME [--coverage FILE] [options of a search: --help]\n"
-                            "c/drive/nicdrive makes all rows, and the card.\n";
+                            "c/drive/nicdrive runs all rows and writes the card.\n";
 
 static const nicxo_words words = {
     .options = "nic82599_drive.opts",
@@ -297,7 +297,7 @@ int nicd_main(int argc, char **argv, const nicd_driver *driver)
     nicd_make_rows();
     nicxo_set_words(&words);
     if (fault) {
-        fprintf(stderr, "%s: the driver can't be taken: %s\n", argv[0], fault);
+        fprintf(stderr, "%s: the driver is refused: %s\n", argv[0], fault);
         return REFUSED;
     }
     if (unsaid()) {

@@ -67,7 +67,7 @@ static void name_asker(struct piece *piece)
 uint64_t nicd_dma_alloc(size_t bytes)
 {
     if (!bytes || bytes > MOST_BYTES)
-        nicd_failed("nicd_dma_alloc is asked for %lu bytes: it gives 1 to 524,288", (unsigned long)bytes);
+        nicd_failed("nicd_dma_alloc is called with %lu bytes: it allocates 1 to 524,288", (unsigned long)bytes);
     if (is_refused())
         return 0;
     size_t rounded = (bytes + ALIGNED - 1) / ALIGNED * ALIGNED;
@@ -94,7 +94,7 @@ void nicd_dma_free(uint64_t bus)
         if (nicd.pieces[k].blocks && nicd.pieces[k].bus == bus)
             piece = &nicd.pieces[k];
     if (!piece) {
-        nicd_failed("nicd_dma_free of 0x%llx, which nicd_dma_alloc didn't give", (unsigned long long)bus);
+        nicd_failed("nicd_dma_free of 0x%llx, which nicd_dma_alloc didn't return", (unsigned long long)bus);
         return;
     }
     uint32_t first = piece->first, blocks = piece->blocks;
@@ -139,7 +139,7 @@ void nicd_free(void *memory)
     if (!memory)
         return;
     if (piece < own.bytes || piece >= own.bytes + nicd.own_used || piece[0] != 1) {
-        nicd_failed("nicd_free of memory that nicd_alloc didn't give, or that was given back");
+        nicd_failed("nicd_free of memory that nicd_alloc didn't return, or that is already freed");
         return;
     }
     piece[0] = 0;
@@ -166,8 +166,8 @@ const char *nicd_memory_near(uint64_t bus)
             below = piece;
     }
     if (!below)
-        return "no memory of nicd_dma_alloc lies below it";
-    snprintf(words, sizeof words, "%llu bytes beyond the %u at 0x%llx, which %s asked for",
+        return "no allocation of nicd_dma_alloc is below it";
+    snprintf(words, sizeof words, "%llu bytes past the end of the %u bytes at 0x%llx, which %s allocated",
              (unsigned long long)(bus - below->bus - below->bytes), (unsigned)below->bytes,
              (unsigned long long)below->bus, below->by);
     return words;
@@ -191,12 +191,12 @@ const char *nicd_memory_left(void)
     while (nicd.taken && !piece->blocks)
         piece++;
     if (nicd.taken)
-        nicd_note("%u piece%s of DMA memory %s given back: %s%u bytes at 0x%llx, which %s asked for",
+        nicd_note("%u allocation%s of DMA memory %s freed: %s%u bytes at 0x%llx, which %s allocated",
                   (unsigned)nicd.taken, nicd.taken == 1 ? "" : "s", nicd.taken == 1 ? "wasn't" : "weren't",
                   nicd.taken == 1 ? "" : "the first has ", (unsigned)piece->bytes, (unsigned long long)piece->bus,
                   piece->by);
     else if (nicd.own_taken)
-        nicd_note("%u piece%s of nicd_alloc %s given back: one has %lu bytes", (unsigned)nicd.own_taken,
+        nicd_note("%u allocation%s of nicd_alloc %s freed, for example one of %lu bytes", (unsigned)nicd.own_taken,
                   nicd.own_taken == 1 ? "" : "s", nicd.own_taken == 1 ? "wasn't" : "weren't",
                   (unsigned long)first_own());
     return nicd.taken || nicd.own_taken ? nicd.fault : NULL;

@@ -205,7 +205,7 @@ static bool is_drivers(const nicxo_step *step)
 static void judge_lent(const nicxo_step *step)
 {
     if ((step->kind == STEP_LEND || step->kind == STEP_TAKE) && !nicd_memory_has(step->bus))
-        nicd_note("the driver %s block %u, which nicd_dma_alloc didn't give",
+        nicd_note("the driver %s block %u, which nicd_dma_alloc didn't return",
                   step->kind == STEP_LEND ? "lends" : "takes back", (unsigned)step->address);
 }
 
@@ -248,7 +248,7 @@ static void tell_fault(const nicxo_step *step)
     bool is_new = sends && step->told.why == NIC_FAULT_LEGACY && is_unwritten(ring.base + NIC_DESC_BYTES * ring.head);
     nicxo_add_words(" (%s slot %u, its %s%s)", sends ? "transmit" : "receive", (unsigned)ring.head,
                     is_buffer ? "buffer" : "descriptor",
-                    is_new ? ": all 0, the tail was moved over it before it was written" : "");
+                    is_new ? ": all 0: the tail was moved past it before it was written" : "");
 }
 
 /* Reports a write that the device ignores because the queue is enabled. */
@@ -264,7 +264,7 @@ void nicd_see_held(const nicxo_step *step, bool is_drivers)
     for (unsigned k = 0; k < sizeof held / sizeof *held; k++)
         for (unsigned queue = 0; queue < nicd.setup.queues; queue++)
             if (step->address == held[k].first + 0x40 * queue)
-                nicd_note("%s(%u) is written while the queue is on: the device keeps what it had", held[k].name, queue);
+                nicd_note("%s(%u) is written while the queue is on: the device ignores it", held[k].name, queue);
 }
 
 /* After close has returned, only a handler that was already running may act for the driver. */
@@ -272,7 +272,7 @@ static void judge_ended(const nicxo_step *step)
 {
     bool is_access = step->kind >= STEP_READ && step->kind <= STEP_TAKE;
     if (nicd.is_ended && is_access && step->thread < NICX_TASKS)
-        nicd_note("%s acts for the driver, and close has returned", nicxo_thread_name(step->thread));
+        nicd_note("%s still acts for the driver after close returned", nicxo_thread_name(step->thread));
 }
 
 /* Between suspend and resume the device must do nothing for the driver. The driver must not access the device, except
@@ -282,18 +282,18 @@ static void judge_sleep(const nicxo_step *step, bool is_of_driver)
     if (!nicd.is_asleep)
         return;
     if (step->kind == STEP_INT && step->status == NIC_MESSAGE && step->told.group == nicd.setup.port)
-        nicd_note("vector %u sends a message, and the driver is suspended: EIMS is 0x%08x, EICR 0x%08x",
+        nicd_note("vector %u sends a message while the driver is suspended: EIMS is 0x%08x, EICR 0x%08x",
                   step->told.vector,
                   (unsigned)nicd_peek(nicd.setup.port ? NIC_PVTEIMS(nicd.setup.port - 1u) : NIC_EIMS),
                   (unsigned)nicd_peek(nicd.setup.port ? NIC_PVTEICR(nicd.setup.port - 1u) : NIC_EICR));
     else if (step->kind == STEP_RX && step->status == NIC_WROTE)
-        nicd_note("slot %u of receive queue %u is written, and the driver is suspended: RXDCTL is 0x%08x",
+        nicd_note("slot %u of receive queue %u is written while the driver is suspended: RXDCTL is 0x%08x",
                   step->told.slot, step->told.queue - nicd.base, (unsigned)nicd_peek(NIC_RXDCTL(step->told.queue)));
     else if (step->kind == STEP_TX && (step->status == NIC_SENT || step->status == NIC_ADVANCED))
-        nicd_note("transmit queue %u sends, and the driver is suspended: TXDCTL is 0x%08x",
+        nicd_note("transmit queue %u sends while the driver is suspended: TXDCTL is 0x%08x",
                   step->told.queue - nicd.base, (unsigned)nicd_peek(NIC_TXDCTL(step->told.queue)));
     else if (is_of_driver && step->kind >= STEP_READ && step->kind <= STEP_TAKE && nicxo_thread() < NICX_TASKS)
-        nicd_note("%s acts for the driver, and it is suspended", nicxo_thread_name(nicxo_thread()));
+        nicd_note("%s acts for the driver while it is suspended", nicxo_thread_name(nicxo_thread()));
 }
 
 /* Converts an access at a register's alias to its first address, because rows check only that address. A write at an

@@ -1,4 +1,4 @@
-/* Link changes, resets, faults, other frame lengths and other rings during traffic. */
+/* Link changes, resets, faults, other frame lengths and new rings during traffic. */
 #include "../engine/drive.h"
 
 enum { MOST_REFUSED = 6 }; /* one of the first MOST_REFUSED allocations is refused */
@@ -10,7 +10,8 @@ const char *nicd_judge_link(void)
     bool is_up = nicd_peek(NIC_LINKS) & NIC_LINKS_LINK_UP;
     if (nicd.driver->link() == is_up)
         return NULL;
-    return is_up ? "the link is up, and the driver has it down" : "the link is down, and the driver has it up";
+    return is_up ? "the link is up, but the driver reports it as down"
+                 : "the link is down, but the driver reports it as up";
 }
 
 static void reset_once(void)
@@ -59,8 +60,8 @@ static void reset_and_count(void)
     const struct piece *it = nicd_memory_newest();
     if (nicd_memory_taken() > before && it)
         nicd_failed(
-            "%u pieces of memory are taken after a reset, and %u after three: one of %u bytes at 0x%llx, which %s "
-            "asked for",
+            "the driver holds %u allocations after one reset but %u after three: one of %u bytes at 0x%llx, which %s "
+            "allocated",
             (unsigned)before, (unsigned)nicd_memory_taken(), (unsigned)it->bytes, (unsigned long long)it->bus, it->by);
     nicd_close();
     if (nicd_memory_left())
@@ -123,10 +124,10 @@ static const char *judge_recovery(void)
         uint32_t receive = nicd_peek(NIC_RXDCTL(nicd.base + queue)),
                  transmit = nicd_peek(NIC_TXDCTL(nicd.base + queue));
         if (nicd.driver->receive && !(receive & NIC_RXDCTL_ENABLE))
-            return nicd_words("receive queue %u is off, and reset has returned: RXDCTL is 0x%08x", queue,
+            return nicd_words("receive queue %u is off after reset returned: RXDCTL is 0x%08x", queue,
                               (unsigned)receive);
         if (nicd.driver->send && !(transmit & NIC_TXDCTL_ENABLE))
-            return nicd_words("transmit queue %u is off, and reset has returned: TXDCTL is 0x%08x", queue,
+            return nicd_words("transmit queue %u is off after reset returned: TXDCTL is 0x%08x", queue,
                               (unsigned)transmit);
     }
     return NULL;
@@ -184,8 +185,9 @@ static const char *judge_shrunk(void)
 {
     for (uint16_t k = 0; k < nicd.count; k++)
         if (nicd.frames[k].life == nicd.life && nicd.coming[k].length > 1514 && nicd.frames[k].state == IS_DELIVERED)
-            return nicd_words("frame %u of %u bytes came in, and mtu has 1514 as the longest frame: MAXFRS is 0x%08x",
-                              k, (unsigned)nicd.coming[k].length, (unsigned)nicd_peek(NIC_MAXFRS));
+            return nicd_words(
+                "frame %u of %u bytes was received, but mtu set the longest frame to 1514: MAXFRS is 0x%08x", k,
+                (unsigned)nicd.coming[k].length, (unsigned)nicd_peek(NIC_MAXFRS));
     return NULL;
 }
 
@@ -217,7 +219,7 @@ static void refuse_one(void)
     if (!is_done)
         nicd_reach(NO_MEMORY);
     if (!is_done && nicd_memory_taken() != before)
-        nicd_failed("resize was refused memory: %u pieces are taken after it, and %u were before",
+        nicd_failed("resize was refused memory: the driver holds %u allocations after it, but held %u before",
                     (unsigned)nicd_memory_taken(), (unsigned)before);
     nicd_go_on();
 }
@@ -227,7 +229,7 @@ static const char *judge_rings(void)
     uint32_t length = nicd_peek(NIC_RDLEN(nicd.base));
     if (length == 16u * NIC_DESC_BYTES)
         return NULL;
-    nicd_note("the receive ring has %u bytes, and 16 slots were asked for", (unsigned)length);
+    nicd_note("the receive ring has %u bytes, but 16 slots were requested", (unsigned)length);
     return nicd.fault;
 }
 
@@ -235,62 +237,60 @@ static const char reset_rule[] =
     "A reset ends all queues, masks and filters: software sets all up again, and throws away "
     "what was on its way";
 static const char resize_rule[] =
-    "While a queue is on its base and length don't change, and its memory is the device's";
+    "While a queue is on, its base and length don't change, and the device owns its memory";
 
 const struct scenario nicd_link[] = {
-    ROW("link-down", "the link goes down, and the driver knows",
-        "A change of the link raises LSC; LINKS says how it is", "Link Status", RECEIVES | LINK | INTERRUPTS,
-        .setup = {.interrupts = true}, .takes = true, .links = 1, .end = nicd_judge_link),
-    ROW("link-down-up", "down and up during traffic", "A change of the link raises LSC; LINKS says how it is",
+    ROW("link-down", "the link goes down, and the driver reports it", "A link change raises LSC; LINKS shows the state",
+        "Link Status", RECEIVES | LINK | INTERRUPTS, .setup = {.interrupts = true}, .takes = true, .links = 1,
+        .end = nicd_judge_link),
+    ROW("link-down-up", "the link goes down and up during traffic", "A link change raises LSC; LINKS shows the state",
         "Link Status", RECEIVES | LINK | INTERRUPTS, .ways = LOSSY | DROPS, .setup = {.interrupts = true},
         .takes = true, .sends = 3, .comes = 4, .links = 2, .end = nicd_judge_link),
     ROW("link-amid-reset", "the link goes down while the device is reset",
-        "A reset takes the causes that were raised before it, so the link is looked at after it", "Link Status",
+        "A reset clears causes raised before it, so software checks the link afterwards", "Link Status",
         RECEIVES | LINK | INTERRUPTS | RESET, .ways = LOSSY | DROPS, .setup = {.interrupts = true},
         .control = reset_once, .takes = true, .links = 1, .end = nicd_judge_link),
     {0}};
 
 const struct scenario nicd_resets[] = {
-    ROW("reset-amid-receive", "a reset while frames come", reset_rule, "Software Reset", RECEIVES | RESET,
+    ROW("reset-amid-receive", "a reset while frames are received", reset_rule, "Software Reset", RECEIVES | RESET,
         .ways = LOSSY | DROPS, .control = reset_once, .takes = true, .comes = 4, .late = 2),
     ROW("reset-amid-send", "a reset while frames are sent", reset_rule, "Software Reset", SENDS | RESET,
         .ways = LOSSY | DROPS, .control = reset_once, .sends = 6),
-    ROW("reset-amid-interrupts", "a reset during both, with interrupts", reset_rule, "Software Reset",
+    ROW("reset-amid-interrupts", "a reset during traffic both ways, with interrupts", reset_rule, "Software Reset",
         RECEIVES | RESET | INTERRUPTS, .ways = LOSSY | DROPS, .setup = {.interrupts = true}, .control = reset_once,
         .takes = true, .sends = 3, .comes = 4, .late = 2),
-    ROW("reset-twice", "two resets, and traffic after them", reset_rule, "Software Reset", RECEIVES | RESET,
+    ROW("reset-twice", "two resets, then traffic", reset_rule, "Software Reset", RECEIVES | RESET,
         .ways = LOSSY | DROPS, .control = reset_twice, .takes = true, .comes = 3, .late = 2, .see = nicd_see_held),
-    ROW("reset-amid-chains", "a reset during frames of several buffers",
-        "A frame whose end was lost by a reset is thrown away", "Software Reset", RECEIVES | RESET,
-        .ways = LOSSY | DROPS, .setup = {.frame = 5000}, .control = reset_amid_frame, .takes = true, .comes = 2,
-        .late = 2, .length = 5000),
-    ROW("reset-memory", "three resets and a close, and nothing is left",
-        "A reset that takes memory gives back what it had", "reset of the adapter", RESET, .ways = LOSSY | DROPS,
+    ROW("reset-amid-chains", "a reset during frames with several buffers",
+        "A frame that lost its end in a reset is dropped", "Software Reset", RECEIVES | RESET, .ways = LOSSY | DROPS,
+        .setup = {.frame = 5000}, .control = reset_amid_frame, .takes = true, .comes = 2, .late = 2, .length = 5000),
+    ROW("reset-memory", "three resets and a close leave nothing allocated",
+        "A reset that allocates memory frees what it replaces", "reset of the adapter", RESET, .ways = LOSSY | DROPS,
         .control = reset_and_count, .takes = true, .comes = 2),
-    ROW("fault-receive", "a receive queue met a fault, and is reset",
-        "A queue that met a fault is off until software sets it up again", "reset of the adapter", PULLS | RESET,
+    ROW("fault-receive", "a receive queue is reset after a fault",
+        "After a fault, a queue is off until software sets it up again", "reset of the adapter", PULLS | RESET,
         .ways = LOSSY | DROPS | FAULTY, .control = break_receive, .comes = 1, .late = 2, .end = judge_recovery),
-    ROW("fault-send", "a transmit queue met a fault, and is reset",
-        "A queue that met a fault is off until software sets it up again", "reset of the adapter", SENDS | RESET,
+    ROW("fault-send", "a transmit queue is reset after a fault",
+        "After a fault, a queue is off until software sets it up again", "reset of the adapter", SENDS | RESET,
         .ways = LOSSY | DROPS | FAULTY, .control = break_send, .end = judge_recovery),
     {0}};
 
 const struct scenario nicd_changes[] = {
-    ROW("mtu-grows", "longer frames from now on, during traffic",
-        "MAXFRS and JUMBOEN are set before longer frames come", "Maximum Frame Size", RECEIVES | MTU,
-        .ways = LOSSY | DROPS, .control = grow_frames, .begin = come_longer),
-    ROW("mtu-shrinks", "shorter frames from now on, during traffic", "A frame above MAXFRS is dropped",
-        "Maximum Frame Size", RECEIVES | MTU, .ways = LOSSY | DROPS, .setup = {.frame = 4096}, .control = shrink_frames,
+    ROW("mtu-grows", "a larger MTU during traffic", "MAXFRS and JUMBOEN are set before longer frames arrive",
+        "Maximum Frame Size", RECEIVES | MTU, .ways = LOSSY | DROPS, .control = grow_frames, .begin = come_longer),
+    ROW("mtu-shrinks", "a smaller MTU during traffic", "A frame above MAXFRS is dropped", "Maximum Frame Size",
+        RECEIVES | MTU, .ways = LOSSY | DROPS, .setup = {.frame = 4096}, .control = shrink_frames,
         .begin = come_shorter, .end = judge_shrunk),
-    ROW("resize-amid-traffic", "other rings during traffic", resize_rule, "Dynamic Disabling of Receive Queues",
+    ROW("resize-amid-traffic", "new rings during traffic", resize_rule, "Dynamic Disabling of Receive Queues",
         RECEIVES | RESIZE, .ways = LOSSY | DROPS, .control = make_rings_longer, .takes = true, .sends = 3, .comes = 4,
         .late = 12, .end = judge_rings, .see = nicd_see_held),
-    ROW("resize-amid-chains", "other rings during frames of several buffers",
-        "A frame whose end was lost with its ring is thrown away", "Dynamic Disabling of Receive Queues",
+    ROW("resize-amid-chains", "new rings during frames with several buffers",
+        "A frame that lost its end with the old ring is dropped", "Dynamic Disabling of Receive Queues",
         RECEIVES | RESIZE, .ways = LOSSY | DROPS, .setup = {.frame = 5000}, .control = make_rings_longer, .takes = true,
         .comes = 2, .late = 2, .length = 5000, .end = judge_rings, .see = nicd_see_held),
-    ROW("resize-refused", "other rings, for which there is no memory",
-        "A call that answers false leaves all as it was: frames go on by the rings that were there",
-        "resize of the adapter", RECEIVES | RESIZE, .ways = LOSSY | DROPS, .control = refuse_one, .takes = true,
-        .sends = 3, .comes = 3, .late = 3, .see = nicd_see_held),
+    ROW("resize-refused", "new rings, but no memory for them",
+        "A call that returns false changes nothing: traffic continues on the old rings", "resize of the adapter",
+        RECEIVES | RESIZE, .ways = LOSSY | DROPS, .control = refuse_one, .takes = true, .sends = 3, .comes = 3,
+        .late = 3, .see = nicd_see_held),
     {0}};

@@ -18,9 +18,9 @@ static void judge_direction(const struct direction *it)
 {
     unsigned long long frames = it->frames, bytes = it->bytes, before = it->before;
     if (frames < before)
-        nicd_failed("stats: %s_frames is %llu, and was %llu before: a count never goes back", it->name, frames, before);
+        nicd_failed("stats: %s_frames is %llu but was %llu before: a count never decreases", it->name, frames, before);
     if (bytes != frames * LENGTH)
-        nicd_failed("stats: %s_frames is %llu and %s_bytes %llu, of frames of %u bytes: the two aren't of one moment",
+        nicd_failed("stats: %s_frames is %llu and %s_bytes %llu, of frames of %u bytes: the two weren't read together",
                     it->name, frames, it->name, bytes, LENGTH);
 }
 
@@ -70,7 +70,7 @@ static const char *judge_count(const char *what, uint64_t count, uint64_t wanted
 {
     if (count == wanted)
         return NULL;
-    return nicd_words("stats: %s is %llu at the end, and the card counted %llu", what, (unsigned long long)count,
+    return nicd_words("stats: %s is %llu at the end, but the card counted %llu", what, (unsigned long long)count,
                       (unsigned long long)wanted);
 }
 
@@ -102,18 +102,18 @@ static const char rule[] = "A thread reads statistics beside all others: frames 
                            "goes back, and none is lost";
 
 const struct scenario nicd_counts[] = {
-    ROW("stats-receive", "statistics are read while frames come", rule, "stats of the adapter", RECEIVES | STATS,
-        .begin = begin_counts, .control = look_often, .takes = true, .comes = 4, .end = judge_counts),
+    ROW("stats-receive", "statistics are read while frames are received", rule, "stats of the adapter",
+        RECEIVES | STATS, .begin = begin_counts, .control = look_often, .takes = true, .comes = 4, .end = judge_counts),
     ROW("stats-send", "statistics are read while frames are sent", rule, "stats of the adapter", SENDS | STATS,
         .begin = begin_counts, .control = look_often, .sends = 4, .end = judge_counts),
-    ROW("stats-two-threads", "two threads read statistics while frames come and go", rule, "stats of the adapter",
+    ROW("stats-two-threads", "two threads read statistics during traffic both ways", rule, "stats of the adapter",
         RECEIVES | SENDS | STATS, .setup = {.interrupts = true}, .begin = begin_two, .control = look_often,
         .takes = true, .sends = 3, .comes = 3, .end = judge_counts),
     {0}};
 
 const struct scenario nicd_link_read[] = {
     ROW("link-flap", "the link goes down, up and down while another thread reads its state",
-        "Changes that come before the handler looks raise LSC once; LINKS says how the link is", "Link Status",
+        "Several changes before the handler runs raise LSC once; LINKS shows the current state", "Link Status",
         RECEIVES | LINK | INTERRUPTS, .setup = {.interrupts = true}, .control = read_link, .takes = true, .links = 3,
         .end = nicd_judge_link),
     {0}};

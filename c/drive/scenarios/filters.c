@@ -39,7 +39,8 @@ static const char *judge(void)
         if (came == nicd_is_wanted(&now, &nicd.coming[k]) && (came || frame->why == NIC_WHY_FILTER))
             continue;
         nicd_note("a frame to %s address %s", nicd_whose(&nicd.coming[k]),
-                  came ? "came in, and the filter doesn't say so" : "didn't come in, and the filter says so");
+                  came ? "was received, but the filter doesn't accept it"
+                       : "wasn't received, but the filter accepts it");
         return nicd.fault;
     }
     return NULL;
@@ -113,7 +114,7 @@ static void let_multicast_out(void)
     static const nicd_filter two = {.count = 2, .address = {{1, 0, 0x5E, 0, 0, 0x11}, {1, 0, 0x5E, 0, 0, 0x22}}},
                              other = {.count = 1, .address = {{2, 0, 0, 0, 0, 0x22}}};
     if (!nicd.driver->filter(&two))
-        nicd_note("filter answered false");
+        nicd_note("filter returned false");
     set(&other);
 }
 
@@ -122,7 +123,7 @@ static void see_broadcast(const nicxo_step *step, bool is_drivers)
 {
     (void)is_drivers;
     if (step->kind == STEP_ARRIVE && now.broadcast && !(nicd_peek(NIC_FCTRL) & NIC_FCTRL_BAM))
-        nicd_note("broadcast frames are wanted, and FCTRL.BAM is 0");
+        nicd_note("broadcast frames are requested, but FCTRL.BAM is 0");
 }
 
 #define FILTER_ROW(row, what, function, words, section)                                                                \
@@ -130,20 +131,20 @@ static void see_broadcast(const nicxo_step *step, bool is_drivers)
         .see = see_broadcast)
 
 const struct scenario nicd_filters[] = {
-    FILTER_ROW("filter-own", "its own address alone", let_own_in, "A unicast frame comes in by a valid receive address",
-               "Receive Address"),
+    FILTER_ROW("filter-own", "only its own address", let_own_in,
+               "A unicast frame is accepted if a valid receive address matches", "Receive Address"),
     FILTER_ROW("filter-broadcast", "the broadcast address too", let_broadcast_in,
-               "Broadcast frames come in by FCTRL.BAM; on the bench MPE lets them in too", "Filter Control"),
-    FILTER_ROW("filter-all-multicast", "all multicast frames", let_all_multicast_in, "FCTRL.MPE lets all of them in",
+               "FCTRL.BAM accepts broadcast frames; on the bench, MPE does too", "Filter Control"),
+    FILTER_ROW("filter-all-multicast", "all multicast frames", let_all_multicast_in, "FCTRL.MPE accepts all of them",
                "Filter Control"),
-    FILTER_ROW("filter-all", "all frames", let_all_in, "FCTRL.UPE, MPE and BAM let all frames in", "Filter Control"),
+    FILTER_ROW("filter-all", "all frames", let_all_in, "FCTRL.UPE, MPE and BAM accept all frames", "Filter Control"),
     FILTER_ROW("filter-multicast", "one multicast address", let_multicast_in,
-               "A multicast frame comes in by a receive address or by MTA", "Multicast Table Array"),
-    FILTER_ROW("filter-second", "a second address of its own", let_second_in,
-               "Each of 128 receive addresses counts where its AV is 1", "Receive Address"),
-    FILTER_ROW("filter-no-longer", "all were let in, and no longer are", let_in_and_out,
-               "What is no longer wanted is taken out of the filters", "filter of the adapter"),
-    FILTER_ROW("filter-multicast-no-longer", "multicast addresses were let in, and no longer are", let_multicast_out,
+               "A multicast frame is accepted if a receive address or MTA matches", "Multicast Table Array"),
+    FILTER_ROW("filter-second", "a second unicast address", let_second_in,
+               "Each of the 128 receive addresses is active if its AV is 1", "Receive Address"),
+    FILTER_ROW("filter-no-longer", "all frames were accepted, then no longer", let_in_and_out,
+               "Addresses no longer requested are removed from the filters", "filter of the adapter"),
+    FILTER_ROW("filter-multicast-no-longer", "multicast addresses were accepted, then no longer", let_multicast_out,
                "What is no longer wanted is taken out of the table, and a receive address that held it is the next "
                "one's",
                "Multicast Table Array"),

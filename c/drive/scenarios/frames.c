@@ -19,7 +19,7 @@ static void go_mixed(void)
 static const char length_rule[] = "PKT_LEN is how many bytes of the frame are in this buffer; a frame that is longer "
                                   "than a buffer goes on in the next descriptor, and EOP marks the last one";
 static const char send_rule[] =
-    "A frame may have several descriptors: DTALEN is each buffer's, and EOP stands in the last";
+    "A frame may have several descriptors: DTALEN is the length of each buffer, and EOP marks the last";
 
 #define RECEIVE(bytes, most)                                                                                           \
     ROW("receive-" #bytes, "frames of " #bytes " bytes come", length_rule, "Receive Descriptor Write-Back", RECEIVES,  \
@@ -34,8 +34,8 @@ const struct scenario nicd_frames[] = {
     RECEIVE(2048, 2048),
     RECEIVE(4096, 4096),
     RECEIVE(9014, 9014),
-    ROW("receive-mixed", "short and chained frames one after the other", length_rule, "Receive Descriptor Write-Back",
-        RECEIVES, .setup = {.frame = 4096}, .begin = come_mixed),
+    ROW("receive-mixed", "short and chained frames alternate", length_rule, "Receive Descriptor Write-Back", RECEIVES,
+        .setup = {.frame = 4096}, .begin = come_mixed),
     SEND(60, 1514),
     SEND(1514, 1514),
     SEND(2048, 2048),

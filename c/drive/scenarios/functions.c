@@ -11,11 +11,12 @@ static void close_it(void)
         uint32_t receive = nicd_peek(NIC_RXDCTL(nicd.base + queue)),
                  transmit = nicd_peek(NIC_TXDCTL(nicd.base + queue));
         if ((receive | transmit) & NIC_RXDCTL_ENABLE)
-            nicd_failed("queue %u of the function is on, and its driver is closed: VFRXDCTL is 0x%08x, VFTXDCTL 0x%08x",
-                        queue, (unsigned)receive, (unsigned)transmit);
+            nicd_failed(
+                "queue %u of the function is on although its driver is closed: VFRXDCTL is 0x%08x, VFTXDCTL 0x%08x",
+                queue, (unsigned)receive, (unsigned)transmit);
     }
     if (nicd_peek(NIC_PVTEIMS(VF)))
-        nicd_failed("the function's driver is closed, and its causes are enabled: VTEIMS is 0x%08x",
+        nicd_failed("the function's causes are enabled although its driver is closed: VTEIMS is 0x%08x",
                     (unsigned)nicd_peek(NIC_PVTEIMS(VF)));
     if (nicd_memory_left())
         nicx_fail(nicd.fault);
@@ -66,11 +67,11 @@ static void see_foreign(const nicxo_step *step, bool is_drivers)
     if (!is_drivers)
         return;
     if (step->kind == STEP_READ || step->kind == STEP_WRITE)
-        nicd_note("the function's driver reaches %s of the physical function", nicxo_register(step->address, name));
+        nicd_note("the function's driver accesses %s of the physical function", nicxo_register(step->address, name));
     else if ((step->kind == STEP_VF_READ || step->kind == STEP_VF_WRITE) && step->vf != VF)
-        nicd_note("the driver of function %u reaches function %u", VF, step->vf);
+        nicd_note("the driver of function %u accesses function %u", VF, step->vf);
     else if ((step->kind == STEP_VF_READ || step->kind == STEP_VF_WRITE) && step->status == NIC_STRAY)
-        nicd_note("offset 0x%04x is no register of a function", (unsigned)step->address);
+        nicd_note("offset 0x%04x isn't a register of a function", (unsigned)step->address);
 }
 
 /* --- the mailbox; the card plays the host --- */
@@ -230,11 +231,11 @@ static const char *judge_mail(void)
 {
     if (mail.taken < mail.given)
         return nicd_words(
-            "message %u of the function was put into the mailbox, and the host never got it: VFMAILBOX is "
+            "message %u of the function was put into the mailbox, but the host never received it: VFMAILBOX is "
             "0x%08x",
             (unsigned)mail.taken, (unsigned)nicd_peek(NIC_PVFMAILBOX(VF)));
     if (mail.received < mail.sent)
-        return nicd_words("message %u of the host was put into the mailbox, and the driver never took it: VFMAILBOX is "
+        return nicd_words("message %u of the host was put into the mailbox, but the driver never read it: VFMAILBOX is "
                           "0x%08x",
                           (unsigned)mail.received, (unsigned)nicd_peek(NIC_PVFMAILBOX(VF)));
     return NULL;
@@ -292,7 +293,7 @@ static void wait_for_ready(void *unused)
     while (!nicd_mailbox_ready())
         nicx_wait();
     nicx_check(nicd_peek(NIC_CTRL_EXT) & NIC_CTRL_EXT_PFRSTD,
-               "mailbox_ready returned true, but since the reset the host hasn't set CTRL_EXT.PFRSTD");
+               "mailbox_ready returned true, but the host hasn't set CTRL_EXT.PFRSTD since the reset");
     nicd_reach(IS_READY);
 }
 
@@ -319,38 +320,38 @@ static void be_ready_once(void)
 }
 
 const struct scenario nicd_functions[] = {
-    ROW("function-both-ways", "a function's frames come and go",
-        "A virtual function reaches its own queues by offsets of its own", "Virtual Function Registers",
-        FUNCTIONS | RECEIVES, .setup = {.port = PORT}, .takes = true, .sends = 4, .comes = 5, .see = see_foreign),
-    ROW("function-wrap", "frames over each slot of a function's ring",
-        "A function's rings are as the physical function's", "Virtual Function Registers", FUNCTIONS | RECEIVES,
+    ROW("function-both-ways", "a function receives and sends frames",
+        "A virtual function accesses its queues at its own offsets", "Virtual Function Registers", FUNCTIONS | RECEIVES,
+        .setup = {.port = PORT}, .takes = true, .sends = 4, .comes = 5, .see = see_foreign),
+    ROW("function-wrap", "frames in every slot of a function's rings",
+        "A function's rings work like the physical function's", "Virtual Function Registers", FUNCTIONS | RECEIVES,
         .setup = {.port = PORT}, .takes = true, .rings = 1, .comes = 4, .see = see_foreign),
-    ROW("function-interrupts", "a function's messages",
-        "A function's causes and masks are its own; what a message masks is enabled again",
+    ROW("function-interrupts", "a function's interrupts",
+        "A function has its own causes and masks; the driver re-enables what a message masked",
         "Virtual Function Interrupt Registers", FUNCTIONS | RECEIVES | INTERRUPTS,
         .setup = {.port = PORT, .interrupts = true}, .takes = true, .sends = 4, .comes = 5, .see = see_foreign),
     ROW("function-two-queues", "a function with both queues of its pool", "A function has the queues of its pool",
         "Virtual Function Registers", FUNCTIONS | RECEIVES, .setup = {.port = PORT, .queues = 2},
         .begin = use_both_queues, .see = see_foreign),
     ROW("function-close", "a function closes during traffic",
-        "A queue that is asked to go off may receive and send until ENABLE reads 0; only then is its memory software's",
+        "A queue being disabled may receive and send until ENABLE reads 0; only then does software own its memory",
         "Dynamic Disabling of Receive Queues", FUNCTIONS | RECEIVES, .ways = LOSSY | DROPS, .setup = {.port = PORT},
         .control = close_it, .takes = true, .sends = 4, .comes = 5, .see = see_foreign),
     ROW("function-reset-under-it", "its host resets its pool during traffic",
-        "A reset of the pool ends its queues; the function sets them up again", "Virtual Function Reset",
+        "A pool reset disables its queues; the function sets them up again", "Virtual Function Reset",
         FUNCTIONS | RECEIVES | RESET, .ways = LOSSY | DROPS, .setup = {.port = PORT}, .control = be_reset,
         .begin = begin_host, .takes = true, .comes = 3, .late = 2, .see = see_foreign),
-    ROW("mailbox-function-sends", "two messages to the host",
-        "A side takes the mailbox before it writes, and writes the next message once the last one is acknowledged",
+    ROW("mailbox-function-sends", "two mailbox messages to the host",
+        "A side locks the mailbox before it writes, and writes the next message after the last one is acknowledged",
         "Mailbox", FUNCTIONS | MAILBOX, .setup = {.port = PORT}, .begin = send_messages, .end = judge_mail,
         .see = see_foreign),
-    ROW("mailbox-function-receives", "two messages of the host", "One read clears PFSTS: what is read once is kept",
-        "Mailbox", FUNCTIONS | MAILBOX, .setup = {.port = PORT}, .begin = receive_messages, .end = judge_mail,
-        .see = see_foreign),
-    ROW("mailbox-function-collides", "both sides send at once",
-        "VFU and PFU are never both 1: who comes second tries again", "Mailbox", FUNCTIONS | MAILBOX,
+    ROW("mailbox-function-receives", "two mailbox messages from the host",
+        "One read clears PFSTS, so software keeps what it read", "Mailbox", FUNCTIONS | MAILBOX,
+        .setup = {.port = PORT}, .begin = receive_messages, .end = judge_mail, .see = see_foreign),
+    ROW("mailbox-function-collides", "both sides send at the same time",
+        "VFU and PFU are never both 1: the second side retries", "Mailbox", FUNCTIONS | MAILBOX,
         .setup = {.port = PORT}, .begin = collide, .end = judge_mail, .see = see_foreign),
-    ROW("mailbox-ready-once", "the device's reset is done, while another thread reads the mailbox",
-        "One read clears RSTD, no matter which thread reads it", "Mailbox", FUNCTIONS | MAILBOX | READY_BIT,
+    ROW("mailbox-ready-once", "the device's reset completes while another thread reads the mailbox",
+        "One read clears RSTD, whichever thread does it", "Mailbox", FUNCTIONS | MAILBOX | READY_BIT,
         .setup = {.port = PORT}, .begin = be_ready_once, .see = see_foreign),
     {0}};

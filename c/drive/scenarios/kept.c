@@ -76,7 +76,7 @@ static const char *judge_filter(uint16_t number)
     if (came == nicd_is_wanted(filter, &nicd.coming[number]))
         return NULL;
     nicd_note("frame %u to %s address %s", number, nicd_whose(&nicd.coming[number]),
-              came ? "came in, and the filter doesn't say so" : "didn't come in, and the filter says so");
+              came ? "was received, but the filter doesn't accept it" : "wasn't received, but the filter accepts it");
     return nicd.fault;
 }
 
@@ -108,8 +108,8 @@ static const char *judge_length(uint16_t number)
     bool came = nicd.frames[number].state == IS_DELIVERED;
     if (came == (nicd.coming[number].length <= LONG_FRAME))
         return NULL;
-    nicd_note("frame %u of %u bytes %s, and %u bytes were agreed", number, (unsigned)nicd.coming[number].length,
-              came ? "came in" : "didn't come in", LONG_FRAME);
+    nicd_note("frame %u of %u bytes %s, but the agreed length is %u bytes", number,
+              (unsigned)nicd.coming[number].length, came ? "was received" : "wasn't received", LONG_FRAME);
     return nicd.fault;
 }
 
@@ -148,14 +148,14 @@ static const char *judge_ring(uint16_t number)
     uint32_t length = nicd_peek(NIC_RDLEN(nicd.base));
     if (length == NIC_DESC_BYTES * (uint32_t)nicd.setup.slots)
         return NULL;
-    nicd_note("frame %u came to a ring of %u bytes, and %u slots were asked for", number, (unsigned)length,
+    nicd_note("frame %u was received by a ring of %u bytes, but %u slots were requested", number, (unsigned)length,
               nicd.setup.slots);
     return nicd.fault;
 }
 
 static const struct setting settings[SETTINGS] = {
     {"filter",
-     "all frames were let in, and no longer are",
+     "all frames were accepted, then no longer",
      FILTER,
      {0},
      let_own_in,
@@ -164,7 +164,7 @@ static const struct setting settings[SETTINGS] = {
      NULL,
      KEPT_OUT},
     {"list",
-     "a multicast and a second address are let in",
+     "a multicast and a second address are accepted",
      FILTER,
      {0},
      let_list_in,
@@ -172,10 +172,10 @@ static const struct setting settings[SETTINGS] = {
      judge_filter,
      NULL,
      KEPT_OUT},
-    {"promiscuous", "all frames are let in", FILTER, {0}, let_all_in, come_to_each, judge_filter, NULL, NO_REACH},
-    {"mtu", "frames are longer", MTU, {0}, let_long_in, come_long, judge_length, send_long, TOO_LONG},
+    {"promiscuous", "all frames are accepted", FILTER, {0}, let_all_in, come_to_each, judge_filter, NULL, NO_REACH},
+    {"mtu", "the MTU is larger", MTU, {0}, let_long_in, come_long, judge_length, send_long, TOO_LONG},
     {"rss",
-     "flows go by another key and table",
+     "the hash key and table are new",
      RSS,
      {.queues = 2, .interrupts = true},
      spread_otherwise,
@@ -183,7 +183,7 @@ static const struct setting settings[SETTINGS] = {
      judge_queue,
      NULL,
      MESSAGES},
-    {"rings", "rings are longer", RESIZE, {0}, make_rings_longer, come_over_ring, judge_ring, NULL, WRAPS},
+    {"rings", "the rings are longer", RESIZE, {0}, make_rings_longer, come_over_ring, judge_ring, NULL, WRAPS},
 };
 
 /* --- events --- */
@@ -228,8 +228,8 @@ static void wait_for_link(void)
 static const struct event events[EVENTS] = {
     {"reset", "a reset", "Software Reset", RESET, CALL_RESET, reset_it, {AMID_IN}},
     {"suspend", "suspend and resume", "suspend of the adapter", SUSPEND, CALL_SUSPEND, suspend_it, {AMID_IN}},
-    {"resize", "other rings", "resize of the adapter", RESIZE, CALL_RESIZE, resize_it, {AMID_IN}},
-    {"mtu", "another length of frames", "mtu of the adapter", MTU, CALL_MTU, change_length, {AMID_IN}},
+    {"resize", "new rings", "resize of the adapter", RESIZE, CALL_RESIZE, resize_it, {AMID_IN}},
+    {"mtu", "a new MTU", "mtu of the adapter", MTU, CALL_MTU, change_length, {AMID_IN}},
     {"link", "the link goes down and up", "Link Status", 0, NO_CALL, wait_for_link, {LINK_DOWN, LINK_UP}},
 };
 
@@ -284,9 +284,9 @@ static const struct change {
     const char *name, *what;
     const nicd_filter *old, *wanted;
 } changes[AMID] = {
-    {"filter-amid-traffic", "all frames were let in, and no longer are, while they come", &promiscuous, &own_alone},
-    {"list-amid-traffic", "other addresses are let in while frames come", &own_alone, &listed},
-    {"promiscuous-amid-traffic", "all frames are let in while they come", &own_alone, &promiscuous},
+    {"filter-amid-traffic", "all frames were accepted, then no longer, while they arrive", &promiscuous, &own_alone},
+    {"list-amid-traffic", "new addresses are accepted while frames arrive", &own_alone, &listed},
+    {"promiscuous-amid-traffic", "all frames become accepted while they arrive", &own_alone, &promiscuous},
 };
 
 static const struct change *change;
@@ -369,7 +369,7 @@ static void make_pair(unsigned row, unsigned of_setting, unsigned of_event)
     snprintf(rows[row].title, sizeof rows[row].title, "%s; then %s", s->what, e->what);
     it->name = rows[row].name;
     it->title = rows[row].title;
-    it->rule = "What was set holds until it is set otherwise: a driver that sets its device up again writes it again";
+    it->rule = "A setting holds until it is changed: a driver that sets its device up again restores it";
     it->source = e->source;
     it->needs = RECEIVES | s->needs | e->needs;
     it->ways = LOSSY | DROPS;
@@ -395,7 +395,7 @@ static void make_change(unsigned row, unsigned number)
     rows[row].change = (uint8_t)number;
     it->name = changes[number].name;
     it->title = changes[number].what;
-    it->rule = "A filter that is changed loses no frame that the old and the new one let in";
+    it->rule = "A filter change loses no frame that both the old and the new filter accept";
     it->source = "filter of the adapter";
     it->needs = RECEIVES | FILTER;
     it->ways = DROPS;

@@ -19,11 +19,11 @@ static const char *left(void)
 {
     for (unsigned side = 0; side < 2u * nicd.setup.queues; side++)
         if (is_on(nicd.base + side / 2, side % 2)) {
-            nicd_note("%s queue %u is on, and the driver is closed", side % 2 ? "transmit" : "receive", side / 2);
+            nicd_note("%s queue %u is on although the driver is closed", side % 2 ? "transmit" : "receive", side / 2);
             return nicd.fault;
         }
     if (masks()) {
-        nicd_note("causes are enabled, and the driver is closed: the mask is 0x%08x", (unsigned)masks());
+        nicd_note("causes are enabled although the driver is closed: the mask is 0x%08x", (unsigned)masks());
         return nicd.fault;
     }
     return nicd_memory_left();
@@ -40,19 +40,19 @@ static void see_nothing_left(void)
 
 static void open_and_close(void)
 {
-    nicx_check(nicd_open(), "open answered false");
+    nicx_check(nicd_open(), "open returned false");
     nicd_close();
     see_nothing_left();
 }
 
 static void open_alone(void)
 {
-    nicx_check(nicd_open(), "open answered false");
+    nicx_check(nicd_open(), "open returned false");
 }
 
 static void open_with_frames(void)
 {
-    nicx_check(nicd_open(), "open answered false");
+    nicx_check(nicd_open(), "open returned false");
     nicd_go_on();
 }
 
@@ -101,7 +101,7 @@ static bool is_taken(void *number)
 static void three_lives(void)
 {
     for (unsigned life = 0; life < 3; life++) {
-        nicx_check(nicd_open(), "open answered false");
+        nicx_check(nicd_open(), "open returned false");
         send_two();
         nicx_wait_until(all_went, NULL);
         uint16_t number = nicd_let_one_come();
@@ -110,7 +110,7 @@ static void three_lives(void)
         nicd_close();
         see_nothing_left();
     }
-    nicx_check(nicd_open(), "open answered false");
+    nicx_check(nicd_open(), "open returned false");
     nicd_let_one_come();
 }
 
@@ -157,39 +157,39 @@ static const char stop_rule[] =
     "its memory software's";
 
 const struct scenario nicd_life[] = {
-    ROW("open-close", "open and close, and nothing is left",
-        "What close leaves is as it was before open: queues off, causes masked, memory given back",
-        "close of the adapter", 0, .ways = OPENS, .control = open_and_close),
-    ROW("open-amid-frames", "frames come while it opens", "RXEN is set once all else is", "Receive Initialization",
-        RECEIVES, .ways = OPENS | LOSSY | DROPS, .control = open_with_frames, .takes = true, .comes = 3, .late = 2),
-    ROW("open-amid-interrupts", "the same with interrupts: each frame that it let in is handed up",
+    ROW("open-close", "open and close leave nothing allocated or enabled",
+        "close restores the state before open: queues off, causes masked, memory freed", "close of the adapter", 0,
+        .ways = OPENS, .control = open_and_close),
+    ROW("open-amid-frames", "frames arrive while it opens", "RXEN is set last", "Receive Initialization", RECEIVES,
+        .ways = OPENS | LOSSY | DROPS, .control = open_with_frames, .takes = true, .comes = 3, .late = 2),
+    ROW("open-amid-interrupts", "the same with interrupts: each accepted frame is delivered",
         "A frame that comes once reception is on raises its cause, so vectors are there before, or EICS raises the "
         "causes "
         "once all is",
         "Interrupt Causes", RECEIVES | INTERRUPTS, .ways = OPENS | DROPS, .setup = {.interrupts = true},
         .control = open_alone, .takes = true, .late = ONCE_RECEPTION_IS_ON, .see = see_reception),
-    ROW("close-amid-frames", "frames come while it closes", stop_rule, "Dynamic Disabling of Receive Queues", RECEIVES,
-        .ways = LOSSY | DROPS, .control = close_all, .takes = true, .comes = 5),
-    ROW("close-amid-sends", "frames are on their way out while it closes", stop_rule,
-        "Dynamic Disabling of Transmit Queues", SENDS, .ways = LOSSY | DROPS, .control = close_all, .sends = 5),
-    ROW("close-amid-all", "both, with interrupts", stop_rule, "Dynamic Disabling of Receive Queues",
+    ROW("close-amid-frames", "frames arrive while it closes", stop_rule, "Dynamic Disabling of Receive Queues",
+        RECEIVES, .ways = LOSSY | DROPS, .control = close_all, .takes = true, .comes = 5),
+    ROW("close-amid-sends", "frames are being sent while it closes", stop_rule, "Dynamic Disabling of Transmit Queues",
+        SENDS, .ways = LOSSY | DROPS, .control = close_all, .sends = 5),
+    ROW("close-amid-all", "both directions, with interrupts", stop_rule, "Dynamic Disabling of Receive Queues",
         RECEIVES | SENDS | INTERRUPTS, .ways = LOSSY | DROPS, .setup = {.interrupts = true}, .control = close_all,
         .takes = true, .sends = 3, .comes = 3),
-    ROW("close-two-queues", "a driver of two queues closes while frames of both come", stop_rule,
+    ROW("close-two-queues", "a driver with two queues closes while both receive", stop_rule,
         "Dynamic Disabling of Receive Queues", RECEIVES, .ways = LOSSY | DROPS, .setup = {.queues = 2},
         .control = close_all, .begin = come_by_two, .sends = 3),
-    ROW("restart", "three lives, then a fourth that goes on",
-        "What an earlier life left, in rings, heads and causes, isn't taken for news", "open of the adapter", RECEIVES,
-        .ways = OPENS | LOSSY | DROPS, .control = three_lives, .takes = true, .comes = 4, .late = 4,
+    ROW("restart", "opened and closed three times, then opened a fourth time",
+        "Leftovers of an earlier run in rings, heads and causes aren't taken for new events", "open of the adapter",
+        RECEIVES, .ways = OPENS | LOSSY | DROPS, .control = three_lives, .takes = true, .comes = 4, .late = 4,
         .see = nicd_see_held),
-    ROW("memory-refused", "each request for memory is refused once",
-        "An open that is refused memory keeps none of it, and the next one succeeds", "open of the adapter", RECEIVES,
+    ROW("memory-refused", "each allocation fails once",
+        "An open that fails for lack of memory keeps none, and the next open succeeds", "open of the adapter", RECEIVES,
         .ways = OPENS | LOSSY | DROPS, .points = 60000, .control = refuse_each, .takes = true, .comes = 2, .late = 2),
     ROW("suspend", "suspend and resume during traffic", stop_rule, "suspend of the adapter", RECEIVES | SENDS | SUSPEND,
         .ways = LOSSY | DROPS, .control = rest_and_go_on, .takes = true, .sends = 3, .comes = 3, .late = 2,
         .see = nicd_see_held),
-    ROW("suspend-quiet", "frames come and the link changes between suspend and resume",
-        "While the device rests no cause is enabled, no queue is on, and nobody accesses it", "suspend of the adapter",
-        RECEIVES | SUSPEND, .ways = LOSSY | DROPS, .setup = {.interrupts = true}, .control = rest_for_long,
-        .takes = true, .comes = 3, .links = 2, .late = 2),
+    ROW("suspend-quiet", "frames arrive and the link changes between suspend and resume",
+        "While suspended, no cause is enabled, no queue is on, and the driver doesn't access the device",
+        "suspend of the adapter", RECEIVES | SUSPEND, .ways = LOSSY | DROPS, .setup = {.interrupts = true},
+        .control = rest_for_long, .takes = true, .comes = 3, .links = 2, .late = 2),
     {0}};

@@ -42,20 +42,19 @@ static const char *judge(void)
     unsigned queue = others(), shift = 16 * (queue % 2);
     uint8_t byte = 0;
     if (!(nicd_peek(NIC_RXDCTL(queue)) & nicd_peek(NIC_TXDCTL(queue)) & NIC_RXDCTL_ENABLE))
-        return nicd_words("queue %u, another driver's, is off: RXDCTL is 0x%08x, TXDCTL 0x%08x", queue,
+        return nicd_words("another driver's queue %u is off: RXDCTL is 0x%08x, TXDCTL 0x%08x", queue,
                           (unsigned)nicd_peek(NIC_RXDCTL(queue)), (unsigned)nicd_peek(NIC_TXDCTL(queue)));
     if (nicd_peek(NIC_RDBAL(queue)) != RING || nicd_peek(NIC_TDBAL(queue)) != RING + 1024)
-        return nicd_words("the rings of queue %u, another driver's, are elsewhere: RDBAL is 0x%x, TDBAL 0x%x", queue,
+        return nicd_words("the rings of another driver's queue %u moved: RDBAL is 0x%x, TDBAL 0x%x", queue,
                           (unsigned)nicd_peek(NIC_RDBAL(queue)), (unsigned)nicd_peek(NIC_TDBAL(queue)));
     if ((nicd_peek(NIC_IVAR(queue / 2)) >> shift & 0xFFFF) != (0x80 | VECTOR) * 0x101u)
-        return nicd_words("the bytes of queue %u, another driver's, in IVAR(%u) are changed: it is 0x%08x", queue,
-                          queue / 2, (unsigned)nicd_peek(NIC_IVAR(queue / 2)));
+        return nicd_words("the IVAR bytes of another driver's queue %u changed: IVAR(%u) is 0x%08x", queue, queue / 2,
+                          (unsigned)nicd_peek(NIC_IVAR(queue / 2)));
     if (!(nicd_peek(NIC_EIMS) >> VECTOR & 1))
-        return nicd_words("cause %u, another driver's, is masked: EIMS is 0x%08x", VECTOR,
-                          (unsigned)nicd_peek(NIC_EIMS));
+        return nicd_words("another driver's cause %u is masked: EIMS is 0x%08x", VECTOR, (unsigned)nicd_peek(NIC_EIMS));
     nic_dma_read(nicx_device(), RING + NIC_BLOCK_BYTES, &byte, 1);
     return byte == mark ? NULL
-                        : nicd_words("the byte at 0x%llx, another driver's memory, is 0x%02x, and was 0x%02x",
+                        : nicd_words("the byte at 0x%llx in another driver's memory changed to 0x%02x from 0x%02x",
                                      (unsigned long long)(RING + NIC_BLOCK_BYTES), byte, mark);
 }
 
@@ -72,13 +71,13 @@ static void see(const nicxo_step *step, bool is_drivers)
         return;
     if (step->kind == STEP_WRITE &&
         (is_in_set(address, NIC_RDBAL(others())) || is_in_set(address, NIC_TDBAL(others()))))
-        nicd_note("the driver writes %s, which isn't a register of its own queue", nicxo_register(address, name));
+        nicd_note("the driver writes %s, which doesn't belong to its queue", nicxo_register(address, name));
     if ((step->kind == STEP_POKE || step->kind == STEP_PEEK || step->kind == STEP_TAKE) && step->bus >= RING)
-        nicd_note("the driver reaches 0x%llx, memory of another", (unsigned long long)step->bus);
+        nicd_note("the driver accesses 0x%llx, another driver's memory", (unsigned long long)step->bus);
     if (step->kind == STEP_WRITE && address == NIC_EICR && step->word >> VECTOR & 1 && step->word != 0x7FFFFFFF)
-        nicd_note("EICR is written with 0x%08x, which clears cause %u, another driver's", (unsigned)step->word, VECTOR);
+        nicd_note("EICR is written with 0x%08x, which clears another driver's cause %u", (unsigned)step->word, VECTOR);
     if (step->kind == STEP_WRITE && (address == NIC_EIMS || address == NIC_EIMC) && step->word >> VECTOR & 1)
-        nicd_note("the driver writes the mask of another's cause: 0x%08x", (unsigned)step->word);
+        nicd_note("the driver writes the mask of another driver's cause: 0x%08x", (unsigned)step->word);
 }
 
 static void close_it(void)
@@ -94,20 +93,19 @@ static void resize_it(void)
     nicd_go_on();
 }
 
-static const char rule[] =
-    "What a driver wasn't asked for is another's: its queues, its bytes of IVAR, its masks, its memory";
+static const char rule[] = "A driver leaves other drivers' resources alone: queues, IVAR bytes, masks and memory";
 
 const struct scenario nicd_neighbours[] = {
-    ROW("neighbour-traffic", "traffic beside another's queue", rule, "open of the adapter", RECEIVES | PHYSICAL,
+    ROW("neighbour-traffic", "traffic beside another driver's queue", rule, "open of the adapter", RECEIVES | PHYSICAL,
         .ways = NEIGHBOUR, .begin = move_in, .takes = true, .rings = 1, .sends = 2, .comes = 2, .end = judge,
         .see = see),
     ROW("neighbour-interrupts", "the same with interrupts", rule, "open of the adapter",
         RECEIVES | PHYSICAL | INTERRUPTS, .ways = NEIGHBOUR, .setup = {.interrupts = true}, .begin = move_in,
         .takes = true, .sends = 10, .comes = 10, .end = judge, .see = see),
-    ROW("neighbour-close", "it closes beside another's queue", rule, "NICD_SHARED_DEVICE",
+    ROW("neighbour-close", "it closes beside another driver's queue", rule, "NICD_SHARED_DEVICE",
         RECEIVES | PHYSICAL | SHARED_DEVICE, .ways = NEIGHBOUR | LOSSY | DROPS, .control = close_it, .begin = move_in,
         .takes = true, .comes = 3, .end = judge, .see = see),
-    ROW("neighbour-resize", "other rings beside another's queue", rule, "NICD_SHARED_DEVICE",
+    ROW("neighbour-resize", "new rings beside another driver's queue", rule, "NICD_SHARED_DEVICE",
         RECEIVES | PHYSICAL | SHARED_DEVICE | RESIZE, .ways = NEIGHBOUR | LOSSY | DROPS, .control = resize_it,
         .begin = move_in, .takes = true, .comes = 3, .end = judge, .see = see),
     {0}};

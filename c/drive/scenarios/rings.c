@@ -68,7 +68,7 @@ static void use_two_queues(void)
 static void send_too_long(void)
 {
     if (nicd_send(0, nicd.setup.frame + 1))
-        nicd_failed("send of queue 0 takes a frame of %u bytes, and the setup has %u as the longest",
+        nicd_failed("send on queue 0 accepts a frame of %u bytes, but the longest in the setup is %u",
                     (unsigned)nicd.setup.frame + 1, (unsigned)nicd.setup.frame);
     nicd_send_surely(0, nicd.setup.frame);
 }
@@ -76,44 +76,44 @@ static void send_too_long(void)
 static const char tail_rule[] =
     "Head and tail that are equal mean that the device has no descriptor, so software leaves "
     "one slot of the ring free";
-static const char done_rule[] = "A descriptor is software's again once the device has set DD in it, but not before";
+static const char done_rule[] = "Software owns a descriptor again only after the device set DD in it";
 static const char reuse_rule[] = "A buffer is the device's from the write of the tail until its descriptor is reported "
                                  "as done";
 
 const struct scenario nicd_rings[] = {
-    ROW("receive-one", "one frame comes", done_rule, "Receive Descriptor Write-Back", RECEIVES, .takes = true,
+    ROW("receive-one", "one frame is received", done_rule, "Receive Descriptor Write-Back", RECEIVES, .takes = true,
         .comes = 1),
-    ROW("receive-empty", "receive is called, and no frame came", done_rule, "Receive Descriptor Write-Back", PULLS,
+    ROW("receive-empty", "receive is called without a new frame", done_rule, "Receive Descriptor Write-Back", PULLS,
         .control = look_at_nothing),
-    ROW("receive-burst", "as many frames come as the ring has room for", tail_rule, "Receive Descriptor Ring", RECEIVES,
-        .takes = true, .rings = 1, .comes = -1),
-    ROW("receive-wrap", "frames over each slot of the ring, more than twice",
-        "The device goes from the last slot of a ring to the first; a tail is a slot of the ring",
-        "Receive Descriptor Ring", RECEIVES, .takes = true, .rings = 2, .comes = 2),
+    ROW("receive-burst", "as many frames arrive as the ring has room for", tail_rule, "Receive Descriptor Ring",
+        RECEIVES, .takes = true, .rings = 1, .comes = -1),
+    ROW("receive-wrap", "frames in every slot of the ring, more than twice",
+        "After the last slot the device wraps to the first; a tail is a slot of the ring", "Receive Descriptor Ring",
+        RECEIVES, .takes = true, .rings = 2, .comes = 2),
     ROW("receive-wrap-16", "the same with a ring of 16 slots",
-        "The length of a ring is what software wrote, in steps of 128 bytes", "Receive Descriptor Length", RECEIVES,
+        "Software sets the length of a ring, in steps of 128 bytes", "Receive Descriptor Length", RECEIVES,
         .setup = {.slots = 16}, .takes = true, .rings = 2, .comes = 2),
-    ROW("receive-wrap-24", "the same with a ring of 24 slots, which is no power of two",
-        "The length of a ring is what software wrote, in steps of 128 bytes", "Receive Descriptor Length", RECEIVES,
+    ROW("receive-wrap-24", "the same with a ring of 24 slots, not a power of two",
+        "Software sets the length of a ring, in steps of 128 bytes", "Receive Descriptor Length", RECEIVES,
         .setup = {.slots = 24}, .takes = true, .rings = 1, .comes = 10),
     ROW("receive-full", "the ring is full before the first frame is taken", tail_rule, "Receive Descriptor Ring", PULLS,
         .ways = UNPOLLED, .control = take_late, .rings = 1, .comes = 4),
     ROW("send-one", "one frame is sent", reuse_rule, "Transmit Descriptor Write-Back", SENDS, .sends = 1),
-    ROW("send-wrap", "frames over each slot of the ring, more than twice", reuse_rule, "Transmit Descriptor Ring",
-        SENDS, .rings = 2, .sends = 2),
+    ROW("send-wrap", "frames in every slot of the ring, more than twice", reuse_rule, "Transmit Descriptor Ring", SENDS,
+        .rings = 2, .sends = 2),
     ROW("send-wrap-16", "the same with a ring of 16 slots", reuse_rule, "Transmit Descriptor Ring", SENDS,
         .setup = {.slots = 16}, .rings = 2, .sends = 2),
-    ROW("send-wrap-24", "the same with a ring of 24 slots, which is no power of two", reuse_rule,
-        "Transmit Descriptor Ring", SENDS, .setup = {.slots = 24}, .rings = 1, .sends = 10),
-    ROW("send-full", "frames are sent until none is taken, and more afterwards", tail_rule, "Transmit Descriptor Ring",
-        SENDS, .control = fill_up),
-    ROW("send-too-long", "a frame above the agreed length", "A frame above MAXFRS isn't sent, so a driver refuses it",
-        "Maximum Frame Size", SENDS, .control = send_too_long),
-    ROW("send-two-threads", "two threads send by one queue", "A slot of a ring has one writer at a time",
+    ROW("send-wrap-24", "the same with a ring of 24 slots, not a power of two", reuse_rule, "Transmit Descriptor Ring",
+        SENDS, .setup = {.slots = 24}, .rings = 1, .sends = 10),
+    ROW("send-full", "frames are sent until the ring is full, then more", tail_rule, "Transmit Descriptor Ring", SENDS,
+        .control = fill_up),
+    ROW("send-too-long", "a frame above the agreed length",
+        "The device doesn't send a frame above MAXFRS, so the driver refuses it", "Maximum Frame Size", SENDS,
+        .control = send_too_long),
+    ROW("send-two-threads", "two threads send on one queue", "A slot of a ring has one writer at a time",
         "NICD_SHARED_SEND", SENDS | SHARED_SEND, .begin = send_by_two),
-    ROW("both-ways", "frames come and go at the same time", "The two rings of a queue have nothing in common",
+    ROW("both-ways", "frames are received and sent at the same time", "A queue's two rings are independent",
         "Descriptor Rings", RECEIVES | SENDS, .takes = true, .sends = 6, .comes = 6),
-    ROW("two-queues", "two queues on threads of their own, both ways",
-        "Queues have nothing in common but the registers of the device", "Multiple Queues", RECEIVES | SENDS,
-        .setup = {.queues = 2, .slots = 16}, .begin = use_two_queues),
+    ROW("two-queues", "two queues on separate threads, both ways", "Queues share only the device's registers",
+        "Multiple Queues", RECEIVES | SENDS, .setup = {.queues = 2, .slots = 16}, .begin = use_two_queues),
     {0}};

@@ -52,8 +52,8 @@ static const char *entry_of(const struct come *come, uint16_t number)
     uint32_t hash = is_hashed(come) ? hash_of(come, number) : 0, entry = hash % sizeof wanted.table;
     if (!is_hashed(come))
         return "its type isn't hashed";
-    snprintf(words, sizeof words, "its hash is 0x%08x, by which entry %u of RETA names it, where %u stands",
-             (unsigned)hash, (unsigned)entry, (unsigned)(nicd_peek(NIC_RETA(entry / 4)) >> 8 * (entry % 4) & 0xF));
+    snprintf(words, sizeof words, "its hash 0x%08x selects entry %u of RETA, which holds %u", (unsigned)hash,
+             (unsigned)entry, (unsigned)(nicd_peek(NIC_RETA(entry / 4)) >> 8 * (entry % 4) & 0xF));
     return words;
 }
 
@@ -62,7 +62,7 @@ const char *nicd_judge_queue(uint16_t number)
     unsigned queue = queue_of(&nicd.coming[number], number);
     if (nicd.frames[number].state != IS_DELIVERED || nicd.frames[number].queue == queue)
         return NULL;
-    nicd_note("frame %u came by queue %u, and is to come by %u: %s", number, nicd.frames[number].queue, queue,
+    nicd_note("frame %u arrived in queue %u instead of %u: %s", number, nicd.frames[number].queue, queue,
               entry_of(&nicd.coming[number], number));
     return nicd.fault;
 }
@@ -162,14 +162,14 @@ const struct scenario nicd_rss_rows[] = {
     TYPE("rss-ipv6", "IPv6 without ports", NIC_RSS_IPV6),
     ROW("rss-none", "frames that aren't hashed", rule, "Receive Side Scaling", RECEIVES | RSS,
         .setup = {.queues = 2, .slots = 16}, .begin = come_of_type, .takes = true, .end = judge_queues),
-    ROW("rss-four-queues", "flows of TCP over IPv4 over four queues", rule, "Receive Side Scaling", RECEIVES | RSS,
+    ROW("rss-four-queues", "flows of TCP over IPv4 on four queues", rule, "Receive Side Scaling", RECEIVES | RSS,
         .setup = {.queues = 4}, .begin = come_of_type, .takes = true, .type = NIC_RSS_TCP_IPV4, .end = judge_queues),
-    ROW("rss-four-vectors", "flows of UDP over IPv4 over four queues, with messages",
-        "Queues 2 and 3 have their bytes in the second word of IVAR", "Interrupt Vector Allocation",
+    ROW("rss-four-vectors", "flows of UDP over IPv4 on four queues, with interrupts",
+        "The second IVAR register holds the bytes of queues 2 and 3", "Interrupt Vector Allocation",
         RECEIVES | RSS | INTERRUPTS, .setup = {.queues = 4, .interrupts = true}, .begin = come_of_type, .takes = true,
         .type = NIC_RSS_UDP_IPV4, .end = judge_queues),
-    ROW("rss-changed", "another key and table while frames come",
-        "A write of RETA takes effect at no particular frame: each is handed up by the queue that it came by",
+    ROW("rss-changed", "a new key and table while frames arrive",
+        "A write of RETA takes effect at no particular frame: each is delivered from the queue where it arrived",
         "Redirection Table", RECEIVES | RSS, .setup = {.queues = 2, .slots = 16}, .control = change_table,
         .begin = come_before_and_after, .takes = true, .type = NIC_RSS_TCP_IPV4, .end = judge_changed),
     {0}};

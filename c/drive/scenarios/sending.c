@@ -52,7 +52,7 @@ static void see_descriptor(const nicxo_step *step, bool is_drivers)
     }
     frame.length += (uint32_t)nic_desc_field(second, NIC_TXD_DTALEN);
     if ((slot == frame.first || second & NIC_TXD_EOP) && !(second & NIC_TXD_IFCS))
-        nicd_note("slot %u has no IFCS: the card sends its frame without a check sequence, and the bench has none",
+        nicd_note("slot %u has no IFCS: the card sends the frame without a frame check sequence; the bench has none",
                   slot);
     if (second & NIC_TXD_EOP)
         judge_end(slot);
@@ -132,20 +132,20 @@ static void send_and_reclaim(void)
         nicd_wait_until_out(0);
         if (!was_read)
             nicd_failed(
-                "reclaim says that all of queue 0 went out, and neither DD of a slot was read nor a head that the "
+                "reclaim reports all of queue 0 as transmitted, but read neither a slot's DD nor a head that the "
                 "device wrote%s",
-                has_head ? ": TDH was, which on the card moves before the buffers are read" : "");
+                has_head ? ": it read TDH, which on the card moves before the buffers are read" : "");
         nicd_reach(WRITTEN_BACK);
     }
 }
 
 const struct scenario nicd_descriptors[] = {
-    ROW("send-descriptor", "what stands in transmit descriptors",
+    ROW("send-descriptor", "the contents of transmit descriptors",
         "PAYLEN is the length of the whole frame, in its first descriptor, and IFCS has the card append the check "
         "sequence; the bench reads neither",
         "Advanced Transmit Data Descriptor", SENDS | PHYSICAL, .setup = {.frame = 1514}, .control = send_short_and_long,
         .begin = forget_frame, .see = see_descriptor),
-    ROW("send-descriptor-chain", "the same of frames in several buffers",
+    ROW("send-descriptor-chain", "the same for frames in several buffers",
         "PAYLEN is the length of the whole frame, in its first descriptor, and IFCS has the card append the check "
         "sequence; the bench reads neither",
         "Advanced Transmit Data Descriptor", SENDS | PHYSICAL, .setup = {.frame = 9014}, .control = send_short_and_long,
@@ -153,7 +153,7 @@ const struct scenario nicd_descriptors[] = {
     {0}};
 
 const struct scenario nicd_write_back[] = {
-    ROW("send-write-back", "by what reclaim knows that a frame went out",
+    ROW("send-write-back", "how reclaim knows that a frame was transmitted",
         "TDH moves as descriptors are fetched, before their buffers are read: only DD, or the head that the device "
         "writes, says that a buffer is software's again; on the bench TDH moves in the same step",
         "Transmit Descriptor Write-Back", SENDS | RECLAIMS | PHYSICAL, .control = send_and_reclaim,

@@ -30,7 +30,7 @@ static void see_transmit_enable(const nicxo_step *step, bool is_drivers)
     unsigned queue;
     if (is_write(step, is_drivers) && is_of_queue(step->address, NIC_TXDCTL(0), &queue) &&
         step->word & NIC_TXDCTL_ENABLE && !(nicd_peek(NIC_DMATXCTL) & NIC_DMATXCTL_TE))
-        nicd_note("TXDCTL(%u) asks for the queue while DMATXCTL.TE is 0", queue);
+        nicd_note("TXDCTL(%u) enables the queue while DMATXCTL.TE is 0", queue);
 }
 
 static void see_tail(const nicxo_step *step, bool is_drivers)
@@ -38,7 +38,7 @@ static void see_tail(const nicxo_step *step, bool is_drivers)
     unsigned queue;
     if (is_write(step, is_drivers) && is_of_queue(step->address, NIC_RDT(0), &queue) && step->word &&
         !(nicd_peek(NIC_RXDCTL(queue)) & NIC_RXDCTL_ENABLE))
-        nicd_note("RDT(%u) is moved to %u while RXDCTL.ENABLE reads 0", queue, (unsigned)step->word);
+        nicd_note("RDT(%u) is advanced to %u while RXDCTL.ENABLE reads 0", queue, (unsigned)step->word);
 }
 
 static void see_head(const nicxo_step *step, bool is_drivers)
@@ -65,7 +65,7 @@ static void see_reception(const nicxo_step *step, bool is_drivers)
 {
     char name[NICXO_NAME];
     if (is_write(step, is_drivers) && is_before_reception(step->address) && nicd_peek(NIC_RXCTRL) & NIC_RXCTRL_RXEN)
-        nicd_note("%s is set up after RXCTRL.RXEN", nicxo_register(step->address, name));
+        nicd_note("%s is written after RXCTRL.RXEN", nicxo_register(step->address, name));
 }
 
 static void see_masks(const nicxo_step *step, bool is_drivers)
@@ -76,7 +76,7 @@ static void see_masks(const nicxo_step *step, bool is_drivers)
     if (step->address == NIC_EIMC && (step->word & 0x7FFFFFFF) == 0x7FFFFFFF)
         seen.is_masked = true;
     if (is_reset && !seen.is_masked)
-        nicd_note("CTRL.RST is written, and no write of EIMC with 0x7fffffff came before: EIMS is 0x%08x",
+        nicd_note("CTRL.RST is written without an earlier write of 0x7fffffff to EIMC: EIMS is 0x%08x",
                   (unsigned)nicd_peek(NIC_EIMS));
     if (!is_reset)
         return;
@@ -93,11 +93,11 @@ static void see_vectors(const nicxo_step *step, bool is_drivers)
     if (!is_write(step, is_drivers) || !enabled)
         return;
     if (names)
-        nicd_note("IVAR(%u) is written while EIMS is 0x%08x: a frame that came before has no vector",
+        nicd_note("IVAR(%u) is written while EIMS is 0x%08x: a frame that arrived before has no vector",
                   (unsigned)(step->address - NIC_IVAR(0)) / 4, (unsigned)nicd_peek(NIC_EIMS));
     for (unsigned queue = 0; queue < nicd.setup.queues && step->address == NIC_EIMS; queue++)
         if (!(nicd_peek(NIC_IVAR(queue / 2)) >> 16 * (queue % 2) & 0x80))
-            nicd_note("EIMS enables the causes 0x%04x of queues, and the byte of IVAR for receive queue %u isn't valid",
+            nicd_note("EIMS enables the causes 0x%04x of queues, but the IVAR byte of receive queue %u isn't valid",
                       (unsigned)enabled, queue);
 }
 
@@ -107,7 +107,7 @@ static void see_cause_read(const nicxo_step *step, bool is_drivers)
     uint32_t mode = nicd_peek(NIC_GPIE);
     if (is_drivers && step->kind == STEP_READ && step->address == NIC_EICR && step->word & NIC_EICR_RTXQ &&
         mode & NIC_GPIE_MULTIPLE_MSIX && !(mode & NIC_GPIE_OCD))
-        nicd_note("a read of EICR takes the causes 0x%04x of queues: with MSI-X the card leaves them",
+        nicd_note("a read of EICR clears the causes 0x%04x of queues on the bench; with MSI-X the card doesn't",
                   (unsigned)(step->word & NIC_EICR_RTXQ));
 }
 
@@ -126,8 +126,8 @@ static void see_high_half(const nicxo_step *step)
             seen.highs[side] |= 1u << queue;
         if (is_of_queue(step->address, sides[side].control, &queue) && step->word & NIC_RXDCTL_ENABLE &&
             !(seen.highs[side] >> queue & 1))
-            nicd_note("queue %u is enabled, and %s(%u) wasn't written: the card has anything there, the bench 0", queue,
-                      sides[side].name, queue);
+            nicd_note("queue %u is enabled before %s(%u) was written: it is undefined on the card, 0 on the bench",
+                      queue, sides[side].name, queue);
     }
 }
 
@@ -140,15 +140,15 @@ static void see_ring(const nicxo_step *step, bool is_drivers)
         return;
     see_high_half(step);
     if ((is_of_queue(address, NIC_RDBAL(0), &queue) || is_of_queue(address, NIC_TDBAL(0), &queue)) && word % 128)
-        nicd_note("%s is written with 0x%x: a ring begins at a multiple of 128", nicxo_register(address, name),
+        nicd_note("%s is written with 0x%x: a ring's address is a multiple of 128", nicxo_register(address, name),
                   (unsigned)word);
     if ((is_of_queue(address, NIC_RDLEN(0), &queue) || is_of_queue(address, NIC_TDLEN(0), &queue)) &&
         (word % 128 || word != NIC_DESC_BYTES * (uint32_t)nicd.setup.slots))
-        nicd_note("%s is written with %u bytes: %u slots of 16 bytes were asked for", nicxo_register(address, name),
+        nicd_note("%s is written with %u bytes: %u slots of 16 bytes were requested", nicxo_register(address, name),
                   (unsigned)word, nicd.setup.slots);
     if ((is_of_queue(address, NIC_RDT(0), &queue) || is_of_queue(address, NIC_TDT(0), &queue)) &&
         word >= nicd.setup.slots)
-        nicd_note("%s is moved to %u, and the ring has slots 0 to %u", nicxo_register(address, name), (unsigned)word,
+        nicd_note("%s is advanced to %u, but the ring has slots 0 to %u", nicxo_register(address, name), (unsigned)word,
                   nicd.setup.slots - 1u);
 }
 
@@ -158,10 +158,10 @@ static void see_buffers(const nicxo_step *step, bool is_drivers)
     if (!is_write(step, is_drivers) || !is_of_queue(step->address, NIC_SRRCTL(0), &queue))
         return;
     if (nic_field(step->word, NIC_SRRCTL_DESCTYPE) != 1)
-        nicd_note("SRRCTL(%u).DESCTYPE is %u, and 1 is the advanced one with one buffer", queue,
+        nicd_note("SRRCTL(%u).DESCTYPE is %u: it must be 1 (advanced, one buffer)", queue,
                   (unsigned)nic_field(step->word, NIC_SRRCTL_DESCTYPE));
     if (!nic_field(step->word, NIC_SRRCTL_BSIZEPACKET) || nic_field(step->word, NIC_SRRCTL_BSIZEPACKET) > 16)
-        nicd_note("SRRCTL(%u).BSIZEPACKET is %u: it is 1 to 16, in KB", queue,
+        nicd_note("SRRCTL(%u).BSIZEPACKET is %u: it must be 1 to 16 (KB)", queue,
                   (unsigned)nic_field(step->word, NIC_SRRCTL_BSIZEPACKET));
 }
 
@@ -181,10 +181,10 @@ static void see_thresholds(const nicxo_step *step, bool is_drivers)
         !(word & NIC_TXDCTL_ENABLE))
         return;
     if (nic_field(word, NIC_TXDCTL_PTHRESH) && !nic_field(word, NIC_TXDCTL_HTHRESH))
-        nicd_note("TXDCTL(%u) has PTHRESH %u and HTHRESH 0: the card wants 1 at least", queue,
+        nicd_note("TXDCTL(%u) has PTHRESH %u and HTHRESH 0: the card needs HTHRESH of at least 1", queue,
                   (unsigned)nic_field(word, NIC_TXDCTL_PTHRESH));
     if (nic_field(word, NIC_TXDCTL_WTHRESH) && nicd_peek(NIC_TDWBAL(queue)) & NIC_TDWBAL_HEAD_WB_EN)
-        nicd_note("TXDCTL(%u) has WTHRESH %u beside a head that is written back", queue,
+        nicd_note("TXDCTL(%u) has WTHRESH %u with head write-back", queue,
                   (unsigned)nic_field(word, NIC_TXDCTL_WTHRESH));
 }
 
@@ -197,17 +197,16 @@ static void see_moderation(const nicxo_step *step, bool is_drivers)
             continue;
         eitr_vectors |= step->word & NIC_EITR_ITR_INTERVAL ? 1u << vector : 0;
         if (step->word & EITR_RESERVED)
-            nicd_note(
-                "EITR(%u) is written with 0x%08x: bits 30:28, 14:12 and 2:0 are reserved, and the interval stands in "
-                "11:3",
-                vector, (unsigned)step->word);
+            nicd_note("EITR(%u) is written with 0x%08x: bits 30:28, 14:12 and 2:0 are reserved; the interval is in "
+                      "11:3",
+                      vector, (unsigned)step->word);
     }
 }
 
 static void see_alignment(const nicxo_step *step, bool is_drivers)
 {
     if (is_drivers && step->kind >= STEP_READ && step->kind <= STEP_VF_WRITE && step->address % 4)
-        nicd_note("0x%05x is no multiple of 4, so it is no register", (unsigned)step->address);
+        nicd_note("0x%05x isn't a multiple of 4, so it isn't a register", (unsigned)step->address);
 }
 
 /* --- values, checked after open --- */
@@ -215,7 +214,7 @@ static void see_alignment(const nicxo_step *step, bool is_drivers)
 static void check_crc(void)
 {
     bool strips = nicd_peek(NIC_RDRXCTL) & NIC_RDRXCTL_CRCSTRIP, said = nicd_peek(NIC_HLREG0) & NIC_HLREG0_RXCRCSTRP;
-    nicx_check(strips == said, "RDRXCTL.CRCSTRIP isn't what HLREG0.RXCRCSTRP is");
+    nicx_check(strips == said, "RDRXCTL.CRCSTRIP differs from HLREG0.RXCRCSTRP");
 }
 
 static void check_fixes(void)
@@ -228,9 +227,9 @@ static void check_fixes(void)
 static void check_mode(void)
 {
     nicx_check(nicd_peek(NIC_GPIE) & NIC_GPIE_MULTIPLE_MSIX,
-               "GPIE.MULTIPLE_MSIX is 0: the card has no message for each vector then");
+               "GPIE.MULTIPLE_MSIX is 0: the card then has no message per vector");
     if (nicd_peek(NIC_EIAM) & NIC_EIAM_RTXQ && !(nicd_peek(NIC_GPIE) & NIC_GPIE_EIAME))
-        nicd_failed("EIAM is 0x%08x, and GPIE.EIAME is 0: no message masks its cause", (unsigned)nicd_peek(NIC_EIAM));
+        nicd_failed("EIAM is 0x%08x but GPIE.EIAME is 0: no message masks its cause", (unsigned)nicd_peek(NIC_EIAM));
 }
 
 static void check_vectors(void)
@@ -238,7 +237,7 @@ static void check_vectors(void)
     for (unsigned queue = 0; queue < nicd.setup.queues; queue++) {
         uint32_t byte = nicd_peek(NIC_IVAR(queue / 2)) >> 16 * (queue % 2);
         if (!(byte & 0x80))
-            nicd_failed("the byte of IVAR for receive queue %u isn't valid: 0x%02x", queue, (unsigned)byte & 0xFF);
+            nicd_failed("the IVAR byte of receive queue %u isn't valid: 0x%02x", queue, (unsigned)byte & 0xFF);
     }
 }
 
@@ -246,10 +245,10 @@ static void check_enables(void)
 {
     for (unsigned queue = 0; queue < nicd.setup.queues; queue++) {
         if (nicd.driver->receive && !(nicd_peek(NIC_RXDCTL(queue)) & NIC_RXDCTL_ENABLE))
-            nicd_failed("open returns, and receive queue %u isn't on: RXDCTL is 0x%08x", queue,
+            nicd_failed("open returns before receive queue %u is on: RXDCTL is 0x%08x", queue,
                         (unsigned)nicd_peek(NIC_RXDCTL(queue)));
         if (nicd.driver->send && !(nicd_peek(NIC_TXDCTL(queue)) & NIC_TXDCTL_ENABLE))
-            nicd_failed("open returns, and transmit queue %u isn't on: TXDCTL is 0x%08x", queue,
+            nicd_failed("open returns before transmit queue %u is on: TXDCTL is 0x%08x", queue,
                         (unsigned)nicd_peek(NIC_TXDCTL(queue)));
     }
 }
@@ -270,36 +269,36 @@ static void check_moderation(void)
         for (unsigned pair = 0; 2 * pair < nicd.setup.queues; pair++)
             is_used |= is_named(vector, nicd_peek(NIC_IVAR(pair)));
         if (eitr_vectors >> vector & 1 && !is_used)
-            nicd_failed("EITR(%u) has an interval, and neither IVAR nor IVAR_MISC names vector %u", vector, vector);
+            nicd_failed("EITR(%u) has an interval, but neither IVAR nor IVAR_MISC names vector %u", vector, vector);
     }
 }
 
 static void check_length(void)
 {
     uint32_t most = nic_field(nicd_peek(NIC_MAXFRS), NIC_MAXFRS_MFS);
-    nicx_check(nicd_peek(NIC_HLREG0) & NIC_HLREG0_JUMBOEN, "HLREG0.JUMBOEN is 0, and longer frames were asked for");
+    nicx_check(nicd_peek(NIC_HLREG0) & NIC_HLREG0_JUMBOEN, "HLREG0.JUMBOEN is 0, but longer frames were requested");
     if (most < nicd.setup.frame + 4)
-        nicd_failed("MAXFRS.MFS is %u, and frames of %u bytes have 4 more on the wire", (unsigned)most,
+        nicd_failed("MAXFRS.MFS is %u, but frames of %u bytes have 4 more on the wire", (unsigned)most,
                     (unsigned)nicd.setup.frame);
 }
 
 static void check_masks(void)
 {
     if (nicd_peek(NIC_EIMS))
-        nicd_failed("EIMS is 0x%08x, and the setup asks for no interrupts", (unsigned)nicd_peek(NIC_EIMS));
+        nicd_failed("EIMS is 0x%08x, but the setup uses no interrupts", (unsigned)nicd_peek(NIC_EIMS));
 }
 
 static void check_after_reset(void)
 {
-    nicx_check(!seen.was_reset || seen.is_masked,
-               "CTRL.RST was written, and no write of EIMC with 0x7fffffff came after it");
+    nicx_check(!seen.was_reset || seen.is_masked, "CTRL.RST was written without a later write of 0x7fffffff to EIMC");
 }
 
 static void check_loaded(void)
 {
-    nicx_check(nicd_peek(NIC_CTRL_EXT) & NIC_CTRL_EXT_DRV_LOAD, "CTRL_EXT.DRV_LOAD is 0, and the driver is open");
+    nicx_check(nicd_peek(NIC_CTRL_EXT) & NIC_CTRL_EXT_DRV_LOAD, "CTRL_EXT.DRV_LOAD is 0 although the driver is open");
     nicd_close();
-    nicx_check(!(nicd_peek(NIC_CTRL_EXT) & NIC_CTRL_EXT_DRV_LOAD), "CTRL_EXT.DRV_LOAD is 1, and the driver is closed");
+    nicx_check(!(nicd_peek(NIC_CTRL_EXT) & NIC_CTRL_EXT_DRV_LOAD),
+               "CTRL_EXT.DRV_LOAD is 1 although the driver is closed");
 }
 
 static void check_hash(void)
@@ -309,19 +308,19 @@ static void check_hash(void)
     if (mode & NIC_MRQC_MRQE)
         nicd_reach(HASHES);
     nicx_check(!(mode & NIC_MRQC_MRQE) || nicd_peek(NIC_RXCSUM) & NIC_RXCSUM_PCSD,
-               "RXCSUM.PCSD is 0: the descriptor has a checksum in place of the hash");
+               "RXCSUM.PCSD is 0: the descriptor holds a checksum instead of the hash");
 }
 
 static void check_drop(void)
 {
     for (unsigned queue = 0; queue < nicd.setup.queues; queue++)
         if (!(nicd_peek(NIC_SRRCTL(queue)) & NIC_SRRCTL_DROP_EN))
-            nicd_failed("SRRCTL(%u).DROP_EN is 0: once that queue is full, no other gets a frame", queue);
+            nicd_failed("SRRCTL(%u).DROP_EN is 0: when that queue is full, no other gets a frame", queue);
 }
 
 static void open_and_check(void)
 {
-    nicx_check(nicd_open(), "open answered false");
+    nicx_check(nicd_open(), "open returned false");
     if (nicd.scenario->opened)
         nicd.scenario->opened();
 }
@@ -340,33 +339,34 @@ static void forget(void)
         .begin = forget, .opened = function)
 
 const struct scenario nicd_setup_rows[] = {
-    SEES("setup-transmit-order", SENDS | PHYSICAL, "the device's transmit enable comes before a queue's",
-         see_transmit_enable, "DMATXCTL.TE is set before TXDCTL.ENABLE of any queue; the bench takes any order",
+    SEES("setup-transmit-order", SENDS | PHYSICAL, "DMATXCTL.TE is set before a queue is enabled", see_transmit_enable,
+         "DMATXCTL.TE is set before TXDCTL.ENABLE of any queue; the bench accepts any order",
          "Transmit Initialization"),
-    ROW("setup-tail-order", "the tail moves once the queue is on",
-        "RDT is bumped after RXDCTL.ENABLE reads 1; the bench takes any order", "Receive Initialization",
+    ROW("setup-tail-order", "the tail is advanced after the queue is on",
+        "RDT is advanced after RXDCTL.ENABLE reads 1; the bench accepts any order", "Receive Initialization",
         RECEIVES | PHYSICAL, .ways = OPENS, .control = open_and_check, .begin = forget, .links = OTHERS_ACT,
         .see = see_tail),
     SEES("setup-head-order", RECEIVES | PHYSICAL, "heads are written while their queue is off", see_head,
-         "RDH and TDH are written before the enable: while the queue is on the bench keeps them as they are",
+         "RDH and TDH are written before the queue is enabled: the bench ignores later writes",
          "Receive Descriptor Head"),
-    SEES("setup-reception-last", RECEIVES | PHYSICAL, "reception is enabled when all else is set", see_reception,
-         "RXCTRL.RXEN is set after all other settings of the receive path; the bench takes any order",
+    SEES("setup-reception-last", RECEIVES | PHYSICAL, "reception is enabled last", see_reception,
+         "RXCTRL.RXEN is set after all other settings of the receive path; the bench accepts any order",
          "Receive Initialization"),
     SEES("setup-masked-before-reset", PHYSICAL, "causes are masked before a reset", see_masks,
          "Software masks all causes before it resets the device", "Interrupts During Initialization"),
-    CHECKS("setup-masked-after-reset", PHYSICAL, "and again after it", check_after_reset,
-           "After a reset all causes are masked once more before the device is set up",
-           "Interrupts During Initialization", .queues = 1),
-    CHECKS("setup-masked-polling", PULLS | PHYSICAL, "a driver that polls enables no cause", check_masks,
-           "EIMS enables the causes that a handler is there for", "open of the adapter", .queues = 1),
+    CHECKS("setup-masked-after-reset", PHYSICAL, "causes are masked again after a reset", check_after_reset,
+           "After a reset all causes are masked again before the device is set up", "Interrupts During Initialization",
+           .queues = 1),
+    CHECKS("setup-masked-polling", PULLS | PHYSICAL, "a polling driver enables no cause", check_masks,
+           "EIMS enables only causes that have a handler", "open of the adapter", .queues = 1),
     SEES(
-        "setup-ring-values", RECEIVES | PHYSICAL, "where rings lie, how long they are, where tails are", see_ring,
+        "setup-ring-values", RECEIVES | PHYSICAL, "addresses, lengths and tails of rings", see_ring,
         "A ring begins at a multiple of 128 and has a multiple of 128 bytes; the bench drops the low bits. Both halves "
         "of its address are written: what a reset leaves there is undefined",
         "Receive Descriptor Base Address"),
     SEES("setup-buffer-values", RECEIVES | PHYSICAL, "the kind and size of receive buffers", see_buffers,
-         "DESCTYPE 1 is the advanced descriptor with one buffer, BSIZEPACKET its size in KB", "Split Receive Control"),
+         "DESCTYPE 1 is the advanced descriptor with one buffer; BSIZEPACKET is the buffer's size in KB",
+         "Split Receive Control"),
     SEES("setup-address-values", PHYSICAL, "reserved bits of the receive addresses", see_address,
          "Bits 30:16 of RAH are reserved and written as 0; the bench keeps them", "Receive Address High"),
     SEES("setup-thresholds", SENDS | PHYSICAL, "thresholds of transmit descriptors", see_thresholds,
@@ -378,45 +378,43 @@ const struct scenario nicd_setup_rows[] = {
     ROW("setup-enables-polled", "open waits for its queues",
         "ENABLE becomes 1 some time after it is written, and software polls it", "Receive Descriptor Control", PHYSICAL,
         .ways = OPENS, .control = open_and_check, .begin = forget, .links = OTHERS_ACT, .opened = check_enables),
-    CHECKS("setup-crc", RECEIVES | PHYSICAL, "both places agree on the check sequence", check_crc,
-           "RDRXCTL.CRCSTRIP and HLREG0.RXCRCSTRP are set alike; RDRXCTL has no effect on the bench",
-           "Receive DMA Control", .queues = 1),
-    CHECKS("setup-rdrxctl", RECEIVES | PHYSICAL, "the bits of RDRXCTL that software has to set", check_fixes,
-           "RSCACKC and FCOE_WRFIX are set by software after each reset; RDRXCTL has no effect on the bench",
+    CHECKS("setup-crc", RECEIVES | PHYSICAL, "both registers agree on stripping the check sequence", check_crc,
+           "RDRXCTL.CRCSTRIP and HLREG0.RXCRCSTRP are equal; RDRXCTL has no effect on the bench", "Receive DMA Control",
+           .queues = 1),
+    CHECKS("setup-rdrxctl", RECEIVES | PHYSICAL, "the bits of RDRXCTL that software must set", check_fixes,
+           "Software sets RSCACKC and FCOE_WRFIX after each reset; RDRXCTL has no effect on the bench",
            "Receive DMA Control", .queues = 1),
     CHECKS("setup-gpie", INTERRUPTS | PHYSICAL, "the mode for MSI-X", check_mode,
            "GPIE.MULTIPLE_MSIX is 1 for a message of each vector; the bench has them whatever GPIE is. With MSI-X EIAM "
            "masks as a message goes out where EIAME is 1",
            "General Purpose Interrupt Enable", .interrupts = true),
     CHECKS("setup-vectors", INTERRUPTS | RECEIVES | PHYSICAL, "each receive queue has a vector", check_vectors,
-           "A byte of IVAR counts where its valid bit is 1", "Interrupt Vector Allocation", .interrupts = true),
-    ROW("setup-vector-order", "causes of queues are enabled once their vectors are there",
+           "An IVAR byte is used only if its valid bit is 1", "Interrupt Vector Allocation", .interrupts = true),
+    ROW("setup-vector-order", "causes of queues are enabled after their vectors are set",
         "IVAR names a queue's vector before EIMS enables its cause", "Interrupt Vector Allocation",
         RECEIVES | INTERRUPTS | PHYSICAL, .ways = OPENS, .setup = {.interrupts = true}, .control = open_and_check,
         .begin = forget, .see = see_vectors),
-    ROW("setup-moderation", "what is written as the interval of a vector",
-        "EITR has the interval in bits 11:3, for a vector; on the bench it has no effect",
-        "Extended Interrupt Throttle", INTERRUPTS | PHYSICAL, .ways = OPENS, .setup = {.queues = 1, .interrupts = true},
-        .control = open_and_check, .begin = forget, .opened = check_moderation, .see = see_moderation),
-    ROW("setup-cause-read", "causes of queues aren't taken by reads",
+    ROW("setup-moderation", "the interval of a vector",
+        "EITR holds a vector's interval in bits 11:3; it has no effect on the bench", "Extended Interrupt Throttle",
+        INTERRUPTS | PHYSICAL, .ways = OPENS, .setup = {.queues = 1, .interrupts = true}, .control = open_and_check,
+        .begin = forget, .opened = check_moderation, .see = see_moderation),
+    ROW("setup-cause-read", "reads don't clear causes of queues",
         "With MSI-X a queue's cause is cleared by EIAC or by a write of EICR; on the bench a read clears it too, "
         "unless GPIE.OCD is 1",
         "Extended Interrupt Cause", RECEIVES | INTERRUPTS | PHYSICAL, .setup = {.interrupts = true}, .takes = true,
         .comes = 3, .see = see_cause_read),
-    ROW("setup-tails-in-use", "tails stay within the ring, also over a wrap",
-        "A tail is a slot of the ring; after the last comes slot 0", "Receive Descriptor Tail", RECEIVES | PHYSICAL,
-        .takes = true, .rings = 1, .sends = 2, .comes = 2, .see = see_ring),
+    ROW("setup-tails-in-use", "tails stay within the ring, also after a wrap",
+        "A tail is a slot of the ring; the last slot is followed by slot 0", "Receive Descriptor Tail",
+        RECEIVES | PHYSICAL, .takes = true, .rings = 1, .sends = 2, .comes = 2, .see = see_ring),
     CHECKS("setup-long-frames", PHYSICAL, "the limit for longer frames", check_length,
-           "Frames above 1,518 bytes on the wire want HLREG0.JUMBOEN, and MAXFRS counts the check sequence",
+           "Frames above 1,518 bytes on the wire need HLREG0.JUMBOEN; MAXFRS includes the check sequence",
            "Maximum Frame Size", .frame = 4096),
-    CHECKS("setup-hash", PHYSICAL, "the hash stands in the descriptor", check_hash,
-           "RXCSUM.PCSD chooses the hash in place of the checksum of a fragment", "Receive Checksum Control",
-           .queues = 2),
-    CHECKS("setup-drop", RECEIVES | PHYSICAL, "with several queues a full one drops", check_drop,
-           "With DROP_EN a frame that finds no descriptor is dropped; without it all after it wait",
+    CHECKS("setup-hash", PHYSICAL, "the descriptor holds the hash", check_hash,
+           "RXCSUM.PCSD selects the hash instead of a fragment's checksum", "Receive Checksum Control", .queues = 2),
+    CHECKS("setup-drop", RECEIVES | PHYSICAL, "with several queues, a full one drops frames", check_drop,
+           "With DROP_EN, a frame without a free descriptor is dropped; otherwise all frames after it wait",
            "Split Receive Control", .queues = 2),
-    CHECKS(
-        "setup-loaded", PHYSICAL, "the firmware learns that a driver is there", check_loaded,
-        "DRV_LOAD is set by a driver when it is loaded, and cleared when it is unloaded; it has no effect on the bench",
-        "Extended Device Control", .queues = 1),
+    CHECKS("setup-loaded", PHYSICAL, "the firmware learns that a driver is loaded", check_loaded,
+           "A driver sets DRV_LOAD when it is loaded and clears it when it is unloaded; it has no effect on the bench",
+           "Extended Device Control", .queues = 1),
     {0}};

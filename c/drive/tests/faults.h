@@ -2,30 +2,33 @@
    regular expression. The row after it must still pass. faulty.c takes the names from this file, check.py all of it. */
 WRONG(CRASH_IN_RECEIVE, "receive-one", "crash: .*signal 11")
 WRONG(CRASH_IN_OPEN, "open-close", "crash: .*signal 11")
-WRONG(HANG_IN_RECEIVE, "receive-one", "hang: task receive0 made no further point")
-WRONG(HANG_IN_OPEN, "receive-one", "hang: open makes no end, before the first schedule")
-WRONG(WAIT_IN_OPEN, "receive-one", "refused: .*waits for ever.*r EERD")
-WRONG(EXIT_IN_RECEIVE, "receive-one", "crash: the process ended with status 0")
+WRONG(HANG_IN_RECEIVE, "receive-one", "hang: task receive0 reached no further point")
+WRONG(HANG_IN_OPEN, "receive-one", "hang: open didn't return before the first schedule")
+WRONG(WAIT_IN_OPEN, "receive-one", "refused: .*waits forever.*r EERD")
+WRONG(EXIT_IN_RECEIVE, "receive-one", "crash: the process exited with status 0")
 WRONG(ABORT_IN_CLOSE, "open-close", "crash: .*signal 6")
 WRONG(OUTSIDE_DMA, "receive-one",
       "memory: receive0 at faulty\\.c:\\d+ < faulty\\.c:\\d+ writes 0x1000, which isn't lent")
-WRONG(OTHERS_DMA, "receive-one", "the driver lends block 200, which nicd_dma_alloc didn't give")
+WRONG(OTHERS_DMA, "receive-one", "the driver lends block 200, which nicd_dma_alloc didn't return")
 WRONG(BEHIND_THE_FRAME, "receive-one", "receive of queue 0 writes beyond the bytes of its frame")
-WRONG(NO_LENGTH, "receive-one", "a frame of 0 bytes is handed up in queue 0")
-WRONG(OTHER_QUEUE, "receive-one", "a frame is handed up in queue 3, and there are 1")
-WRONG(FREE_TWICE, "open-close", "nicd_dma_free of 0x\\w+, which nicd_dma_alloc didn't give")
-WRONG(FREE_OTHERS, "open-close", "nicd_dma_free of 0x1000, which nicd_dma_alloc didn't give")
-WRONG(OPEN_FALSE, "receive-one", "open answered false")
-WRONG(FROM_A_THREAD, "receive-one", "misuse: a thread that is no task makes a call.*: use the adapter's threads")
-WRONG(THREAD_LEFT, "open-close", "thread0 acts for the driver, and close has returned")
+WRONG(NO_LENGTH, "receive-one", "a frame of 0 bytes is delivered from queue 0")
+WRONG(OTHER_QUEUE, "receive-one", "a frame is delivered from queue 3, but the driver has 1")
+WRONG(FREE_TWICE, "open-close", "nicd_dma_free of 0x\\w+, which nicd_dma_alloc didn't return")
+WRONG(FREE_OTHERS, "open-close", "nicd_dma_free of 0x1000, which nicd_dma_alloc didn't return")
+WRONG(OPEN_FALSE, "receive-one", "open returned false")
+WRONG(FROM_A_THREAD, "receive-one",
+      "misuse: a thread that isn't a task calls the explorer.*: use the adapter's threads")
+WRONG(THREAD_LEFT, "open-close", "thread0 still acts for the driver after close returned")
 WRONG(LOCK_LEFT, "receive-wrap", "deadlock: receive0 waits for a lock, which receive0 holds")
-WRONG(MEMORY_LEFT, "open-close", "1 piece of DMA memory wasn't given back: \\d+ bytes at 0x\\w+, which open asked")
+WRONG(MEMORY_LEFT, "open-close", "1 allocation of DMA memory wasn't freed: \\d+ bytes at 0x\\w+, which open allocated")
 WRONG(STORE_BEHIND_A_PIECE, "receive-one",
-      "memory: receive0 writes 0x\\w+, which isn't lent: 0 bytes beyond the 128 at .*; to see the line of the store, "
+      "memory: receive0 writes 0x\\w+, which isn't lent: 0 bytes past the end of the 128 bytes at .*; to see the line "
+      "of the store, "
       "compile with -g and -fsanitize=thread")
 WRONG(STORE_GIVEN_BACK, "receive-one", "memory: receive0 writes 0x\\w+, which isn't lent: ")
 WRONG(STORE_IN_OPEN, "receive-one",
-      "a pointer of the driver's writes 0x\\w+, which isn't lent: 0 bytes beyond the 128 at")
-WRONG(POINTER_TO_NOTHING, "receive-one", "nicd_dma_pointer of 0x10, which isn't lent: no memory of nicd_dma_alloc lies")
+      "the driver writes through a pointer to 0x\\w+, which isn't lent: 0 bytes past the end of the 128 bytes at")
+WRONG(POINTER_TO_NOTHING, "receive-one",
+      "nicd_dma_pointer of 0x10, which isn't lent: no allocation of nicd_dma_alloc is")
 WRONG(LENDS_IN_PLACE, "open-close", "misuse: control calls nic_lend_memory")
 WRONG(STATE_LEFT, "receive-wrap", "misuse: begin doesn't initialize all of the driver's state")

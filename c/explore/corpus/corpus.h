@@ -153,11 +153,11 @@ static inline const char *went_out(unsigned count)
     nic_told told;
     for (unsigned k = 0; k < count; k++) {
         if (nic_collect(nicx_device(), frame, sizeof frame, &told) != NIC_FRAME)
-            return "a frame didn't go out";
+            return "a frame was never transmitted";
         if (frame[FRAME - 1] != k)
-            return "a frame went out with the bytes of another";
+            return "a frame was transmitted with another frame's bytes";
     }
-    return nic_next_out(nicx_device()) ? "a frame went out twice" : NULL;
+    return nic_next_out(nicx_device()) ? "a frame was transmitted twice" : NULL;
 }
 
 #endif

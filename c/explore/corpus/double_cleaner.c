@@ -80,7 +80,7 @@ static void begin(void)
 
 static const char *end(void)
 {
-    return driver.free > POOL ? "a buffer was given back twice" : went_out(FRAMES);
+    return driver.free > POOL ? "a buffer was freed twice" : went_out(FRAMES);
 }
 
 DRIVER(.name = "double_cleaner")

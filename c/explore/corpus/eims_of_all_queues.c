@@ -62,7 +62,7 @@ static void begin(void)
 
 static const char *end(void)
 {
-    return driver.got == FRAMES ? NULL : "a frame lies in the ring, and nobody comes for it";
+    return driver.got == FRAMES ? NULL : "a frame is in the ring, but nothing will poll it";
 }
 
 DRIVER(.name = "eims_of_all_queues", .blocks = 18, .queues = 2)

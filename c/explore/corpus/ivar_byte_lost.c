@@ -40,7 +40,7 @@ static const char *end(void)
 {
     uint32_t word = 0;
     nic_peek32(nicx_device(), NIC_IVAR(0), &word);
-    return word == 0x00820081 ? NULL : "a queue has no vector";
+    return word == 0x00820081 ? NULL : "a queue lost its vector";
 }
 
 DRIVER(.name = "ivar_byte_lost", .queues = 2)

@@ -58,7 +58,7 @@ static void begin(void)
 
 static const char *end(void)
 {
-    return driver.torn ? "a part of a frame has other bytes than came" : NULL;
+    return driver.torn ? "part of a frame has the wrong bytes" : NULL;
 }
 
 DRIVER(.name = "jumbo_first_dd")

@@ -55,7 +55,7 @@ static void begin(void)
 
 static const char *end(void)
 {
-    return driver.bytes == FRAMES * FRAME ? NULL : "a frame has another length than came";
+    return driver.bytes == FRAMES * FRAME ? NULL : "a frame has the wrong length";
 }
 
 DRIVER(.name = "length_before_dd")

@@ -56,7 +56,7 @@ static const char *end(void)
 {
     uint32_t links = 0;
     nic_peek32(nicx_device(), NIC_LINKS, &links);
-    return driver.up == (links != 0) ? NULL : "the link is down, and the driver has it up";
+    return driver.up == (links != 0) ? NULL : "the link is down, but the driver reports it as up";
 }
 
 DRIVER(.name = "link_change_lost")

@@ -30,7 +30,7 @@ static void read_statistics(void *unused)
     nicx_lock(&statistics);
     nicx_lock(&ring);
 #endif
-    nicx_check(driver.sent == driver.tail, "the statistics are others than the ring's");
+    nicx_check(driver.sent == driver.tail, "the statistics don't match the ring");
     nicx_unlock(&ring);
     nicx_unlock(&statistics);
 }

@@ -71,8 +71,8 @@ static void begin(void)
 
 static const char *end(void)
 {
-    return !driver.read   ? "the host read no message"
-           : driver.mixed ? "the host read another message than was sent"
+    return !driver.read   ? "the host never read the message"
+           : driver.mixed ? "the host read a different message from the one sent"
                           : NULL;
 }
 

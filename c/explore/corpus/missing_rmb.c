@@ -44,7 +44,7 @@ static const char *end(void)
 {
     for (unsigned k = 0; k < FRAMES; k++)
         if (driver.number[k] != k)
-            return "a frame has other bytes than came";
+            return "a frame has the wrong bytes";
     return NULL;
 }
 

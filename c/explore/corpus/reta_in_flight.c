@@ -60,7 +60,7 @@ static void begin(void)
 
 static const char *end(void)
 {
-    return driver.got == FRAMES ? NULL : "a frame lies in the ring of a queue that nobody looks at now";
+    return driver.got == FRAMES ? NULL : "a frame is in the ring of a queue that is no longer polled";
 }
 
 DRIVER(.name = "reta_in_flight", .blocks = 18, .queues = 2)

@@ -50,7 +50,7 @@ static void work(void *unused)
     while (driver.worked < FRAMES) {
         while (driver.ring.tail == get_head())
             nicx_wait();
-        nicx_check(driver.ring.lengths[driver.ring.tail++ % HANDED] == FRAME, "a length is another");
+        nicx_check(driver.ring.lengths[driver.ring.tail++ % HANDED] == FRAME, "a length is wrong");
         driver.worked++;
     }
 }
@@ -72,7 +72,7 @@ static void begin(void)
 
 static const char *end(void)
 {
-    return driver.worked == FRAMES ? NULL : "a frame wasn't worked on";
+    return driver.worked == FRAMES ? NULL : "a frame was never processed";
 }
 
 DRIVER(.name = "ring_index_race", .fifo = 8)

@@ -85,7 +85,7 @@ static void begin(void)
 
 static const char *end(void)
 {
-    return driver.free > POOL ? "a slot was cleaned that is outstanding" : went_out(FRAMES);
+    return driver.free > POOL ? "a slot was reclaimed before it completed" : went_out(FRAMES);
 }
 
 DRIVER(.name = "tdh_cached_over_wrap")

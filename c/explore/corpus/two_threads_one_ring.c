@@ -48,7 +48,7 @@ static const char *end(void)
     nic_told told;
     while (nic_collect(nicx_device(), frame, sizeof frame, &told) == NIC_FRAME)
         out |= 1u << frame[FRAME - 1];
-    return out == (1u << FRAMES) - 1 ? NULL : "a frame didn't go out";
+    return out == (1u << FRAMES) - 1 ? NULL : "a frame was never transmitted";
 }
 
 DRIVER(.name = "two_threads_one_ring")

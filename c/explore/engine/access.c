@@ -580,7 +580,7 @@ static bool is_outside(const char *call)
         return false;
     if (!nicxi.self)
         return true;
-    nicxi_failed(NICX_MISUSE, "%s calls %s, which is for bring_up", nicxi.self->name, call);
+    nicxi_failed(NICX_MISUSE, "%s calls %s, which only bring_up may call", nicxi.self->name, call);
     nicxi_leave();
     return false;
 }
@@ -620,7 +620,7 @@ void nicx_settle(void)
     if (nicxi.phase == BRINGING_UP)
         settle();
     else
-        nicxi_failed(NICX_MISUSE, "nicx_settle is for bring_up");
+        nicxi_failed(NICX_MISUSE, "only bring_up may call nicx_settle");
 }
 
 void (*nicxi_gives_up)(const char *words);
@@ -633,7 +633,7 @@ static void give_up(void)
         snprintf(access, sizeof access, "; its last access: %s", nicxi_words(&outside, words));
     if (nicxi.notes->beyond)
         snprintf(beyond, sizeof beyond, "; queue %u isn't below .queues", (unsigned)nicxi.notes->beyond - 1);
-    snprintf(all, sizeof all, "%s waits for ever, and the device has no step to make%s%s",
+    snprintf(all, sizeof all, "%s waits forever: the device has no step left%s%s",
              nicxi.phase == BRINGING_UP ? "bring_up" : "begin", access, beyond);
     if (nicxi_gives_up)
         nicxi_gives_up(all);

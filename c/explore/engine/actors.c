@@ -283,7 +283,7 @@ void nicxi_judge(const struct step *step)
 {
     char back[MOST_WORDS];
     if (step->status == NIC_OUT_OF_MEMORY)
-        nicxi_failed(NICX_MISUSE, "the controller found no memory");
+        nicxi_failed(NICX_MISUSE, "the controller ran out of memory");
     if (step->status != NIC_FAULT || (nicxi.scenario->allowed & NICX_FAULTS))
         return;
     if (step->told.why == NIC_FAULT_NOT_LENT)

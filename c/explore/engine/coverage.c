@@ -156,8 +156,8 @@ static void add_other_messages(struct telling *it)
             is_taken |= nicxi.threads[k].group == of / 16 && nicxi.threads[k].vector == of % 16;
         if (is_taken || length + 40 > MOST_LINE)
             continue;
-        snprintf(it->line + length, MOST_LINE - length, "%s%s vector %u", any ? ", " : "; there came ",
-                 group_name(of / 16, room), of % 16);
+        snprintf(it->line + length, MOST_LINE - length, "%s%s vector %u",
+                 any ? ", " : "; these were sent: ", group_name(of / 16, room), of % 16);
         any = true;
     }
 }
@@ -170,13 +170,13 @@ static void tell_threads(struct telling *it)
         if (it->coverage->ran[k] || (k >= nicxi.tasks && k < NICX_TASKS) || thread->is_made)
             continue;
         if (k < NICX_TASKS) {
-            snprintf(it->line, MOST_LINE, "task %s never came past its first wait", thread->name);
+            snprintf(it->line, MOST_LINE, "task %s never got past its first wait", thread->name);
         } else if (thread->is_timer) {
             snprintf(it->line, MOST_LINE, "timer %s never fired", thread->name);
         } else if (it->coverage->messages[thread->group] >> thread->vector % 16 & 1) {
-            snprintf(it->line, MOST_LINE, "handler %s never started, though its message came", thread->name);
+            snprintf(it->line, MOST_LINE, "handler %s never started, although its message was sent", thread->name);
         } else {
-            snprintf(it->line, MOST_LINE, "handler %s never started: no message %s vector %u came", thread->name,
+            snprintf(it->line, MOST_LINE, "handler %s never started: no message %s vector %u was sent", thread->name,
                      group_name(thread->group, room), thread->vector);
             add_other_messages(it);
         }
@@ -193,7 +193,9 @@ static const char *why_lost(uint16_t seen)
             snprintf(room, sizeof room, ": dropped %s", nic_why_name(why));
             return room;
         }
-    return seen == FAULTED ? ": each time a fault" : seen == LET_IN ? ": it waits inside the device" : "";
+    return seen == FAULTED  ? ": a fault stopped it each time"
+           : seen == LET_IN ? ": it still waits inside the device"
+                            : "";
 }
 
 static void tell_frames(struct telling *it)
@@ -226,8 +228,7 @@ static void tell_links(struct telling *it)
     for (uint32_t k = 0; k < nicxi.link_count; k++) {
         if (it->coverage->links[k])
             continue;
-        snprintf(it->line, MOST_LINE, "change %" PRIu32 " of the link, %s, never changed it", k,
-                 nicxi.links[k] ? "up" : "down");
+        snprintf(it->line, MOST_LINE, "link change %" PRIu32 " (%s) had no effect", k, nicxi.links[k] ? "up" : "down");
         told(it);
     }
 }
@@ -242,10 +243,10 @@ static void tell_queues(struct telling *it, int side)
     if (!count)
         return;
     if (count == 1)
-        snprintf(it->line, MOST_LINE, "queue %" PRIu32 " was on, and %s nothing", first, verb);
+        snprintf(it->line, MOST_LINE, "queue %" PRIu32 " was on but %s nothing", first, verb);
     else
-        snprintf(it->line, MOST_LINE, "%" PRIu32 " queues were on and %s nothing, the first queue %" PRIu32, count,
-                 verb, first);
+        snprintf(it->line, MOST_LINE, "%" PRIu32 " queues were on but %s nothing, the first of them queue %" PRIu32,
+                 count, verb, first);
     told(it);
 }
 

@@ -13,8 +13,8 @@ const char *nicxi_keep(void)
 {
     is_copied = nicxi_heap_is_used();
     if (is_copied)
-        return nicxi_heap_keep() ? NULL : "there is no memory to keep the device in";
-    return nic_snapshot(&nicxi.device, &kept) == NIC_DONE ? NULL : "there is no memory to keep the device in";
+        return nicxi_heap_keep() ? NULL : "out of memory while saving the device";
+    return nic_snapshot(&nicxi.device, &kept) == NIC_DONE ? NULL : "out of memory while saving the device";
 }
 
 void nicxi_drop_kept(void)
@@ -29,7 +29,8 @@ bool nicxi_refuses_memory(const nic *n)
 {
     if (nicxi.phase == CLOSED || (n->device != nicxi.device.device && !nicxi_heap_has(n->device)))
         return false;
-    nicxi_failed(NICX_MISUSE, "%s calls nic_lend_memory, whose stores no search sees: it lends blocks by nicx_lend",
+    nicxi_failed(NICX_MISUSE,
+                 "%s calls nic_lend_memory, but the search can't see stores to memory lent so: use nicx_lend",
                  nicxi.self ? nicxi.self->name : "the scenario");
     nicxi_leave();
     return true;
@@ -44,5 +45,5 @@ void nicxi_back(void)
     if (is_copied)
         nicxi_heap_back();
     else if (nic_restore(&nicxi.device, &kept) != NIC_DONE)
-        nicxi_failed(NICX_MISUSE, "there is no memory to bring the device back");
+        nicxi_failed(NICX_MISUSE, "out of memory while restoring the device");
 }

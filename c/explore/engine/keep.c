@@ -35,7 +35,7 @@ static void write_step(void *argument, uint16_t actor, const struct step *step)
     if (actor == NOBODY || step->is_beside)
         return;
     if (failure->cycle && point == failure->result.points - failure->cycle)
-        fprintf(it->schedule, "cycle                    # from here on over and over:\n");
+        fprintf(it->schedule, "cycle                    # repeats from here on:\n");
     if (it->turn->kind == TURN_FOUND && point == it->turn->point)
         write_turn(it);
     nicxi_write_point(it->schedule, actor, step);
@@ -63,7 +63,7 @@ static void write_files(struct post *post, void *argument)
     nicx_run(&chooser, &post->result);
     post->is_found = post->result.outcome != NICX_FINE;
     if (it->script.unfit)
-        fprintf(stderr, "%s: the script ends before the run does: %s\n", scenario->name, it->script.unfit);
+        fprintf(stderr, "%s: the script stops before the end of the run: %s\n", scenario->name, it->script.unfit);
 }
 
 /* From the second failure on, the files' names contain its number. */
@@ -78,7 +78,7 @@ static FILE *open_file(const struct keeping *keeping, const char *ending, char p
     snprintf(path, MOST_PATH, "%s%s%s%s.%s", out, between, nicxi.scenario->name, number, ending);
     FILE *file = fopen(path, "w");
     if (!file)
-        fprintf(stderr, "%s: it can't be written\n", path);
+        fprintf(stderr, "%s: can't write the file\n", path);
     return file;
 }
 

@@ -151,7 +151,7 @@ void nicx_frames(uint32_t count, size_t length)
 {
     static uint8_t frame[MOST_FRAME];
     if (!nicx_numbered_frame(frame, length, 0) || count > NICX_FRAMES) {
-        nicxi_failed(NICX_MISUSE, "nicx_frames names at most %d, of 60 to %d bytes", NICX_FRAMES, MOST_FRAME);
+        nicxi_failed(NICX_MISUSE, "nicx_frames takes at most %d frames of 60 to %d bytes", NICX_FRAMES, MOST_FRAME);
         return;
     }
     for (uint32_t k = 0; k < count; k++) {

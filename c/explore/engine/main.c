@@ -25,7 +25,7 @@ static int refuse(const nicx_scenario *scenario, const char *why)
 
 static bool cant_write(const char *path)
 {
-    fprintf(stderr, "%s: it can't be written\n", path);
+    fprintf(stderr, "%s: can't write the file\n", path);
     return false;
 }
 
@@ -87,13 +87,13 @@ static void tell_merged(const struct merged *merged)
     const struct totals *totals = &merged->sum.totals;
     double longest = merged->longest > 0 ? merged->longest : 1e-3;
     printf("%s: %" PRIu32 " result%s, %" PRIu64 " schedule%s, %" PRIu64 " point%s, %.1f s in all, %.1f s the longest"
-           " (%.0f schedules a second, if they ran at once)\n",
+           " (%.0f schedules per second if they ran in parallel)\n",
            name, merged->results, nicxi_s(merged->results), totals->runs, nicxi_s(totals->runs), totals->points,
            nicxi_s(totals->points), totals->seconds, merged->longest, (double)totals->runs / longest);
     if (*merged->missing)
-        printf("%s: note: shards that aren't there: %s\n", name, merged->missing);
+        printf("%s: note: missing shards: %s\n", name, merged->missing);
     if (totals->is_whole && merged->sum.options.strategy == EXHAUSTIVE)
-        printf("%s: these are all schedules\n", name);
+        printf("%s: searched all schedules\n", name);
 }
 
 /* Reports a cause. The failure was already shrunk by the search that found it. */
@@ -109,9 +109,10 @@ static void show_cause(const struct options *options, struct cause *cause, uint3
     const struct keeping keeping = {options, &cause->failure, &turn, cause->seed, number};
     nicxi_keep_failure(&keeping, paths);
     nicxi_tell_failure(&cause->failure, &found, 0, &turn);
-    printf("%s: in %" PRIu32 " results, this one of %s\n", nicxi.scenario->name, cause->count, cause->path);
+    printf("%s: in %" PRIu32 " results, this schedule is from %s\n", nicxi.scenario->name, cause->count, cause->path);
     if (is_elsewhere)
-        printf("%s: it doesn't fail so in this program: the schedule is %s\n", nicxi.scenario->name, paths->schedule);
+        printf("%s: this program doesn't reproduce the failure: the schedule is %s\n", nicxi.scenario->name,
+               paths->schedule);
     else
         nicxi_tell_files(&cause->failure, paths, program);
 }
@@ -178,16 +179,16 @@ static bool is_writable(const char *path)
 
 static const char *unwritable(const char *word, const char *path)
 {
-    return nicxi_why("%s: %.60s can't be written", word, path);
+    return nicxi_why("%s: can't write %.60s", word, path);
 }
 
 /* Returns null, or why the files of a search couldn't be written. */
 static const char *look_at_files(const struct options *options, const char *name)
 {
     if (!is_folder(options->out))
-        return "--out: there is no such folder that can be written to";
+        return "--out: no such folder, or it isn't writable";
     if (strlen(options->out) + strlen(name) + sizeof "/.schedule" > MOST_PATH)
-        return "--out: the path of the folder is too long";
+        return "--out: the folder's path is too long";
     if (options->junit && !is_writable(options->junit))
         return unwritable("--junit", options->junit);
     return options->result && !is_writable(options->result) ? unwritable("--result", options->result) : NULL;

@@ -23,7 +23,7 @@ static const char *check_shards(char **paths, const struct options *all, uint32_
     for (uint32_t k = 0; k < count; k++)
         for (uint32_t of = 0; of < k; of++)
             if (are_of_one_search(&all[k], &all[of]) && all[k].shard == all[of].shard)
-                return nicxi_why("%.400s: it is shard %u/%u of the same search as %.400s", paths[k],
+                return nicxi_why("%.400s: shard %u/%u of this search is also in %.400s", paths[k],
                                  (unsigned)all[k].shard + 1, (unsigned)all[k].shards, paths[of]);
     return NULL;
 }

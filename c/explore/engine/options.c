@@ -56,7 +56,7 @@ static const char *refused(const char *word, const char *what)
 
 static const char *without_word(const char *word)
 {
-    return refused(word, "it wants a word after it");
+    return refused(word, "missing value");
 }
 
 /* --- one option --- */
@@ -72,7 +72,7 @@ static const char *take_number(const char *word, const char *text, uint64_t leas
         *number = value;
         return NULL;
     }
-    snprintf(range, sizeof range, "\"%.20s\" is no number of %llu to %llu", text, (unsigned long long)least,
+    snprintf(range, sizeof range, "\"%.20s\" isn't a number from %llu to %llu", text, (unsigned long long)least,
              (unsigned long long)most);
     return refused(word, range);
 }
@@ -96,7 +96,7 @@ static const char *take_seconds(const char *word, const char *text, double *seco
         *seconds = value;
         return NULL;
     }
-    snprintf(range, sizeof range, "\"%.20s\" is no number of seconds above 0 and up to 1000000000", text);
+    snprintf(range, sizeof range, "\"%.20s\" isn't a number of seconds above 0 and up to 1000000000", text);
     return refused(word, range);
 }
 
@@ -108,13 +108,13 @@ static const char *take_shard(const char *word, const char *text, struct options
     if (!*text)
         return without_word(word);
     if (!slash || slash - text >= (int)sizeof first)
-        return refused(word, "it is K/N, as 1/4");
+        return refused(word, "expected K/N, for example 1/4");
     snprintf(first, sizeof first, "%.*s", (int)(slash - text), text);
     const char *fault = !slash[1] ? "" : take_small(word, slash + 1, 1, 65536, &shards);
     if (!fault)
         fault = !*first ? "" : take_small(word, first, 1, shards, &shard);
     if (fault)
-        return *fault ? fault : refused(word, "it is K/N, as 1/4");
+        return *fault ? fault : refused(word, "expected K/N, for example 1/4");
     options->shard = shard - 1;
     options->shards = shards;
     return NULL;
@@ -129,7 +129,7 @@ static const char *take_strategy(const char *text, struct options *options)
             options->strategy = (enum strategy)k;
             return NULL;
         }
-    return refused("--strategy", "it is random, priorities, exhaustive or mixed");
+    return refused("--strategy", "expected random, priorities, exhaustive or mixed");
 }
 
 static const char *take_preemptions(const char *word, const char *text, struct options *options)
@@ -150,7 +150,7 @@ static const char *take_memory(const char *word, const char *text, struct option
             options->memory = memory;
             return NULL;
         }
-    return refused(word, "it is weak, tso or strong");
+    return refused(word, "expected weak, tso or strong");
 }
 
 static const char *take_name(const char *word, const char *text, const char **name)
@@ -165,7 +165,7 @@ static const char *take_points(const char *word, const char *text, struct option
     if (!*text)
         return without_word(word);
     if (!nicxi_are_points(text))
-        return refused(word, "it is memory, or memory:NAME of a variable or a function");
+        return refused(word, "expected memory, or memory:NAME with a variable or a function");
     return NULL;
 }
 
@@ -203,7 +203,7 @@ static const char *take_value(const char *word, const char *text, struct options
         return take_points(word, text, options);
     if (!strcmp(word, "--replay"))
         return take_name(word, text, &options->replay);
-    return refused(word, "there is no such option");
+    return refused(word, "no such option");
 }
 
 static bool take_flag(const char *word, struct options *options)
@@ -261,14 +261,14 @@ const char *nicxi_options(int argc, char **argv, struct options *options)
             continue;
         }
         if (strncmp(argv[k], "--", 2) != 0)
-            return refused(argv[k], "there is no such option");
+            return refused(argv[k], "no such option");
         const char *fault = take_value(argv[k], k + 1 < argc ? argv[k + 1] : "", options);
         if (fault)
             return fault;
         k++;
     }
     if (options->is_lenient && !options->replay)
-        return refused("--lenient", "it is for --replay");
+        return refused("--lenient", "only valid with --replay");
     if (!options->runs && !options->seconds && options->strategy != EXHAUSTIVE)
         options->runs = 10000;
     return NULL;

@@ -22,7 +22,7 @@ struct nicxi_form {
     const void *(*function_of)(const struct thread *thread); /* returns a created thread's function */
     /* Names a barrier that the driver has as inline assembly: "mfence at driver.c:9". */
     bool (*assembly)(char *room, size_t size);
-    /* What reports add about a completed call: ", and nobody waits", or "". */
+    /* What reports add about a completed call: ", while nothing waited", or "". */
     const char *(*beside)(const struct step *step);
     /* Names an address in memory from malloc: "malloc(driver.c:9)+0x8". */
     bool (*name)(const void *object, char *room, size_t size);

@@ -20,7 +20,7 @@
    made a call. */
 enum { HUNG = 77, LOCKED_UP = 78, FOREIGN = 79 };
 
-#define FOREIGN_WORDS "a thread that is no task makes a call of the explorer's: "
+#define FOREIGN_WORDS "a thread that isn't a task calls the explorer: "
 
 const char *nicxi_for_threads = "link with @nic82599_threads.opts (docs/explore.md)";
 
@@ -136,17 +136,17 @@ static void tell_hang(const struct post *post, nicx_result *result)
     char name[96];
     uint32_t at = post->at, leaves = post->notes.leaves;
     if (leaves) {
-        snprintf(result->words, sizeof result->words, "the stack of %s isn't unwound: a thread or a drop there hangs",
+        snprintf(result->words, sizeof result->words, "%s's stack can't unwind: a thread or a drop there hangs",
                  nicxi.threads[leaves - 1].name);
         return;
     }
     while (at > 1 && nicxi_is_value(post->schedule[at - 1]))
         at--;
     if (at)
-        snprintf(result->words, sizeof result->words, "%s made no further point: does its loop need %swait?",
+        snprintf(result->words, sizeof result->words, "%s reached no further point: does its loop need %swait?",
                  nicx_actor_name(post->schedule[at - 1], name), nicxi_calls);
     else
-        snprintf(result->words, sizeof result->words, "begin makes no end");
+        snprintf(result->words, sizeof result->words, "begin never returns");
 }
 
 static void tell_signal(const struct post *post, int number, nicx_result *result)
@@ -154,7 +154,7 @@ static void tell_signal(const struct post *post, int number, nicx_result *result
     if (post->overflow.size)
         nicxi_overflow_words(&post->overflow, result->words, sizeof result->words);
     else
-        snprintf(result->words, sizeof result->words, "the process was ended by signal %d (%s)", number,
+        snprintf(result->words, sizeof result->words, "the process was killed by signal %d (%s)", number,
                  strsignal(number));
 }
 
@@ -170,13 +170,14 @@ static void tell_status(const struct post *post, int status, nicx_result *result
     case LOCKED_UP:
         result->outcome = NICX_HANG;
         snprintf(result->words, sizeof result->words,
-                 "%s waits for a lock of the process, and no other task runs till then: %s", who, nicxi_for_threads);
+                 "%s waits for a lock that the explorer doesn't control, so no other task can run: %s", who,
+                 nicxi_for_threads);
         break;
     case FOREIGN:
         result->outcome = NICX_MISUSE;
         snprintf(result->words, sizeof result->words, FOREIGN_WORDS "%s", nicxi_for_threads);
         break;
-    default: snprintf(result->words, sizeof result->words, "the process ended with status %d", status); break;
+    default: snprintf(result->words, sizeof result->words, "the process exited with status %d", status); break;
     }
 }
 

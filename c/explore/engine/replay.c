@@ -56,7 +56,7 @@ static void tell_parting(struct replay *it, const char *now)
     if (!it->has_parted || it->is_told)
         return;
     it->is_told = true;
-    fprintf(it->to, "%s: it parts from the schedule here, at %s:%u%s\n%s:   it was: ", name, it->path,
+    fprintf(it->to, "%s: the run departs from the schedule here, at %s:%u%s\n%s:   it was: ", name, it->path,
             (unsigned)(it->now < it->file.length ? it->file.lines[it->now] : it->file.last), it->reason, name);
     print_file_point(it, it->now);
     fprintf(it->to, "\n%s:   it is:  %s\n", name, now);
@@ -95,7 +95,7 @@ static uint32_t choose(void *argument, const uint16_t *can, uint32_t count)
     struct replay *it = argument;
     uint32_t point = *nicxi.points;
     if (it->asked == point + 1 && it->now < it->file.length)
-        part(it, it->now, " (it has nothing to do now)");
+        part(it, it->now, " (this actor has nothing to do now)");
     it->asked = point + 1;
     if (nicxi_is_value(can[0]) && (it->at == it->file.length || !nicxi_is_value(it->file.list[it->at]))) {
         part(it, it->at, " (a value is chosen now)");
@@ -116,7 +116,7 @@ static uint32_t choose(void *argument, const uint16_t *can, uint32_t count)
             it->at++;
             return k;
         }
-        part(it, it->at++, " (it can't act now)");
+        part(it, it->at++, " (this actor can't act now)");
     }
     if (!it->has_parted)
         it->now = it->file.length;
@@ -132,7 +132,7 @@ static void print_point(void *argument, uint16_t actor, const struct step *step)
     if (actor == NOBODY || step->is_beside)
         return;
     if (it->file.cycle && point == it->file.length && !it->has_parted)
-        fprintf(it->to, "      and so on: the last %" PRIu32 " over and over\n", it->file.cycle);
+        fprintf(it->to, "      and so on: the last %" PRIu32 " points repeat\n", it->file.cycle);
     if (it->file.cycle && point >= it->file.length && !it->has_parted)
         return;
     if (it->is_lenient)
@@ -152,12 +152,12 @@ static const char *unfit(const struct replay *it, const struct by_list *state, u
     if (file->cycle && at >= file->length)
         at = file->length - file->cycle + (at - file->length) % file->cycle;
     if (state->is_unfit && at < file->length)
-        return nicxi_why("%.3900s:%u: \"%s\" can't act here", it->path, (unsigned)file->lines[at],
+        return nicxi_why("%.3900s:%u: \"%s\" can't act at this point", it->path, (unsigned)file->lines[at],
                          nicx_actor_name(file->list[at], name));
     if (state->is_unfit || (points > file->length && !file->cycle))
-        return nicxi_why("%.3900s:%u: the schedule ends, and somebody can act", it->path, (unsigned)file->last);
+        return nicxi_why("%.3900s:%u: the schedule ends, but an actor can still act", it->path, (unsigned)file->last);
     if (points < file->length)
-        return nicxi_why("%.3900s:%u: all is over before this point", it->path, (unsigned)file->lines[points]);
+        return nicxi_why("%.3900s:%u: the run ends before this point", it->path, (unsigned)file->lines[points]);
     return NULL;
 }
 
@@ -165,8 +165,8 @@ void nicxi_tell_notes(FILE *to, const struct notes *notes)
 {
     const char *name = nicxi.scenario->name;
     if (notes->strays)
-        fprintf(to, "%s: note: %" PRIu32 " access%s of no register, the first by %s\n", name, notes->strays,
-                notes->strays == 1 ? "" : "es", notes->stray);
+        fprintf(to, "%s: note: %" PRIu32 " access%s to addresses without a register, the first by %s\n", name,
+                notes->strays, notes->strays == 1 ? "" : "es", notes->stray);
     if (notes->beyond)
         fprintf(to, "%s: note: queue %" PRIu32 " isn't below .queues, so it never goes on\n", name, notes->beyond - 1);
 }
@@ -175,11 +175,11 @@ static void tell_end(struct replay *it, const nicx_result *result)
 {
     const char *name = nicxi.scenario->name;
     if (it->is_lenient && !it->has_parted && it->at < it->file.length)
-        part(it, it->at, " (it isn't come to)");
-    tell_parting(it, "all is over");
+        part(it, it->at, " (the run never reaches this point)");
+    tell_parting(it, "the run ends");
     nicxi_tell_notes(it->to, nicxi.notes);
     if (it->is_lenient && !it->has_parted)
-        fprintf(it->to, "%s: it never parts from the schedule\n", name);
+        fprintf(it->to, "%s: the run follows the whole schedule\n", name);
     if (result->outcome == NICX_FINE)
         fprintf(it->to, "%s: fine\n", name);
     else
@@ -216,7 +216,7 @@ const char *nicxi_follow(FILE *to, const char *path, bool is_lenient, nicx_resul
     it.is_lenient = is_lenient;
     const char *fault = nicxi_read_schedule(path, is_lenient, &it.file);
     if (!fault && *it.file.other)
-        fprintf(to, "%s: note: it is a schedule of scenario %s\n", nicxi.scenario->name, it.file.other);
+        fprintf(to, "%s: note: the schedule is of scenario %s\n", nicxi.scenario->name, it.file.other);
     if (!fault)
         fault = follow(&it, result);
     nicxi_free_schedule(&it.file);

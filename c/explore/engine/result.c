@@ -62,17 +62,17 @@ static bool next_line(struct form *it)
 {
     it->line++;
     if (!fgets(it->text, sizeof it->text, it->file)) {
-        wrong(it, "it ends here, before its end");
+        wrong(it, "the file is truncated");
         return false;
     }
     size_t length = strlen(it->text);
     if (!length || it->text[length - 1] != '\n') {
-        wrong(it, "the line has no end, or is longer than %d bytes", MOST_LINE - 2);
+        wrong(it, "the line has no newline, or is longer than %d bytes", MOST_LINE - 2);
         return false;
     }
     for (size_t k = 0; k + 1 < length; k++)
         if (it->text[k] < ' ' || it->text[k] > '~') {
-            wrong(it, "it is no text");
+            wrong(it, "the line isn't printable ASCII");
             return false;
         }
     return true;
@@ -88,7 +88,7 @@ static const char *field(struct form *it, const char *name)
     it->text[strlen(it->text) - 1] = 0;
     if (!strncmp(it->text, name, length) && it->text[length] == ' ')
         return it->text + length + 1;
-    wrong(it, "here stands \"%.40s\" and not \"%s\"", it->text, name);
+    wrong(it, "expected \"%s\" but found \"%.40s\"", name, it->text);
     return "";
 }
 
@@ -110,7 +110,7 @@ static uint64_t number_in(struct form *it, const char *name, const char *text, u
     for (const char *at = text; *at || at == text; at++) {
         unsigned digit = (unsigned char)*at - (unsigned)'0';
         if (digit > 9 || number > (most - digit) / 10 || digit > most || (at > text && *text == '0')) {
-            wrong(it, "%s: \"%.40s\" is no number of 0 to %" PRIu64, name, text, most);
+            wrong(it, "%s: \"%.40s\" isn't a number from 0 to %" PRIu64, name, text, most);
             return 0;
         }
         number = 10 * number + digit;
@@ -142,7 +142,7 @@ static void words(struct form *it, const char *name, char *room, size_t size)
     nicxi_plain(room, plain, sizeof plain);
     const char *got = text(it, name, plain);
     if (strlen(got) >= size)
-        wrong(it, "%s: it is longer than %zu bytes", name, size - 1);
+        wrong(it, "%s: longer than %zu bytes", name, size - 1);
     else
         memcpy(room, got, strlen(got) + 1);
 }
@@ -152,7 +152,7 @@ static void same(struct form *it, const char *name, uint64_t wanted)
 {
     uint64_t got = number(it, name, wanted, MOST_COUNT);
     if (!*it->fault && got != wanted)
-        wrong(it, "%s: it is %" PRIu64 ", and the scenario has %" PRIu64, name, got, wanted);
+        wrong(it, "%s: the file has %" PRIu64 ", but the scenario has %" PRIu64, name, got, wanted);
 }
 
 static enum strategy strategy(struct form *it, const char *name, enum strategy value)
@@ -161,7 +161,7 @@ static enum strategy strategy(struct form *it, const char *name, enum strategy v
     for (int k = MIXED; k <= EXHAUSTIVE; k++)
         if (!strcmp(got, nicxi_strategy_name((enum strategy)k)))
             return (enum strategy)k;
-    wrong(it, "%s: there is no strategy \"%.40s\"", name, got);
+    wrong(it, "%s: unknown strategy \"%.40s\"", name, got);
     return MIXED;
 }
 
@@ -173,7 +173,7 @@ static uint8_t outcome(struct form *it, uint8_t value)
     for (value = NICX_END; value <= NICX_HANG; value++)
         if (!strcmp(nicxi_outcome_name(value), got))
             return value;
-    wrong(it, "outcome: there is no \"%.40s\"", got);
+    wrong(it, "outcome: unknown outcome \"%.40s\"", got);
     return value;
 }
 
@@ -189,11 +189,11 @@ static void options(struct form *it, struct options *options)
     options->preemptions = number32(it, "preemptions", options->preemptions, UNBOUNDED);
     options->no_sleep = !flag(it, "sleep", !options->no_sleep);
     if (number(it, "weak", nicxi_memory() - STRONG, TSO - STRONG) != (uint64_t)(nicxi_memory() - STRONG))
-        wrong(it, "weak: it is of another memory than this: --memory says which");
+        wrong(it, "weak: the result is of a different memory model: choose it with --memory");
     options->shard = number32(it, "shard", options->shard + 1, 65536) - 1;
     options->shards = number32(it, "shards", options->shards, 65536);
     if (!*it->fault && options->shard >= options->shards)
-        wrong(it, "shard %u isn't one of %u", (unsigned)options->shard + 1, (unsigned)options->shards);
+        wrong(it, "no shard %u among %u", (unsigned)options->shard + 1, (unsigned)options->shards);
 }
 
 static void totals(struct form *it, struct totals *totals)
@@ -215,7 +215,7 @@ static bool thread(struct form *it, const char *name, const struct thread *threa
     if (*it->fault)
         return false;
     if ((*got != '0' && *got != '1') || got[1] != ' ' || strcmp(got + 2, thread->name) != 0)
-        wrong(it, "%s: here stands \"%.80s\", and the scenario has %s", name, got, thread->name);
+        wrong(it, "%s: the file has \"%.80s\", but the scenario has %s", name, got, thread->name);
     return *got == '1';
 }
 
@@ -281,7 +281,7 @@ static uint64_t hexadecimal(struct form *it, const char *name, const char *text,
     for (uint32_t k = 0; k < digits; k++) {
         const char *all = "0123456789abcdef", *at = text[k] ? strchr(all, text[k]) : NULL;
         if (!at) {
-            wrong(it, "%s: it has no %" PRIu32 " digits", name, digits);
+            wrong(it, "%s: expected %" PRIu32 " digits", name, digits);
             return 0;
         }
         value = value << 4 | (uint64_t)(at - all);
@@ -296,12 +296,12 @@ static void read_hashes(struct form *it, struct distinct *distinct, bool is_exac
         const char *text = field(it, "hash");
         uint64_t bits = hexadecimal(it, "hash", text, 16);
         if (!*it->fault && (!bits || text[16]))
-            wrong(it, "hash: \"%.40s\" is none", text);
+            wrong(it, "hash: \"%.40s\" isn't a hash", text);
         if (!*it->fault)
             nicxi_count_bits(distinct, bits);
     }
     if (!*it->fault && distinct->count - before != count)
-        wrong(it, "hash: one of them stands twice");
+        wrong(it, "hash: a duplicate");
 }
 
 static void read_ranks(struct form *it, struct distinct *distinct)
@@ -309,7 +309,7 @@ static void read_ranks(struct form *it, struct distinct *distinct)
     for (uint32_t k = 0; k < RANKS && !*it->fault; k += RANKS_OF_LINE) {
         const char *text = field(it, "ranks");
         if (strlen(text) != 2 * RANKS_OF_LINE)
-            wrong(it, "ranks: there aren't %d of them", RANKS_OF_LINE);
+            wrong(it, "ranks: expected %d", RANKS_OF_LINE);
         for (uint32_t of = 0; of < RANKS_OF_LINE && !*it->fault; of++) {
             uint64_t rank = hexadecimal(it, "ranks", text + 2 * of, 2);
             if (rank > 53)
@@ -328,7 +328,7 @@ static void read_distinct(struct form *it, struct result *result)
     if (*it->fault || !strcmp(text, "none"))
         return;
     if (!is_exact && strcmp(text, "about") != 0) {
-        wrong(it, "distinct: it is exact, about or none");
+        wrong(it, "distinct: expected exact, about or none");
         return;
     }
     result->distinct = calloc(1, sizeof *result->distinct);
@@ -352,7 +352,7 @@ static void omitted(struct form *it, const char *name, bool *list, uint32_t coun
             of++;
         of = number(it, "without", of, count - 1);
         if (!it->writes && !*it->fault && list[of])
-            wrong(it, "without: %" PRIu64 " stands twice", of);
+            wrong(it, "without: %" PRIu64 " is listed twice", of);
         list[of] = true;
         of += it->writes;
     }
@@ -389,7 +389,7 @@ static void failure(struct form *it, struct failure *failure)
     failure->result.switches = number32(it, "switches", failure->result.switches, nicxi.most_points);
     failure->result.points = number32(it, "length", failure->result.points, nicxi.most_points);
     if (!*it->fault && failure->cycle > failure->result.points)
-        wrong(it, "length: the cycle is longer");
+        wrong(it, "length: shorter than the cycle");
     if (!it->writes)
         failure->schedule = calloc((size_t)nicxi.most_points + 1, sizeof *failure->schedule);
     if (!failure->schedule)
@@ -404,10 +404,10 @@ static void all(struct form *it, struct result *result)
     char name[64];
     snprintf(name, sizeof name, "%s", nicxi.scenario->name);
     if (number(it, "nicx-result", VERSION, 1000) != VERSION)
-        wrong(it, "nicx-result: this program reads version %d", VERSION);
+        wrong(it, "nicx-result: wrong version: this program reads version %d", VERSION);
     words(it, "scenario", name, sizeof name);
     if (!*it->fault && strcmp(name, nicxi.scenario->name) != 0)
-        wrong(it, "it is a result of scenario %s, and this is %s", name, nicxi.scenario->name);
+        wrong(it, "the result is of scenario %s, but this program is %s", name, nicxi.scenario->name);
     options(it, &result->options);
     totals(it, &result->totals);
     coverage(it, &result->totals.coverage);
@@ -436,11 +436,11 @@ static void read_all(struct form *it, struct result *result)
     uint64_t sum = it->sum;
     const char *told = field(it, "sum");
     if (!*it->fault && (strlen(told) != 16 || hexadecimal(it, "sum", told, 16) != sum))
-        wrong(it, "sum: it isn't that of the lines before it");
+        wrong(it, "sum: doesn't match the lines before it");
     if (!*it->fault && fgetc(it->file) != EOF)
-        wrong(it, "there is more after its end");
+        wrong(it, "the file continues after its last line");
     if (ferror(it->file))
-        wrong(it, "it can't be read");
+        wrong(it, "the file can't be read");
 }
 
 const char *nicxi_read_result(const char *path, struct result *result)
@@ -448,7 +448,7 @@ const char *nicxi_read_result(const char *path, struct result *result)
     struct form it = {.file = fopen(path, "r"), .sum = FIRST_SUM};
     memset(result, 0, sizeof *result);
     if (!it.file)
-        return nicxi_why("%.500s: it can't be read", path);
+        return nicxi_why("%.500s: can't read the file", path);
     read_all(&it, result);
     fclose(it.file);
     return *it.fault ? nicxi_why("%.500s:%u: %.900s", path, (unsigned)it.line, it.fault) : NULL;

@@ -40,9 +40,9 @@ bool nicxi_are_points(const char *words)
 const char *nicxi_ask_for_points(const char *words)
 {
     if (!nicxi_are_points(words))
-        return "it is memory, or memory:NAME of a variable or a function";
+        return "expected memory, or memory:NAME with a variable or a function";
     if (!nicxi_ask_for_memory)
-        return "no access is known, since the driver isn't built with -fsanitize=thread for this";
+        return "no accesses are visible: build the driver with -fsanitize=thread";
     nicxi_asked_points = words;
     return nicxi_ask_for_memory(words[6] ? words + 7 : "");
 }
@@ -106,7 +106,7 @@ bool nicxi_may_order(void)
         return false;
     if (!nicxi.asker)
         return true;
-    nicxi_failed(NICX_MISUSE, "%s makes a call that acts: it may only look", nicxi.asker);
+    nicxi_failed(NICX_MISUSE, "%s calls a function with side effects: it may only read", nicxi.asker);
     nicxi_leave();
     return false;
 }
@@ -402,8 +402,9 @@ static void ask_why(char *question, size_t room)
     if (only_threads && nicxi.actors[nicxi.last].kind == BY_THREAD)
         snprintf(question, room, ": does its loop need %swait?", nicxi_calls);
     else if (starts > 1)
-        snprintf(question, room, ": %s %s over and over: is %s?", started->name, started->is_timer ? "fires" : "starts",
-                 started->is_timer ? "it armed each time" : "its cause cleared, and masked until it is served");
+        snprintf(question, room, ": %s %s again and again: is %s?", started->name,
+                 started->is_timer ? "fires" : "starts",
+                 started->is_timer ? "it re-armed each time" : "its cause cleared, and masked until it is handled");
 }
 
 static bool is_endless(void)
@@ -412,7 +413,7 @@ static bool is_endless(void)
         return false;
     char name[96], question[160];
     ask_why(question, sizeof question);
-    nicxi_failed(NICX_ENDLESS, "no end after %u points; last came %s%s", (unsigned)nicxi.most_points,
+    nicxi_failed(NICX_ENDLESS, "no end after %u points; the last to act was %s%s", (unsigned)nicxi.most_points,
                  nicx_actor_name(nicxi.last, name), question);
     return true;
 }
@@ -468,7 +469,7 @@ static void start_handler(const struct actor *actor)
     if (nicxi.is_weak)
         nicxi_acquired(handler);
     if (!nicxi_thread_prepare(handler))
-        nicxi_failed(NICX_MISUSE, "there is no memory for a stack");
+        nicxi_failed(NICX_MISUSE, "out of memory for a stack");
     nicxi_told(&handler->next);
 }
 
@@ -547,7 +548,7 @@ static void begin_threads(void)
         thread->next.kind = STEP_LOCAL;
         thread->next.word = LOCAL_BEGIN;
         if (thread->state == READY && !nicxi_thread_prepare(thread))
-            nicxi_failed(NICX_MISUSE, "there is no memory for a stack");
+            nicxi_failed(NICX_MISUSE, "out of memory for a stack");
     }
 }
 
@@ -578,7 +579,7 @@ static void judge_wait(const struct thread *thread)
     bool has_caller = is_known && *nicxi_line_of_call(thread->waiter, by);
     if (is_known && thread->state == WAITING)
         snprintf(pause, sizeof pause, "; if that is a delay, call %spause there", nicxi_calls);
-    nicxi_failed(NICX_DEADLOCK, "%s waits%s%.90s%s%.90s, and nobody can act%s", thread->name, is_known ? " at " : "",
+    nicxi_failed(NICX_DEADLOCK, "%s waits%s%.90s%s%.90s, and no actor can act%s", thread->name, is_known ? " at " : "",
                  where, has_caller ? " < " : "", has_caller ? by : "", pause);
 }
 

@@ -35,7 +35,7 @@ static struct thread *name_thread(int number, const char *name, void (*function)
 {
     struct thread *thread = &nicxi.threads[number];
     if (is_taken(name, number)) {
-        nicxi_failed(NICX_MISUSE, "two tasks or handlers have the name %s", name);
+        nicxi_failed(NICX_MISUSE, "two tasks or handlers are named %s", name);
     } else if (!is_name(name) || !function) {
         nicxi_failed(NICX_MISUSE, "a task's or a handler's name has 1 to 63 letters, digits, '-' and '_'");
         name = "unnamed";
@@ -52,7 +52,7 @@ static struct thread *name_thread(int number, const char *name, void (*function)
 static int add_task(const char *name, void (*function)(void *), void *argument, bool is_service)
 {
     if (nicxi.phase != BEGINNING || nicxi.tasks == NICX_TASKS) {
-        nicxi_failed(NICX_MISUSE, "tasks are named in begin, at most %d", NICX_TASKS);
+        nicxi_failed(NICX_MISUSE, "call nicx_task in begin only, for at most %d tasks", NICX_TASKS);
         return 0;
     }
     name_thread(nicxi.tasks, name, function, argument)->is_service = is_service;
@@ -88,7 +88,7 @@ int nicx_service(const char *name, void (*function)(void *), void *argument)
 static struct thread *add_handler(const char *name, void (*function)(void *), void *argument, int where)
 {
     if (nicxi.phase != BEGINNING || nicxi.handlers == NICX_HANDLERS || where < NICX_BESIDE || where >= NICX_TASKS) {
-        nicxi_failed(NICX_MISUSE, "handlers and timers are named in begin, at most %d, after the tasks", NICX_HANDLERS);
+        nicxi_failed(NICX_MISUSE, "create handlers and timers in begin after the tasks, at most %d", NICX_HANDLERS);
         return NULL;
     }
     struct thread *handler = name_thread(NICX_TASKS + nicxi.handlers++, name, function, argument);
@@ -121,7 +121,7 @@ int nicx_timer(const char *name, void (*function)(void *), void *argument, uint3
 void nicx_frame(const uint8_t *bytes, size_t length)
 {
     if (nicxi.phase != BEGINNING || !nicxi_add_frame(bytes, length))
-        nicxi_failed(NICX_MISUSE, "frames are named in begin, at most %d of %d bytes", NICX_FRAMES, MOST_FRAME);
+        nicxi_failed(NICX_MISUSE, "create frames in begin, at most %d of %d bytes", NICX_FRAMES, MOST_FRAME);
 }
 
 /* Reuses the memory of an earlier schedule's frame. */
@@ -142,7 +142,7 @@ bool nicxi_add_frame(const uint8_t *bytes, size_t length)
     struct frame *frame = &nicxi.frames[nicxi.frame_count++];
     bool is_kept = has_room(frame, length);
     if (!is_kept)
-        nicxi_failed(NICX_MISUSE, "there is no memory for a frame of %u bytes", (unsigned)length);
+        nicxi_failed(NICX_MISUSE, "out of memory for a frame of %u bytes", (unsigned)length);
     frame->length = is_kept ? length : 0;
     if (frame->length)
         memcpy(frame->bytes, bytes, length);
@@ -152,7 +152,7 @@ bool nicxi_add_frame(const uint8_t *bytes, size_t length)
 void nicx_link_change(bool up)
 {
     if (nicxi.phase != BEGINNING || nicxi.link_count == NICX_FRAMES)
-        nicxi_failed(NICX_MISUSE, "changes of the link are named in begin, at most %d", NICX_FRAMES);
+        nicxi_failed(NICX_MISUSE, "call nicx_link in begin only, for at most %d link changes", NICX_FRAMES);
     else
         nicxi.links[nicxi.link_count++] = up;
 }
@@ -189,19 +189,19 @@ bool nicxi_is_in_search(void)
 static const char *fault_of(const nicx_scenario *scenario)
 {
     if (!is_name(scenario->name))
-        return "its name isn't of 1 to 63 letters, digits, '-' and '_'";
+        return ".name must have 1 to 63 letters, digits, '-' and '_'";
     if (!scenario->bring_up || !scenario->begin || !scenario->end)
-        return "it has no bring_up, begin or end";
+        return ".bring_up, .begin and .end must all be set";
     if (!scenario->queues || scenario->queues > 128)
-        return "its queues aren't 1 to 128";
+        return ".queues must be 1 to 128";
     if (scenario->points > MOST_POINTS)
-        return "its points are above 1,000,000";
+        return ".points is above 1,000,000";
     if (scenario->stack && scenario->stack < LEAST_STACK)
-        return "its stack is below 16,384 bytes";
+        return ".stack is below 16,384 bytes";
     if (scenario->memory > (NICX_WEAK | NICX_WRITES_ORDER | NICX_READS_ORDER | NICX_TSO))
-        return "its memory isn't of enum nicx_memory";
+        return ".memory isn't a value of enum nicx_memory";
     if (scenario->memory & NICX_WEAK && scenario->memory & NICX_TSO)
-        return "its memory is NICX_WEAK and NICX_TSO: choose one";
+        return ".memory is both NICX_WEAK and NICX_TSO: choose one";
     return NULL;
 }
 
@@ -210,7 +210,7 @@ static const char *bring_up(void)
     const nicx_scenario *scenario = nicxi.scenario;
     uint8_t status = nic_open(&nicxi.device, scenario->vfs, scenario->fifo, scenario->blocks);
     if (status != NIC_DONE)
-        return nicxi_why("there is no such device: %s", nic_status_name(status));
+        return nicxi_why("can't open the device: %s", nic_status_name(status));
     nicxi.phase = BRINGING_UP;
     const char *words = scenario->bring_up();
     if (words || nicxi.result.outcome)
@@ -245,15 +245,15 @@ static const char *try_begin(void)
         return nicxi.result.words;
     for (int k = NICX_TASKS; k < NICX_TASKS + nicxi.handlers; k++) {
         if (nicxi.threads[k].where >= nicxi.tasks)
-            return "a handler is on a task that there isn't";
+            return "a handler runs on a task that doesn't exist";
         if (!nicxi.threads[k].is_timer && nicxi.threads[k].group > nicxi.scenario->vfs)
-            return "a handler is of a virtual function that there isn't";
+            return "a handler belongs to a virtual function that doesn't exist";
     }
     nicxi.is_idle = false;
     nicxi_list_actors();
     nicxi.is_idle = is_idle();
     nicxi.is_changed = true;
-    return nicxi.tasks ? NULL : "begin names no task";
+    return nicxi.tasks ? NULL : "begin creates no task";
 }
 
 /* Undoes the opening of a refused scenario, but keeps the message that says why. */
@@ -267,7 +267,7 @@ static const char *closed_for(const char *fault)
 const char *nicx_open(const nicx_scenario *scenario)
 {
     if (nicxi.phase != CLOSED)
-        return "a scenario is open already";
+        return "a scenario is already open";
     const char *fault = fault_of(scenario);
     if (fault)
         return fault;

@@ -30,7 +30,7 @@ void nicxi_write_head(FILE *file, const struct origin *origin)
     char words[sizeof origin->result->words];
     nicxi_plain(origin->result->words, words, sizeof words);
     fprintf(file, "# %s: %s\n", nicxi_outcome_name(origin->result->outcome), words);
-    fprintf(file, "# found by %s of seed %" PRIu64 "; who acts at each point:\n", origin->where, origin->seed);
+    fprintf(file, "# found by %s of seed %" PRIu64 "; the actor at each point:\n", origin->where, origin->seed);
     fprintf(file, "scenario %s\n", nicxi.scenario->name);
     if (nicxi.is_weak)
         fprintf(file, "memory %s\n", nicxi_memory_word(nicxi_memory()));
@@ -117,13 +117,13 @@ static const char *add(struct schedule_file *file, uint16_t actor, const char *t
 static const char *take_scenario(struct schedule_file *file, const char *words, bool is_lenient)
 {
     if (strncmp(words, "scenario ", 9) != 0)
-        return "the first line is \"scenario NAME\"";
+        return "the first line must be \"scenario NAME\"";
     if (!strcmp(words + 9, nicxi.scenario->name))
         return NULL;
     snprintf(file->other, sizeof file->other, "%.63s", words + 9);
     if (is_lenient)
         return NULL;
-    return nicxi_why("it is a schedule of scenario %s, and this is %s", words + 9, nicxi.scenario->name);
+    return nicxi_why("the schedule is of scenario %s, but this program is %s", words + 9, nicxi.scenario->name);
 }
 
 /* Parses a number below a bound; returns the bound if the text isn't one. */
@@ -159,7 +159,7 @@ static const char *take_without(struct schedule_file *file, const char *words, b
 {
     bool *entry = omission_of(&file->omitted, words);
     if (file->length)
-        return "what is left out stands in front of the first point";
+        return "\"without\" lines must precede the first point";
     if (entry)
         *entry = true;
     if (entry || is_lenient)
@@ -171,7 +171,7 @@ static const char *take_points(const struct schedule_file *file, const char *wor
 {
     static char points[MOST_LINE];
     if (file->length)
-        return "which accesses are points stands in front of the first point";
+        return "the \"points\" line must precede the first point";
     snprintf(points, sizeof points, "%s", words);
     const char *fault = nicxi_ask_for_points(points);
     if (!fault)
@@ -195,14 +195,14 @@ static const char *take(struct schedule_file *file, const char *words, const cha
         return take_without(file, words + 8, is_lenient);
     if (!strcmp(words, "cycle")) {
         if (file->cycle)
-            return "there is another cycle before it";
+            return "the file already has a cycle";
         file->cycle = file->length + 1;
         return NULL;
     }
     if (actor == NOBODY && !is_lenient)
         return nicxi_why("the scenario has no \"%s\"", words);
     if (actor == NOBODY)
-        told = nicxi_why("\"%s\", which the scenario hasn't", words);
+        told = nicxi_why("\"%s\" (not in the scenario)", words);
     return add(file, actor, told);
 }
 
@@ -220,7 +220,7 @@ static const char *take_line(struct schedule_file *file, char *line, bool is_las
 {
     size_t length = strlen(line);
     if (!is_text(line, length, is_last))
-        return "it is no text";
+        return "the line isn't printable ASCII";
     if (line[length - 1] != '\n' && !is_last)
         return "the line is longer than 1,022 bytes";
     char *comment = strchr(line, '#');
@@ -255,7 +255,7 @@ const char *nicxi_read_schedule(const char *path, bool is_lenient, struct schedu
     memset(file, 0, sizeof *file);
     FILE *from = fopen(path, "r");
     if (!from)
-        return nicxi_why("%.500s: it can't be read", path);
+        return nicxi_why("%.500s: can't read the file", path);
     while (!fault && fgets(line, sizeof line, from)) {
         file->last++;
         fault = take_line(file, line, feof(from) != 0, is_lenient, &has_scenario);
@@ -263,9 +263,9 @@ const char *nicxi_read_schedule(const char *path, bool is_lenient, struct schedu
     bool is_unread = ferror(from) != 0;
     fclose(from);
     if (is_unread)
-        return nicxi_why("%.500s: it can't be read", path);
+        return nicxi_why("%.500s: can't read the file", path);
     if (!fault && !has_scenario)
-        fault = "it has no line \"scenario NAME\"";
+        fault = "missing line \"scenario NAME\"";
     if (!fault)
         fault = end_cycle(file);
     if (!fault)

@@ -28,7 +28,7 @@ void nicxi_script_begin(struct script *script, FILE *file, const struct origin *
     fprintf(file, "# The device's side of a schedule of scenario %s, by: nicbench run --vfs %u --fifo %u\n",
             scenario->name, scenario->vfs, scenario->fifo);
     if (scenario->blocks > MOST_BLOCKS)
-        refuse(script, "a script has 256 blocks, and the scenario more");
+        refuse(script, "a script has at most 256 blocks, but the scenario uses more");
 }
 
 void nicxi_script_end(FILE *file, const nicx_result *result)
@@ -42,7 +42,7 @@ void nicxi_script_end(FILE *file, const nicx_result *result)
 static bool has_room(struct script *script)
 {
     if (!script->unfit && script->instructions == MOST_INSTRUCTIONS)
-        refuse(script, "a script has 4,096 instructions, and the run more");
+        refuse(script, "a script has at most 4,096 instructions, but the run needs more");
     script->instructions += !script->unfit;
     return !script->unfit;
 }
@@ -76,7 +76,7 @@ static void expect(struct script *script, uint32_t word, uint32_t mask)
 static uint32_t data(struct script *script, const uint8_t *bytes, size_t length)
 {
     if (!script->unfit && script->strings == MOST_STRINGS)
-        refuse(script, "a script has 1,024 data strings, and the run more");
+        refuse(script, "a script has at most 1,024 data strings, but the run needs more");
     if (script->unfit)
         return 0;
     fprintf(script->file, "data d%" PRIu32 " ", script->strings);

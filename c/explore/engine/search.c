@@ -271,7 +271,8 @@ static bool search_within(struct post *post, const struct job *job, uint32_t pre
     }
     if (state && nicxi_exhaustive_is_strange(state)) {
         static const nicx_result strange = {
-            NICX_MISUSE, 0, 0, "a schedule went another way than before: begin doesn't initialize the driver's state"};
+            NICX_MISUSE, 0, 0,
+            "a schedule ran differently the second time: begin doesn't initialize all of the driver's state"};
         post->result = strange;
         post->is_found = post->is_stale = true;
     }
@@ -469,7 +470,7 @@ const char *nicxi_search(const struct options *options, struct totals *totals, s
     search.posts = nicxi_posts(options->jobs);
     memset(failure, 0, sizeof *failure);
     if (memory == MAP_FAILED || !search.posts)
-        return "there is no memory for the search";
+        return "out of memory for the search";
     search.common = memory;
     search.common->lowest = UINT64_MAX;
     for (uint32_t k = 0; k < BOUNDS; k++) {
@@ -480,7 +481,7 @@ const char *nicxi_search(const struct options *options, struct totals *totals, s
     nicxi_look_for_points(options, &totals->unpointed);
     search.began = nicxi_now();
     start_all(&search);
-    const char *fault = search.living == options->jobs ? NULL : "a process can't be started";
+    const char *fault = search.living == options->jobs ? NULL : "can't start a process";
     if (fault)
         search.common->stop = true;
     wait_for_all(&search);
@@ -490,7 +491,7 @@ const char *nicxi_search(const struct options *options, struct totals *totals, s
     totals->is_whole = is_whole(&search);
     totals->sketch = sketch_of(&search);
     if (!keep_failure(&search, failure))
-        fault = "there is no memory for the schedule that failed";
+        fault = "out of memory for the failing schedule";
     munmap(memory, sizeof *search.common);
     nicxi_free_posts(search.posts, options->jobs);
     return fault;

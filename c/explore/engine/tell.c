@@ -24,7 +24,7 @@ static void tell_part(const struct options *options, const struct totals *totals
         by = ": --seconds ended the search";
     else if (options->strategy == EXHAUSTIVE && options->runs)
         by = ": --runs ended the search";
-    printf("%s: these aren't all schedules%s\n", nicxi.scenario->name, by);
+    printf("%s: didn't search all schedules%s\n", nicxi.scenario->name, by);
 }
 
 /* Reports a search that found nothing: how much it covered, and what never happened. Returns whether --strict makes
@@ -40,13 +40,13 @@ bool nicxi_tell_nothing(const struct options *options, const struct totals *tota
     else if (!totals->is_whole)
         tell_part(options, totals);
     if (coverage->faults)
-        printf("%s: note: %" PRIu64 " fault%s, which %s allowed, the first: %s\n", name, coverage->faults,
+        printf("%s: note: %" PRIu64 " fault%s, which %s allowed; the first: %s\n", name, coverage->faults,
                nicxi_s(coverage->faults), coverage->faults == 1 ? "is" : "are", coverage->fault);
     else if (allows_faults)
-        printf("%s: note: faults are allowed, and none was met\n", name);
+        printf("%s: note: faults are allowed, but none occurred\n", name);
     uint32_t never = nicxi_never(coverage, tell_never, stdout);
     bool fails = never && options->is_strict;
-    printf("%s: nothing was found%s\n", name, fails ? ", and some of it never ran: --strict" : "");
+    printf("%s: no failure was found%s\n", name, fails ? ", but part of the scenario never ran (--strict)" : "");
     return fails;
 }
 
@@ -54,17 +54,17 @@ bool nicxi_tell_nothing(const struct options *options, const struct totals *tota
 static void tell_unseen(void)
 {
     char words[MOST_WORDS];
-    static const char unseen[] = "plain accesses and atomics aren't seen, so no bug in their order is found";
+    static const char unseen[] = "the search can't see plain accesses and atomics, so it misses bugs in their order";
     if (!nicxi_races && nicxi_to_be_seen)
         printf("%s: %s: %s\n", nicxi.scenario->name, unseen, nicxi_to_be_seen);
     else if (!nicxi_races)
         printf("%s: %s: compile with -fsanitize=thread%s%s\n", nicxi.scenario->name, unseen,
                nicxi_form ? "" : " and link with @", nicxi_form ? "" : nicxi_form_options);
     else if (nicxi_form && nicxi_form->assembly(words, sizeof words))
-        printf(
-            "%s: inline assembly isn't seen, so %s orders nothing: use atomic_thread_fence, an atomic of C11 or of the "
-            "compiler, or nicx_mb instead\n",
-            nicxi.scenario->name, words);
+        printf("%s: the search can't see inline assembly, so %s orders nothing: use atomic_thread_fence, an atomic of "
+               "C11 or of the "
+               "compiler, or nicx_mb instead\n",
+               nicxi.scenario->name, words);
 }
 
 static void tell_unpointed(const struct unpointed_list *found)
@@ -83,12 +83,13 @@ void nicxi_tell_totals(const struct options *options, const struct totals *total
     double seconds = totals->seconds > 0 ? totals->seconds : 1e-9;
     tell_unseen();
     tell_unpointed(&totals->unpointed);
-    printf("%s: %" PRIu64 " schedule%s, %" PRIu64 " point%s, %.1f s (%.0f schedules a second), %s, seed %" PRIu64 "\n",
+    printf("%s: %" PRIu64 " schedule%s, %" PRIu64 " point%s, %.1f s (%.0f schedules per second), %s, seed %" PRIu64
+           "\n",
            nicxi.scenario->name, totals->runs, nicxi_s(totals->runs), totals->points, nicxi_s(totals->points),
            totals->seconds, (double)totals->runs / seconds, nicxi_strategy_name(options->strategy), options->seed);
     if (options->strategy != EXHAUSTIVE || !totals->is_whole)
         return;
-    printf("%s: these are all schedules", nicxi.scenario->name);
+    printf("%s: searched all schedules", nicxi.scenario->name);
     if (options->preemptions != UNBOUNDED)
         printf(" with at most %" PRIu32 " preemption%s", options->preemptions, nicxi_s(options->preemptions));
     if (options->shards > 1)
@@ -114,14 +115,14 @@ static void tell_omitted(const struct omitted *omitted)
         {"task", count_of(omitted->threads, NICX_TASKS)},
         {"handler", count_of(omitted->threads + NICX_TASKS, NICX_HANDLERS)},
         {"frame", count_of(omitted->frames, NICX_FRAMES)},
-        {"change of the link", count_of(omitted->links, NICX_FRAMES)},
+        {"link change", count_of(omitted->links, NICX_FRAMES)},
     };
     const char *before = ", without";
     for (uint32_t k = 0; k < sizeof kinds / sizeof *kinds; k++) {
         if (!kinds[k].count)
             continue;
         if (k == 3 && kinds[k].count > 1)
-            printf("%s %" PRIu32 " changes of the link", before, kinds[k].count);
+            printf("%s %" PRIu32 " link changes", before, kinds[k].count);
         else
             printf("%s %" PRIu32 " %s%s", before, kinds[k].count, kinds[k].name, kinds[k].count > 1 ? "s" : "");
         before = ",";
@@ -134,8 +135,8 @@ static void tell_turn(const struct turn *turn)
     if (nicxi_fails_always(turn))
         printf("%s: %s\n", nicxi.scenario->name, nicxi_turn_words(turn, words));
     if (turn->kind == TURN_FOUND)
-        printf("%s: it goes wrong at point %" PRIu32 ": had %s there, it could end well\n", nicxi.scenario->name,
-               turn->point, nicxi_turn_other(turn, words));
+        printf("%s: point of no return: point %" PRIu32 ": if %s there instead, the run could still succeed\n",
+               nicxi.scenario->name, turn->point, nicxi_turn_other(turn, words));
 }
 
 void nicxi_tell_failure(const struct failure *failure, const nicx_result *found, uint32_t tries,
@@ -151,7 +152,7 @@ void nicxi_tell_failure(const struct failure *failure, const nicx_result *found,
                failure->result.points > found->points ? "reordered" : "shrunk", tries, tries == 1 ? "try" : "tries",
                failure->result.points, failure->result.switches);
     if (failure->cycle)
-        printf(", the last %" PRIu32 " over and over", failure->cycle);
+        printf(", the last %" PRIu32 " points repeating", failure->cycle);
     tell_omitted(&failure->omitted);
     printf("\n");
     tell_turn(turn);
@@ -163,7 +164,7 @@ void nicxi_tell_files(const struct failure *failure, const struct paths *paths, 
     printf("%s: the schedule is %s, the device's side of it %s, the page %s\n", name, paths->schedule, paths->script,
            paths->page);
     if (failure->is_stale)
-        printf("%s: it doesn't fail alone: the same options, with as many processes, find it again\n", name);
+        printf("%s: it doesn't fail by itself: to find it again, use the same options and number of processes\n", name);
     else
         printf("%s: again: %s --replay %s\n", name, program, paths->schedule);
 }

@@ -17,7 +17,7 @@ static void judge_locks(const struct thread *self)
 {
     enum { MOST_HELD = sizeof self->held / sizeof *self->held };
     if (self->locks)
-        nicxi_failed(NICX_MISUSE, "%s ends and holds %s", self->name,
+        nicxi_failed(NICX_MISUSE, "%s ends while it holds %s", self->name,
                      self->locks > MOST_HELD ? "a lock" : name_of(self->held[self->locks - 1]));
 }
 
@@ -29,7 +29,7 @@ static void end(struct thread *self)
     if (self->on >= 0)
         nicxi.threads[self->on].interrupted_by = -1;
     if (self->masked)
-        nicxi_failed(NICX_MISUSE, "%s ends with its interrupts off", self->name);
+        nicxi_failed(NICX_MISUSE, "%s ends with its interrupts disabled", self->name);
     judge_locks(self);
     self->state = OFF;
     self->is_void = false;
@@ -266,7 +266,7 @@ void nicx_unlock(nicx_mutex *lock)
     if (!stand_at(READY, LOCAL_UNLOCK, lock))
         return;
     if (lock->kept != (nicxi.epoch << 8 | (number_of(self) + 1))) {
-        nicxi_failed(NICX_MISUSE, "%s unlocks %s, which it doesn't hold", self->name, name_of(lock));
+        nicxi_failed(NICX_MISUSE, "%s unlocks %s without holding it", self->name, name_of(lock));
         nicxi_leave();
         return;
     }
@@ -288,7 +288,7 @@ void nicx_interrupts_on(void)
     if (!nicxi_may_act() || !self)
         return;
     if (!self->masked) {
-        nicxi_failed(NICX_MISUSE, "%s turns interrupts on that aren't off", self->name);
+        nicxi_failed(NICX_MISUSE, "%s enables interrupts that aren't disabled", self->name);
         nicxi_leave();
         return;
     }

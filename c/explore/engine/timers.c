@@ -32,7 +32,7 @@ static struct thread *timer_of(int number, enum local local)
     if (!nicxi_may_act())
         return NULL;
     if (number < NICX_TASKS || number >= NICX_TASKS + nicxi.handlers || !nicxi.threads[number].is_timer) {
-        nicxi_failed(NICX_MISUSE, "there is no timer %d", number);
+        nicxi_failed(NICX_MISUSE, "no such timer: %d", number);
         nicxi_leave();
         return NULL;
     }

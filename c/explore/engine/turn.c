@@ -162,7 +162,7 @@ const char *nicxi_turn_other(const struct turn *turn, char room[MOST_TURN])
 {
     char name[96];
     snprintf(room, MOST_TURN, "%s %s", nicx_actor_name(turn->other, name),
-             nicxi_is_value(turn->other) ? "been chosen" : "acted");
+             nicxi_is_value(turn->other) ? "were chosen" : "acted");
     return room;
 }
 
@@ -172,12 +172,14 @@ const char *nicxi_turn_words(const struct turn *turn, char room[MOST_TURN])
     room[0] = 0;
     if (turn->kind == TURN_FOUND && turn->tried)
         snprintf(room, MOST_TURN,
-                 "here it goes wrong: had %.120s, it could end well; after this step none of %u schedules does",
+                 "point of no return: if %.120s here instead, the run could still succeed; after this step all %u "
+                 "tried schedules fail",
                  nicxi_turn_other(turn, other), (unsigned)turn->tried);
     else if (turn->kind == TURN_FOUND)
-        snprintf(room, MOST_TURN, "here it goes wrong: had %.120s, it could end well", nicxi_turn_other(turn, other));
+        snprintf(room, MOST_TURN, "point of no return: if %.120s here instead, the run could still succeed",
+                 nicxi_turn_other(turn, other));
     if (turn->kind == TURN_NONE)
-        snprintf(room, MOST_TURN, "all %u tried schedules fail: the order of the steps doesn't matter",
+        snprintf(room, MOST_TURN, "all %u tried schedules fail: the order of steps doesn't matter",
                  (unsigned)turn->tried);
     if (turn->kind == TURN_RACE)
         snprintf(room, MOST_TURN, "all %u tried schedules have a race: nothing orders the two accesses in any of them",

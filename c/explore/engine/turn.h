@@ -9,7 +9,7 @@ enum { MOST_TURN = 300 };
 enum turn_kind {
     TURN_UNKNOWN,
     TURN_FOUND, /* before `point` some schedule was fine in which `other` acted; after it, none was */
-    TURN_NONE,  /* no schedule was fine: the order of the steps doesn't matter */
+    TURN_NONE,  /* no schedule was fine: the order of steps doesn't matter */
     TURN_RACE   /* as TURN_NONE, for a data race, which any order of the steps shows */
 };
 
@@ -28,10 +28,10 @@ static inline bool nicxi_fails_always(const struct turn *turn)
 
 void nicxi_find_turn(const struct options *options, const struct failure *failure, struct turn *turn);
 
-/* What could have ended well instead: "task poll acted", "value 3 been chosen". */
+/* What could have ended well instead: "task poll acted", "value 3 were chosen". */
 const char *nicxi_turn_other(const struct turn *turn, char room[MOST_TURN]);
 
-/* "here it goes wrong: ..", or "" if unknown. */
+/* "point of no return: ..", or "" if unknown. */
 const char *nicxi_turn_words(const struct turn *turn, char room[MOST_TURN]);
 
 #endif

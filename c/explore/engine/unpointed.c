@@ -433,7 +433,7 @@ void nicxi_unpointed_words(const struct unpointed *it, char *room, size_t size)
         snprintf(both, sizeof both, "reads and writes %s at %s", object[0], at[0]);
     else
         snprintf(both, sizeof both, "touches %s at %s and %s at %s", object[0], at[0], object[1], at[1]);
-    snprintf(room, size, "%s %s with no point in between, and %s touches %s too, at %s",
+    snprintf(room, size, "%s %s without a point in between, and %s touches %s too, at %s",
              function_words(it->first, it->thread, who[0], ROOM), both, function_words(it->other, it->by, who[1], ROOM),
              object[1], at[2]);
 }

@@ -5,12 +5,12 @@
 static bool refuses(uint32_t bound)
 {
     if (nicxi.phase == BRINGING_UP || nicxi.phase == ENDING)
-        nicxi_failed(NICX_MISUSE, "%schoose is for begin, tasks and handlers", nicxi_calls);
+        nicxi_failed(NICX_MISUSE, "only begin, tasks and handlers may call %schoose", nicxi_calls);
     else if (!bound || bound > NICX_VALUES)
-        nicxi_failed(NICX_MISUSE, "%schoose has 1 to %d values, and not %lu", nicxi_calls, NICX_VALUES,
+        nicxi_failed(NICX_MISUSE, "%schoose takes 1 to %d values, not %lu", nicxi_calls, NICX_VALUES,
                      (unsigned long)bound);
     else if (*nicxi.points >= nicxi.most_points)
-        nicxi_failed(NICX_ENDLESS, "no end after %u points; last came %schoose", (unsigned)nicxi.most_points,
+        nicxi_failed(NICX_ENDLESS, "no end after %u points; the last to act was %schoose", (unsigned)nicxi.most_points,
                      nicxi_calls);
     else
         return false;

@@ -71,7 +71,7 @@ static const char *copy_memory(void)
     weak.size = (uint64_t)nicxi.scenario->blocks * NIC_BLOCK_BYTES;
     weak.memory = calloc(1, weak.size ? weak.size : 1);
     if (!weak.memory)
-        return "there is no memory for a copy of the device's";
+        return "out of memory for a copy of the device's memory";
     for (uint64_t at = 0; at < weak.size; at += NIC_BLOCK_BYTES)
         nic_dma_read(&nicxi.device, at, weak.memory + at, NIC_BLOCK_BYTES);
     return NULL;
@@ -90,7 +90,7 @@ static const char *open_as(enum given_memory memory)
     nicxi.is_weak = memory != STRONG;
     nicxi.is_tso = memory == TSO;
     if (nicxi.is_weak && nicxi_form && !nicxi_races)
-        return "with weak memory the search has to see the driver's atomics and fences: compile it with "
+        return "weak memory needs the driver's atomics and fences: compile the driver with "
                "-fsanitize=thread";
     return nicxi.is_weak ? copy_memory() : NULL;
 }
@@ -186,7 +186,7 @@ static void changed(uint64_t bus, uint64_t length)
     if (!length || bus >= weak.size || length > weak.size - bus)
         return;
     if (!has_room(length)) {
-        nicxi_failed(NICX_MISUSE, "there is no memory to keep what memory was");
+        nicxi_failed(NICX_MISUSE, "out of memory while saving memory's old contents");
         return;
     }
     uint8_t *old = weak.old + weak.used, *now = weak.memory + bus;
@@ -339,7 +339,7 @@ static void reach_device(struct processor *it, const struct store *store, struct
     nicxi_memory_changed(step);
     note_seen(it, store->bus, store->length, weak.time);
     if (step->status == NIC_NOT_LENT && !(nicxi.scenario->allowed & NICX_NOT_LENT))
-        nicxi_failed(NICX_MEMORY, "a store of %s%s reaches 0x%llx, which is no longer lent", thread->name,
+        nicxi_failed(NICX_MEMORY, "a store of %s%s reaches memory at 0x%llx, which is no longer lent", thread->name,
                      nicxi_stored_at(thread, store->bus, where), (unsigned long long)store->bus);
 }
 
@@ -405,7 +405,7 @@ static bool keep_store(struct processor *it, struct store store, const void *byt
         land_oldest(it);
     struct store *last = &it->stores[it->count];
     if (!keep_bytes(last, bytes, store.length)) {
-        nicxi_failed(NICX_MISUSE, "there is no memory for a pending store");
+        nicxi_failed(NICX_MISUSE, "out of memory for a pending store");
         return false;
     }
     store.bytes = last->bytes;

@@ -95,7 +95,7 @@ static void work(void *unused)
             nicx_wait();
             continue;
         }
-        nicx_check(packet.len == FRAME, "a packet was handed out that isn't one");
+        nicx_check(packet.len == FRAME, "the driver handed out a block that holds no packet");
         while (!tx(&packet)) {
             reap();
             if (pmd.outstanding == MOST_OUT)
@@ -125,7 +125,7 @@ static void begin(void)
 
 static const char *end(void)
 {
-    return pmd.idle_early ? "idle is reported, and a packet is outstanding" : went_out(FRAMES);
+    return pmd.idle_early ? "the driver reports idle while a packet is outstanding" : went_out(FRAMES);
 }
 
 DRIVER(.name = "pmd")

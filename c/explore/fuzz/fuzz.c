@@ -134,7 +134,7 @@ static int write_schedule(const nicx_result *result)
     snprintf(path, sizeof path, "%s.schedule", scenario->name);
     FILE *file = fopen(path, "w");
     if (!file) {
-        fprintf(stderr, "%s: it can't be written\n", path);
+        fprintf(stderr, "%s: can't write the file\n", path);
         return 2;
     }
     fprintf(file, "# %s\nscenario %s\n", result->words, scenario->name);
@@ -153,7 +153,7 @@ static int show(const char *path)
     nicx_result result;
     FILE *file = fopen(path, "rb");
     if (!file) {
-        fprintf(stderr, "%s: it can't be read\n", path);
+        fprintf(stderr, "%s: can't read the file\n", path);
         return 2;
     }
     size_t length = fread(bytes, 1, sizeof bytes, file);
@@ -180,7 +180,7 @@ static int fuzz(void)
 #else
 static int fuzz(void)
 {
-    fprintf(stderr, "%s: it wants the file of an input, or to be built by afl-clang-fast\n", scenario->name);
+    fprintf(stderr, "%s: give it an input file, or build it with afl-clang-fast\n", scenario->name);
     return 2;
 }
 #endif

@@ -41,8 +41,8 @@ static void deliver(const uint8_t *frame)
 {
     uint8_t whole[FRAME];
     make_frame(whole, frame[FRAME - 1]);
-    nicx_check(!memcmp(whole, frame, FRAME), "a frame isn't whole");
-    nicx_check(driver.count < FRAMES, "there are more frames than came");
+    nicx_check(!memcmp(whole, frame, FRAME), "a frame is incomplete");
+    nicx_check(driver.count < FRAMES, "the driver received more frames than arrived");
     driver.got[driver.count++] = frame[FRAME - 1];
 }
 
@@ -142,8 +142,8 @@ static const char *end(void)
     nic_peek32(nicx_device(), NIC_RDT(0), &tail);
     nic_peek32(nicx_device(), NIC_EIMS, &mask);
     if (head != driver.next || (tail + SLOTS - head) % SLOTS != SLOTS - 1)
-        return "a buffer isn't posted";
-    return mask & CAUSE ? NULL : "the vector is masked at rest";
+        return "a buffer was never posted";
+    return mask & CAUSE ? NULL : "the vector is still masked when all is idle";
 }
 
 DRIVER(.name = "interrupt_moderation", .blocks = 1 + SLOTS)

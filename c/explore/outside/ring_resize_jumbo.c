@@ -40,8 +40,8 @@ static void deliver(void)
     uint8_t whole[FRAME];
     uint8_t number = driver.frame[driver.length - 1];
     make_frame(whole, number);
-    nicx_check(driver.length == FRAME && !memcmp(whole, driver.frame, FRAME), "a frame isn't whole");
-    nicx_check(driver.count < FRAMES, "there are more frames than came");
+    nicx_check(driver.length == FRAME && !memcmp(whole, driver.frame, FRAME), "a frame is incomplete");
+    nicx_check(driver.count < FRAMES, "the driver received more frames than arrived");
     driver.got[driver.count++] = number;
     driver.length = 0;
 }
@@ -164,11 +164,11 @@ static const char *end(void)
             return "the frames are out of order";
     nic_peek32(nicx_device(), NIC_QPRC(0), &received);
     if (driver.count != received)
-        return "the device received another number of frames than the driver";
+        return "the device and the driver received different numbers of frames";
     nic_peek32(nicx_device(), NIC_RDH(0), &head);
     nic_peek32(nicx_device(), NIC_RDT(0), &tail);
     if (head != driver.next || (tail + driver.slots - head) % driver.slots != driver.slots - 1)
-        return "a buffer isn't posted";
+        return "a buffer was never posted";
     return NULL;
 }
 

@@ -60,8 +60,8 @@ static void deliver(unsigned queue, const uint8_t *frame)
         nicx_wait_until(nicx_is_set, &driver.moved);
     }
     make_frame(whole, flow, frame[NUMBER_AT]);
-    nicx_check(!memcmp(whole, frame, FRAME), "a frame isn't whole");
-    nicx_check(driver.count[flow] < FRAMES, "there are more frames than came");
+    nicx_check(!memcmp(whole, frame, FRAME), "a frame is incomplete");
+    nicx_check(driver.count[flow] < FRAMES, "the driver received more frames than arrived");
     driver.got[flow][driver.count[flow]++] = frame[NUMBER_AT];
 }
 
@@ -185,7 +185,7 @@ static const char *end(void)
         nic_peek32(nicx_device(), NIC_RDH(queue), &head);
         nic_peek32(nicx_device(), NIC_RDT(queue), &tail);
         if (head != driver.next[queue] || (tail + SLOTS - head) % SLOTS != SLOTS - 1)
-            return "a buffer isn't posted";
+            return "a buffer was never posted";
     }
     return NULL;
 }

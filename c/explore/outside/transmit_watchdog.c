@@ -174,16 +174,16 @@ static const char *end(void)
     for (unsigned k = 0; k < FRAMES; k++) {
         make_frame(whole, k);
         if (nic_collect(nicx_device(), frame, FRAME, &told) != NIC_FRAME)
-            return "a frame didn't go out";
+            return "a frame was never transmitted";
         if (told.len != FRAME || memcmp(frame, whole, FRAME))
-            return "the frames that went out aren't those that were sent, one by one";
+            return "the frames on the wire aren't the ones sent, each once";
     }
     if (nic_next_out(nicx_device()))
-        return "more frames went out than were sent";
+        return "more frames were transmitted than sent";
     if (driver.free != BUFFERS || driver.clean != driver.tail)
-        return "a buffer didn't come back";
+        return "a buffer was never reclaimed";
     nic_peek32(nicx_device(), NIC_TDH(0), &head);
-    return head == driver.tail ? NULL : "the ring isn't at rest";
+    return head == driver.tail ? NULL : "the ring isn't idle";
 }
 
 DRIVER(.name = "transmit_watchdog", .blocks = 1 + BUFFERS, .always = always)

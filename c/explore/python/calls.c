@@ -25,7 +25,7 @@ void nicp_open(const struct nicp_python *given, uint32_t condition, void (*forei
     condition_function = condition;
     refuse_foreign = foreign;
     nicxi_ask_for_lines = lines_of;
-    nicxi_to_be_seen = "call self.point() where threads of the driver share what they keep";
+    nicxi_to_be_seen = "call self.point() where the driver's threads share state";
     nicp_open_stacks(python.begin_thread);
 }
 

@@ -64,7 +64,7 @@ static char name[MOST_NAME];
 
 static const char *bring_up(void)
 {
-    return nicp_ask(ASK_BRING_UP, 0, 0, 0) == NICP_RAISED ? "it raised an exception" : NULL;
+    return nicp_ask(ASK_BRING_UP, 0, 0, 0) == NICP_RAISED ? "raised an exception" : NULL;
 }
 
 /* The function can reach the controller itself, and may change it. */
@@ -136,7 +136,7 @@ static unsigned lines_of_wait(const struct thread *thread, struct source_line *l
 
 static void refuse_foreign(void)
 {
-    nicxi_failed(NICX_MISUSE, "a thread that is no task makes a call of the explorer's");
+    nicxi_failed(NICX_MISUSE, "a thread that isn't a task calls the explorer");
 }
 
 /* Called for a bring-up that waits forever: leaves the call that it is in. */

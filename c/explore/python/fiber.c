@@ -293,7 +293,7 @@ static void give_up(void)
     struct thread *self = nicxi.self;
     struct host *host = host_of(&self->fiber);
     host->is_stuck = host->is_left = true;
-    nicxi_failed(NICX_HANG, "%s runs and makes no point", self->name);
+    nicxi_failed(NICX_HANG, "%s runs without reaching a point", self->name);
     nicxi.self = NULL;
 }
 
@@ -307,7 +307,7 @@ static void unwind_all(void)
             continue;
         unwind(host);
         if (host->is_stuck)
-            nicxi_failed(NICX_MISUSE, "%s goes on where its schedule is over: does it take each BaseException?",
+            nicxi_failed(NICX_MISUSE, "%s continues after its schedule has ended: does it catch BaseException?",
                          thread->name);
     }
 }

@@ -116,8 +116,8 @@ int main(void)
         .name = "down", .fifo = 4, .blocks = 4, .queues = 1, .bring_up = no_use, .begin = begin, .end = end};
     static const nicx_scenario idle = {
         .name = "idle", .fifo = 4, .blocks = 4, .queues = 1, .bring_up = come_up, .begin = begin_nothing, .end = end};
-    int faults = refused(&small, "there is no such device") + refused(&down, "it has no use") +
-                 refused(&idle, "begin names no task") + differs();
+    int faults = refused(&small, "can't open the device") + refused(&down, "it has no use") +
+                 refused(&idle, "begin creates no task") + differs();
     printf("%d faults\n", faults);
     return faults != 0;
 }

@@ -55,7 +55,7 @@ static const char *end(void)
     nic_told told;
     for (unsigned k = 0; k < QUEUES; k++)
         if (nic_collect(nicx_device(), frame, sizeof frame, &told) != NIC_FRAME)
-            return "a frame didn't go out";
+            return "a frame was never transmitted";
     return count == QUEUES ? NULL : "a count is lost";
 }
 

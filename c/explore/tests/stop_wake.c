@@ -73,7 +73,7 @@ static void begin(void)
 
 static const char *end(void)
 {
-    return was_sent ? NULL : "the queue stays stopped, though a descriptor is free";
+    return was_sent ? NULL : "the queue stays stopped, although a descriptor is free";
 }
 
 MODES("flags", .name = "stop_wake", .blocks = 4)

@@ -55,7 +55,7 @@ static bool may_ask(const char *call, const void *at)
     char where[MOST_NAMED];
     if (nicxi.is_program || nicxi.phase != RUNNING || !nicxi.self)
         return true;
-    nicxi_misuse("%s calls %s at %s: the explorer makes the device's steps", nicxi.self->name, call,
+    nicxi_misuse("%s calls %s at %s: only the explorer runs the device's steps", nicxi.self->name, call,
                  nicxi_line(at, where));
     return false;
 }
@@ -141,7 +141,7 @@ uint8_t __wrap_nic_arrive(nic *n, const uint8_t *frame, size_t length, nic_told 
         return NIC_DROPPED;
     nicxi_asks("nic_arrive");
     if (!nicxi_add_frame(frame, length))
-        nicxi_misuse("a program has at most %d frames of 16,384 bytes arrive", NICX_FRAMES);
+        nicxi_misuse("a program may receive at most %d frames of 16,384 bytes", NICX_FRAMES);
     return asked(STEP_ARRIVE, nicxi.next_frame++, __real_nic_arrive(n, frame, length, told), told);
 }
 

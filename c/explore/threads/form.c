@@ -46,7 +46,7 @@ void nicxi_refuse(const char *call, const void *at)
         return;
     nicxi_program_begins();
     if (nicxi_is_in_thread())
-        nicxi_misuse("%s calls %s at %s, which isn't turned into steps of a schedule", nicxi.self->name, call,
+        nicxi_misuse("%s calls %s at %s, which the explorer can't schedule", nicxi.self->name, call,
                      nicxi_line(at, where));
 }
 
@@ -243,7 +243,7 @@ static bool tell_wait(const struct thread *thread, bool for_lock)
     if (posix->is_lock)
         tell_chain(thread);
     else
-        nicxi_failed(NICX_DEADLOCK, "%s waits in %s for %s at %s, and nobody can act%s", thread->name, posix->call,
+        nicxi_failed(NICX_DEADLOCK, "%s waits in %s for %s at %s, and no actor can act%s", thread->name, posix->call,
                      nicxi_name(posix->object, "an object", object), nicxi_line_by(posix->at, posix->caller, where),
                      nicxi_vain_words(posix, vain));
     return true;
@@ -262,7 +262,7 @@ static void ended(struct thread *thread)
     char object[MOST_NAMED], where[MOST_NAMED];
     struct posix_thread *posix = &nicxi_posix[nicxi_number(thread)];
     if (posix->locks)
-        nicxi_failed(NICX_MISUSE, "%s ends and holds %s, which it took at %s", thread->name,
+        nicxi_failed(NICX_MISUSE, "%s ends while it holds %s, taken at %s", thread->name,
                      nicxi_name(posix->held[0].object, "a lock", object),
                      nicxi_line_by(posix->held[0].at, posix->held[0].caller, where));
     posix->is_done = true;
@@ -288,7 +288,7 @@ static const void *function_of(const struct thread *thread)
 
 static const char *beside(const struct step *step)
 {
-    return nicxi_wakes_nobody(step->call, (const void *)(uintptr_t)step->bus) ? ", and nobody waits" : "";
+    return nicxi_wakes_nobody(step->call, (const void *)(uintptr_t)step->bus) ? ", while nothing waited" : "";
 }
 
 static const struct nicxi_form form = {

@@ -32,7 +32,7 @@ static void tell_own(const struct thread *self, const void *lock, const void *at
     for (unsigned k = 0; posix && k < posix->locks && k < MOST_HELD; k++)
         if (posix->held[k].object == lock)
             taken = posix->held[k].at;
-    nicxi_failed(NICX_DEADLOCK, "%s waits for %s at %s, and %s%s%s", name_of_caller(self),
+    nicxi_failed(NICX_DEADLOCK, "%s waits for %s at %s, but %s%s%s", name_of_caller(self),
                  nicxi_name(lock, "a lock", name), nicxi_line(at, where), self ? "holds it itself" : "a task holds it",
                  taken ? " since " : "", taken ? nicxi_line(taken, since) : "");
     nicxi_leave();
@@ -41,7 +41,7 @@ static void tell_own(const struct thread *self, const void *lock, const void *at
 static void tell_not_held(const struct thread *self, const void *lock, const void *at)
 {
     char name[MOST_NAMED], where[MOST_NAMED];
-    nicxi_misuse("%s unlocks %s at %s, and doesn't hold it", name_of_caller(self), nicxi_name(lock, "a lock", name),
+    nicxi_misuse("%s unlocks %s at %s without holding it", name_of_caller(self), nicxi_name(lock, "a lock", name),
                  nicxi_line(at, where));
 }
 
@@ -88,8 +88,8 @@ static void look_at(const struct thread *self, const pthread_mutex_t *mutex, con
 {
     char name[MOST_NAMED], where[MOST_NAMED];
     if (mutex->__data.__kind & GONE)
-        nicxi_misuse("%s uses %s at %s, which was destroyed", name_of_caller(self), nicxi_name(mutex, "a mutex", name),
-                     nicxi_line(at, where));
+        nicxi_misuse("%s uses %s at %s after it was destroyed", name_of_caller(self),
+                     nicxi_name(mutex, "a mutex", name), nicxi_line(at, where));
 }
 
 /* Waits until the lock may be taken, or for a limited time. Without other threads, no other thread can hold it. */
@@ -173,7 +173,7 @@ int __wrap_pthread_mutex_destroy(pthread_mutex_t *mutex)
     if (!nicxi_is_ours())
         return __real_pthread_mutex_destroy(mutex);
     if (!nicxi_mutex_is_free(mutex))
-        nicxi_misuse("%s destroys %s at %s, which is held", name_of_caller(nicxi_caller()),
+        nicxi_misuse("%s destroys %s at %s while it is held", name_of_caller(nicxi_caller()),
                      nicxi_name(mutex, "a mutex", name), nicxi_line(HERE, where));
     mutex->__data.__kind |= GONE;
     return 0;

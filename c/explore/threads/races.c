@@ -33,7 +33,7 @@ static bool is_open;
 
 static void out_of_memory(void)
 {
-    fputs("nicx: there is no memory to look for races\n", stderr);
+    fputs("nicx: out of memory for the race detector\n", stderr);
     abort();
 }
 
@@ -445,7 +445,7 @@ static const char *place_words(uint64_t at, char room[MOST_NAMED])
 static void tell(const struct race *race)
 {
     char place[MOST_NAMED], new[MOST_WHO], old[MOST_WHO];
-    nicxi_failed(NICX_RACE, "%.70s, %zu byte%s: %s %s, and %s %s it before, with no order between them",
+    nicxi_failed(NICX_RACE, "%.70s, %zu byte%s: %s %s, and %s %s it before, without an order between them",
                  place_words(race->at, place), race->length, nicxi_s(race->length), who_of(&race->new, new),
                  verb_of(&race->new, false), who_of(&race->old, old), verb_of(&race->old, true));
 }

@@ -1,6 +1,6 @@
-/* Data races: two accesses of the same memory by two threads, at least one of them a write, with no order between them.
-   Vector clocks show which accesses are ordered. Each thread counts its own time, and learns other threads' times where
-   it synchronizes with them: at a lock, an atomic operation, a thread's begin or end, a register, a message, a
+/* Data races: two accesses of the same memory by two threads, at least one of them a write, without an order between
+   them. Vector clocks show which accesses are ordered. Each thread counts its own time, and learns other threads' times
+   where it synchronizes with them: at a lock, an atomic operation, a thread's begin or end, a register, a message, a
    descriptor that the device wrote back. So one schedule shows a race even if its two accesses are far apart. */
 #ifndef NICX_THREADS_RACES_H
 #define NICX_THREADS_RACES_H

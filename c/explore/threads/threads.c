@@ -107,13 +107,14 @@ int nicxi_create(pthread_t *told, const struct creation *creation, const char *c
     nicxi_program_begins();
     struct thread *self = nicxi_caller();
     if (!self) {
-        nicxi_misuse("bring_up, begin or end calls %s at %s: threads are made in tasks", call, nicxi_line(at, where));
+        nicxi_misuse("bring_up, begin or end calls %s at %s: only tasks may create threads", call,
+                     nicxi_line(at, where));
         return EAGAIN;
     }
     nicxi_call(READY, call, creation->named);
     struct thread *made = nicxi_make_thread(run, NULL, creation->room);
     if (!made) {
-        nicxi_misuse("%s calls %s at %s, and all %d tasks are taken", self->name, call, nicxi_line(at, where),
+        nicxi_misuse("%s calls %s at %s, but all %d tasks are in use", self->name, call, nicxi_line(at, where),
                      NICX_TASKS);
         return EAGAIN;
     }

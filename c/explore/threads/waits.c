@@ -20,7 +20,7 @@ static bool may_wait(const struct thread *self, const char *call, const void *at
     char where[MOST_NAMED];
     nicxi_program_begins();
     if (!self)
-        nicxi_misuse("bring_up, begin or end calls %s at %s, and waits for ever", call, nicxi_line(at, where));
+        nicxi_misuse("bring_up, begin or end calls %s at %s, which waits forever", call, nicxi_line(at, where));
     return self != NULL;
 }
 
@@ -75,7 +75,7 @@ int nicxi_cond_wait(pthread_cond_t *cond, pthread_mutex_t *mutex, bool is_timed,
     if (!may_wait(self, call, at))
         return EINVAL;
     if (!nicxi_mutex_is_mine(self, mutex))
-        nicxi_misuse("%s calls %s at %s with %s, which it doesn't hold", self->name, call, nicxi_line(at, where),
+        nicxi_misuse("%s calls %s at %s with %s, but doesn't hold it", self->name, call, nicxi_line(at, where),
                      nicxi_name(mutex, "a mutex", name));
     /* The mutex is held, but a signaller need not take it. Between the caller's last check and its wait, a signal may
        come that wakes nobody. */
@@ -128,7 +128,7 @@ const char *nicxi_vain_words(const struct posix_thread *posix, char room[2 * MOS
     const struct cond *cond = posix->condition;
     room[0] = 0;
     if (cond && cond->in_vain)
-        snprintf(room, 2 * MOST_NAMED, "; %.40s signalled it at %.90s, and nobody waited",
+        snprintf(room, 2 * MOST_NAMED, "; %.40s signalled it at %.90s, but nothing was waiting",
                  nicxi.threads[cond->in_vain - 1].name, nicxi_line_by(cond->at, cond->caller, where));
     return room;
 }

@@ -11,7 +11,7 @@ from ..places import clone
 def command() -> int:
     root = clone()
     if root is None:
-        print("nic82599.drive: it needs a clone of the repository, where c/drive is", file=sys.stderr)
+        print("nic82599.drive: needs a clone of the repository with c/drive", file=sys.stderr)
         return 2
     sys.path.insert(0, str(root / "c/drive"))
     return int(import_module("card.command").command())

@@ -186,7 +186,7 @@ def library() -> Path:
     except places.Missing as fault:
         raise Refused(str(fault)) from None
     if not place.exists():
-        raise Refused(f"there is no {place}: `make -C c` in a clone makes it")
+        raise Refused(f"{place} doesn't exist: build it with `make -C c` in a clone")
     return place
 
 
@@ -212,7 +212,7 @@ class Card:
         call = self._calls.get(name)
         self._leave_child()
         if call is None:
-            raise RuntimeError(f"{name} is called by a driver on its card: python3 -m nic82599.drive --help")
+            raise RuntimeError(f"only a driver in a report card may call {name}: see python3 -m nic82599.drive --help")
         told = call(*words)
         if told == OVER:
             raise Over
@@ -235,7 +235,7 @@ class Card:
         return answer(name, getattr(self._driver, name)(*numbers[:count]))
 
     def _begin(self, _a: int, _b: int, _c: int) -> int:
-        assert self._make, "a driver is on the card"
+        assert self._make, "a driver is already running in the card"
         self._conditions.clear()
         self._driver = self._make()
         return 0

@@ -21,14 +21,14 @@ def load(path: Path) -> ModuleType:
     """Loads a file as a module. Raises Refused if it can't be run."""
     spec = importlib.util.spec_from_file_location(path.stem, path)
     if spec is None or spec.loader is None or not path.is_file():
-        raise Refused(f"{path}: there is no such file of Python")
+        raise Refused(f"{path}: no such Python file")
     module = importlib.util.module_from_spec(spec)
     sys.modules[path.stem] = module
     sys.path.insert(0, str(path.parent))
     try:
         spec.loader.exec_module(module)
     except BaseException as fault:
-        raise Refused(f"{path}: it can't be loaded: {_words_of(fault)}") from fault
+        raise Refused(f"{path}: can't load it: {_words_of(fault)}") from fault
     return module
 
 
@@ -53,10 +53,10 @@ def checked(driver: type[Driver], path: Path) -> type[Driver]:
         if not isinstance(told, int) or isinstance(told, bool) or not 0 <= told < 1 << 16:
             raise Refused(f"{path}: {driver.__name__}.{name} is {told!r}, not an allowed number")
     if not isinstance(driver.name, str) or not isinstance(driver.can, Can):
-        raise Refused(f"{path}: {driver.__name__}.name is no text, or its can is none of Can")
+        raise Refused(f"{path}: {driver.__name__}.name isn't a string, or its can isn't a value of Can")
     for name in ("open", "close", *(one for one in OPTIONAL if hasattr(driver, one))):
         if not callable(getattr(driver, name)):
-            raise Refused(f"{path}: {driver.__name__}.{name} is no function")
+            raise Refused(f"{path}: {driver.__name__}.{name} isn't a function")
         if getattr(driver, name) is getattr(Driver, name, None):
             raise Refused(f"{path}: {driver.__name__} has no {name}")
     return driver

@@ -119,7 +119,7 @@ def check_number(name: str, value: object) -> None:
 
 def check_seconds(name: str, seconds: object, most: int) -> None:
     if not isinstance(seconds, (int, float)) or isinstance(seconds, bool) or not 0 < seconds <= most:
-        raise BadWord(f"{name}: {seconds!r} is no number of seconds above 0 and up to {most:,}")
+        raise BadWord(f"{name}: {seconds!r} isn't a number of seconds above 0 and up to {most:,}")
 
 
 def check_hang(hang: object) -> None:
@@ -129,14 +129,14 @@ def check_hang(hang: object) -> None:
 def check_out(out: object) -> None:
     """Raises BadWord if a failure's files couldn't be written there."""
     if not isinstance(out, (str, os.PathLike)) or not Path(out).is_dir() or not os.access(Path(out), os.W_OK):
-        raise BadWord(f"out: there is no such folder that can be written to: {out!r}")
+        raise BadWord(f"out: no such folder, or it isn't writable: {out!r}")
 
 
 def check_shard(shard: object) -> None:
     """Raises BadWord unless the shard is (K, N): machine K of N, counted from 1."""
     is_pair = isinstance(shard, tuple) and len(shard) == 2 and all(type(one) is int for one in shard)
     if not isinstance(shard, tuple) or not is_pair or not 1 <= shard[0] <= shard[1] <= MOST_SHARDS:
-        raise BadWord(f"shard: {shard!r} isn't (K, N), K of 1 to N and N of 1 to {MOST_SHARDS:,}")
+        raise BadWord(f"shard: {shard!r} isn't (K, N) with K from 1 to N and N from 1 to {MOST_SHARDS:,}")
 
 
 @dataclass
@@ -205,7 +205,7 @@ def search(
         if not found.is_there:
             report = Report(found.distinct, found.faults, found.lines())
             if strict and report.never:
-                raise Vacuous("nothing was found, and some of it never ran: " + "; ".join(report.never))
+                raise Vacuous("no failure was found, but part of the scenario never ran: " + "; ".join(report.never))
             return report
         result = Result(OUTCOMES[found.outcome], found.text("words"), traceback=found.text("traceback"))
         path = Path(folder) / f"{scenario.name}.schedule"

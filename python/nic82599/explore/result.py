@@ -14,12 +14,13 @@ OUTCOMES = (
 _POINT = re.compile(r"(.+?) +# (.*)")
 _PLACED = re.compile(r"(.*) at ([^<]+:\d+(?: < [^<]+:\d+)*)")
 _TURN = re.compile(
-    r"# here it goes wrong: had (.*) (?:acted|been chosen), it could end well; after this step none of (\d+) schedules"
+    r"# point of no return: if (.*) (?:acted|were chosen) here instead, the run could still succeed; "
+    r"after this step all (\d+) tried schedules fail"
 )
 _ALL_FAIL = re.compile(r"# all (\d+) tried schedules fail: .*")
 _REPLAYED = re.compile(r" *\d+  (\S.*)")
-_ON_AND_ON = re.compile(r" +and so on: the last (\d+) over and over")
-_PARTS = re.compile(r"\S+: it parts from the schedule here, at (.*):(\d+)(?: \(.*\))?")
+_ON_AND_ON = re.compile(r" +and so on: the last (\d+) points repeat")
+_PARTS = re.compile(r"\S+: the run departs from the schedule here, at (.*):(\d+)(?: \(.*\))?")
 _WAS = re.compile(r"\S+:   it (?:was: |is:  )(.*)")
 
 
@@ -48,8 +49,8 @@ class Parting:
 
     def __str__(self) -> str:
         if self.point is None:
-            return "it never parts from the schedule"
-        return f"it parts from the schedule at {self.path}:{self.line}; it was: {self.was}; it is: {self.now}"
+            return "the run follows the whole schedule"
+        return f"the run departs from the schedule at {self.path}:{self.line}; it was: {self.was}; it is: {self.now}"
 
 
 @dataclass
@@ -133,6 +134,6 @@ class Result:
             if self.turn and number == (self.turn.point or 0):
                 lines.append(self.turn.line)
             if number == begin:
-                lines.append(f"{'cycle':<24} # from here on over and over:")
+                lines.append(f"{'cycle':<24} # repeats from here on:")
             lines.append(f"{name:<24} # {words}{f' at {place}' if place else ''}")
         return lines

@@ -69,8 +69,8 @@ class Scenario(Points):
     # --- in `begin` ---
 
     def _beginning(self) -> Session:
-        assert self._session, "tasks, handlers and frames are named in begin"
-        assert self._session.is_beginning, "tasks, handlers and frames are named in begin"
+        assert self._session, "create tasks, handlers and frames in begin"
+        assert self._session.is_beginning, "create tasks, handlers and frames in begin"
         return self._session
 
     def _named(self, thread: Thread) -> Thread:
@@ -78,7 +78,7 @@ class Scenario(Points):
         if not NAME.fullmatch(thread.name):
             raise ValueError(f"{thread.name!r}: a task's or a handler's name has 1 to 63 letters, digits, '-' and '_'")
         if any(one.name == thread.name for one in threads):
-            raise ValueError(f"two tasks or handlers have the name {thread.name}")
+            raise ValueError(f"two tasks or handlers are named {thread.name}")
         threads.append(thread)
         return thread
 
@@ -96,7 +96,7 @@ class Scenario(Points):
         """Names the handler of a vector's messages, of the physical function or of virtual function `vf`. `where` is
         the task that it interrupts, BESIDE to run concurrently with all tasks, or None for any task or none."""
         if vf is not None and not 0 <= vf < self.vfs:
-            raise ValueError(f"handler {name} is of a virtual function that there isn't")
+            raise ValueError(f"handler {name} belongs to a virtual function that doesn't exist")
         group = 0 if vf is None else vf + 1
         self._named(Thread(name, function, "handler", group=group, vector=_whole(vector, 8, "vector"), where=where))
 
@@ -105,7 +105,7 @@ class Scenario(Points):
         it was armed. With AT_REST it fires when no other actor is runnable. Otherwise it fires at one of the
         `within` points after it was armed; at the last of them it goes before any other actor."""
         if within < 0:
-            raise ValueError(f"timer {name}: within is AT_REST or a number of points from 1 on, not {within}")
+            raise ValueError(f"timer {name}: within must be AT_REST or a number of points from 1, not {within}")
         return self._named(Thread(name, function, "timer", within=_whole(within, 32, "within")))
 
     def frames(self, count: int, length: int = 60) -> None:
@@ -146,7 +146,7 @@ class Scenario(Points):
         """Raises ValueError if a size or another attribute of the scenario is invalid."""
         if self.memory not in MEMORY or not self.orders <= ORDERS.keys():
             words = f"{self.memory!r}, {set(self.orders)!r}"
-            raise ValueError(f"a scenario's memory is strong or weak or tso, its orders writes and reads: {words}")
+            raise ValueError(f"a scenario's memory must be strong, weak or tso, its orders writes and reads: {words}")
         if not NAME.fullmatch(self.name):
             raise ValueError(f"{self.name!r}: a scenario's name has 1 to 63 letters, digits, '-' and '_'")
         if not 1 <= self.queues <= MOST_QUEUES:
@@ -167,7 +167,7 @@ class Scenario(Points):
 
     def _call(self, name: str, *words: object) -> int:
         if self._session is None:
-            raise RuntimeError(f"{name} is called by a scenario that is searched or replayed")
+            raise RuntimeError(f"only a scenario in a search or replay may call {name}")
         return self._session.call(name, *words)
 
     def _refuse_outside(self, status: int, bus: int) -> None:
@@ -177,7 +177,7 @@ class Scenario(Points):
 
     def _refuse_memory(self) -> None:
         """Refuses memory lent in place: the schedule fails as misuse. Outside a schedule it raises BadMemory."""
-        words = "lends memory in place, whose stores no search sees: a scenario lends blocks"
+        words = "lends memory in place, but the search can't see stores to it: lend blocks instead"
         thread = self._session.thread_here() if self._session else None
         if thread is None:
             raise BadMemory(f"{self.name} {words}")
@@ -233,7 +233,7 @@ class Scenario(Points):
     def _number_of(self, timer: Thread) -> int:
         """Returns the engine's number of a timer."""
         if self._session is None or timer not in self._session.threads or timer.number is None:
-            raise ValueError(f"{timer!r} is no timer of this schedule")
+            raise ValueError(f"{timer!r} isn't a timer of this schedule")
         return timer.number
 
     def arm(self, timer: Thread) -> None:

@@ -234,11 +234,11 @@ class Session:
             KINDS.index(memory or ""), it._looks_always(), *self.engine.given,
         )  # fmt: skip
         if _open is not None and _open.thread_here():
-            raise Misused(f"scenario {it.name} is searched by a task or a handler of scenario {_open.scenario.name}")
+            raise Misused(f"scenario {it.name} can't be searched within scenario {_open.scenario.name}")
         _turn.acquire()
         if _open is not None:
             _turn.release()
-            raise Misused(f"scenario {_open.scenario.name} is open yet")
+            raise Misused(f"scenario {_open.scenario.name} is still open")
         _open, it._session = self, self
         it._nic = device
         fault = self.library.nicp_open_scenario(ctypes.byref(given))
@@ -269,7 +269,7 @@ class Session:
         if told == OVER:
             if threading.get_ident() in (self.maker, *self.running):
                 raise Over
-            raise RuntimeError(f"{name} is called by a thread that is no task of scenario {self.scenario.name}")
+            raise RuntimeError(f"{name} is called by a thread that isn't a task of scenario {self.scenario.name}")
         return told
 
     # --- the engine's calls ---
@@ -303,7 +303,7 @@ class Session:
         if not thread.where:
             return ANYWHERE if thread.where is None else BESIDE_ALL
         if thread.where not in tasks:
-            raise ValueError(f"handler {thread.name} is on a task that there isn't: {thread.where}")
+            raise ValueError(f"handler {thread.name} runs on a task that doesn't exist: {thread.where}")
         return tasks.index(thread.where)
 
     def _name_all(self) -> None:
@@ -312,9 +312,9 @@ class Session:
         tasks = [(number, one) for number, one in numbered if one.kind == "task"]
         names = [one.name for _, one in tasks]
         if not tasks:
-            raise ValueError("begin names no task")
+            raise ValueError("begin creates no task")
         if len(tasks) > MOST_TASKS or len(numbered) - len(tasks) > MOST_HANDLERS or len(self.frames) > MOST_FRAMES:
-            raise ValueError(f"begin names at most {MOST_TASKS} tasks, {MOST_HANDLERS} handlers, {MOST_FRAMES} frames")
+            raise ValueError(f"begin has more than {MOST_TASKS} tasks, {MOST_HANDLERS} handlers, {MOST_FRAMES} frames")
         for number, one in tasks:
             self.library.nicp_task(self._name(one.name), number, one.is_service)
         for number, one in numbered:
@@ -471,7 +471,7 @@ class Session:
                 os.kill(process, signal.SIGKILL)
             _, status = os.waitpid(process, 0)
         if not is_done:
-            raise RuntimeError(f"the process of the search ended with status {os.waitstatus_to_exitcode(status)}")
+            raise RuntimeError(f"the search process exited with status {os.waitstatus_to_exitcode(status)}")
         if found.fault:
             raise Misused(found.text("fault"))
         return found

@@ -70,11 +70,11 @@ def _of_word(register: Register, word: int) -> Iterator[str]:
     """Yields the warnings about a value written to a register."""
     row, name = register.row, register.name
     if row.kind in ("Ro", "Rc", "Calc"):
-        yield f"{name} isn't written by drivers: the write changes nothing"
+        yield f"{name} is read-only: the write changes nothing"
         return
     rest = 0 if word in ALL and row.name in CLEARED else regs.reserved(row, word)
     if rest:
-        yield f"{name}: bits 0x{rest:08x} of the word are reserved; write 0 there, later cards may use them"
+        yield f"{name}: bits 0x{rest:08x} are reserved: write 0, because later cards may use them"
     # Bits that read 1 after reset aren't lost: code that changes another bit writes them back unchanged.
     lost = word & ~row.mask & ~row.reset & ~rest & 0xFFFF_FFFF
     if row.kind in ("Rw", "Held") and lost:
@@ -172,13 +172,13 @@ class Advice:
             one, line = self.script.instructions[pc], self.script.line_of[pc]
             absent = absent_at(one.a)
             if one.op in (Op.VF_READ, Op.VF_WRITE):
-                text = f"offset 0x{one.a:04x} of a virtual function names no register: the access is `stray`"
+                text = f"offset 0x{one.a:04x} of a virtual function isn't a register: the access is `stray`"
                 yield Warning(line, text, text)
             elif absent:
-                text = f"0x{one.a:05x} is {absent.name}, which the bench hasn't: {absent.what}"
+                text = f"0x{one.a:05x} is {absent.name}, which the bench doesn't model: {absent.what}"
                 yield Warning(line, text, absent.family)
             else:
-                text = f"0x{one.a:05x} names no register: the access is `stray`"
+                text = f"0x{one.a:05x} isn't a register: the access is `stray`"
                 yield Warning(line, text, text)
 
     def _words(self) -> Iterator[Warning]:
@@ -208,13 +208,13 @@ class Advice:
             if side == "tx" and not [pc for pc in sends if pc < enable.pc]:
                 yield self._at(
                     enable.pc,
-                    f"{name}.ENABLE is written before DMATXCTL.TE is 1: TE comes first, or the queue may not start",
+                    f"{name}.ENABLE is written before DMATXCTL.TE is 1: set TE first, or the queue may not start",
                 )
             on = next((pc for pc in switched.get(queue, []) if pc > enable.pc), None)
             if on is None:
                 yield self._at(
                     enable.pc,
-                    f"no `qstep {side} {queue}` follows: the queue stays off until the device makes that step",
+                    f"no `qstep {side} {queue}` follows: the queue stays off until the device takes that step",
                 )
             yield from self._tails(letter, queue, enable, on)
             yield from self._held(bank, queue, on)
@@ -225,14 +225,14 @@ class Advice:
         """Warns about writes of a queue's tail: there must be at least one, but none before the queue is enabled."""
         mine = self._of_queue(letter + "DT", queue)
         if not mine:
-            text = f"{letter}DT[{queue}] is never written: no slot of the ring becomes the device's"
+            text = f"{letter}DT[{queue}] is never written: the device owns no slot of the ring"
             yield self._at(enable.pc, text)
         lost = "the device may lose it" if letter == "R" else "the device may fetch from a ring that isn't set up"
         for writes in mine:
             for one in writes.each(0, bisect_left(writes.pcs, on if on is not None else enable.pc)):
                 if one.word:
                     name, what = one.register.name, f"{letter}XDCTL[{queue}].ENABLE reads 1"
-                    yield self._at(one.pc, f"{name} is written before {what}: write it after that, or {lost}")
+                    yield self._at(one.pc, f"{name} is written before {what}: write it afterwards, or {lost}")
 
     def _held(self, bank: str, queue: int, on: int | None) -> Iterator[Warning]:
         """Warns about writes of a ring's base, length or head while its queue is enabled."""
@@ -253,7 +253,7 @@ class Advice:
                 continue
             end = len(writes.pcs) if off is None else bisect_right(writes.pcs, off)
             for one in writes.each(bisect_right(writes.pcs, on), end):
-                text = f"{one.register.name} is held while the queue is on: the write changes nothing"
+                text = f"{one.register.name} is locked while the queue is on: the write changes nothing"
                 yield self._at(one.pc, text)
 
     def _buffers(self, queue: int, enable: Access) -> Iterator[Warning]:
@@ -262,18 +262,18 @@ class Advice:
         if not control:
             yield self._at(
                 enable.pc,
-                f"SRRCTL[{queue}] is never written: after a reset it says legacy descriptors, which are a fault here",
+                f"SRRCTL[{queue}] is never written: its reset value selects legacy descriptors, a fault on the bench",
             )
         for one in control:
             kind, size = one.word >> 25 & 7, one.word & 31
             if kind != 1:
                 yield self._at(
                     one.pc,
-                    f"SRRCTL[{queue}].DESCTYPE {kind}: a receive step is a fault; the bench has 1, one buffer, alone",
+                    f"SRRCTL[{queue}].DESCTYPE {kind}: a receive step is a fault; the bench supports only 1",
                 )
             elif not size:
                 yield self._at(
-                    one.pc, f"SRRCTL[{queue}].BSIZEPACKET 0: a buffer has no room; a receive step is a fault"
+                    one.pc, f"SRRCTL[{queue}].BSIZEPACKET is 0: buffers have no room, so a receive step is a fault"
                 )
 
     def _messages(self) -> Iterator[Warning]:
@@ -310,7 +310,7 @@ class Advice:
             lost = one.word & (0 if others else 0x3FFF_0000) | one.word & (0 if timer else 1 << 30)
             if lost:
                 names = ", ".join(regs.bits("EIMS", lost))
-                yield self._at(one.pc, f"{names}: IVAR_MISC gives no vector to these causes, so no message tells them")
+                yield self._at(one.pc, f"{names}: IVAR_MISC assigns no vector to these causes, so they send no message")
 
     def _untold(self, one: Access, byte: int, entry: int, masked: int) -> Iterator[Warning]:
         """Warns about an IVAR entry that is invalid, names no cause, or has a masked cause."""
@@ -323,5 +323,5 @@ class Advice:
         elif not masked >> (entry & 63) & 1:
             yield self._at(
                 one.pc,
-                f"{side} {queue} raises cause {entry & 63}, which EIMS never has: no message tells it",
+                f"{side} {queue} raises cause {entry & 63}, which EIMS never enables: it sends no message",
             )

@@ -46,7 +46,7 @@ class Made:
 
     def add(self, text: str, reply: str, number: int, name: str = "") -> None:
         if len(self.instructions) == INSTRUCTIONS:
-            raise End(f"a script has {INSTRUCTIONS:,} instructions at most")
+            raise End(f"a script has at most {INSTRUCTIONS:,} instructions")
         self.instructions.append((len(self.lines), reply, number))
         self.lines.append(f"{text:{COLUMN}} # {reply}" + (f"  # {name}" if name else ""))
 
@@ -54,9 +54,9 @@ class Made:
         """Returns the name of a data string, and adds its line if these bytes are new."""
         if data not in self.names:
             if len(self.names) == STRINGS:
-                raise End(f"a script has {STRINGS:,} data strings at most")
+                raise End(f"a script has at most {STRINGS:,} data strings")
             if len(data) > LONGEST:
-                raise End(f"a data string has {LONGEST:,} bytes at most")
+                raise End(f"a data string has at most {LONGEST:,} bytes")
             name = self.names[data] = f"d{len(self.names)}"
             self.lines.append(f"data {name} {data.hex()}" if data else f"data {name} 00  #: no bytes")
         return self.names[data]
@@ -130,7 +130,7 @@ def _refuse_sizes(recording: Recording) -> None:
     fault = TooManyVfs if recording.vfs > MOST_VFS else None if 1 <= recording.fifo <= MOST_FIFO else BadFifo
     if fault:
         sizes = f"{recording.vfs} virtual functions, {recording.fifo} frames, {recording.blocks} blocks"
-        raise Fault(f"{recording.path} can't be made again: {fault.__doc__} ({sizes})")
+        raise Fault(f"{recording.path} can't be replayed: {fault.__doc__} ({sizes})")
 
 
 def script(recording: Recording) -> tuple[str, str]:
@@ -150,6 +150,6 @@ def script(recording: Recording) -> tuple[str, str]:
     name = Path(recording.path).name if recording.path != "-" else "standard input"
     head = f"# a recording as a script: {name}\n"
     words = f"nicbench run --vfs {recording.vfs} --fifo {recording.fifo}"
-    sizes = f"# Its device has the sizes of the recording, by: {words}\n"
+    sizes = f"# To give its device the recording's sizes, run: {words}\n"
     cut = f"# CUT: {made.ended}\n" if made.ended else ""
     return head + sizes + "".join(f"{line}\n" for line in made.lines) + cut, made.ended

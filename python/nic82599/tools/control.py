@@ -37,13 +37,13 @@ def is_socket(path: str) -> bool:
 def connected(path: str) -> Iterator[socket.socket]:
     """Connects to the server. Raises Fault."""
     if not hasattr(socket, "AF_UNIX"):
-        raise Fault(f"{path}: this system has no such sockets")
+        raise Fault(f"{path}: this system doesn't support such sockets")
     with socket.socket(socket.AF_UNIX) as it:
         it.settimeout(PATIENCE)
         try:
             it.connect(path)
         except OSError as error:
-            raise Fault(f"no server is at {path} ({error.strerror or error})") from None
+            raise Fault(f"no server at {path} ({error.strerror or error})") from None
         yield it
 
 
@@ -61,7 +61,7 @@ def recording_of(path: str) -> str:
         names = []
     if not names:
         raise Fault(
-            f"where the server at {path} records isn't known: start it with --record=FILE, "
+            f"can't find the recording of the server at {path}: start it with --record=FILE, "
             f"then: nicview --live FILE --control {path}"
         )
     return names[-1]
@@ -92,7 +92,7 @@ def _asked(path: str, it: socket.socket, lines: object, request: str) -> tuple[l
             answer.append(shortened(line, MOST_SHOWN))
     except OSError as error:
         raise Fault(f"the server at {path} doesn't answer ({error.strerror or error})") from None
-    raise Fault(f"the server at {path} has gone, or its answer is too long")
+    raise Fault(f"the server at {path} is gone, or its answer is too long")
 
 
 def asked(path: str, request: str) -> dict[str, object]:
@@ -104,6 +104,6 @@ def asked(path: str, request: str) -> dict[str, object]:
             return {"asked": "due", "lines": due or ["no step is due"], "wrong": wrong}
         request = found
     if not MAY_ASK.fullmatch(request):
-        return {"asked": "", "lines": [], "wrong": "a page can't ask this"}
+        return {"asked": "", "lines": [], "wrong": "not allowed from a page"}
     lines, wrong = ask(path, request)
     return {"asked": request, "lines": lines or ["nothing"] if request in ("due", "why") else lines, "wrong": wrong}

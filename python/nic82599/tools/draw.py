@@ -139,7 +139,7 @@ def text(run: Run) -> Iterator[str]:
     state = State(run)
     drawn: dict[str, list[str]] = {}
     yield from finding_lines(run)
-    yield "D the device's slot, + done, . the driver's, d and , not read; H head, T tail, B both"
+    yield "D device owns the slot, + done, . driver owns it, d and , not read; H head, T tail, B both"
     for step, why in zip(run.steps, run.reasons):
         state.make(step)
         comment = run.comment(step.pc)
@@ -172,7 +172,7 @@ def finding_lines(run: Run) -> Iterator[str]:
     where = "" if found.step is None else f", after step {found.step}"
     yield f"FAILED {found.outcome}{where}: {found.words}"
     if found.cut:
-        yield f"  the script ends before that: {found.cut}"
+        yield f"  the script ends before the failure: {found.cut}"
 
 
 def _frame_lines(run: Run, step: Step) -> Iterator[str]:
@@ -182,7 +182,7 @@ def _frame_lines(run: Run, step: Step) -> Iterator[str]:
             one = run.seen.arrived[frame]
             queue = f", queue {one.queue}" if one.queue is not None else ""
             rss = f", RSS {one.rss}" if one.rss and sign == "-" else ""
-            yield f"      {'waits' if sign == '+' else 'waits no more'}: {summary(one.data or b'')}{queue}{rss}"
+            yield f"      {'waits' if sign == '+' else 'no longer waits'}: {summary(one.data or b'')}{queue}{rss}"
     for sign, frames in step.out:
         for frame in frames:
             shown = run.seen.sent[frame]

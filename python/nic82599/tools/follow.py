@@ -266,12 +266,12 @@ class Following:
         try:
             found = os.stat(self.path)
         except FileNotFoundError:
-            gone = f"{self.path} isn't there any longer" if self.shown else f"waits for {self.path}"
+            gone = f"{self.path} no longer exists" if self.shown else f"waits for {self.path}"
             raise NotThere(gone) from None
         except OSError as error:
             raise Fault(f"{self.path} can't be read ({error.strerror})") from None
         if not stat.S_ISREG(found.st_mode):
-            raise Fault(f"{self.path} is no regular file: what grows is followed in one")
+            raise Fault(f"{self.path} isn't a regular file: only a regular file can be followed")
         return found
 
     def _is_another(self, found: os.stat_result) -> bool:
@@ -299,7 +299,7 @@ class Following:
         source = Source(self.path)
         source.grow(0)
         if not source.size or (b"#: nic ".startswith(source.head[:7]) and b"\n" not in source.head):
-            raise NotThere(f"{self.path} has no whole first line yet")
+            raise NotThere(f"{self.path} has no complete first line yet")
         self.state.at = found
         self.shown = None
         self.state.number += 1

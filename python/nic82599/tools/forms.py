@@ -99,7 +99,7 @@ class Looker:
         if name == "TooLong":
             return self._too_long()
         if name == "Input":
-            return Place(0, 0, 0, "the input is no text in UTF-8", [])
+            return Place(0, 0, 0, "the input isn't UTF-8 text", [])
         finders: dict[str, Callable[[], Place | None]] = {
             "Syntax": self._syntax,
             "UnknownName": self._unknown_name,
@@ -122,7 +122,7 @@ class Looker:
         if first not in FORMS:
             if first.endswith(":"):
                 what = (
-                    "a label stands alone on its line"
+                    "a label must be alone on its line"
                     if NAME.fullmatch(first[:-1])
                     else "a label is a name and a colon: letters, digits and _"
                 )
@@ -130,11 +130,11 @@ class Looker:
             return self._at(0, f"no operation {first}", near_words(first))
         form, kinds = f"{first} {FORMS[first]}".strip(), self._kinds()
         fewest = len([kind for kind in FORMS[first].split() if not kind.startswith("[")])
-        needs = f"{first} needs {FORMS[first]}" if FORMS[first] else f"{first} stands alone"
+        needs = f"{first} needs {FORMS[first]}" if FORMS[first] else f"{first} takes no arguments"
         if len(rest) < fewest:
             return self._at(len(rest) + 1, f"{needs}; {kinds[len(rest)]} is missing")
         if len(rest) > len(kinds):
-            return self._at(len(kinds) + 1, f"{needs}; this word is one too many")
+            return self._at(len(kinds) + 1, f"{needs}; this word is extra")
         for n, (kind, (_, word)) in enumerate(zip(kinds, rest), 1):
             if (wrong := self._wrong(kind, word)) is not None:
                 return self._at(n, f"{wrong}; the form is {form}")
@@ -150,14 +150,14 @@ class Looker:
             found = TARGET.fullmatch(word)
             if number_of(word) is not None or found and (found[2] is None or number_of(found[2]) is not None):
                 return None
-            return f"expected a register as RDT[3], or an address, not {word}"
+            return f"expected a register such as RDT[3] or an address, not {word}"
         if kind in ("DATA", "LABEL", "NAME"):
             return None if NAME.fullmatch(word) else f"expected a name, not {word}"
         if kind == "HEX":
             if not re.fullmatch(r"[0-9a-fA-F]*", word):
                 odd = next(letter for letter in word if letter not in "0123456789abcdefABCDEF")
                 return f"expected hex digits without 0x, not {odd}"
-            return f"expected two digits a byte, but there are {len(word)} in all" if len(word) % 2 else None
+            return f"expected two digits per byte, but there are {len(word)} in all" if len(word) % 2 else None
         return None if number_of(word) is not None else f"expected a number, decimal or 0x and hex digits, not {word}"
 
     def _unknown_name(self) -> Place:
@@ -202,7 +202,7 @@ class Looker:
         is_data = self.words[0][1] == "data"
         name = self.words[1][1] if is_data else self.words[0][1].rstrip(":")
         before = (data if is_data else labels).get(name, 0)
-        return self._at(1 if is_data else 0, f"{name} stands at line {before} already")
+        return self._at(1 if is_data else 0, f"{name} is already at line {before}")
 
     def _range(self) -> Place | None:
         if self.words[0][1] == "poke":
@@ -213,7 +213,7 @@ class Looker:
                         2, f"poke writes 16 bytes, and {words[1]} at line {number} has {len(words[2]) // 2}"
                     )
         if self.words[0][1] == "data":
-            return self._at(2, "data has from 1 to 16384 bytes")
+            return self._at(2, "data must have 1 to 16384 bytes")
         for n, (kind, (_, word)) in enumerate(zip(self._kinds(), self.words[1:]), 1):
             kind = kind.split("|")[-1]
             found = TARGET.fullmatch(word)
@@ -225,7 +225,7 @@ class Looker:
                     )
             value = number_of(word)
             if value is not None and value > MOST.get(kind, value):
-                return self._at(n, f"{kind} is at most {MOST[kind]}, and this is {shortened(word)}")
+                return self._at(n, f"{kind} is at most {MOST[kind]}, not {shortened(word)}")
         return None
 
     def _too_long(self) -> Place:
@@ -236,15 +236,15 @@ class Looker:
             is_label = len(words) == 1 and words[0].endswith(":")
             name = words[0][:-1] if is_label else words[1] if words[:1] == ["data"] and len(words) > 1 else ""
             if len(name) > 32:
-                return Place(number, 0, len(line), f"the name {name[:12]}.. has {len(name)} letters, of 32 at most", [])
+                return Place(number, 0, len(line), f"the name {name[:12]}.. has {len(name)} letters, above 32", [])
             if words[:1] == ["data"] and len(words) == 3 and len(words[2]) > 2 * 16_384:
-                return Place(number, 0, 4, f"data {name} has {len(words[2]) // 2} bytes, of 16384 at most", [])
+                return Place(number, 0, 4, f"data {name} has {len(words[2]) // 2} bytes; the limit is 16384", [])
             count += bool(words) and not is_label and words[0] != "data"
             if count > 4_096:
                 return Place(
-                    number, 0, len(line), "this is instruction 4097 of 4096 at most: cut the script, or make a loop", []
+                    number, 0, len(line), "more than 4096 instructions: shorten the script, or use a loop", []
                 )
-        return Place(0, 0, 0, f"the script has {len(data)} data strings, of 1024 at most", [])
+        return Place(0, 0, 0, f"the script has {len(data)} data strings; the limit is 1024", [])
 
 
 def near_words(word: str) -> list[str]:

@@ -30,7 +30,7 @@ MOST_DIGITS = 20
 def number_of(word: str) -> int:
     """Parses a non-negative number. Raises ValueError."""
     if not word[:1].isdigit() or len(word) > MOST_DIGITS:
-        raise ValueError(f"{shortened(word)} is no number")
+        raise ValueError(f"{shortened(word)} isn't a number")
     return int(word, 0)
 
 
@@ -66,7 +66,7 @@ def _lent(words: list[str]) -> Instruction:
     if len(words) > 2:
         last = number_of(words[3])
         if words[2] != "to" or len(words) > 4 or not first < last < MOST_BLOCKS:
-            raise ValueError(f"a range of blocks is as in `lend 0 to 255`, below {MOST_BLOCKS}")
+            raise ValueError(f"a range of blocks looks like `lend 0 to 255`, below {MOST_BLOCKS}")
     return Instruction(Op.LEND, 0, first, last, 0)
 
 

@@ -48,7 +48,7 @@ class Source:
         """Extends the view by at most `most` bytes if the file has grown. Returns whether it has."""
         size = os.fstat(self.file).st_size if self.file >= 0 else self.size
         if size < self.size:
-            raise Fault(f"{self.path} became shorter while it was read: wait until it is complete")
+            raise Fault(f"{self.path} was truncated while it was read: wait until it is complete")
         former, self.size = self.size, min(size, self.size + most)
         return self.size > former
 
@@ -69,7 +69,7 @@ class Source:
         if begin < self.begin or end > self.begin + len(self.piece):
             self.begin, self.piece = begin, self._read(begin, min(max(end, begin + PIECE), self.size))
             if begin + len(self.piece) < end:
-                raise Fault(f"{self.path} became shorter while it was read: wait until it is complete")
+                raise Fault(f"{self.path} was truncated while it was read: wait until it is complete")
         return self.piece[begin - self.begin : end - self.begin]
 
     def _read(self, begin: int, end: int) -> bytes:

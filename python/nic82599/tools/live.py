@@ -262,7 +262,7 @@ def serve(following: Following, controlled: str | None, port: int, foot: str) ->
     try:
         server = Server(live, PurePath(following.path).name, foot, port)
     except OSError as error:
-        raise Fault(f"port {port} can't be taken ({error.strerror}): give another one, or none") from None
+        raise Fault(f"port {port} isn't available ({error.strerror}): choose another one, or omit --port") from None
     threading.Thread(target=live.follow, daemon=True).start()
     if signal.getsignal(signal.SIGINT) is signal.default_int_handler:
         signal.signal(signal.SIGINT, server.end)
@@ -271,5 +271,5 @@ def serve(following: Following, controlled: str | None, port: int, foot: str) ->
         try:
             server.serve_forever(0.2)
         except KeyboardInterrupt:
-            print("\nnicview has ended", file=sys.stderr)
+            print("\nnicview has exited", file=sys.stderr)
     return 0

@@ -160,7 +160,7 @@ class Replay:
         odd = [step for step, answer in own if answer != step.reply]
         if odd:
             self.trace.notes.append(
-                f"the run that looks at memory answers step {odd[0].number} otherwise; what it says is left out"
+                f"the run that reads memory answers step {odd[0].number} differently; its memory isn't shown"
             )
             return []
         return [*asked.values(), answers[count:]]
@@ -333,7 +333,7 @@ def _ask_memory(trace: Trace, replay: Replay, asked: list[tuple[int, list[int]]]
             end += 1
         if end == at or runs == RUNS:
             trace.notes.append(
-                f"from step {asked[at][0]} on lent memory isn't shown: there is no room for peeks after so many steps"
+                f"from step {asked[at][0]} on, lent memory isn't shown: no instructions are left for peeks"
             )
             for number, units in asked[at:]:
                 trace.steps[number].memory = [(unit, None) for unit in units]
@@ -554,7 +554,7 @@ def _waiting_queues(trace: Trace, replay: Replay, count: int, frames: int) -> li
     names the queue, which is disabled. If that hides another frame of the same queue, the named queues are enabled
     again for each frame."""
     if replay.asked == 2 * RUNS:
-        trace.notes.append(f"which frames wait, and for which queue, isn't asked for at step {count} and further ones")
+        trace.notes.append(f"from step {count} on, the waiting frames and their queues aren't queried")
     replay.asked += 1
     if replay.asked > 2 * RUNS:
         return []

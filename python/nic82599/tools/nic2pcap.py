@@ -45,7 +45,7 @@ def frames_in(lines: Iterable[str]) -> Iterator[tuple[int, int, bytes]]:
         if re.match(r"\d+ frame ", line):
             found = FRAME.fullmatch(line)
             if not found or len(found[3]) % 2:
-                raise NoFrame(f"standard input:{at}: no line of a frame: {shortened(line)}")
+                raise NoFrame(f"standard input:{at}: not a line of a frame: {shortened(line)}")
             yield int(found[1]), int(found[2]), bytes.fromhex(found[3])
 
 
@@ -84,7 +84,7 @@ def of_run(given: argparse.Namespace) -> int:
     for note in notes:
         print(f"nic2pcap: note: {note}", file=sys.stderr)
     if unknown:
-        print(f"nic2pcap: {unknown} frames went out whose bytes aren't known; they are left out", file=sys.stderr)
+        print(f"nic2pcap: {unknown} transmitted frames have unknown bytes and are omitted", file=sys.stderr)
     came = sum(packet.is_inbound for packet in packets)
     print(f"nic2pcap: {came} frames in, {len(packets) - came} out", file=sys.stderr)
     return 0
@@ -109,13 +109,13 @@ def main() -> int:
     parser = argparse.ArgumentParser(prog=called("tools/nic2pcap"), description=described, formatter_class=form)
     parser.add_argument("out", metavar="OUT")
     parser.add_argument("run", metavar="RUN", nargs="?")
-    parser.add_argument("--queue", type=int, metavar="Q", help="take the frames of this queue alone")
-    parser.add_argument("--limit", type=number(1, MOST_STEPS), metavar="N", help="the steps that are taken of RUN")
+    parser.add_argument("--queue", type=int, metavar="Q", help="only the frames of this queue")
+    parser.add_argument("--limit", type=number(1, MOST_STEPS), metavar="N", help="the number of steps of RUN")
     sizes(parser)
     add_version(parser, "nic2pcap")
     given = parser.parse_args()
     if given.run is None and (given.limit, given.vfs, given.fifo) != (None, None, None):
-        parser.error("--limit, --vfs and --fifo are for a RUN, a script or a recording")
+        parser.error("--limit, --vfs and --fifo need a RUN: a script or a recording")
     return of_printed(given) if given.run is None else of_run(given)
 
 

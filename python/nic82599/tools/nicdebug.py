@@ -25,14 +25,14 @@ def words() -> argparse.Namespace:
     parser = Parser(description=called(__doc__ or ""), formatter_class=argparse.RawDescriptionHelpFormatter)
     parser.add_argument("script", metavar="SCRIPT")
     sizes(parser)
-    limit(parser, 10_000, "how many steps can be made")
+    limit(parser, 10_000, "the maximum number of steps")
     return parser.parse_args()
 
 
 def main() -> int:
     asked = words()
     if asked.script == "-":
-        raise Fault("the prompt reads standard input, so the script has to be a file")
+        raise Fault("the prompt reads standard input, so the script must be a file")
     source = Source(asked.script)
     if not is_recording(source):
         bench, most = Bench(asked.vfs, asked.fifo), limit_of_script(asked.limit)

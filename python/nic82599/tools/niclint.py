@@ -35,9 +35,9 @@ SHOWN = 3
 def words() -> argparse.Namespace:
     parser = Parser(description=called(__doc__ or ""), formatter_class=argparse.RawDescriptionHelpFormatter)
     parser.add_argument("script", metavar="SCRIPT")
-    parser.add_argument("--trace", action="store_true", help="run the script, and say why steps did nothing or failed")
+    parser.add_argument("--trace", action="store_true", help="run the script, and explain idle and failed steps")
     sizes(parser)
-    limit(parser, 4_096, "how many steps are run")
+    limit(parser, 4_096, "the number of steps to run")
     return parser.parse_args()
 
 
@@ -72,7 +72,7 @@ def lint(path: str, script: Script, run: Callable[[], Run] | None) -> int:
             print(f"{path}: note: {note}")
         print(f"{path}: {made.last}")
     elif not warnings:
-        print(f"{path}: {len(script.instructions)} instructions, nothing to say")
+        print(f"{path}: {len(script.instructions)} instructions, no warnings")
     return 1 if warnings or (made and any(step.is_trouble or step.kind == "stray" for step in made.steps)) else 0
 
 
@@ -84,7 +84,7 @@ def tell_warnings(path: str, warnings: list[Warning]) -> None:
             print(f"{path}:{one.line}: warning: {one.text}")
     for warning, count in told.items():
         if count > SHOWN:
-            print(f"{path}: warning: at {count - SHOWN} lines more: {warning}")
+            print(f"{path}: warning: at {count - SHOWN} more lines: {warning}")
 
 
 def tell_strays(path: str, strays: list[Warning]) -> None:
@@ -118,7 +118,7 @@ def of_script(asked: argparse.Namespace, source: Source) -> int:
         for refused, place in sorted(found, key=lambda one: one[1].line or len(text)):
             refusal(asked.script, text, refused, place)
         if len(found) == most_of(text):
-            print(f"{asked.script}: further lines may be refused; {len(found)} are shown")
+            print(f"{asked.script}: further lines may be refused; the first {len(found)} are shown")
         return 2
     return lint(asked.script, script, (lambda: of_trace(trace_of(bench, script, text, most))) if asked.trace else None)
 

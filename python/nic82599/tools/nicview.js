@@ -144,7 +144,7 @@ function showChanges(n, state, changes, more) {
     const way = sign === "+" ? `${is} lent to the device` : "came back from the device";
     rows.push(change(make("b", { className: "mono" }, name), span("", way)));
   }
-  const none = faint("No register changed, nor a slot.");
+  const none = faint("No register or slot changed.");
   element("changes").replaceChildren(...(rows.length ? some(rows, 5, "changes") : [none]));
 }
 
@@ -169,9 +169,9 @@ function showNow(n, state) {
   const decided = () => [faint("Before this step:"), make("ul", { className: "why" }, ...reasons)];
   const warned = warningsOf(run.steps[n - 1]).map((text) => make("li", {}, text));
   now.replaceChildren(...(reasons.length ? decided() : []));
-  if (warned.length) now.append(faint("niclint warns of this line:"), make("ul", { className: "warned" }, ...warned));
-  if (more.s === "ended") now.append(faint(`Here the run ended: ${run.last}`));
-  const words = { "w+": "Waits", "w-": "Waits no more", "o+": "Out", "o-": "Collected" }, moved = [];
+  if (warned.length) now.append(faint("niclint warning on this line:"), make("ul", { className: "warned" }, ...warned));
+  if (more.s === "ended") now.append(faint(`The run ended here: ${run.last}`));
+  const words = { "w+": "Waits", "w-": "No longer waits", "o+": "Out", "o-": "Collected" }, moved = [];
   for (const [key, all, way] of [["w", run.arrived, "came"], ["o", run.sent, "sent"]])
     for (const [sign, frames] of more[key] || [])
       moved.push(...frames.map((frame) => told(all[frame], way, words[key + sign] + ": ")));
@@ -247,7 +247,7 @@ function told([step, queue, slots, packet, rss], way, title = "") {
   const list = (title, pairs) => make("dl", {}, make("dt", {}, make("b", {}, title)), make("dd", {}), ...pairs);
   const pair = ([key, value]) => [make("dt", {}, key), make("dd", {}, value)];
   const bytes = make("dd", { className: "mono" }, octets + (length > octets.length / 2 ? ".." : ""));
-  const hashed = rss ? make("dl", {}, make("dt", {}, "RSS, as its descriptor tells"), make("dd", {}, rss)) : "";
+  const hashed = rss ? make("dl", {}, make("dt", {}, "RSS, according to its descriptor"), make("dd", {}, rss)) : "";
   return make("details", {}, make("summary", {}, named, `${summary} (${where})`),
     ...layers.map(([name, pairs]) => list(name, pairs.flatMap(pair))), hashed,
     make("dl", {}, make("dt", {}, "bytes"), bytes));
@@ -363,9 +363,9 @@ function showFinding() {
   const found = run.finding, line = element("finding");
   line.hidden = !found;
   if (!found) return;
-  const button = make("button", { title: "goes to the step at which it failed" }, `step ${found.step}`);
+  const button = make("button", { title: "goes to the step that failed" }, `step ${found.step}`);
   button.addEventListener("click", () => show(found.step + 1));
-  const cut = found.cut ? [faintly(`The script ends before that: ${found.cut}.`)] : [];
+  const cut = found.cut ? [faintly(`The script ends before the failure: ${found.cut}.`)] : [];
   line.replaceChildren(make("strong", {}, `FAILED ${found.outcome}`), make("span", {}, found.words),
     ...(found.step === null ? [] : [button]), ...cut);
 }

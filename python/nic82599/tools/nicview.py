@@ -52,13 +52,13 @@ def words() -> argparse.Namespace:
     parser = Parser(description=called(__doc__ or ""), formatter_class=argparse.RawDescriptionHelpFormatter)
     parser.add_argument("script", metavar="SCRIPT")
     sizes(parser)
-    limit(parser, STEPS, "how many steps are shown")
-    parser.add_argument("-o", metavar="FILE", help="where to write; without it, to standard output")
+    limit(parser, STEPS, "the number of steps to show")
+    parser.add_argument("-o", metavar="FILE", help="the output file (standard output)")
     form = parser.add_mutually_exclusive_group()
-    made = "what nicbench can read of a recording, as a script"
+    made = "a script of a recording, as far as nicbench can read one"
     form.add_argument("--script", action="store_true", dest="script_of", help=made)
     form.add_argument("--perfetto", action="store_true", help="a trace for Perfetto, in JSON")
-    form.add_argument("--text", action="store_true", help="lines of text in place of a page")
+    form.add_argument("--text", action="store_true", help="lines of text instead of a page")
     step = number(0, MOST_STEPS)
     form.add_argument("--svg", type=step, metavar="STEP", help="a picture of the machine after this step")
     form.add_argument("--test", choices=("c", "python"), help="a test in C or in Python that makes the same calls")
@@ -67,9 +67,9 @@ def words() -> argparse.Namespace:
     parser.add_argument("--port", type=number(1, 65_535), metavar="N", help="with --live: the port (one that is free)")
     given = parser.parse_args()
     if not given.live and (given.control or given.port):
-        parser.error("--control and --port go with --live")
+        parser.error("--control and --port need --live")
     if given.live and (given.o or given.script == "-"):
-        parser.error("--live takes a file or a socket, and serves its page in place of -o")
+        parser.error("--live takes a file or a socket and serves a page; don't give -o")
     return given
 
 
@@ -90,7 +90,7 @@ def as_script(asked: argparse.Namespace) -> int:
     """Writes a recording as a script."""
     source = Source(asked.script)
     if not is_recording(source):
-        raise Fault(f"{asked.script} is no recording, so there is nothing to make a script of")
+        raise Fault(f"{asked.script} isn't a recording, so --script doesn't apply")
     refuse_sizes(asked.script, asked.vfs, asked.fifo)
     text, ended = script(read(asked.script, source))
     write(asked.o, text)
@@ -138,7 +138,7 @@ def main() -> int:
     if asked.test:
         return as_a_test(asked)
     if asked.o is None and asked.svg is None and not asked.text and sys.stdout.isatty():
-        raise Fault("a page isn't for the terminal: give a file with -o run.html, or --text")
+        raise Fault("can't print a page to the terminal: give a file with -o run.html, or use --text")
     run = run_of(asked.script, asked.vfs, asked.fifo, asked.limit)
     if asked.text:
         write(asked.o, "".join(line + "\n" for line in draw.text(run)))
@@ -146,7 +146,7 @@ def main() -> int:
         write(asked.o, perfetto.trace(run))
     elif asked.svg is not None:
         if asked.svg >= len(run.steps):
-            raise Fault(f"there is no step {asked.svg}: the run has {len(run.steps)} steps, counted from 0")
+            raise Fault(f"no step {asked.svg}: the run has {len(run.steps)} steps, counted from 0")
         write(asked.o, draw.picture(run, asked.svg))
     else:
         write(asked.o, page.page(page.Data(run).whole(), foot(run.is_recorded)))

@@ -10,19 +10,19 @@ const GUEST = {
   Hold: "hold", Step: "step", Go: "go", Due: "due", Why: "why", "Link up": "link up", "Link down": "link down",
 };
 const GUEST_TITLES = {
-  Hold: "the device makes no step but those that are asked for", Go: "it makes its steps again",
-  Step: "makes the first of the steps that are due", Due: "which steps are due",
-  Why: "what is in the way of what waits",
+  Hold: "the device takes only requested steps", Go: "the device takes its steps by itself again",
+  Step: "takes the first step that is due", Due: "lists the steps that are due",
+  Why: "why pending work doesn't proceed",
 };
 const counted = (n) => n.toLocaleString("en-US");
 const isFollowing = () => live.isLast && !live.isPaused && position === count;
 
 function liveBar() {
   const act = (id, text, title) => make("button", { id, title }, text);
-  const past = make("input", { id: "past", type: "range", min: "0", title: "which events are shown" });
-  past.setAttribute("aria-label", "the last event that is shown");
-  const bar = make("div", { id: "live", className: "bar", role: "toolbar", ariaLabel: "what is followed" },
-    act("pause", "Pause", "stops here, while the file grows (p)"), make("span", { id: "events", className: "mono" }),
+  const past = make("input", { id: "past", type: "range", min: "0", title: "the events shown" });
+  past.setAttribute("aria-label", "the last event shown");
+  const bar = make("div", { id: "live", className: "bar", role: "toolbar", ariaLabel: "the file or card being followed" },
+    act("pause", "Pause", "pauses while the file grows (p)"), make("span", { id: "events", className: "mono" }),
     act("older", "◀ Older", "earlier events"), past, act("newer", "Newer ▶", "later events"));
   const guest = make("div", { id: "guest", className: "bar", role: "toolbar", ariaLabel: "the guest's card", hidden: true },
     make("span", { className: "faint" }, "Card:"),
@@ -50,7 +50,7 @@ function showLive() {
   element("newer").disabled = live.until >= live.total;
 }
 function sayLive(text) {
-  const said = live.isLost ? "nicview has ended, or can't be reached: what is shown is the last that came" : text;
+  const said = live.isLost ? "nicview has exited or can't be reached: this is the last state received" : text;
   element("notice").textContent = said;
   element("notice").hidden = !said;
 }

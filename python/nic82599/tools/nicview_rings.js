@@ -162,7 +162,7 @@ function slots(state, ring, written) {
   all.sort((a, b) => ((behind(a.slot) + 8) % ring.slots) - ((behind(b.slot) + 8) % ring.slots));
   const some = all.slice(0, most).sort((a, b) => a.slot - b.slot);
   const ends = [ring.base, ring.base + 16 * (ring.slots - 1)], areLent = ends.every((at) => isLent(state.lent, blockOf(at)));
-  const none = areLent ? "No slot is the device's, and none holds a descriptor." : "Its memory isn't lent.";
+  const none = areLent ? "The device owns no slot, and no slot holds a descriptor." : "Its memory isn't lent.";
   if (!some.length) return faint(none);
   const rows = some.map((one) => {
     const told = one.said ? one.said[2].map(([name, value]) => `${name} ${value}`).join(", ") : "";
@@ -196,7 +196,7 @@ function ringInFront(n, rings) {
 }
 function front(state, ring, n) {
   const written = writtenSlots(ring, n), facts = make("p", { className: "mono" }, factsOf(state, ring));
-  if (ring.outside && ring.slots) facts.append(span("bad", " (head or tail is no slot)"));
+  if (ring.outside && ring.slots) facts.append(span("bad", " (head or tail is outside the ring)"));
   if (ring.back !== null)
     facts.append(`; head written back to 0x${ring.back.toString(16)}: ${writtenHead(state, ring.back)}`);
   const isLong = ring.slots > CIRCLE;

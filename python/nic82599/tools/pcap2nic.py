@@ -33,7 +33,7 @@ def chosen(frames: Iterable[bytes], first: int, count: int | None) -> Iterator[t
             return
         if number >= first:
             if not 0 < len(frame) <= LONGEST:
-                raise NoCapture(f"frame {number} has {len(frame)} bytes, where a script takes 1 to {LONGEST}")
+                raise NoCapture(f"frame {number} has {len(frame)} bytes, but a script takes 1 to {LONGEST}")
             yield number, frame
 
 
@@ -41,11 +41,11 @@ def arguments() -> argparse.Namespace:
     described, form = called(__doc__ or ""), argparse.RawDescriptionHelpFormatter
     parser = argparse.ArgumentParser(prog=called("tools/pcap2nic"), description=described, formatter_class=form)
     parser.add_argument("file", metavar="FILE")
-    first = "the number of the first frame that is taken (1)"
+    first = "the number of the first frame to take (1)"
     parser.add_argument("--first", type=int, default=1, metavar="N", help=first)
-    parser.add_argument("--count", type=int, metavar="N", help="how many frames are taken at most")
-    parser.add_argument("--name", default="frame", metavar="NAME", help="what frames are called (frame)")
-    parser.add_argument("--step", action="store_true", help="make a receive step after each frame")
+    parser.add_argument("--count", type=int, metavar="N", help="the maximum number of frames")
+    parser.add_argument("--name", default="frame", metavar="NAME", help="name of the frames (frame)")
+    parser.add_argument("--step", action="store_true", help="add a receive step after each frame")
     add_version(parser, "pcap2nic")
     return parser.parse_args()
 
@@ -57,7 +57,7 @@ def main() -> int:
         with source as it:
             frames = list(chosen(frames_of(it.read()), given.first, given.count))
         if len(frames) > MOST:
-            raise NoCapture(f"{len(frames)} frames, where a script names {MOST} at most: --first and --count choose")
+            raise NoCapture(f"{len(frames)} frames, but a script can name at most {MOST}: use --first and --count")
     except (NoCapture, OSError) as fault:
         print(f"pcap2nic: {given.file}: {fault}", file=sys.stderr)
         return 1

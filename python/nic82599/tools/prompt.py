@@ -130,7 +130,7 @@ def place(session: Session, words: list[str]) -> int:
     if len(words) == 2 and words[0] == "line" and (number := number_of(words[1])) is not None:
         found = [pc for pc, line in enumerate(script.line_of) if script.before + line >= number]
         if not found or number < 1:
-            raise Wrong(f"no instruction is at line {number} or after it")
+            raise Wrong(f"no instruction at or after line {number}")
         return found[0]
     if len(words) != 1:
         raise Wrong("break needs a label, `line 14`, or an instruction's number")
@@ -138,7 +138,7 @@ def place(session: Session, words: list[str]) -> int:
         return script.labels[words[0]]
     if (pc := number_of(words[0])) is not None:
         return pc
-    raise Wrong(f"no label {words[0]}; labels: {', '.join(script.labels) or 'none'}; a line is named as `line 14`")
+    raise Wrong(f"no label {words[0]}; labels: {', '.join(script.labels) or 'none'}; for a line, write `line 14`")
 
 
 def target(word: str) -> int:
@@ -160,7 +160,7 @@ def count_of(words: list[str], default: int) -> int:
     """Returns a number of steps, or the default if none is given."""
     value = number_of(words[0]) if words else default
     if value is None or len(words) > 1:
-        raise Wrong("a number of steps is expected")
+        raise Wrong("expected a number of steps")
     return value
 
 
@@ -178,7 +178,7 @@ def moved(session: Session, before: int) -> list[str]:
     lines = []
     if session.at > before:
         steps = session.steps[before : session.at]
-        lines += [f"({len(steps) - SHOWN} steps more)"] if len(steps) > SHOWN else []
+        lines += [f"({len(steps) - SHOWN} more steps)"] if len(steps) > SHOWN else []
         for step in steps[-SHOWN:]:
             lines.append(f"{line_at(session, step.pc)}    -> {step.answer or 'no event'}")
     lines += watched(session)
@@ -213,7 +213,7 @@ def do_back(session: Session, words: list[str]) -> list[str]:
     try:
         session.take(f"back {count_of(words, 1)}")
     except Wrong as wrong:
-        raise Wrong(f"{wrong}: only {session.at} steps were made") from None
+        raise Wrong(f"{wrong}: only {session.at} steps were taken") from None
     return watched(session) + [told_view(session)]
 
 
@@ -224,7 +224,7 @@ def do_continue(session: Session, words: list[str]) -> list[str]:
     faults = [step.number for step in session.steps[session.at :] if step.kind in FAULTS]
     if faults:
         return _continued(session, faults[0] + 1 - session.at)
-    within = f" within {len(session.steps)} steps; --limit takes more" if session.last.startswith("limit") else ""
+    within = f" within {len(session.steps)} steps; raise --limit for more" if session.last.startswith("limit") else ""
     return [f"no fault, dropped frame or failed expect follows{within}"] + _continued(session, session.limit)
 
 
@@ -300,7 +300,7 @@ def do_offsets(session: Session, words: list[str]) -> list[str]:
     function, k = count_of(words, 0), _queues(session)
     if function >= session.bench.vfs or not k:
         raise Wrong(
-            f"there is no function {function}: the device has {session.bench.vfs} (--vfs), "
+            f"no function {function}: the device has {session.bench.vfs} (--vfs), "
             f"and GCR_EXT.VT_Mode gives {128 // k if k else 'no'} pools"
         )
     named = regs.function_offsets(k, function)
@@ -316,7 +316,7 @@ def do_watch(session: Session, words: list[str]) -> list[str]:
     for word in words:
         register = regs.register_at(target(word))
         if register is None:
-            raise Wrong(f"{word} names no register")
+            raise Wrong(f"{word} isn't a register")
         session.watched[register.address] = _words(session, [], [register.address])[0]
     return do_show(session, words)
 
@@ -337,7 +337,7 @@ def do_peek(session: Session, words: list[str]) -> list[str]:
     replay = Replay(session.trace)
     steps = replay.up_to(session.at, count)
     if steps is None:
-        raise Wrong("there is no room for a peek after so many steps: a script has 4096 instructions at most")
+        raise Wrong("no room for a peek after that many steps: a script has at most 4096 instructions")
     answers = (replay.run(steps, {}, [f"peek 0x{address:x} 0" for address in addresses]) or [[]])[-1]
     return [f"0x{address:05x}  {answer.removeprefix('bytes ')}" for address, answer in zip(addresses, answers)]
 
@@ -352,7 +352,7 @@ def do_rings(session: Session, words: list[str]) -> list[str]:
 
 def do_why(session: Session, words: list[str]) -> list[str]:
     if not session.at:
-        raise Wrong("no step was made yet")
+        raise Wrong("no step was taken yet")
     if session.at > len(session.steps):
         raise Wrong(f"only the first {len(session.steps)} steps can be explained; raise --limit for more")
     step, reasons = session.steps[session.at - 1], session.run().reasons[session.at - 1]
@@ -360,7 +360,7 @@ def do_why(session: Session, words: list[str]) -> list[str]:
     return (
         [head] + [f"  {'*' if one.held else ' '} {one.text}" for one in reasons]
         if reasons
-        else [head + ": it did what was asked"]
+        else [head + ": it did what was requested"]
     )
 
 
@@ -397,7 +397,7 @@ def answer(session: Session, line: str) -> list[str]:
     except Wrong as wrong:
         return [str(wrong)]
     except Refused as refused:
-        return [f"{refused.name}: the debugger doesn't take this; help lists the commands"]
+        return [f"{refused.name}: the debugger refuses this; help lists the commands"]
     except Fault as fault:
         return [str(fault)]
 

@@ -106,7 +106,7 @@ class Reasons:
         if sources:
             last = sources[-1]
             found += f" since step {last.number}, `{self.trace.script.shown(last.pc)}`"
-        masked = "" if one.b == 0xFFFF_FFFF else f", of which the mask 0x{one.b:08x} leaves 0x{step.acc & one.b:08x}"
+        masked = "" if one.b == 0xFFFF_FFFF else f", masked with 0x{one.b:08x} it is 0x{step.acc & one.b:08x}"
         return f"{found}{masked}; 0x{one.a:08x} is expected"
 
     def _front(self) -> Frame | None:
@@ -204,7 +204,7 @@ class Reasons:
             group = [it.text for it in self._group(one.x) if it.held]
             return [Reason(True, "; ".join(group)) if group else self._why("stray_offset", one.a)]
         if absent := absent_at(one.a):
-            return [Reason(True, f"0x{one.a:05x} is {absent.name}, which the bench hasn't: {absent.what}")]
+            return [Reason(True, f"0x{one.a:05x} is {absent.name}, which the bench doesn't model: {absent.what}")]
         return [self._why("stray_address", one.a)]
 
     def _memory(self, step: Step) -> Reason:

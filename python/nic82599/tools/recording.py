@@ -234,7 +234,7 @@ class Recording:
     def fault(self, number: int, fault: Exception) -> BadLine:
         """Returns the error for a line."""
         what = shortened(f"{type(fault).__name__} {fault}".strip(), 160)
-        return BadLine(f"{self.path}:{number}: this is no line of a recording that can be made again ({what})", number)
+        return BadLine(f"{self.path}:{number}: this line of a recording can't be replayed ({what})", number)
 
     def script(self) -> Script:
         """Returns the whole recording as a script. Raises the first of the bad lines."""
@@ -275,7 +275,7 @@ def read(path: str, raw: Source | bytes) -> Recording:
     each = lines.read()
     head = HEAD.fullmatch(next(each, ""))
     if not head:
-        raise Fault(f"{path}:1: it has no whole first line: a recording begins as `#: nic vfs 0 fifo 64 blocks 256`")
+        raise Fault(f"{path}:1: incomplete first line: a recording begins like `#: nic vfs 0 fifo 64 blocks 256`")
     vfs, fifo, blocks = map(int, head.groups())
     made = Recording(path, lines, vfs, fifo, blocks, Events(lines), Data(lines))
     take(made, each, 2)
@@ -336,7 +336,7 @@ def _take_line(made: Recording, names: Names, known: dict[str, int], number: int
         return
     one = instruction(words, names)  # type: ignore[arg-type]
     if one.b > MOST_WORD:
-        raise ValueError(f"0x{one.b:x} is no word of 32 bits")
+        raise ValueError(f"0x{one.b:x} doesn't fit into 32 bits")
     code = NOT_KEPT | one.op
     is_short = len(line) <= LONGEST_KEPT and len(known) < MOST_KEPT
     if one.op != Op.JMP and is_short and not text.startswith(WITH_BYTES):
@@ -364,7 +364,7 @@ def cut(made: Recording, limit: int) -> None:
     made.before = max(events - limit, bisect_right(made.line_of, last), 0)
     made.begin = max(made.line_of[made.before - 1] if made.before else 0, last)
     if made.before:
-        made.notes.append(f"{made.before:,} events came before the first step that is shown")
+        made.notes.append(f"{made.before:,} events precede the first step shown")
 
 
 # The operations that change the number of held bytes.
@@ -447,7 +447,7 @@ class Player:
         try:
             self.nic = Nic(recording.vfs, recording.fifo, recording.blocks)
         except BAD as fault:
-            raise Fault(f"{recording.path} can't be made again: {fault}") from None
+            raise Fault(f"{recording.path} can't be replayed: {fault}") from None
         self.again = Again(self.nic)
         self.snapshots: dict[str, Snapshot] = {}
         self.held = Held(recording.fifo)
@@ -673,7 +673,7 @@ def trace(player: Player) -> Trace:
     if recording.before:
         steps[0].lent = [("+", *row) for row in in_rows(lent)]
     if player.others:
-        recording.notes.append(f"{player.others:,} events are answered otherwise than they were recorded")
+        recording.notes.append(f"{player.others:,} events got answers that differ from the recorded ones")
     start = {a: word for a, word in every.items() if word != REGISTERS[a].row.reset}
     start |= {address: every[address] for step in steps for address, _, _ in step.changes}
     made = Trace(bench, script, steps, start, f"ok {len(steps)}", recording.notes)
@@ -704,7 +704,7 @@ def of_recording(path: str, limit: int = 4_096, raw: Source | bytes | None = Non
 def refuse_sizes(path: str, vfs: int | None, fifo: int | None) -> None:
     """Refuses size options, because a recording contains its sizes."""
     if vfs is not None or fifo is not None:
-        raise Fault(f"{path} is a recording, which has its sizes in its first line: leave --vfs and --fifo out")
+        raise Fault(f"{path} is a recording with its sizes in its first line: omit --vfs and --fifo")
 
 
 @contextlib.contextmanager

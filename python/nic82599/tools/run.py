@@ -179,7 +179,7 @@ def warnings_of(run: Trace) -> dict[int, list[str]]:
     before = sum(line not in at for line, _ in found)
     if before:
         lines = "a line" if before == 1 else f"{before} lines"
-        run.notes.append(f"niclint warns of {lines} before the first step that is shown")
+        run.notes.append(f"niclint warns about {lines} before the first step shown")
     return told
 
 

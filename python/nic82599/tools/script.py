@@ -151,7 +151,7 @@ class Bench:
     def _call(self, words: list[str], text: bytes) -> tuple[int, bytes]:
         if len(text) > LIMIT:
             raise Fault(
-                f"the input is too long: the bench reads {LIMIT:,} bytes, and this has {len(text):,}; cut the script"
+                f"the input is too long: the bench reads {LIMIT:,} bytes, not {len(text):,}; shorten the script"
             )
         program = "nicbench"
         try:
@@ -168,7 +168,7 @@ class Bench:
         except places.Missing as missing:
             raise Fault(str(missing), True) from None
         except OSError as error:
-            raise Fault(f"{program} can't be started ({error.strerror}): NICBENCH names another", True) from None
+            raise Fault(f"{program} can't be started ({error.strerror}): set NICBENCH to another", True) from None
         with ThreadPoolExecutor(1) as pool:
             said = pool.submit(_hear, ran.stderr)
             out, _ = _talk(ran, text)
@@ -301,7 +301,7 @@ def read_text(path: str) -> str:
 def text_of(path: str, raw: bytes) -> str:
     """Decodes a script."""
     if len(raw) > LIMIT:
-        raise Fault(f"{path} is too long: the bench reads {LIMIT:,} bytes, and this has {len(raw):,}; cut the script")
+        raise Fault(f"{path} is too long: the bench reads {LIMIT:,} bytes, not {len(raw):,}; shorten the script")
     try:
         return script_part(raw.decode())
     except UnicodeDecodeError as error:
@@ -317,7 +317,7 @@ def instructions_of(script: bytes) -> tuple[list[Instruction], list[bytes]]:
             int.from_bytes(script[at + n : at + m], "little") for n, m in ((0, 1), (1, 2), (2, 4), (4, 8), (8, 12))
         )
         if op not in _NUMBERS:
-            raise Fault(f"the bench has an operation {op} that these tools don't know: take both from one clone", True)
+            raise Fault(f"the bench has an operation {op} that these tools don't know: use both from one clone", True)
         instructions.append(Instruction(Op(op), sub, x, a, b))
         at += 12
     data = []
@@ -352,6 +352,6 @@ def of_text(bench: Bench, path: str, text: str) -> Script:
             line_of.append(number)
     if len(line_of) != len(instructions) or len(names) != len(data):
         raise Fault(
-            f"{path} has {len(instructions)} instructions, but {len(line_of)} lines of them: tell the bench's makers"
+            f"{path} has {len(instructions)} instructions, but {len(line_of)} lines of them: please report this"
         )
     return Script(path, lines, instructions, data, line_of, labels, names)

@@ -39,7 +39,7 @@ class Parser(argparse.ArgumentParser):
         add_version(self, self.prog)
 
     def error(self, message: str) -> NoReturn:
-        print(f"{self.prog}: {message}; {self.prog} --help lists the words", file=sys.stderr)
+        print(f"{self.prog}: {message}; {self.prog} --help lists the options", file=sys.stderr)
         sys.exit(3)
 
 
@@ -49,7 +49,7 @@ def number(low: int, high: int) -> Callable[[str], int]:
     def read(word: str) -> int:
         value = int(word) if word.isascii() and word.isdigit() and len(word) <= MOST_DIGITS else -1
         if not low <= value <= high:
-            raise argparse.ArgumentTypeError(f"{shortened(word)} is no number from {low} to {high}")
+            raise argparse.ArgumentTypeError(f"{shortened(word)} isn't a number from {low} to {high}")
         return value
 
     return read
@@ -64,16 +64,16 @@ def limit(parser: argparse.ArgumentParser, default: int, what: str) -> None:
 def limit_of_script(asked: int) -> int:
     """Returns a script's number of steps. Exits with status 3 if it is above the maximum."""
     if asked > MOST_OF_SCRIPT:
-        print(f"{asked} is more than the {MOST_OF_SCRIPT} steps that --limit takes of a script", file=sys.stderr)
+        print(f"{asked} is more than the {MOST_OF_SCRIPT} steps that --limit allows for a script", file=sys.stderr)
         sys.exit(3)
     return asked
 
 
 def sizes(parser: argparse.ArgumentParser) -> None:
     """Adds the options for the device's sizes."""
-    parser.add_argument("--vfs", type=number(0, 63), metavar="N", help="how many virtual functions the device has (0)")
+    parser.add_argument("--vfs", type=number(0, 63), metavar="N", help="number of virtual functions of the device (0)")
     parser.add_argument(
-        "--fifo", type=number(1, 4_096), metavar="N", help="how many frames may wait to be received (64)"
+        "--fifo", type=number(1, 4_096), metavar="N", help="number of frames that may wait to be received (64)"
     )
 
 
@@ -110,7 +110,7 @@ def _ended(main: Callable[[], int], name: str, unwritten: int) -> int:
             # also after --help and --version
             sys.stdout.flush()
     except Refused as refused:
-        print(called(f"{name}: {refused}: tools/niclint SCRIPT says what was expected there"), file=sys.stderr)
+        print(called(f"{name}: {refused}: run tools/niclint SCRIPT for details"), file=sys.stderr)
         return 2
     except Fault as fault:
         print(f"{name}: {fault}", file=sys.stderr)
@@ -125,7 +125,7 @@ def _ended(main: Callable[[], int], name: str, unwritten: int) -> int:
         drop_output()
         return unwritten
     except MemoryError:
-        print(f"{name}: there is no memory for what it asks", file=sys.stderr)
+        print(f"{name}: out of memory", file=sys.stderr)
         return 2
     except KeyboardInterrupt:
         return 130

@@ -251,9 +251,9 @@ def _trace(bench: Bench, script: Script, printed: list[str], limit: int) -> Trac
                 break
             always |= missed
     if always:
-        result.notes.append(f"asked for at every step: {', '.join(regs.name_at(a) for a in sorted(always))}")
+        result.notes.append(f"read at every step: {', '.join(regs.name_at(a) for a in sorted(always))}")
     if last.startswith("limit"):
-        result.notes.append(f"the script goes on after the {len(steps)} steps that are shown; --limit shows more")
+        result.notes.append(f"the script continues after the {len(steps)} steps shown; --limit shows more")
     return result
 
 

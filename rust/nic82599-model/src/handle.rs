@@ -73,7 +73,7 @@ impl Handle {
     /// Runs a call on the controller.
     #[inline]
     pub(crate) fn with<T>(&self, call: impl FnOnce(&mut Card) -> T) -> T {
-        let mut card = self.card.take().expect("a call of this controller panicked: it may be half changed");
+        let mut card = self.card.take().expect("a call on this controller panicked, so its state may be inconsistent");
         let answer = call(&mut card);
         self.card.set(Some(card));
         answer

@@ -232,7 +232,7 @@ fn check(given: &[Vec<u8>], sent: &[Frame]) -> Answer<()> {
         let is_udp = frame[12..14] == [8, 0] && frame[14] == 0x45 && frame[23] == 17 && is_whole;
         let queue = if is_udp { rss_hash(&KEY, &frame[26..38])? % 4 } else { u32::from(back.queue) };
         if !swapped || back.data[12..] != frame[12..] || queue != u32::from(back.queue) {
-            return Err("a frame came back otherwise than it should".into());
+            return Err("a frame came back with wrong contents".into());
         }
     }
     println!("{} in, {} out", given.len(), sent.len());

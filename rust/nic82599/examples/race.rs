@@ -88,7 +88,7 @@ impl Scenario for Race {
     fn end(&self, driver: &Driver, _device: &Look<'_>) -> Result<(), String> {
         match driver.next.get() {
             FRAMES => Ok(()),
-            _ => Err("a frame lies in the ring, and nobody comes for it".to_owned()),
+            _ => Err("a frame is in the ring, but nothing will poll it".to_owned()),
         }
     }
 }

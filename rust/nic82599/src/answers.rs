@@ -23,7 +23,7 @@ impl Error {
             status::IMAGE_SECTION_OUTSIDE => Error::Image(ImageFault::SectionOutside),
             status::IMAGE_BAD_CHECKSUM => Error::Image(ImageFault::BadChecksum),
             status::IMAGE_NOT_TRIPLES => Error::Image(ImageFault::NotTriples),
-            other => unreachable!("the library answers the status {other}, which its header doesn't have"),
+            other => unreachable!("the library returned status {other}, which its header doesn't define"),
         }
     }
 
@@ -76,7 +76,7 @@ impl Event {
             status::MESSAGE => {
                 Event::Message { function: told.group.checked_sub(1).map(|v| v as u8), vector: told.vector }
             }
-            other => unreachable!("the library tells the status {other} of a step"),
+            other => unreachable!("the library returned status {other} for a step"),
         }
     }
 }
@@ -94,7 +94,7 @@ impl Why {
             status::WHY_FULL => Why::Full,
             status::WHY_QUEUE_OFF => Why::QueueOff,
             status::WHY_NO_SLOT => Why::NoSlot,
-            other => unreachable!("the library tells {other} of why a frame is dropped"),
+            other => unreachable!("the library returned {other} as the reason for a dropped frame"),
         }
     }
 }
@@ -110,7 +110,7 @@ impl Fault {
             status::FAULT_LEGACY => Fault::Legacy,
             status::FAULT_TOO_LONG => Fault::TooLong,
             status::FAULT_UNKNOWN_TYPE => Fault::UnknownType,
-            other => unreachable!("the library tells {other} of what a fault is"),
+            other => unreachable!("the library returned {other} as the kind of a fault"),
         }
     }
 }

@@ -133,20 +133,20 @@ impl fmt::Display for Error {
             Error::NotLent(bus) => {
                 return write!(f, "bus address 0x{bus:05x}: block {} isn't lent", bus / BLOCK_BYTES);
             }
-            Error::NoBlock => "the block is lent already, or doesn't exist",
-            Error::BadMemory => "memory in place has multiples of 2,048 bytes, and none of it is lent already",
+            Error::NoBlock => "the block is already lent or doesn't exist",
+            Error::BadMemory => "memory lent in place must be a multiple of 2,048 bytes and not lent yet",
             Error::NoQueue => "there are 128 queues",
-            Error::NoGroup => "there is no such virtual function, or the mode has no pool for it",
+            Error::NoGroup => "no such virtual function, or the mode has no pool for it",
             Error::Stray { at, word, why } => return write_stray(f, *at, *word, *why),
             Error::BadRange => "a range of memory ends before it begins",
-            Error::TooManyVfs => "a controller has 63 virtual functions at most",
+            Error::TooManyVfs => "a controller has at most 63 virtual functions",
             Error::BadFifo => "from 1 to 4,096 frames may wait",
             Error::BadBlocks => "packet memory has 1 to 65,536 blocks",
-            Error::TooLong => "the input of a hash has 36 bytes at most",
-            Error::Image(fault) => return write!(f, "no EEPROM image: {fault}"),
-            Error::Text(fault) => return write!(f, "no text of an EEPROM image: {fault}"),
-            Error::NoRecording => "the recording can't be written",
-            Error::OutOfMemory => "there was no memory",
+            Error::TooLong => "the input of a hash has at most 36 bytes",
+            Error::Image(fault) => return write!(f, "invalid EEPROM image: {fault}"),
+            Error::Text(fault) => return write!(f, "invalid text of an EEPROM image: {fault}"),
+            Error::NoRecording => "can't write the recording",
+            Error::OutOfMemory => "out of memory",
         };
         f.write_str(text)
     }
@@ -167,18 +167,18 @@ fn write_stray(f: &mut fmt::Formatter<'_>, at: u32, word: Option<u32>, why: Abse
 impl fmt::Display for Absent {
     fn fmt(&self, f: &mut fmt::Formatter<'_>) -> fmt::Result {
         match *self {
-            Absent::Register => f.write_str("there is no such register"),
+            Absent::Register => f.write_str("no such register"),
             Absent::Function { number, vfs: 0 } => {
-                write!(f, "there is no virtual function {number}: the controller has none")
+                write!(f, "no virtual function {number}: the controller has none")
             }
             Absent::Function { number, vfs } => {
-                write!(f, "there is no virtual function {number}: the controller has {vfs}, numbered from 0")
+                write!(f, "no virtual function {number}: the controller has {vfs}, numbered from 0")
             }
             Absent::Pool { number, pools: 0 } => {
-                write!(f, "virtual function {number} has no pool: GCR_EXT bits 1:0 give no pools")
+                write!(f, "virtual function {number} has no pool: GCR_EXT bits 1:0 select no pools")
             }
             Absent::Pool { number, pools } => {
-                write!(f, "virtual function {number} has no pool: GCR_EXT bits 1:0 give {pools} pools")
+                write!(f, "virtual function {number} has no pool: GCR_EXT bits 1:0 select {pools} pools")
             }
             Absent::Queue { number, queues } => {
                 write!(f, "the pool of virtual function {number} has {queues} queues")
@@ -201,7 +201,7 @@ impl fmt::Display for ImageFault {
         f.write_str(match self {
             ImageFault::OddLength => "an odd number of bytes",
             ImageFault::BadSize => "not 64, 128, .. 16,384 words",
-            ImageFault::SectionOutside => "a pointer's section isn't inside the image",
+            ImageFault::SectionOutside => "a pointer's section is outside the image",
             ImageFault::BadChecksum => "the checksum is wrong",
             ImageFault::NotTriples => "the CSR section isn't a multiple of three words",
         })
@@ -211,11 +211,11 @@ impl fmt::Display for ImageFault {
 impl fmt::Display for TextFault {
     fn fmt(&self, f: &mut fmt::Formatter<'_>) -> fmt::Result {
         match self {
-            TextFault::Syntax(line) => write!(f, "line {line} isn't one of the language"),
-            TextFault::TwoValues(index) => write!(f, "two lines give the word {index}"),
-            TextFault::Reserved(index) => write!(f, "the text can't give the word {index}"),
-            TextFault::DoesNotFit => f.write_str("an index or the CSR section is beyond the size"),
-            TextFault::PointerOutside => f.write_str("a pointer is below 0x40, or its section isn't inside"),
+            TextFault::Syntax(line) => write!(f, "line {line} has a syntax error"),
+            TextFault::TwoValues(index) => write!(f, "two lines set word {index}"),
+            TextFault::Reserved(index) => write!(f, "the text may not set word {index}"),
+            TextFault::DoesNotFit => f.write_str("an index or the CSR section exceeds the size"),
+            TextFault::PointerOutside => f.write_str("a pointer is below 0x40, or its section is outside the image"),
         }
     }
 }

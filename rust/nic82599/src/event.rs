@@ -212,13 +212,13 @@ impl fmt::Display for Event {
 impl fmt::Display for Why {
     fn fmt(&self, f: &mut fmt::Formatter<'_>) -> fmt::Result {
         let (word, meaning) = match self {
-            Why::LinkDown => ("link down", "Nic::link took it down"),
+            Why::LinkDown => ("link down", "Nic::link turned it off"),
             Why::Off => ("off", "RXCTRL bit 0 is 0"),
             Why::Short => ("short", "it has fewer than 60 bytes"),
-            Why::Long => ("long", "it has more bytes than 1,514, or with jumbo frames than MAXFRS says"),
-            Why::Filter => ("filter", "no bit of FCTRL and no address (RAL, RAH, MTA) lets its destination in"),
-            Why::NoPool => ("no pool", "none is assigned to it, or the mode of MRQC hasn't that pool"),
-            Why::PoolOff => ("pool off", "VFRE has its pool off"),
+            Why::Long => ("long", "it is longer than 1,514 bytes, or with jumbo frames than MAXFRS allows"),
+            Why::Filter => ("filter", "no bit of FCTRL and no address (RAL, RAH, MTA) accepts its destination"),
+            Why::NoPool => ("no pool", "none is assigned to it, or the mode of MRQC doesn't have that pool"),
+            Why::PoolOff => ("pool off", "VFRE disables its pool"),
             Why::Full => ("full", "as many frames wait as Sizes::fifo allows"),
             Why::QueueOff => ("queue off", "its queue isn't on: RXDCTL bit 25 reads 0"),
             Why::NoSlot => ("no slot", "head and tail of its queue meet, and SRRCTL has DROP_EN"),
@@ -231,19 +231,19 @@ impl fmt::Display for Why {
 impl fmt::Display for Fault {
     fn fmt(&self, f: &mut fmt::Formatter<'_>) -> fmt::Result {
         let (word, meaning) = match self {
-            Fault::Outside => ("outside", "head or tail is no slot of the ring"),
+            Fault::Outside => ("outside", "head or tail is outside the ring"),
             Fault::NotLent(bus) => {
                 write!(f, "not lent 0x{bus:05x}")?;
-                return meant(f, "the ring, a buffer, or the place of a report is there");
+                return meant(f, "the ring, a buffer or a report's address is there");
             }
             Fault::Type => ("type", "SRRCTL DESCTYPE isn't 1, advanced descriptors with one buffer"),
             Fault::NoBufferSize => ("no buffer size", "SRRCTL BSIZEPACKET is 0"),
             Fault::Offload => ("offload", "the descriptor asks for segmentation, VLAN insertion or a checksum"),
-            Fault::Legacy => ("legacy", "the descriptor has no DEXT, so it is a legacy one"),
+            Fault::Legacy => ("legacy", "the descriptor has no DEXT, so it is a legacy descriptor"),
             Fault::TooLong => {
-                ("too long", "the frame has more bytes than 1,514, or with jumbo frames than MAXFRS says")
+                ("too long", "the frame is longer than 1,514 bytes, or with jumbo frames than MAXFRS allows")
             }
-            Fault::UnknownType => ("unknown type", "DTYP of the descriptor is neither data nor context"),
+            Fault::UnknownType => ("unknown type", "the descriptor's DTYP is neither data nor context"),
         };
         f.write_str(word)?;
         meant(f, meaning)

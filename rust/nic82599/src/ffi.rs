@@ -84,7 +84,7 @@ extern "C" {
 /// Returns a status, but panics if the library hit an internal fault in this call or an earlier one on the controller:
 /// the controller may be half changed, and the library's own code panicked.
 fn unbroken(status: u8) -> u8 {
-    assert!(status != status::BROKEN, "the library met a fault of its own, which standard error names");
+    assert!(status != status::BROKEN, "the library had an internal fault: see standard error");
     status
 }
 

@@ -24,7 +24,7 @@ impl Nic {
     ///
     /// let nic = Nic::open(Sizes::default())?;
     /// nic.write(regs::EICS, 1 << 5);
-    /// let masked = "int pf: EICR 0x00000020 (RTxQ[5]), EIMS 0x00000000: no cause has its mask 1";
+    /// let masked = "int pf: EICR 0x00000020 (RTxQ[5]), EIMS 0x00000000: no cause is enabled";
     /// assert_eq!(nic.why().lines().next(), Some(masked));
     /// # Ok::<(), nic82599::Error>(())
     /// ```

@@ -49,15 +49,15 @@ impl<R: Read> Reader<R> {
     /// it isn't a pcap file of Ethernet frames.
     pub fn new(mut file: R) -> io::Result<Reader<R>> {
         let mut head = [0; 24];
-        whole(file.read_exact(&mut head), "no capture (pcap): it ends within its head")?;
+        whole(file.read_exact(&mut head), "not a pcap capture: it ends within its header")?;
         let is_big = match [head[0], head[1], head[2], head[3]] {
             [0xA1, 0xB2, 0xC3, 0xD4] | [0xA1, 0xB2, 0x3C, 0x4D] => true,
             [0xD4, 0xC3, 0xB2, 0xA1] | [0x4D, 0x3C, 0xB2, 0xA1] => false,
-            PCAPNG => return Err(broken("a capture as pcapng, of which `editcap -F pcap` makes one as pcap")),
-            _ => return Err(broken("no capture (pcap)")),
+            PCAPNG => return Err(broken("a pcapng capture: convert it with `editcap -F pcap`")),
+            _ => return Err(broken("not a pcap capture")),
         };
         if word(is_big, &head[20..]) & 0xFFFF != 1 {
-            return Err(broken("a capture of another link than Ethernet"));
+            return Err(broken("the capture's link type isn't Ethernet"));
         }
         Ok(Reader { file, is_big, is_over: false })
     }
@@ -70,7 +70,7 @@ impl<R: Read> Reader<R> {
         whole(self.file.read_exact(&mut head[1..]), CUT)?;
         let (kept, length) = (word(self.is_big, &head[8..12]), word(self.is_big, &head[12..]));
         if kept != length || length > LONGEST {
-            return Err(broken("a frame that was captured in part, or is too long"));
+            return Err(broken("a frame was only partly captured or is too long"));
         }
         let mut frame = vec![0; length as usize];
         whole(self.file.read_exact(&mut frame), CUT)?;
@@ -125,7 +125,7 @@ impl<W: Write> Writer<W> {
     pub fn put(&mut self, time: u64, frame: &[u8]) -> io::Result<()> {
         let length = match u32::try_from(frame.len()) {
             Ok(length) if length <= LONGEST => length,
-            _ => return Err(io::Error::new(ErrorKind::InvalidInput, "a frame that is too long")),
+            _ => return Err(io::Error::new(ErrorKind::InvalidInput, "a frame is too long")),
         };
         for word in [(time / 1_000_000) as u32, (time % 1_000_000) as u32, length, length] {
             self.file.write_all(&word.to_le_bytes())?;

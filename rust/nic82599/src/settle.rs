@@ -69,7 +69,7 @@ impl FusedIterator for Settled {}
 /// # Ok::<(), nic82599::Error>(())
 /// ```
 #[derive(Debug)]
-#[must_use = "no step is made that isn't asked for"]
+#[must_use = "the device takes only requested steps"]
 pub struct Steps<'a> {
     nic: &'a Nic,
     place: Place,

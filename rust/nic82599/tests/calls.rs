@@ -530,10 +530,10 @@ fn errors_are_told() {
     .to_vec();
     assert_eq!(told[0], "bus address 0x0c840: block 25 isn't lent");
     assert_eq!(told[1], "no register is at 0x0000c");
-    let pool = "virtual function 0 has no pool: GCR_EXT bits 1:0 give no pools";
+    let pool = "virtual function 0 has no pool: GCR_EXT bits 1:0 select no pools";
     assert_eq!(told[2], format!("no register is at 0x00108, which reads as 0xffffffff: {pool}"));
-    assert_eq!(told[3], "no text of an EEPROM image: line 3 isn't one of the language");
-    assert_eq!(told[4], "no EEPROM image: the checksum is wrong");
+    assert_eq!(told[3], "invalid text of an EEPROM image: line 3 has a syntax error");
+    assert_eq!(told[4], "invalid EEPROM image: the checksum is wrong");
 }
 
 /// The error names what is missing, in the Python module's words: the register, the function, its pool, or the pool's
@@ -562,13 +562,13 @@ fn why_a_register_is_absent() {
         }
     }
     for (why, told) in [
-        (Absent::Register, "there is no such register"),
-        (Absent::Function { number: 0, vfs: 0 }, "there is no virtual function 0: the controller has none"),
+        (Absent::Register, "no such register"),
+        (Absent::Function { number: 0, vfs: 0 }, "no virtual function 0: the controller has none"),
         (
             Absent::Function { number: 1, vfs: 1 },
-            "there is no virtual function 1: the controller has 1, numbered from 0",
+            "no virtual function 1: the controller has 1, numbered from 0",
         ),
-        (Absent::Pool { number: 16, pools: 16 }, "virtual function 16 has no pool: GCR_EXT bits 1:0 give 16 pools"),
+        (Absent::Pool { number: 16, pools: 16 }, "virtual function 16 has no pool: GCR_EXT bits 1:0 select 16 pools"),
         (Absent::Queue { number: 3, queues: 2 }, "the pool of virtual function 3 has 2 queues"),
     ] {
         assert_eq!(why.to_string(), told);

@@ -454,16 +454,16 @@ fn what_it_never_does_is_told(_folder: &Path) {
 fn what_is_wrong_is_told(folder: &Path) {
     let faults = [
         (SLOT_WITHOUT_DD, "receive-empty", "check: receive returned true, but no frame came"),
-        (STOP_THAT_DOES_NOT_WAIT, "close-amid-frames", "queue 0 is on, and the driver is closed"),
-        (IDLE_TOLD_EARLY, "send-wrap", "check: reclaim says that all of queue 0 went out, and "),
-        (LENGTH_BEFORE_DD, "receive-one", "check: a frame of 0 bytes is handed up in queue 0"),
+        (STOP_THAT_DOES_NOT_WAIT, "close-amid-frames", "queue 0 is on although the driver is closed"),
+        (IDLE_TOLD_EARLY, "send-wrap", "check: reclaim reports all of queue 0 as transmitted, but "),
+        (LENGTH_BEFORE_DD, "receive-one", "check: a frame of 0 bytes is delivered from queue 0"),
         (PANIC_IN_RECEIVE, "receive-one", "check: the ring has no slot 8 (tests/drive.rs:"),
         (PANIC_IN_OPEN, "receive-one", "always: the EEPROM has no address (tests/drive.rs:"),
         (PANIC_IN_OPEN, "open-close", "check: the EEPROM has no address (tests/drive.rs:"),
-        (HANG_IN_RECEIVE, "receive-one", "hang: task receive0 made no further point"),
-        (FRAME_TOO_LONG, "receive-one", "check: a frame of 9725 bytes is handed up in queue 0"),
-        (ABORT_IN_CLOSE, "open-close", "crash: the process was ended by signal 6"),
-        (EXIT_IN_RECEIVE, "receive-one", "crash: the process ended with status 0"),
+        (HANG_IN_RECEIVE, "receive-one", "hang: task receive0 reached no further point"),
+        (FRAME_TOO_LONG, "receive-one", "check: a frame of 9725 bytes is delivered from queue 0"),
+        (ABORT_IN_CLOSE, "open-close", "crash: the process was killed by signal 6"),
+        (EXIT_IN_RECEIVE, "receive-one", "crash: the process exited with status 0"),
         (OWN_LEFT, "open-close", "1 piece of nicd_alloc wasn't given back"),
         (GUARD_OVER_A_CALL, "both-ways", "already borrowed"),
     ];

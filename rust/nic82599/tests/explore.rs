@@ -163,7 +163,7 @@ fn each_kind_of_failure() {
     let place = format!("as by assert ({}:{})", file!(), line!() - 1);
     fails(Simple { name: "panics", act: panics, ..SIMPLE }, "check", &place);
     let waits = |bus: &Bus, state: &State| bus.wait_until(|| state.count.get() == 9);
-    fails(Simple { name: "waits", act: waits, ..SIMPLE }, "deadlock", "waits, and nobody can act");
+    fails(Simple { name: "waits", act: waits, ..SIMPLE }, "deadlock", "waits, and no actor can act");
     let goes_on = |bus: &Bus, _: &State| (0..1_000).for_each(|it| bus.write(RETA.at(0), it));
     fails(Simple { name: "goes_on", tasks: 1, act: goes_on, ..SIMPLE }, "endless", "200 points");
     let not_lent = |bus: &Bus, _: &State| _ = bus.get64(0x800);

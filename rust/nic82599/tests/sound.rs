@@ -386,7 +386,7 @@ fn a_lock_that_is_forgotten_held_can_be_dropped() {
             },
             ..TRIED
         },
-        "forgets ends and holds a-lock-of-the-stack",
+        "forgets ends while it holds a-lock-of-the-stack",
     );
     passes(Tried {
         name: "held",
@@ -416,7 +416,7 @@ fn a_condition_that_makes_a_call_is_refused() {
             },
             ..TRIED
         },
-        "it may only look",
+        "it may only read",
     );
 }
 

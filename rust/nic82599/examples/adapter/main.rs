@@ -91,7 +91,7 @@ fn made(number: usize) -> Vec<u8> {
 fn poll(driver: &Driver, bench: &Bench<'_>, received: &mut usize) -> Result<(), Box<dyn Error>> {
     while let Some(frame) = driver.receive(bench) {
         if frame != made(*received) {
-            return Err(format!("frame {received}: what was received isn't what came").into());
+            return Err(format!("frame {received}: the received bytes differ from those that arrived").into());
         }
         *received += 1;
         driver.send(bench, &frame);
@@ -108,7 +108,7 @@ fn run(frames: usize) -> Result<(), Box<dyn Error>> {
     let bench = Bench { nic, memory, used: Cell::new(BLOCK), last: Cell::new(u32::MAX), was_told: Cell::new(false) };
     let (driver, mut given, mut received, mut returned) = (Driver::default(), 0, 0, 0);
     if !driver.open(&bench, ADDRESS, 64, true) {
-        return Err("there is no memory for the driver".into());
+        return Err("out of memory for the driver".into());
     }
     while given < frames && returned == given {
         for _ in 0..(1 + given % 7).min(frames - given) {
@@ -124,7 +124,7 @@ fn run(frames: usize) -> Result<(), Box<dyn Error>> {
         }
         for frame in bench.nic.frames() {
             if frame.data != made(returned) {
-                return Err(format!("frame {returned}: what was sent isn't what came").into());
+                return Err(format!("frame {returned}: the sent bytes differ from those that arrived").into());
             }
             returned += 1;
         }

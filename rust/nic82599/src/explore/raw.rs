@@ -308,7 +308,7 @@ pub(super) fn panics_at(place: Option<&Location<'_>>) {
 /// Passes the running search to a function that the explorer called. Panics outside a search.
 fn running<T>(action: impl FnOnce(&Running) -> T) -> T {
     let it = RUNNING.with(Cell::get);
-    assert!(!it.is_null(), "a call of the search outside of it");
+    assert!(!it.is_null(), "a call for a search outside a search");
     // SAFETY: the pointer isn't null, so `within` is on this thread's stack and keeps the search until it resets the
     // pointer.
     action(unsafe { &*it })
@@ -440,11 +440,11 @@ pub(crate) fn arguments(words: &[CString]) -> Vec<*mut c_char> {
 /// Returns why no search may start here, or `None` if it may.
 pub(crate) fn why_not() -> Option<&'static str> {
     if is_running() {
-        Some("a task of a search begins another one")
+        Some("a task of a search starts another search")
     } else if thread::panicking() {
-        Some("it is begun during a panic, in which tasks make no calls")
+        Some("the search starts during a panic, when tasks can't make calls")
     } else if cfg!(panic = "abort") {
-        Some("the profile has panic = \"abort\", and a task that a schedule leaves is ended by a panic")
+        Some("the profile has panic = \"abort\", but the search ends abandoned tasks with a panic")
     } else {
         None
     }
@@ -468,7 +468,7 @@ pub(crate) fn within(driven: &dyn Driven, is_quiet: bool, action: impl FnOnce() 
     RUNNING.with(|it| it.set(ptr::null()));
     match dropped {
         Err(words) if status == 0 => {
-            eprintln!("what a closure of a task captured panics as it is dropped: {words}");
+            eprintln!("a value captured by a task's closure panicked in its drop: {words}");
             REFUSED
         }
         _ => status,

@@ -368,7 +368,7 @@ static void held(const char *path, const char *control_path)
     put64(TX_RING + 8, NIC_TXD_DATA | NIC_TXD_DTALEN_IS(ARP_BYTES) | NIC_TXD_EOP | NIC_TXD_RS);
     peer_write(&peer, NIC_TDT(0), 1);
     CHECK(peer_read(&peer, NIC_TDH(0)) == 0 && says("due", "tx 0: head 0, tail 1"));
-    CHECK(says("why", "tx 0: TDH[0] 0, TDT[0] 1: nothing is in the way") && !says("why", "lent"));
+    CHECK(says("why", "tx 0: TDH[0] 0, TDT[0] 1: nothing blocks it") && !says("why", "lent"));
     CHECK(says("tx 0", "1 descriptors"));
     CHECK(get64(TX_RING + 8) & NIC_TXWB_DD && says("peek 06010", "00000001"));
     peer_read(&peer, NIC_STATUS); /* the reply to the request arrived before its own */
@@ -449,7 +449,7 @@ static void hostile_places(void)
     CHECK(says("hold on", "error: ") && says("hold at ", "ok") && !says("hold at", "at "));
     for (int i = 0; i < 8; i++)
         CHECK(says("hold at r 0x1fffc", "ok"));
-    CHECK(says("hold at r EICR", "error: there are 8") && says("hold at off", "ok"));
+    CHECK(says("hold at r EICR", "error: there are already 8") && says("hold at off", "ok"));
 }
 
 static void held_at(struct peer *it, const char *function_path)

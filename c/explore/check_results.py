@@ -103,7 +103,7 @@ FIELDS = {
     "strategy mixed": ("strategy best", ':3: strategy: unknown strategy "best"'),
     "seed 1": ("seed 18446744073709551616", ":4: seed: \"18446744073709551616\" isn't a number from 0 to"),
     "first 0": ("first -1", ":5: first: \"-1\" isn't a number"),
-    "runs 10000": ("runs 010000", ':6: runs: "010000" is no number'),
+    "runs 10000": ("runs 010000", ":6: runs: \"010000\" isn't a number"),
     "shard 1": ("shard 0", ": no shard 0 among 3"),
     "tasks 1": ("tasks 2", ": tasks: the file has 2, but the scenario has 1"),
     "task 1 poll": ("task 1 pall", ': task: the file has "1 pall", but the scenario has poll'),

@@ -60,13 +60,13 @@ WRONG = {
     "ReceiveAnswersText": ("receive-one", "check: TypeError: receive returned str, not bytes"),
     "ReclaimAnswersBelowZero": ("send-one", "check: TypeError: reclaim returned -1, not a number"),
     "FrameTooLong": ("receive-one", "check: a frame of 9725 bytes is delivered from queue 0"),
-    "WordTooLong": ("interrupt-receive", "check: ValueError: 4294967296 is no word of a register"),
+    "WordTooLong": ("interrupt-receive", "check: ValueError: 4294967296 doesn't fit into a 32-bit register"),
     "OutsideDma": ("receive-one", r"memory: receive0 at \S+\.py:\d+.* writes 0x1000, which isn't lent"),
     "ReadsTooMuch": ("receive-one", r"memory: receive0 at \S+\.py:\d+.* reads 0x0, which isn't lent"),
     "ExitsInReceive": ("receive-one", "check: SystemExit: 0"),
     "EndsTheProcess": ("receive-one", "crash: the process exited with status 0"),
     "AbortsInClose": ("open-close", "crash: the process was killed by signal 6"),
-    "PieceLeft": ("open-close", "1 piece of nicd_alloc wasn't given back"),
+    "PieceLeft": ("open-close", "1 allocation of nicd_alloc wasn't freed"),
     "FromAThread": ("receive-one", "a call comes from a thread that the driver made itself"),
     "StateLeft": ("receive-wrap", "misuse: begin doesn't initialize all of the driver's state"),
 }
@@ -176,7 +176,7 @@ class Refusals(unittest.TestCase):
     def test_classes(self) -> None:
         self.refused("A has no open", "class A(Driver): ...\n")
         begin = "class A(Driver):\n    def open(self, setup): ...\n    def close(self): ...\n"
-        self.refused("A.receive is no function", begin + "    receive = 3\n")
+        self.refused("A.receive isn't a function", begin + "    receive = 3\n")
         self.refused("A.queues is 'two', not an allowed number", begin + "    queues = 'two'\n")
         self.refused("A.threads is -1, not an allowed number", begin + "    threads = -1\n")
         self.refused("A.name isn't a string, or its can isn't a value of Can", begin + "    name = 3\n")

@@ -464,7 +464,7 @@ fn what_is_wrong_is_told(folder: &Path) {
         (FRAME_TOO_LONG, "receive-one", "check: a frame of 9725 bytes is delivered from queue 0"),
         (ABORT_IN_CLOSE, "open-close", "crash: the process was killed by signal 6"),
         (EXIT_IN_RECEIVE, "receive-one", "crash: the process exited with status 0"),
-        (OWN_LEFT, "open-close", "1 piece of nicd_alloc wasn't given back"),
+        (OWN_LEFT, "open-close", "1 allocation of nicd_alloc wasn't freed"),
         (GUARD_OVER_A_CALL, "both-ways", "already borrowed"),
     ];
     for (fault, name, words) in faults {

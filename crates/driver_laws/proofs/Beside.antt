@@ -71,13 +71,13 @@ pub own_again : {q : AtPort} {size frame : ℕ} {old : List Call} {a : Numbers} 
 own_again {q = q} {old = old} {m = m} {later = later} {ahead = ahead} {own = own} x =
     let (others, follow, ends) = all_again m (ahead ++ x.start) later own x.since in
     let (at, r, up) = x.started in
-    let after = up_after _ _ _ _ _ _ _ up in
+    let following = up_after _ _ _ _ _ _ _ up in
     let one = shifted (access q (Sees Rxdctl false) old _ up.receive.quiet.1) x.first ahead x.access in
-    let same : x.start ≡ x.first ++ after.since =
-    append_cancel_left old x.start (x.first ++ after.since) (grind (arith, common_steps)) in
-    let all : (ahead ++ x.first) ++ after.since ≡ ahead ++ x.start =
-    rw same (append_assoc ahead x.first after.since) in
-    let (there, access) = rw all at (after.after (ahead ++ x.first) ahead one) in
+    let same : x.start ≡ x.first ++ following.since =
+    append_cancel_left old x.start (x.first ++ following.since) (grind (arith, common_steps)) in
+    let all : (ahead ++ x.first) ++ following.since ≡ ahead ++ x.start =
+    rw same (append_assoc ahead x.first following.since) in
+    let (there, access) = rw all at (following.following (ahead ++ x.first) ahead one) in
     record {
       others = others;
       reported = record { started = (at, r, there); since = follow };
@@ -108,12 +108,12 @@ never_beside x (inl f) =
     never_at_fault (apart x) (inl (shifted (early_shift x.q x.size x.frame x.a x.old x.new f) x.since x.ahead x.made))
 never_beside x (inr f) =
     let on = on_shift x.q x.size x.frame x.a f.empty f.sender x.old f.mid f.on in
-    let after = made (found (apart x) f) in
-    let same : x.since ≡ on.since ++ after = append_cancel_left x.old x.since (on.since ++ after)
-    (sym x.made ∙ made_is (found (apart x) f) ∙ ap (λ (l : List Call). l ++ after) on.made
-    ∙ append_assoc x.old on.since after) in
-    filling_never (apart x) f (x.ahead ++ on.since) (on.after x.ahead)
-    (ap (λ (l : List Call). x.ahead ++ l) same ∙ sym (append_assoc x.ahead on.since after))
+    let following = made (found (apart x) f) in
+    let same : x.since ≡ on.since ++ following = append_cancel_left x.old x.since (on.since ++ following)
+    (sym x.made ∙ made_is (found (apart x) f) ∙ ap (λ (l : List Call). l ++ following) on.made
+    ∙ append_assoc x.old on.since following) in
+    filling_never (apart x) f (x.ahead ++ on.since) (on.following x.ahead)
+    (ap (λ (l : List Call). x.ahead ++ l) same ∙ sym (append_assoc x.ahead on.since following))
 
 -- The driver is reported over the retagged history.
 module _ (x : Beside) where

@@ -203,8 +203,8 @@ lending ring = call_of (event.Lend (zero_block ring)) reply.Done
 -- A call is among those that were made.
 pub record Has (c : Call) (calls : List Call) : Type 0 where
   pub before : List Call
-  pub after : List Call
-  pub all : calls ≡ before ++ c ∷ after
+  pub following : List Call
+  pub all : calls ≡ before ++ c ∷ following
 
 pub has_more : (c : Call) (calls new : List Call) → (more : List Call) × (new ≡ calls ++ more) → Has c calls → Has c new
 has_more c calls new (more, is) has = grind (arith, common_steps)
@@ -217,11 +217,11 @@ pub record IsLentBy (pass ring : ℕ) (h : List Entry) : Type 0 where
 pub lent_along : {w : Watched} {origin : State} {h : List Entry} (number : ℕ) (calls : List Call)
     → IsAlong w origin h → Has (lending number) calls → AtEntries w h calls (λ done. IsLentBy w.pass number h)
 lent_along {w = w} {h = h} number calls along has done rest all is =
-    let x = around w.pass done has.before (lending number) has.after (is ∙ has.all) in
-    let whole : x.before ++ x.entry ∷ (x.after ++ rest) ≡ h =
-    cc (append_assoc x.before (x.entry ∷ x.after) rest) in
-    let is = entry_is along x.before (x.after ++ rest) x.entry whole in
-    let there : IsLentBy w.pass number (x.entry ∷ (x.after ++ rest)) = grind (arith, common_steps, x, is) in
+    let x = around w.pass done has.before (lending number) has.following (is ∙ has.all) in
+    let whole : x.before ++ x.entry ∷ (x.following ++ rest) ≡ h =
+    cc (append_assoc x.before (x.entry ∷ x.following) rest) in
+    let is = entry_is along x.before (x.following ++ rest) x.entry whole in
+    let there : IsLentBy w.pass number (x.entry ∷ (x.following ++ rest)) = grind (arith, common_steps, x, is) in
     search (rules, lent_after)
 
 -- If a ring was prepared, calls were made, and one of them lent each of its blocks.
@@ -235,7 +235,7 @@ run_has (suc many) first zero old new (mid, lent, rest) below =
     rw (← at)
     (has_more (lending first) mid new (later.0, later.1) (record {
       before = old ++ lent.0;
-      after = [];
+      following = [];
       all = lent.1 ∙ sym (append_assoc old lent.0 (lending first ∷ []));
     }))
 run_has (suc many) first (suc k) old new (mid, lent, rest) below =

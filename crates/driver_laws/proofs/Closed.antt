@@ -22,8 +22,8 @@ up_to tag h calls more is =
     (is ∙ ap (λ (l : List Call). l ++ more) ends ∙ append_assoc front (c ∷ []) more) in (
       record {
         done = x.before ++ x.entry ∷ [];
-        rest = x.after;
-        all = append_assoc x.before (x.entry ∷ []) x.after ∙ x.all;
+        rest = x.following;
+        all = append_assoc x.before (x.entry ∷ []) x.following ∙ x.all;
         made = grind (arith, common_steps, calls_joined, calls_own);
       },
       λ before e both. ap (λ (f : Entry). f.pass) (same_from_push before x.before e x.entry both).1 ∙ x.own,

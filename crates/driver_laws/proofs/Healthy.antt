@@ -200,17 +200,17 @@ along own {w = w} doers (e ∷ es) {s = s} {out = out} {h = h} m r known none ap
     let g = goes m r in
     let lends = apart_here own h doers e b (calls_of w.pass es) (subst (AllOwn h doers) (heads m r) r.own)
     (λ other. none.0 (eqb-false e.pass w.pass other)) (subst (AllLendApart own h doers) (heads m r) apart) in
-    let past = along own (doers_after b doers) es g.meets (runs_on m r)
+    let following = along own (doers_after b doers) es g.meets (runs_on m r)
     (rw r.legal.0 (known_after own m known e.event d mine lends.0)) none.1 lends.1 in (
       λ up fit.
           subst (AreHealthy h doers) (sym (heads m r))
           (all_here h doers e b (calls_of w.pass es)
           (rw r.legal.0 (healthy_call own m known e.event d mine lends.0 fit.pieces))
-          (past.0 (g.receives up)
+          (following.0 (g.receives up)
           (rw (most_after h d (call_in e))
           (frames_stay_fitting w.queue h.receive.layout.most s out h.receive e.event m.sound m.both.receive up fit
           g.setting g.resets)))),
-      rw (played_on m r) past.1,
+      rw (played_on m r) following.1,
     )
 
 pub own_replies_are_healthy : OwnRepliesAreHealthy

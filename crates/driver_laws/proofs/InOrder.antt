@@ -34,15 +34,15 @@ lends_mine pass mine own e r same made all = grind (arith, common_steps)
 
 -- The next call, and those after it.
 
-pub record Next (h : Halves) (doers : List Doer) (e : Entry) (b : Bool) (later : List Call) : Type 0 where
+pub record Next (h : Halves) (doers : List Doer) (e : Entry) (b : Bool) (following : List Call) : Type 0 where
   pub own : OwnCall h (doer_of b doers) (call_in e)
-  pub rest : AllOwn (after_call h (doer_of b doers) (call_in e)) (doers_after b doers) later
-  pub played : played_by h doers (with_call b e later)
-      ≡ played_by (after_call h (doer_of b doers) (call_in e)) (doers_after b doers) later
+  pub rest : AllOwn (after_call h (doer_of b doers) (call_in e)) (doers_after b doers) following
+  pub played : played_by h doers (with_call b e following)
+      ≡ played_by (after_call h (doer_of b doers) (call_in e)) (doers_after b doers) following
 
-next_call : (h : Halves) (doers : List Doer) (e : Entry) (b : Bool) (later : List Call)
-    → AllOwn h doers (with_call b e later) → Next h doers e b later
-next_call h doers e b later own = grind (arith, common_steps)
+next_call : (h : Halves) (doers : List Doer) (e : Entry) (b : Bool) (following : List Call)
+    → AllOwn h doers (with_call b e following) → Next h doers e b following
+next_call h doers e b following own = grind (arith, common_steps)
 
 -- Where a history leads from a place where the device and both halves agree.
 

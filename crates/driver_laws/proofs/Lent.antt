@@ -65,9 +65,9 @@ module _ (pass : ℕ) (own : Blocks) where
   -- No other pass tries to lend these blocks in the beginning of a history.
   pub others_before : (front back : List Entry) → OthersLendNone pass own (front ++ back)
       → OthersLendNone pass own front
-  others_before front back none before e past is =
-      none before e (past ++ back)
-      (ap (λ (l : List Entry). l ++ back) is ∙ append_assoc before (e ∷ past) back)
+  others_before front back none before e following is =
+      none before e (following ++ back)
+      (ap (λ (l : List Entry). l ++ back) is ∙ append_assoc before (e ∷ following) back)
 
   begun_more : (front : List Entry) (e : Entry) → has_begun pass front ≡ true → has_begun pass (front ++ e ∷ []) ≡ true
   begun_more [] e begun = cc
@@ -90,12 +90,12 @@ module _ (pass : ℕ) (own : Blocks) where
         (begun_more front e begun),
   )
 
-  pub others_from : (before : List Entry) (e : Entry) (past : List Entry)
-      → OthersLendNone pass own (before ++ e ∷ past) → e.pass ≡ pass → OnlyPassLends pass own (e ∷ past)
-  others_from before e past none mine = (
+  pub others_from : (before : List Entry) (e : Entry) (following : List Entry)
+      → OthersLendNone pass own (before ++ e ∷ following) → e.pass ≡ pass → OnlyPassLends pass own (e ∷ following)
+  others_from before e following none mine = (
     λ other. absurd (other mine),
-    others_after (before ++ e ∷ []) past
-        (subst (OthersLendNone pass own) (sym (append_assoc before (e ∷ []) past)) none)
+    others_after (before ++ e ∷ []) following
+        (subst (OthersLendNone pass own) (sym (append_assoc before (e ∷ []) following)) none)
         (begun_at before e (eq-eqb e.pass pass mine)),
   )
 
@@ -118,17 +118,17 @@ module _ (w : Watched) (origin : State) (h : List Entry) (q : AtPort) (size : �
         let c : Call = call_of (event.Read q.port number) (reply.Word word) in
         let made : (old ++ before) ++ c ∷ [] ≡ first = append_assoc old before (c ∷ []) ∙ sym added in
         let x : Around w.pass done (old ++ before) c cs = grind (arith, common_steps, around) in
-        let es : List Entry = x.entry ∷ x.past in
-        let here = fresh x.before (x.past ++ rest) x.entry (cc (append_assoc x.before es rest, x.all)) x.own
+        let es : List Entry = x.entry ∷ x.following in
+        let here = fresh x.before (x.following ++ rest) x.entry (cc (append_assoc x.before es rest, x.all)) x.own
         (cc (x.made, x.call)) in
         let within = others_before w.pass own done rest (subst (OthersLendNone w.pass own) (sym all) others) in
-        let spared = others_from w.pass own x.before x.entry x.past
+        let spared = others_from w.pass own x.before x.entry x.following
         (subst (OthersLendNone w.pass own) (sym x.all) within) x.own in
         let there = along_after w origin x.before es (rw x.all (along_before w origin done rest all along)) in
         let then = only_pass_lent w.pass own (λ n. false) (leads_to origin x.before) es there.legal there.events
         spared (λ n is has. absurd (both_ways _ (here n is) has)) in
         let each = each_is q size lent (LendsThese q size lent) (lends_these q size lent) l last (cs ++ more) steps in
-        let mine = calls_own w.pass x.entry x.past (eq-eqb x.entry.pass w.pass x.own) in
+        let mine = calls_own w.pass x.entry x.following (eq-eqb x.entry.pass w.pass x.own) in
         rw (← x.all, leads-append origin x.before es)
         (λ n is has.
         lent_is q size lent w.pass es more (rw (mine, x.call, x.later) ((λ n is. cc), each)) n (then n is has))
@@ -201,8 +201,8 @@ module _ {c : Course} (x : On c) (own : Blocks) where
       (made_some q old quiet_at (Sees Rxdctl false) up.receive.quiet.1)
       (first_seen w q origin h Short along short_kept (λ s number. plain_short s (event.Read q.port number) tt) Rxdctl
       false old quiet_at up.receive.quiet.1
-      (λ before past e split mine is.
-      (x.ground before past e split mine is, (fresh before past e split mine is).short)))
+      (λ before following e split mine is.
+      (x.ground before following e split mine is, (fresh before following e split mine is).short)))
 
 -- Of an arena's blocks, those that its driver has out with its halves are lent at the device. Each of its blocks is in
 -- one place: free in the arena, in hand, or lent to the device.

@@ -54,12 +54,12 @@ calls_are pass e es b is = grind (arith, common_steps, calls_own, calls_other)
 pub record Around (pass : ℕ) (h : List Entry) (calls : List Call) (c : Call) (more : List Call) : Type 0 where
   pub before : List Entry
   pub entry : Entry
-  pub past : List Entry
-  pub all : before ++ entry ∷ past ≡ h
+  pub following : List Entry
+  pub all : before ++ entry ∷ following ≡ h
   pub made : calls_of pass before ≡ calls
   pub own : entry.pass ≡ pass
   pub call : call_in entry ≡ c
-  pub later : calls_of pass past ≡ more
+  pub later : calls_of pass following ≡ more
 
 module _ (pass : ℕ) where
   -- A history around one of a pass's calls extends by one entry at its front.
@@ -69,7 +69,7 @@ module _ (pass : ℕ) where
   ahead e es xs calls c more adds f = record {
     before = e ∷ f.before;
     entry = f.entry;
-    past = f.past;
+    following = f.following;
     all = ap (λ (l : List Entry). e ∷ l) f.all;
     made = adds f.before f.made;
     own = f.own;
@@ -86,7 +86,7 @@ module _ (pass : ℕ) where
         let here : call_in e ∷ calls_of pass es ≡ c ∷ more = sym (calls_own pass e es own) ∙ is in record {
           before = [];
           entry = e;
-          past = es;
+          following = es;
           all = refl;
           made = refl;
           own = eqb-true e.pass pass own;
@@ -114,10 +114,10 @@ module _ (pass : ℕ) where
   parts h xs (y ∷ ys) is =
       let a = around h xs y ys is in record {
         front = a.before;
-        back = a.entry ∷ a.past;
+        back = a.entry ∷ a.following;
         both = a.all;
         fronts = a.made;
-        backs = calls_own pass a.entry a.past (eq-eqb a.entry.pass pass a.own) ∙ (λ k. a.call k ∷ a.later k);
+        backs = calls_own pass a.entry a.following (eq-eqb a.entry.pass pass a.own) ∙ (λ k. a.call k ∷ a.later k);
       }
 
 -- Two beginnings of a list, for example of a history or of the calls of a pass: one begins the other.

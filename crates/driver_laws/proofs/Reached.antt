@@ -126,12 +126,12 @@ module _ {w : Watched} {origin : State} {h : List Entry} (x : IsAlong w origin h
       let same = append_assoc old before (call_of f r ∷ []) in
       let a = around w.pass done (old ++ before) (call_of f r) [] (cc same) in
       let e = a.entry in
-      let whole : a.before ++ e ∷ (a.past ++ rest) ≡ h = cc (append_assoc a.before (e ∷ a.past) rest) in
-      let here = entry_is a.before (a.past ++ rest) e whole in
-      let p = at a.before (a.past ++ rest) e whole a.own (cc same) in
+      let whole : a.before ++ e ∷ (a.following ++ rest) ≡ h = cc (append_assoc a.before (e ∷ a.following) rest) in
+      let here = entry_is a.before (a.following ++ rest) e whole in
+      let p = at a.before (a.following ++ rest) e whole a.own (cc same) in
       (walk (λ so_far cs. Q so_far × (cs ≡ [])) (λ cs so_far g left p. (kept so_far g left p.0, p.1))
       (λ so_far more g cs there some p. absurd (cc p.1)) (a.before ++ e ∷ [])
-      a.past done rest (append_assoc a.before (e ∷ []) a.past ∙ a.all) all (own_some w.pass a.before e a.own)
+      a.following done rest (append_assoc a.before (e ∷ []) a.following ∙ a.all) all (own_some w.pass a.before e a.own)
       (leads a.before e a.call here.met here.made here.reported p, a.later)).0
 
 -- Calls of one kind keep what each of them keeps.

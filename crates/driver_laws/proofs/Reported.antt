@@ -83,14 +83,14 @@ module _ (old : List Call) {h k : Halves} {mid new : List Call} (e : Event Block
 -- Lemmas about an entry of a life's history, with the added calls after those of the life.
 module _ (x : Life) (old : List Call) {mid new now : List Call} (e : Event Block) (reply : Reply Block)
     {then : Halves} (drives : Drives old x.k mid then) (adds : Adds mid new e reply) (at : EndsAt x.w.pass x.h now)
-    (after : (since : List Call) → new ≡ old ++ since → now ≡ x.made ++ since) where
+    (following : (since : List Call) → new ≡ old ++ since → now ≡ x.made ++ since) where
   abbrev till : List Call
   till = (x.made ++ drives.1) ++ adds.0
 
   ends : (calls_of x.w.pass at.before ≡ till) × (call_in at.entry ≡ call_of e reply)
   ends =
       same_from_push _ till _ (call_of e reply)
-      (at.made ∙ after (added old e reply drives adds) (added_is old e reply drives adds) ∙ simp (append_assoc))
+      (at.made ∙ following (added old e reply drives adds) (added_is old e reply drives adds) ∙ simp (append_assoc))
 
   -- The life continues up to it.
   goes_up : Leads x.started (halves_of x.r) (calls_of x.w.pass at.before) then
@@ -103,12 +103,12 @@ module _ (x : Life) (old : List Call) {mid new now : List Call} (e : Event Block
   -- The device replies to it.
   answered : reply_to (leads_to x.origin at.before) e ≡ reply
   answered =
-      grind (arith, common_steps, ends, legal_past x.origin at.before (at.entry ∷ at.after))
+      grind (arith, common_steps, ends, legal_past x.origin at.before (at.entry ∷ at.following))
 
 -- A poll in vain, and one that finds a packet waiting.
 
 module _ (x : Life) {old new now : List Call} (at : EndsAt x.w.pass x.h now)
-    (after : (since : List Call) → new ≡ old ++ since → now ≡ x.made ++ since) where
+    (following : (since : List Call) → new ≡ old ++ since → now ≡ x.made ++ since) where
   open x use {w, origin, k}
 
   module _ {v : Receive} (y : LooksInVain old k.receive new v) where
@@ -116,25 +116,25 @@ module _ (x : Life) {old new now : List Call} (at : EndsAt x.w.pass x.h now)
     vain = receiving_drives old y.mid k (record k { receive = v }) y.looks refl
 
     abbrev vain_goes : Leads x.started (halves_of x.r) (calls_of w.pass at.before) (record k { receive = v })
-    vain_goes = goes_up x old _ _ vain y.last at after
+    vain_goes = goes_up x old _ _ vain y.last at following
 
     finds : FindsNone (leads_to origin at.before) v
-    finds = let reply = answered x old _ _ vain y.last at after in search rules
+    finds = let reply = answered x old _ _ vain y.last at following in search rules
 
     pub none_before : k.receive.handed ≡ delivered w.queue origin at.before
-    none_before = cc (none (ran (later x at.before (at.entry ∷ at.after) at.all vain_goes)) refl finds, y.left)
+    none_before = cc (none (ran (later x at.before (at.entry ∷ at.following) at.all vain_goes)) refl finds, y.left)
 
     pub none_first : (early more : List Entry) → early ++ more ≡ at.before → AddsHarmless x.made (calls_of w.pass early)
         → k.receive.handed ≡ delivered w.queue origin early
     none_first early more all is =
-        none_sooner x at.before (at.entry ∷ at.after) at.all vain_goes early more all is finds (cc (y.left))
+        none_sooner x at.before (at.entry ∷ at.following) at.all vain_goes early more all is finds (cc (y.left))
 
   pub waiting_first : {v : Sender} → LooksLast old k.transmit new v → (early more : List Entry)
       → early ++ more ≡ at.before → AddsHarmless x.made (calls_of w.pass early)
       → bytes_of k.transmit.accepted ≢ sent_since w.queue origin [] early
   waiting_first y early more all is sent =
       let drives = sending_drives old y.mid k (record k { transmit = y.before }) y.plays refl in
-      waiting_sooner x at.before (at.entry ∷ at.after) at.all (goes_up x old _ _ drives y.looks at after) early more
+      waiting_sooner x at.before (at.entry ∷ at.following) at.all (goes_up x old _ _ drives y.looks at following) early more
       all is
       (search (rules, answered)) (ap bytes_of y.accepted ∙ sent)
 

@@ -14,15 +14,15 @@ use Rattle.driver_laws.proofs.On.{are_on}
 pub record Shifts (R : List Call → List Call → Type 0) (old new : List Call) : Type 0 where
   pub since : List Call
   pub made : new ≡ old ++ since
-  pub after : (front : List Call) → R front (front ++ since)
+  pub following : (front : List Call) → R front (front ++ since)
 
 pub given : {R : List Call → List Call → Type 0} {old new : List Call} (since : List Call) → new ≡ old ++ since
     → ((front : List Call) → R front (front ++ since)) → Shifts R old new
-given since made after = record { since = since; made = made; after = after }
+given since made following = record { since = since; made = made; following = following }
 
 pub mapped : {R S : List Call → List Call → Type 0} {old new : List Call} → Shifts R old new
     → ((a b : List Call) → R a b → S a b) → Shifts S old new
-mapped x f = given x.since x.made (λ front. f front (front ++ x.since) (x.after front))
+mapped x f = given x.since x.made (λ front. f front (front ++ x.since) (x.following front))
 
 -- One after the other.
 pub joined : {R S T : List Call → List Call → Type 0} {old mid new : List Call} → Shifts R old mid → Shifts S mid new
@@ -127,7 +127,7 @@ module _ (q : AtPort) where
   receive : (size frame : ℕ) (a b : Numbers) (v : Receive) → Shift (λ o n. IsReceiveReady q size frame o a n b v)
   receive size frame a b v old new x =
       joined (access q (Sees Rxdctl false) old x.quiet.0 x.quiet.1) (ready_after size frame a b v old new x)
-      (λ o m n one after. (after o one).0)
+      (λ o m n one following. (following o one).0)
 
   preparing : (side : Dir) (size : ℕ) (a b : Numbers) (out : List ℕ)
       → Shift (λ o n. PreparingFails DeviceFault q side size o a n b out)

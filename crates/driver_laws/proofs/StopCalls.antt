@@ -103,7 +103,7 @@ once_off_shift q old new x =
       off.since,
       off.made,
       joined {R = λ o m. (y : (k : List Call) × Asks q o k × IsSwitched q k m false 1000) × (m ≡ o ++ off.since)}
-          (given off.since off.made (λ front. (off.later front, refl))) (of_kind (IsEnding q) x.off new x.ends)
+          (given off.since off.made (λ front. (off.following front, refl))) (of_kind (IsEnding q) x.off new x.ends)
           (λ o m n y ends. (once_of q o n y.0.0 m y.0.1 y.0.2 ends, y.1)),
     )
 

@@ -10,8 +10,8 @@ use Rattle.driver_laws.specs.Life.{Life}
 pub record EndsAt (pass : ℕ) (h : List Entry) (calls : List Call) : Type 0 where
   pub before : List Entry
   pub entry : Entry
-  pub after : List Entry
-  pub all : before ++ entry ∷ after ≡ h
+  pub following : List Entry
+  pub all : before ++ entry ∷ following ≡ h
   pub made : calls_of pass before ++ call_in entry ∷ [] ≡ calls
 
 -- If the pass has made some calls, and perhaps more after them, there is an entry of this kind.

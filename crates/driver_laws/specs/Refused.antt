@@ -23,8 +23,8 @@ pub record Refused : Type 0 where
   -- sides are off and not requested on.
   pub before : List Entry
   pub first : Entry
-  pub after : List Entry
-  pub split : before ++ first ∷ after ≡ h
+  pub following : List Entry
+  pub split : before ++ first ∷ following ≡ h
   pub own : first.pass ≡ w.pass
   pub steps : List Call
   pub stepped : AreSteps steps
@@ -38,7 +38,7 @@ pub record Refused : Type 0 where
 
 -- From the start's first event on, nothing is sent on the queue.
 abbrev pub RefusedSendsNothing : Type 0
-RefusedSendsNothing = (x : Refused) → sent_in x.w.queue (leads_to x.origin x.before) (x.first ∷ x.after) ≡ []
+RefusedSendsNothing = (x : Refused) → sent_in x.w.queue (leads_to x.origin x.before) (x.first ∷ x.following) ≡ []
 
 -- So what is left as handed out is a prefix of what was delivered from there on, counted since the receive side was
 -- last enabled. What was sent from there on, counted since the transmit side was last enabled, is a prefix of what is
@@ -47,5 +47,5 @@ abbrev pub LeftOfRefusedIsPrefix : Type 0
 LeftOfRefusedIsPrefix =
     (x : Refused) →
     let s = leads_to x.origin x.before in
-    receive.IsPrefixOf (left_handed x.left) (delivered x.w.queue s (x.first ∷ x.after))
-    × transmit.IsPrefixOf (sent_since x.w.queue s [] (x.first ∷ x.after)) (bytes_of (left_accepted x.left))
+    receive.IsPrefixOf (left_handed x.left) (delivered x.w.queue s (x.first ∷ x.following))
+    × transmit.IsPrefixOf (sent_since x.w.queue s [] (x.first ∷ x.following)) (bytes_of (left_accepted x.left))

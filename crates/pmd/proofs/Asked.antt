@@ -15,7 +15,7 @@ module _ (w : Watched) where
   -- No entry tries to enable the queue, starting from these settings.
   abbrev NoneAsks : Settings → List Entry → Type 0
   NoneAsks s h =
-      (before : List Entry) (e : Entry) (after : List Entry) → before ++ e ∷ after ≡ h
+      (before : List Entry) (e : Entry) (following : List Entry) → before ++ e ∷ following ≡ h
       → IsFalse (asks_on w (settings_through w.vfs s before).mode e.event)
 
   -- If the report says so, no entry has tried before and none tries in the history.
@@ -25,17 +25,17 @@ module _ (w : Watched) where
   first_asks t (e ∷ es) is = (or_parts t.asked _ (first_asks (reported_after w t e.event) es is)).0
 
   none_asks : (t : Reported) (h : List Entry) → (reported_through w t h).asked ≡ false → NoneAsks t.settings h
-  none_asks t [] is [] e after both = cc
-  none_asks t [] is (b ∷ before) e after both = cc
-  none_asks t (f ∷ h) is [] e after both =
+  none_asks t [] is [] e following both = cc
+  none_asks t [] is (b ∷ before) e following both = cc
+  none_asks t (f ∷ h) is [] e following both =
       let same : f ≡ e = cc in
       subst (λ (d : Entry). asks_on w t.settings.mode d.event ≡ false) same
       (or_parts t.asked _ (first_asks (reported_after w t f.event) h is)).1
-  none_asks t (f ∷ h) is (b ∷ before) e after both =
+  none_asks t (f ∷ h) is (b ∷ before) e following both =
       let same : f ≡ b = cc in
-      let rest : before ++ e ∷ after ≡ h = cc in
+      let rest : before ++ e ∷ following ≡ h = cc in
       subst (λ (d : Entry). asks_on w (settings_through w.vfs t.settings (d ∷ before)).mode e.event ≡ false) same
-      (none_asks (reported_after w t f.event) h is before e after rest)
+      (none_asks (reported_after w t f.event) h is before e following rest)
 
   -- If no entry has tried before and none tries in the history, the report says so.
   none_asked : (t : Reported) (h : List Entry) → t.asked ≡ false → NoneAsks t.settings h
@@ -43,8 +43,8 @@ module _ (w : Watched) where
   none_asked t [] is none = is
   none_asked t (e ∷ es) is none =
       let here : asks_on w t.settings.mode e.event ≡ false = none [] e es refl in
-      none_asked (reported_after w t e.event) es (rw (is, here) refl) (λ before f after both.
-      none (e ∷ before) f after (ap (λ (l : List Entry). e ∷ l) both))
+      none_asked (reported_after w t e.event) es (rw (is, here) refl) (λ before f following both.
+      none (e ∷ before) f following (ap (λ (l : List Entry). e ∷ l) both))
 
 pub never_decides : (w : Watched) (from : ℕ) (h : List Entry) (o : Option Reported) → o
     ≡ reported_before w first_reported from h

@@ -68,7 +68,7 @@ module _ {S : Type 0} (next : S → Entry → S) (w : Watched) (test : S → Boo
 
   abbrev At : S → List Entry → List Call → Type 0
   At t h old =
-      (before : List Entry) (first : Entry) (after : List Entry) → before ++ first ∷ after ≡ h
+      (before : List Entry) (first : Entry) (following : List Entry) → before ++ first ∷ following ≡ h
       → first.pass ≡ w.pass → IsFalse (is_step first.event) → (steps : List Call) → AreSteps steps
       → calls_of w.pass before ≡ old ++ steps → Passes (known_through next t before)
 
@@ -115,17 +115,17 @@ module _ {S : Type 0} (next : S → Entry → S) (w : Watched) (test : S → Boo
 
   each : (t : S) (left : ℕ) (h : List Entry) → Tells t left h → (old : List Call) → length old ≡ left
       → At t h old
-  each t left [] is old long [] first after all own event steps stepped calls = cc
-  each t left [] is old long (b ∷ before) first after all own event steps stepped calls = cc
-  each t left (f ∷ h) is [] long [] first after all own event steps stepped calls =
+  each t left [] is old long [] first following all own event steps stepped calls = cc
+  each t left [] is old long (b ∷ before) first following all own event steps stepped calls = cc
+  each t left (f ∷ h) is [] long [] first following all own event steps stepped calls =
       let same : first ≡ f = cc in
       let here : is_first w left f ≡ true =
       subst (λ (e : Entry). is_first w left e ≡ true) same (first_is left first own event (sym long)) in
       ap (holds_of test) (sym (at_first t left f h here)) ∙ is
-  each t left (f ∷ h) is (c ∷ old) long [] first after all own event steps stepped calls = cc
-  each t left (f ∷ h) is old long (g ∷ before) first after all own event steps stepped calls =
+  each t left (f ∷ h) is (c ∷ old) long [] first following all own event steps stepped calls = cc
+  each t left (f ∷ h) is old long (g ∷ before) first following all own event steps stepped calls =
       let same : g ≡ f = cc in
-      let rest : before ++ first ∷ after ≡ h = cc in
+      let rest : before ++ first ∷ following ≡ h = cc in
       let called : calls_of w.pass (f ∷ before) ≡ old ++ steps =
       ap (λ (e : Entry). calls_of w.pass (e ∷ before)) (sym same) ∙ calls in
       let then = next t f in
@@ -135,11 +135,11 @@ module _ {S : Type 0} (next : S → Entry → S) (w : Watched) (test : S → Boo
             let x =
             one_past left f before old steps long stepped mine (sym (calls_own w.pass f before mine) ∙ called) in
             each then (still_left w left f) h (ap (holds_of test) (sym (at_other t left f h x.skipped)) ∙ is) x.old
-            x.long before first after rest own event x.steps x.stepped x.calls
+            x.long before first following rest own event x.steps x.stepped x.calls
         | inr other ↦
             each then (still_left w left f) h
             (ap (holds_of test) (sym (at_other t left f h (foreign left f other))) ∙ is) old
-            (long ∙ sym (after_other left f other)) before first after rest own event steps stepped
+            (long ∙ sym (after_other left f other)) before first following rest own event steps stepped
             (sym (calls_other w.pass f before other) ∙ called)
       ])
 
@@ -151,26 +151,26 @@ module _ {S : Type 0} (next : S → Entry → S) (w : Watched) (test : S → Boo
   all_own : (t : S) (left : ℕ) (f : Entry) (h : List Entry) → (f.pass == w.pass) ≡ true
       → is_first w left f ≡ false → AllAt t left (f ∷ h)
       → AllAt (next t f) (still_left w left f) h
-  all_own t zero f h mine skipped names old long before first after both own event steps stepped calls =
+  all_own t zero f h mine skipped names old long before first following both own event steps stepped calls =
       let none : length old ≡ 0 = long ∙ past_own 0 f mine ∙ omega arith in
       let step : is_step f.event ≡ true = elim (cases_Bool (is_step f.event)) [
         | inl is ↦ is
         | inr event ↦ absurd (both_ways _ skipped (first_is 0 f (eqb-true f.pass w.pass mine) event refl))
       ] in
-      names [] refl (f ∷ before) first after (ap (λ (l : List Entry). f ∷ l) both) own event (call_in f ∷ steps)
+      names [] refl (f ∷ before) first following (ap (λ (l : List Entry). f ∷ l) both) own event (call_in f ∷ steps)
       (step, stepped)
       (calls_own w.pass f before mine
       ∙ ap (λ (l : List Call). call_in f ∷ l)
       (calls ∙ ap (λ (l : List Call). l ++ steps) (nil_from_length old none)))
-  all_own t (suc left) f h mine skipped names old long before first after both own event steps stepped calls =
+  all_own t (suc left) f h mine skipped names old long before first following both own event steps stepped calls =
       let more : length old ≡ left = long ∙ past_own (suc left) f mine ∙ omega arith in
-      names (call_in f ∷ old) (ap suc more) (f ∷ before) first after (ap (λ (l : List Entry). f ∷ l) both) own event
+      names (call_in f ∷ old) (ap suc more) (f ∷ before) first following (ap (λ (l : List Entry). f ∷ l) both) own event
       steps stepped (calls_own w.pass f before mine ∙ ap (λ (l : List Call). call_in f ∷ l) calls)
 
   all_other : (t : S) (left : ℕ) (f : Entry) (h : List Entry) → (f.pass == w.pass) ≡ false
       → AllAt t left (f ∷ h) → AllAt (next t f) (still_left w left f) h
-  all_other t left f h other names old long before first after both own event steps stepped calls =
-      names old (long ∙ after_other left f other) (f ∷ before) first after (ap (λ (l : List Entry). f ∷ l) both) own
+  all_other t left f h other names old long before first following both own event steps stepped calls =
+      names old (long ∙ after_other left f other) (f ∷ before) first following (ap (λ (l : List Entry). f ∷ l) both) own
       event steps stepped (calls_other w.pass f before other ∙ calls)
 
   -- The driver's first entry belongs to its pass, comes after the pass's earlier calls, and isn't a step.
@@ -204,15 +204,15 @@ module _ {S : Type 0} (next : S → Entry → S) (w : Watched) (test : S → Boo
       → Passes (known_through next s x.before))
   test_decides s from h o known = (
     λ is old long x.
-        each s from h (ap (holds_of test) (sym known) ∙ is) old long x.before x.first x.after x.all x.own
+        each s from h (ap (holds_of test) (sym known) ∙ is) old long x.before x.first x.following x.all x.own
         x.event x.steps x.stepped x.calls,
     λ holds.
         ap (holds_of test) known
-        ∙ all s from h (λ old long before first after both own event steps stepped calls.
+        ∙ all s from h (λ old long before first following both own event steps stepped calls.
         holds old long (record {
           before = before;
           first = first;
-          after = after;
+          following = following;
           all = both;
           own = own;
           event = event;

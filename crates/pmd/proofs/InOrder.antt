@@ -63,15 +63,15 @@ module _ (w : Watched) (origin : State) (h : List Entry) {q : AtPort} {size fram
   stop = takes_shift q lived.made new
       (stopped_takes q lived.made (halted_of (Up lived.last)) new left late lived.stopped)
 
-  abbrev after : List Call
-  after = (start.since ++ drove.since) ++ stop.since
+  abbrev following : List Call
+  following = (start.since ++ drove.since) ++ stop.since
 
-  all : calls_of w.pass h ≡ (old ++ steps) ++ call ∷ after
+  all : calls_of w.pass h ≡ (old ++ steps) ++ call ∷ following
   all = made ∙ grind (arith, common_steps, start, drove, stop)
 
   -- The driver's first entry is therefore in the history.
   starts : Starts w.pass old h
-  starts = search (rules, around w.pass h (old ++ steps) call after all, seen)
+  starts = search (rules, around w.pass h (old ++ steps) call following all, seen)
 
   -- From that entry on.
   module _ (along : IsAlong w origin h) (x : Starts w.pass old h)
@@ -80,16 +80,16 @@ module _ (w : Watched) (origin : State) (h : List Entry) {q : AtPort} {size fram
     here = leads_to origin x.before
 
     abbrev es : List Entry
-    es = x.first ∷ x.after
+    es = x.first ∷ x.following
 
-    calls : calls_of w.pass es ≡ call ∷ after
+    calls : calls_of w.pass es ≡ call ∷ following
     calls =
-        calls_own w.pass x.first x.after (eq-eqb x.first.pass w.pass x.own)
-        ∙ one_first x.steps steps _ call _ after x.stepped seen.4.2 x.event refl
-        (append_cancel_left old _ _ (cc (calls_from w.pass old h x, all, append_assoc old steps (call ∷ after))))
+        calls_own w.pass x.first x.following (eq-eqb x.first.pass w.pass x.own)
+        ∙ one_first x.steps steps _ call _ following x.stepped seen.4.2 x.event refl
+        (append_cancel_left old _ _ (cc (calls_from w.pass old h x, all, append_assoc old steps (call ∷ following))))
 
     began : (y : AreUp q size frame [] a (call ∷ start.since) lived.lives.fresh) × (y.receive.quiet.0 ≡ call ∷ [])
-    began = start.after (call ∷ []) [] (seen.0, seen.1, seen.2, seen.3, ([], refl, tt))
+    began = start.following (call ∷ []) [] (seen.0, seen.1, seen.2, seen.3, ([], refl, tt))
 
     ground_first : (done rest : List Entry) (e : Entry) → done ++ e ∷ rest ≡ es
         → calls_of w.pass done ++ call_in e ∷ [] ≡ call ∷ [] → HasGround w.queue q frame (leads_to here done)
@@ -105,16 +105,16 @@ module _ (w : Watched) (origin : State) (h : List Entry) {q : AtPort} {size fram
               (subst (IsAlong w origin) (sym x.all) along);
           up = began.0;
           begins = record { ground = λ done rest e both own made. ground_first done rest e both (made ∙ began.1) };
-          since = drives_lead (call ∷ start.since) _ _ _ (drove.after (call ∷ start.since)).apart.drives;
+          since = drives_lead (call ∷ start.since) _ _ _ (drove.following (call ∷ start.since)).apart.drives;
         })
 
     stopping : IsStopping life (life.made ++ stop.since)
-    stopping = search (calls, takes_ends, stop.after life.made)
+    stopping = search (calls, takes_ends, stop.following life.made)
 
     lived_in_order : receive.IsPrefixOf (left_handed left) (delivered w.queue here es)
         × transmit.IsPrefixOf (sent_since w.queue here [] es) (bytes_of (left_accepted left))
     lived_in_order =
-        let sent = sent_over life _ stopping (stop.after life.made) in
+        let sent = sent_over life _ stopping (stop.following life.made) in
         search (rules, over_stop life _ stopping, sent, lived)
 
 -- A worker's end.
@@ -165,8 +165,8 @@ module _ (vfs fifo : ℕ) (h : List Entry) (j : Job) (e : WorkerEnd) (ends : IsE
     -- The packets handed out and the frames sent are in order from that entry on.
     abbrev InOrder : Type 0
     InOrder =
-        receive.IsPrefixOf (left_handed e.rest) (delivered j.pf_queue at_first (s.first ∷ s.after))
-        × transmit.IsPrefixOf (sent_since j.pf_queue at_first [] (s.first ∷ s.after)) (bytes_of (left_accepted e.rest))
+        receive.IsPrefixOf (left_handed e.rest) (delivered j.pf_queue at_first (s.first ∷ s.following))
+        × transmit.IsPrefixOf (sent_since j.pf_queue at_first [] (s.first ∷ s.following)) (bytes_of (left_accepted e.rest))
 
     run_in_order : HasRun (queue_of j) j.size j.frame j.pass.calls j.arena e.pass.calls e.rest e.fault
         → (e.fault ≡ None) ⊎ IsQuiet j.pf_queue (queue_of j) j.frame at_first → InOrder
@@ -175,7 +175,7 @@ module _ (vfs fifo : ℕ) (h : List Entry) (j : Job) (e : WorkerEnd) (ends : IsE
     run_in_order (inr (f, is, never)) (inl none) = cc
     run_in_order (inr (f, is, never)) (inr at) =
         let calls = calls_from e.pass.tag j.pass.calls u.done s in
-        left_in_order _ never along s.before s.after s.first s.all s.own s.steps s.stepped s.calls at _ []
+        left_in_order _ never along s.before s.following s.first s.all s.own s.steps s.stepped s.calls at _ []
         (sym u.made ∙ calls ∙ sym (append-nil _)) calls
 
     in_order : InOrder

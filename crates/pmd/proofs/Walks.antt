@@ -18,10 +18,10 @@ module _ {S : Type 0} (next : S → Entry → S) (w : Watched) (s : S) (left : �
     known_here is = ap (known_before next w s left) begins ∙ rw is refl
 
     -- The entry isn't the driver's first one.
-    pub known_there : is_first w left e ≡ false → (then : S) (after : ℕ) → then ≡ next s e
-        → after ≡ still_left w left e
-        → known_before next w s left (drop i h) ≡ known_before next w then after (drop (i + 1) h)
-    known_there is then after moved fewer =
+    pub known_there : is_first w left e ≡ false → (then : S) (following : ℕ) → then ≡ next s e
+        → following ≡ still_left w left e
+        → known_before next w s left (drop i h) ≡ known_before next w then following (drop (i + 1) h)
+    known_there is then following moved fewer =
         ap (known_before next w s left) begins ∙ rw (is, moved, fewer) refl
 
   -- There is no such entry.

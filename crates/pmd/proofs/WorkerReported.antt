@@ -15,7 +15,7 @@ use Rattle.pmd.specs.Queues as reported
 
 -- All calls of a pass, around its driver's first one.
 pub calls_from : (tag : ℕ) (old : List Call) (h : List Entry) (x : Starts tag old h)
-    → calls_of tag h ≡ old ++ (x.steps ++ call_in x.first ∷ calls_of tag x.after)
+    → calls_of tag h ≡ old ++ (x.steps ++ call_in x.first ∷ calls_of tag x.following)
 calls_from tag old h x = grind (arith, common_steps, calls_joined, calls_own)
 
 -- The entry is also the first in a longer history.
@@ -24,8 +24,8 @@ abbrev pub starts_more : (tag : ℕ) (old : List Call) (h rest whole : List Entr
 starts_more tag old h rest whole all x = record {
   before = x.before;
   first = x.first;
-  after = x.after ++ rest;
-  all = sym (append_assoc x.before (x.first ∷ x.after) rest) ∙ ap (λ (l : List Entry). l ++ rest) x.all ∙ all;
+  following = x.following ++ rest;
+  all = sym (append_assoc x.before (x.first ∷ x.following) rest) ∙ ap (λ (l : List Entry). l ++ rest) x.all ∙ all;
   own = x.own;
   event = x.event;
   steps = x.steps;
@@ -67,7 +67,7 @@ pub ground_there : (w : Watched) (fifo : ℕ) (old : List Call) (given : Given) 
     → HasGround w.queue (record { port = given.port; queue = given.queue }) given.frame
     (leads_to (new_state w.vfs fifo) x.before)
 ground_there w fifo old given h sound events well x = let s : State = leads_to (new_state w.vfs fifo) x.before in
-    let early = events_before x.before (x.first ∷ x.after) (subst AreEvents (sym x.all) events) in
+    let early = events_before x.before (x.first ∷ x.following) (subst AreEvents (sym x.all) events) in
     let reported : Settings = settings_through w.vfs first_settings x.before in
     let is = settings_reported w.vfs fifo x.before sound early in
     let vfs : s.vfs ≡ w.vfs = vfs_stays (new_state w.vfs fifo) x.before in

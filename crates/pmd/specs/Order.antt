@@ -51,12 +51,12 @@ pub record IsInOrder (vfs fifo : ℕ) (h : List Entry) (j : Job) (e : WorkerEnd)
   pub handed :
       (x : Starts e.pass.tag j.pass.calls u.done)
       → receive.IsPrefixOf (left_handed e.rest)
-      (delivered j.pf_queue (leads_to (new_state vfs fifo) x.before) (x.first ∷ x.after))
+      (delivered j.pf_queue (leads_to (new_state vfs fifo) x.before) (x.first ∷ x.following))
   -- The frames sent on the queue from that entry on, counted since the transmit side was switched on, are a prefix of
   -- those that the end reports as accepted.
   pub sent :
       (x : Starts e.pass.tag j.pass.calls u.done)
-      → transmit.IsPrefixOf (sent_since j.pf_queue (leads_to (new_state vfs fifo) x.before) [] (x.first ∷ x.after))
+      → transmit.IsPrefixOf (sent_since j.pf_queue (leads_to (new_state vfs fifo) x.before) [] (x.first ∷ x.following))
       (bytes_of (left_accepted e.rest))
 
 -- Each of these ends is in order over every legal history of a new device that leaves its job's queue alone and in

@@ -35,7 +35,7 @@ asks_on w mode other = false
 -- No entry of a new device's history tries to enable the queue.
 abbrev pub NoneAsksOn : Watched → List Entry → Type 0
 NoneAsksOn w h =
-    (before : List Entry) (e : Entry) (after : List Entry) → before ++ e ∷ after ≡ h →
+    (before : List Entry) (e : Entry) (following : List Entry) → before ++ e ∷ following ≡ h →
     IsFalse (asks_on w (settings_through w.vfs first_settings before).mode e.event)
 
 -- No entry before the driver's first one tries to. The driver's first entry comes after `from` calls of its pass.

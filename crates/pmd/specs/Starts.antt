@@ -11,8 +11,8 @@ use Rattle.pmd_driver.specs.PmdAccess.Made.{AreSteps}
 pub record Starts (tag : ℕ) (old : List Call) (h : List Entry) : Type 0 where
   pub before : List Entry
   pub first : Entry
-  pub after : List Entry
-  pub all : before ++ first ∷ after ≡ h
+  pub following : List Entry
+  pub all : before ++ first ∷ following ≡ h
   pub own : first.pass ≡ tag
   pub event : IsFalse (is_step first.event)
   pub steps : List Call

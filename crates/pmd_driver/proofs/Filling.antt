@@ -37,13 +37,13 @@ filled_of a b bytes p q (draws, is) put numbers rest =
     ap bytes_of draws.zero ∙ zero_bytes (numbers_of p.bufs)
     ∙ ap (λ (k : ℕ). replicate (2048 * k) 0) (length-map p.bufs (λ (x : Block). x.number) ∙ sym count) in
     let none : 0 + n ≡ n = omega arith in
-    let after : drop (0 + n) (bytes_of p.bufs) ≡ replicate (2048 * length q.bufs - n) 0 =
+    let following : drop (0 + n) (bytes_of p.bufs) ≡ replicate (2048 * length q.bufs - n) 0 =
     ap (λ (k : ℕ). drop k (bytes_of p.bufs)) none
     ∙ ap (λ (xs : List ℕ). drop n xs) zeros
     ∙ drop-replicate n (2048 * length q.bufs) 0 in
     record {
       drawn = subst (λ (ns : List ℕ). IsDrawn a ns b) (sym numbers) draws.drawn;
       count_is = count ∙ draws.count_is;
-      bytes_are = put ∙ ap (λ (xs : List ℕ). bytes ++ xs) after;
+      bytes_are = put ∙ ap (λ (xs : List ℕ). bytes ++ xs) following;
       rest = rest ∙ ap (λ (x : Packet). record x { bufs = q.bufs }) is;
     }

@@ -106,7 +106,7 @@ module _ {given left : List Packet} {sent : ℕ} {met : Option PmdFault} {old mi
             accepts = q.accepts;
             count = tt;
             queued = mid;
-            after = s;
+            following = s;
             queues = (q.drives, q.accepts, q.tail);
             posts = (rings_still mid s, accepts_same s);
             left_are = q.left_are;
@@ -156,7 +156,7 @@ module _ {given left : List Packet} {sent : ℕ} {met : Option PmdFault} {old mi
                 (accepts_on r s t q.gone [] q.accepts c.accepts);
             count = done_later result (λ n both. both.0 ∙ q.count) done;
             queued = mid;
-            after = s;
+            following = s;
             queues = (q.drives, q.accepts, q.tail);
             posts = (c.drives, c.accepts);
             left_are = q.left_are;

@@ -112,10 +112,10 @@ drawn_keeps a (x ∷ xs) b n (here, is) free none = elim (cases_eq n x) [
 
 -- A number after a run isn't in it.
 pub none_past : (many first n : ℕ) → first + many ≤ n → times_in_hand (range_with_len first many) n ≡ 0
-none_past zero first n after = refl
-none_past (suc many) first n after =
-    times_rest (range_with_len (first + 1) many) first n (λ e. absurd (omega (arith, after, e)))
-    ∙ none_past many (first + 1) n (omega (arith, after))
+none_past zero first n following = refl
+none_past (suc many) first n following =
+    times_rest (range_with_len (first + 1) many) first n (λ e. absurd (omega (arith, following, e)))
+    ∙ none_past many (first + 1) n (omega (arith, following))
 
 pub still_free : (a : Numbers) (ring size : ℕ) (b : Numbers) (other count : ℕ) → IsDrawn a (ring_blocks ring size) b
     → ring + blocks_for size ≤ other → IsFreeRun a other count → IsFreeRun b other count

@@ -141,9 +141,9 @@ pub record SendsBurst (given left : List Packet) (result : Result ℕ PmdFault) 
   pub count : IfOk result (λ n. n ≡ length gone)
   -- They were queued without moving the tail, which was then advanced.
   pub queued : List Call
-  pub past : Running
-  pub queues : DrivesRings old r queued past × Accepts gone r past × (past.transmit.posted ≡ r.transmit.posted)
-  pub posts : DrivesRings queued past new s × Accepts [] past s
+  pub following : Running
+  pub queues : DrivesRings old r queued following × Accepts gone r following × (following.transmit.posted ≡ r.transmit.posted)
+  pub posts : DrivesRings queued following new s × Accepts [] following s
   -- The other packets remain.
   pub left_are : AreLeft met waiting left
   pub stops : Stops met s left

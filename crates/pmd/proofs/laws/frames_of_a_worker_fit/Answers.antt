@@ -23,17 +23,17 @@ module _ (longest : ℕ) (s : State) (h : All (IsUpTo longest) s.waiting) where
   more : (len : ℕ) (ws : List Waiting) → All (IsUpTo longest) ws → All (IsUpTo (max longest len)) ws
   more len ws all = grind (arith, common_steps, All-weaker)
 
-  later : (e : Event Block) → After e (step_of s e)
+  following : (e : Event Block) → After e (step_of s e)
   unfolding step_of
-  later (event.Arrive frame) =
+  following (event.Arrive frame) =
       arrived_cases (After (event.Arrive frame)) s frame (grind (arith, common_steps, All-push, more))
-  later e = more 0 _ (all_wait (IsUpTo longest) (λ w n short. short) s h e (λ frame t is. cc))
+  following e = more 0 _ (all_wait (IsUpTo longest) (λ w n short. short) s h e (λ frame t is. cc))
 
 longest_along : (longest : ℕ) (s : State) (h : List Entry) → IsLegal s h → All (IsUpTo longest) s.waiting
     → All (IsUpTo (known_through longest_after longest h)) (leads_to s h).waiting
 longest_along longest s [] legal all = all
 longest_along longest s (e ∷ es) legal all =
-    longest_along (longest_after longest e) (after s e.event) es legal.1 (rw legal.0 (later longest s all e.event))
+    longest_along (longest_after longest e) (after s e.event) es legal.1 (rw legal.0 (following longest s all e.event))
 
 pub returns : Rattle.pmd.proofs.laws.frames_of_a_worker_fit.Goals.returns
 returns c w fifo old frame h legal fit =
@@ -43,4 +43,4 @@ returns c w fifo old frame h legal fit =
     let few = fit old refl x in
     All-weaker (IsUpTo (longest_let_in x.before)) (FitsBlocks w.queue most) (λ w len own. omega (arith, len, few)) _
     (longest_along 0 new x.before
-    (legal_before new x.before (x.first ∷ x.later) (subst (IsLegal new) (sym x.all) legal)) (All-nil (IsUpTo 0))))
+    (legal_before new x.before (x.first ∷ x.following) (subst (IsLegal new) (sym x.all) legal)) (All-nil (IsUpTo 0))))

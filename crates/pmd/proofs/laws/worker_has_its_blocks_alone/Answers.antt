@@ -45,19 +45,19 @@ lends_fewer own asks (event.Lend block) none = grind (arith, common_steps)
 lends_fewer own asks other none = tt
 
 spared : (pass : ℕ) (own asks : Blocks) (h : List Entry) → reported.OnlyPassLends pass own h → (before : List Entry)
-    (e : Entry) (later : List Entry) → h ≡ before ++ e ∷ later → e.pass ≢ pass → LendsNone (Both own asks) e.event
-spared pass own asks [] none [] e later is other = cc
-spared pass own asks [] none (c ∷ before) e later is other = cc
-spared pass own asks (d ∷ h) none [] e later is other =
+    (e : Entry) (following : List Entry) → h ≡ before ++ e ∷ following → e.pass ≢ pass → LendsNone (Both own asks) e.event
+spared pass own asks [] none [] e following is other = cc
+spared pass own asks [] none (c ∷ before) e following is other = cc
+spared pass own asks (d ∷ h) none [] e following is other =
     let same : d ≡ e = cc in
     lends_fewer own asks e.event
     (subst (λ (x : Entry). x.pass ≢ pass → IsTrue (lends_none own x.event)) same none.0 other)
-spared pass own asks (d ∷ h) none (c ∷ before) e later is other =
-    spared pass own asks h none.1 before e later (cc) other
+spared pass own asks (d ∷ h) none (c ∷ before) e following is other =
+    spared pass own asks h none.1 before e following (cc) other
 
 reported_none : (pass : ℕ) (own asks : Blocks) (h : List Entry) → reported.OnlyPassLends pass own h
     → OthersLendNone pass (Both own asks) h
-reported_none pass own asks h none before e later is begun other = spared pass own asks h none before e later is other
+reported_none pass own asks h none before e following is begun other = spared pass own asks h none before e following is other
 
 pub returns : Rattle.pmd.proofs.laws.worker_has_its_blocks_alone.Goals.returns
 returns c w fifo old a h legal events others = (
@@ -65,7 +65,7 @@ returns c w fifo old a h legal events others = (
   holds_at_first w fifo old h (NoneLent (asked_of w a h)) (λ x number both.
       let own = (and_parts (is_own a number) (is_asked (calls_of w.pass h) number) both).0 in
       let new : State = new_state w.vfs fifo in
-      let rest = x.first ∷ x.later in
+      let rest = x.first ∷ x.following in
       let known =
       lent_along (is_own a) no_block new x.before
       (legal_before new x.before rest (subst (IsLegal new) (sym x.all) legal))

@@ -148,7 +148,7 @@ returns c w fifo old given h device events well never x =
     let sound = new_sound w.vfs fifo device.0 device.1 device.2 in
     let ground = ground_there w fifo old given h sound events well x in
     let small = named_below _ _ given.port given.queue w.queue ground.names in
-    let early = events_before x.before (x.first ∷ x.later) (subst AreEvents (sym x.all) events) in
+    let early = events_before x.before (x.first ∷ x.following) (subst AreEvents (sym x.all) events) in
     let off = λ (dir : Dir).
     along w fifo sound small dir x.before early (never old refl x) [] x.before refl
     (down_off dir w.queue (cleared (new_state w.vfs fifo)) (off-reset dir w.queue small)) in

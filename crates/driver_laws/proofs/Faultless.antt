@@ -125,7 +125,8 @@ module _ {c : Course} (x : On c) (own : Blocks)
         short =
             rw (ap (λ (r : Receive). r.layout.most) x.up.receive.fresh) (short_by w.queue q frame _ short.0 short.1);
         known =
-            known_at y own (λ before following e split mine is. (none before following e split mine is).none) spared p.front
+            known_at y own (λ before following e split mine is. (none before following e split mine is).none) spared
+            p.front
             back both p.fronts;
         others =
             others_after w.pass own p.front back (subst (OthersLendNone w.pass own) (sym both) spared)

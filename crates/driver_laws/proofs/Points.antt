@@ -211,5 +211,6 @@ pub accesses_lead : AccessesLead
 accesses_lead w q frame origin h known F all old new along may made some at done rest whole calls =
     let (p, is, x, n) = (accesses_at q frame along (λ p. IsTrue (known p)) (λ so_far. ⊤)
     (λ so_far e received sent n. tt) all F old new may made
-    ((λ before following split there. let (z, so, y) = at before following split there in (z, so, y, tt)), some)).0 done rest
+    ((λ before following split there. let (z, so, y) = at before following split there in (z, so, y, tt)), some)).0
+    done rest
     whole calls in (p, is, x)

@@ -139,7 +139,8 @@ none_first (x ∷ xs) ys is = cc
 -- Lemmas up to some place during the start and the stop of its remains.
 module _ (c : Course) {e : StartRefused} {new : List Call} {left : Rest}
     (never : NeverLived c.q c.size c.frame c.old c.a e new left) (along : IsAlong c.w c.origin c.h)
-    (before following : List Entry) (first : Entry) (split : before ++ first ∷ following ≡ c.h) (own : first.pass ≡ c.w.pass)
+    (before following : List Entry) (first : Entry) (split : before ++ first ∷ following ≡ c.h)
+    (own : first.pass ≡ c.w.pass)
     (steps : List Call) (stepped : AreSteps steps) (ahead : calls_of c.w.pass before ≡ c.old ++ steps)
     (quiet : IsQuiet c.w.queue c.q c.frame (leads_to c.origin before)) (since rest : List Call)
     (all : new ≡ (c.old ++ since) ++ rest) (made : calls_of c.w.pass c.h ≡ c.old ++ since) where
@@ -164,7 +165,8 @@ module _ (c : Course) {e : StartRefused} {new : List Call} {left : Rest}
 
   pub sends_nothing : sent_in w.queue start es ≡ []
   sends_nothing =
-      laid_queue_is_silent w q c.frame origin c.h before following first lays.0 along split own quiet.ground quiet.transmit
+      laid_queue_is_silent w q c.frame origin c.h before following first lays.0 along split own quiet.ground
+      quiet.transmit
       lays.1
 
   pub left_in_order : receive.IsPrefixOf (left_handed left) (delivered w.queue start es)

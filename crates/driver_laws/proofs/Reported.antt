@@ -134,7 +134,8 @@ module _ (x : Life) {old new now : List Call} (at : EndsAt x.w.pass x.h now)
       → bytes_of k.transmit.accepted ≢ sent_since w.queue origin [] early
   waiting_first y early more all is sent =
       let drives = sending_drives old y.mid k (record k { transmit = y.before }) y.plays refl in
-      waiting_sooner x at.before (at.entry ∷ at.following) at.all (goes_up x old _ _ drives y.looks at following) early more
+      waiting_sooner x at.before (at.entry ∷ at.following) at.all (goes_up x old _ _ drives y.looks at following) early
+      more
       all is
       (search (rules, answered)) (ap bytes_of y.accepted ∙ sent)
 

@@ -13,5 +13,6 @@ asked_of w a h number = is_own a number && is_asked (calls_of w.pass h) number
 -- After the pass's first entry, no other pass tries to lend any of these blocks, whatever the reply.
 abbrev pub OthersLendNone : ℕ → Blocks → List Entry → Type 0
 OthersLendNone pass own h =
-    (before : List Entry) (e : Entry) (following : List Entry) → h ≡ before ++ e ∷ following → IsTrue (has_begun pass before)
+    (before : List Entry) (e : Entry) (following : List Entry) → h ≡ before ++ e ∷ following
+    → IsTrue (has_begun pass before)
     → e.pass ≢ pass → LendsNone own e.event

@@ -166,7 +166,8 @@ module _ (vfs fifo : ℕ) (h : List Entry) (j : Job) (e : WorkerEnd) (ends : IsE
     abbrev InOrder : Type 0
     InOrder =
         receive.IsPrefixOf (left_handed e.rest) (delivered j.pf_queue at_first (s.first ∷ s.following))
-        × transmit.IsPrefixOf (sent_since j.pf_queue at_first [] (s.first ∷ s.following)) (bytes_of (left_accepted e.rest))
+        × transmit.IsPrefixOf (sent_since j.pf_queue at_first [] (s.first ∷ s.following))
+        (bytes_of (left_accepted e.rest))
 
     run_in_order : HasRun (queue_of j) j.size j.frame j.pass.calls j.arena e.pass.calls e.rest e.fault
         → (e.fault ≡ None) ⊎ IsQuiet j.pf_queue (queue_of j) j.frame at_first → InOrder

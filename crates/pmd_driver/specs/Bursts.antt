@@ -142,7 +142,8 @@ pub record SendsBurst (given left : List Packet) (result : Result ℕ PmdFault) 
   -- They were queued without moving the tail, which was then advanced.
   pub queued : List Call
   pub following : Running
-  pub queues : DrivesRings old r queued following × Accepts gone r following × (following.transmit.posted ≡ r.transmit.posted)
+  pub queues : DrivesRings old r queued following × Accepts gone r following
+      × (following.transmit.posted ≡ r.transmit.posted)
   pub posts : DrivesRings queued following new s × Accepts [] following s
   -- The other packets remain.
   pub left_are : AreLeft met waiting left

@@ -45,7 +45,8 @@ lends_fewer own asks (event.Lend block) none = grind (arith, common_steps)
 lends_fewer own asks other none = tt
 
 spared : (pass : ℕ) (own asks : Blocks) (h : List Entry) → reported.OnlyPassLends pass own h → (before : List Entry)
-    (e : Entry) (following : List Entry) → h ≡ before ++ e ∷ following → e.pass ≢ pass → LendsNone (Both own asks) e.event
+    (e : Entry) (following : List Entry) → h ≡ before ++ e ∷ following → e.pass ≢ pass
+    → LendsNone (Both own asks) e.event
 spared pass own asks [] none [] e following is other = cc
 spared pass own asks [] none (c ∷ before) e following is other = cc
 spared pass own asks (d ∷ h) none [] e following is other =
@@ -57,7 +58,8 @@ spared pass own asks (d ∷ h) none (c ∷ before) e following is other =
 
 reported_none : (pass : ℕ) (own asks : Blocks) (h : List Entry) → reported.OnlyPassLends pass own h
     → OthersLendNone pass (Both own asks) h
-reported_none pass own asks h none before e following is begun other = spared pass own asks h none before e following is other
+reported_none pass own asks h none before e following is begun other =
+    spared pass own asks h none before e following is other
 
 pub returns : Rattle.pmd.proofs.laws.worker_has_its_blocks_alone.Goals.returns
 returns c w fifo old a h legal events others = (

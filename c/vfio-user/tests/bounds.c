@@ -303,7 +303,7 @@ static bool is_served_meanwhile(struct peer *host)
     CHECK(strstr(peer_request(control, "expect 1000000 9014"), "ok"));
     for (unsigned int i = 0; i < MANY; i++)
         peer_read(host, NIC_STATUS);
-    return strstr(peer_request(control, "came"), " of 1000000 are made yet\n");
+    return strstr(peer_request(control, "came"), " of 1000000 are made so far\n");
 }
 
 static void expected(struct peer *host)

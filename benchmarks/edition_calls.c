@@ -58,7 +58,7 @@ static void accesses(void)
 /* Queue 0 receives into the blocks from BUFFERS on, and sends from block 1. Its rings are in block 0. */
 static void open_with_rings(void)
 {
-    nic_told told;
+    nic_outcome outcome;
     must(nic_open(&n, 0, 64, BUFFERS + SLOTS) == NIC_DONE && nic_lend_all(&n) == NIC_DONE, "nic_open");
     nic_write32(&n, NIC_RXCTRL, 1);
     nic_write32(&n, NIC_FCTRL, 0x700);
@@ -69,8 +69,8 @@ static void open_with_rings(void)
     nic_write32(&n, NIC_TDBAL(0), TX_RING);
     nic_write32(&n, NIC_TDLEN(0), SLOTS * NIC_DESC_BYTES);
     nic_write32(&n, NIC_TXDCTL(0), NIC_TXDCTL_ENABLE);
-    must(nic_queue_step(&n, false, 0, &told) == NIC_DONE, "the receive side is on");
-    must(nic_queue_step(&n, true, 0, &told) == NIC_DONE, "the transmit side is on");
+    must(nic_queue_step(&n, false, 0, &outcome) == NIC_DONE, "the receive side is on");
+    must(nic_queue_step(&n, true, 0, &outcome) == NIC_DONE, "the transmit side is on");
 }
 
 static void receive(uint32_t round, size_t length)
@@ -78,12 +78,12 @@ static void receive(uint32_t round, size_t length)
     static uint8_t frame[1600] = {2, 0, 0, 0, 0, 1, 2, 0, 0, 0, 0, 2, 8, 0, 0x45}, room[1600];
     uint32_t slot = round % SLOTS;
     uint64_t buffer = BLOCK * (uint64_t)(BUFFERS + slot);
-    nic_told told;
+    nic_outcome outcome;
     nic_desc desc;
     nic_put_desc(&n, 0, slot, nic_rx_desc(buffer));
     nic_write32(&n, NIC_RDT(0), (slot + 1) % SLOTS);
     frame[20] = (uint8_t)round;
-    must(nic_arrive(&n, frame, length, &told) == NIC_DONE && nic_rx_step(&n, &told) == NIC_WROTE,
+    must(nic_arrive(&n, frame, length, &outcome) == NIC_DONE && nic_rx_step(&n, &outcome) == NIC_WROTE,
          "a frame is received");
     must(nic_get_desc(&n, 0, slot, &desc) == NIC_DONE && nic_rx_is_done(desc), "its descriptor is done");
     must(nic_dma_read(&n, buffer, room, length) == NIC_DONE && room[20] == frame[20], "its bytes are there");
@@ -93,13 +93,13 @@ static void send(uint32_t round, size_t length)
 {
     static uint8_t frame[1600], room[1600];
     uint32_t slot = round % SLOTS;
-    nic_told told;
+    nic_outcome outcome;
     frame[20] = (uint8_t)round;
     nic_dma_write(&n, BLOCK, frame, length);
     nic_put_desc(&n, TX_RING, slot, nic_tx_desc(BLOCK, (uint16_t)length, (uint32_t)length, NIC_TXD_EOP | NIC_TXD_RS));
     nic_write32(&n, NIC_TDT(0), (slot + 1) % SLOTS);
-    must(nic_tx_step(&n, 0, &told) == NIC_SENT, "a frame is sent");
-    must(nic_collect(&n, room, sizeof room, &told) == NIC_FRAME && room[20] == frame[20], "its bytes are collected");
+    must(nic_tx_step(&n, 0, &outcome) == NIC_SENT, "a frame is sent");
+    must(nic_collect(&n, room, sizeof room, &outcome) == NIC_FRAME && room[20] == frame[20], "its bytes are collected");
 }
 
 static void frames(void)

@@ -77,7 +77,7 @@ static void make_frames(void)
 
 static void open_device(void)
 {
-    static nic_told told[4 * QUEUES];
+    static nic_outcome outcome[4 * QUEUES];
     size_t count;
     must(nic_open(&n, 0, 512, MEMORY / BUFFER) == NIC_DONE, "nic_open");
     must(nic_lend_memory(&n, 0, memory, MEMORY) == NIC_DONE, "nic_lend_memory");
@@ -101,7 +101,7 @@ static void open_device(void)
         write_register(NIC_TDLEN(q), RING);
         write_register(NIC_TXDCTL(q), NIC_TXDCTL_ENABLE);
     }
-    must(nic_settle(&n, QUEUES, told, sizeof told / sizeof *told, &count) == NIC_DONE, "nic_settle");
+    must(nic_settle(&n, QUEUES, outcome, sizeof outcome / sizeof *outcome, &count) == NIC_DONE, "nic_settle");
     for (uint32_t q = 0; q < QUEUES; q++) {
         for (uint32_t slot = 0; slot < SLOTS; slot++)
             put(receive_ring(q), slot, nic_rx_desc(buffer(q, slot)));
@@ -131,11 +131,11 @@ static __attribute__((noinline)) uint32_t receive(uint32_t q)
 /* Sends what is posted, and collects it. */
 static __attribute__((noinline)) void send_all(uint32_t q)
 {
-    nic_told told;
+    nic_outcome outcome;
     write_register(NIC_TDT(q), queues[q].out);
-    while (nic_tx_step(&n, (uint16_t)q, &told) == NIC_SENT) {
-        must(nic_collect(&n, room, sizeof room, &told) == NIC_FRAME, "nic_collect");
-        sink += (uint32_t)told.len;
+    while (nic_tx_step(&n, (uint16_t)q, &outcome) == NIC_SENT) {
+        must(nic_collect(&n, room, sizeof room, &outcome) == NIC_FRAME, "nic_collect");
+        sink += (uint32_t)outcome.len;
     }
 }
 
@@ -153,11 +153,11 @@ static __attribute__((noinline)) void refill(uint32_t q, uint32_t count)
 /* The measured part: `count` frames of this length, in and out. */
 __attribute__((noinline)) void pass(size_t length, uint32_t count)
 {
-    nic_told told;
+    nic_outcome outcome;
     for (uint32_t done = 0, flow = 0; done < count;) {
         for (int k = 0; k < BURST; k++, flow++)
-            must(nic_arrive(&n, frames[flow % FLOWS], length, &told) == NIC_DONE, "nic_arrive");
-        while (nic_rx_step(&n, &told) == NIC_WROTE)
+            must(nic_arrive(&n, frames[flow % FLOWS], length, &outcome) == NIC_DONE, "nic_arrive");
+        while (nic_rx_step(&n, &outcome) == NIC_WROTE)
             ;
         for (uint32_t q = 0; q < QUEUES; q++) {
             uint32_t received = receive(q);

@@ -56,18 +56,18 @@ static inline void raise_cause(uint32_t queue, uint32_t side)
         causes |= UINT32_C(1) << (entry & 0x1f);
 }
 
-static uint8_t fault(struct side *it, uint32_t queue, nic_told *told)
+static uint8_t fault(struct side *it, uint32_t queue, nic_outcome *outcome)
 {
     it->on = false;
     causes |= UINT32_C(1) << 18;
-    told->queue = (uint16_t)queue;
-    return told->status = NIC_FAULT;
+    outcome->queue = (uint16_t)queue;
+    return outcome->status = NIC_FAULT;
 }
 
-static uint8_t dropped(uint8_t why, nic_told *told)
+static uint8_t dropped(uint8_t why, nic_outcome *outcome)
 {
-    told->why = why;
-    return told->status = NIC_DROPPED;
+    outcome->why = why;
+    return outcome->status = NIC_DROPPED;
 }
 
 static bool is_for_us(const uint8_t *frame)
@@ -113,37 +113,37 @@ static uint64_t sorted(const uint8_t *frame, size_t length, uint16_t *queue)
     return (uint64_t)hash << 32 | type | (uint32_t)ipv4 << 4 | (uint32_t)tcp << 8 | (uint32_t)udp << 9;
 }
 
-MINE uint8_t nic_arrive(nic *n, const uint8_t *frame, size_t length, nic_told *told)
+MINE uint8_t nic_arrive(nic *n, const uint8_t *frame, size_t length, nic_outcome *outcome)
 {
     (void)n;
-    *told = (nic_told){0};
+    *outcome = (nic_outcome){0};
     if (!link_up)
-        return dropped(NIC_WHY_LINK_DOWN, told);
+        return dropped(NIC_WHY_LINK_DOWN, outcome);
     if (!(word_at(NIC_RXCTRL) & NIC_RXCTRL_RXEN))
-        return dropped(NIC_WHY_OFF, told);
+        return dropped(NIC_WHY_OFF, outcome);
     if (length < 60) {
         count(NIC_RUC);
-        return dropped(NIC_WHY_SHORT, told);
+        return dropped(NIC_WHY_SHORT, outcome);
     }
     if (length > FRAME_LIMIT) {
         count(NIC_ROC);
-        return dropped(NIC_WHY_LONG, told);
+        return dropped(NIC_WHY_LONG, outcome);
     }
     if (!is_for_us(frame))
-        return dropped(NIC_WHY_FILTER, told);
+        return dropped(NIC_WHY_FILTER, outcome);
     if (waits == LIST) {
         count(NIC_MPC);
-        return dropped(NIC_WHY_FULL, told);
+        return dropped(NIC_WHY_FULL, outcome);
     }
     uint8_t *copy = malloc(length);
     if (!copy)
-        return told->status = NIC_OUT_OF_MEMORY;
+        return outcome->status = NIC_OUT_OF_MEMORY;
     memcpy(copy, frame, length);
     struct held *it = &waiting[(waits_from + waits++) % LIST];
     *it = (struct held){.bytes = copy, .length = (uint32_t)length};
     it->first = sorted(frame, length, &it->queue);
     count(NIC_GPRC);
-    return told->status = NIC_DONE;
+    return outcome->status = NIC_DONE;
 }
 
 static void free_first(void)
@@ -166,45 +166,46 @@ static inline void end_piece(struct side *it, struct held *frame, uint32_t len, 
 }
 
 /* Writes a piece of the first frame to the slot at a ring's head. */
-static inline uint8_t write_piece(struct side *it, struct held *frame, nic_told *told)
+static inline uint8_t write_piece(struct side *it, struct held *frame, nic_outcome *outcome)
 {
     uint64_t at = it->base + 16 * (uint64_t)it->head, first, second;
     uint8_t *descriptor = bytes_at(at, 16);
     uint32_t size = (it->control & 0x1f) * 1024, left = frame->length - frame->offset, len = left < size ? left : size;
     if (!descriptor || !size || (it->control >> 25 & 7) != 1)
-        return fault(it, frame->queue, told);
+        return fault(it, frame->queue, outcome);
     memcpy(&first, descriptor, 8);
     first &= ~UINT64_C(1);
     uint8_t *to = bytes_at(first, len);
     if (!to)
-        return fault(it, frame->queue, told);
+        return fault(it, frame->queue, outcome);
     bool end = len == left;
     memcpy(to, frame->bytes + frame->offset, len);
     second = 1 | (uint32_t)end << 1 | (uint64_t)len << 32;
     memcpy(descriptor, &frame->first, 8);
     memcpy(descriptor + 8, &second, 8);
-    *told = (nic_told){.desc = at, .at = first, .len = len, .queue = frame->queue, .end = end, .status = NIC_WROTE};
-    told->slot = (uint16_t)it->head;
+    *outcome =
+        (nic_outcome){.desc = at, .at = first, .len = len, .queue = frame->queue, .end = end, .status = NIC_WROTE};
+    outcome->slot = (uint16_t)it->head;
     end_piece(it, frame, len, end);
     return NIC_WROTE;
 }
 
-MINE uint8_t nic_rx_step(nic *n, nic_told *told)
+MINE uint8_t nic_rx_step(nic *n, nic_outcome *outcome)
 {
     (void)n;
-    *told = (nic_told){0};
+    *outcome = (nic_outcome){0};
     if (!waits || word_at(NIC_CTRL) & 4)
-        return told->status = NIC_IDLE;
+        return outcome->status = NIC_IDLE;
     struct held *frame = &waiting[waits_from];
     struct side *it = &receivers[frame->queue];
     if (!it->on) {
         free_first();
-        return dropped(NIC_WHY_QUEUE_OFF, told);
+        return dropped(NIC_WHY_QUEUE_OFF, outcome);
     }
     bool inside = it->head < it->slots && it->tail < it->slots;
     if (inside && it->head == it->tail)
-        return told->status = NIC_IDLE;
-    return inside ? write_piece(it, frame, told) : fault(it, frame->queue, told);
+        return outcome->status = NIC_IDLE;
+    return inside ? write_piece(it, frame, outcome) : fault(it, frame->queue, outcome);
 }
 
 /* Stages bytes of a queue's frame, padded if the frame ends short. Returns false if memory is short. */
@@ -225,82 +226,82 @@ static inline bool stage(struct held *frame, const uint8_t *from, uint32_t len, 
 }
 
 /* Sends a queue's complete frame. */
-static inline uint8_t send_staged(struct held *frame, uint16_t queue, nic_told *told)
+static inline uint8_t send_staged(struct held *frame, uint16_t queue, nic_outcome *outcome)
 {
     if (outs == LIST)
-        return told->status = NIC_OUT_OF_MEMORY;
+        return outcome->status = NIC_OUT_OF_MEMORY;
     count(NIC_GPTC);
     count(NIC_QPTC(word_at(NIC_TQSM(queue / 4)) >> (8 * (queue % 4)) & 15));
-    told->len = frame->length;
+    outcome->len = frame->length;
     frame->queue = queue;
     out[(outs_from + outs++) % LIST] = *frame;
     *frame = (struct held){0};
-    return told->status = NIC_SENT;
+    return outcome->status = NIC_SENT;
 }
 
 /* Fetches the descriptor at a ring's head. */
-static inline uint8_t fetch(struct side *it, uint16_t queue, nic_told *told)
+static inline uint8_t fetch(struct side *it, uint16_t queue, nic_outcome *outcome)
 {
     uint64_t at = it->base + 16 * (uint64_t)it->head, first, second;
     uint8_t *descriptor = bytes_at(at, 16);
     if (!descriptor)
-        return fault(it, queue, told);
+        return fault(it, queue, outcome);
     memcpy(&first, descriptor, 8);
     memcpy(&second, descriptor + 8, 8);
     struct held *frame = &staged[queue];
     uint32_t kind = second >> 20 & 15, len = second & 0xffff;
     bool end = second >> 24 & 1;
-    *told = (nic_told){.queue = queue, .slot = (uint16_t)it->head, .status = NIC_ADVANCED};
+    *outcome = (nic_outcome){.queue = queue, .slot = (uint16_t)it->head, .status = NIC_ADVANCED};
     if (!(second >> 29 & 1) || (kind != 2 && kind != 3))
-        return fault(it, queue, told);
+        return fault(it, queue, outcome);
     if (kind == 3) {
         uint8_t *from = bytes_at(first, len);
         if (second >> 30 & 3 || second >> 40 & 0x3f || frame->length + len > FRAME_LIMIT || !from)
-            return fault(it, queue, told);
+            return fault(it, queue, outcome);
         if (!stage(frame, from, len, end))
-            return told->status = NIC_OUT_OF_MEMORY;
+            return outcome->status = NIC_OUT_OF_MEMORY;
     }
     if (kind == 3 && second >> 27 & 1) {
         second |= UINT64_C(1) << 32;
         memcpy(descriptor + 8, &second, 8);
-        told->back = 1;
-        told->at = at;
+        outcome->back = 1;
+        outcome->at = at;
         raise_cause(queue, 1);
     }
     it->head = after(it);
-    return kind == 3 && end ? send_staged(frame, queue, told) : NIC_ADVANCED;
+    return kind == 3 && end ? send_staged(frame, queue, outcome) : NIC_ADVANCED;
 }
 
-MINE uint8_t nic_tx_step(nic *n, uint16_t queue, nic_told *told)
+MINE uint8_t nic_tx_step(nic *n, uint16_t queue, nic_outcome *outcome)
 {
     (void)n;
-    *told = (nic_told){0};
+    *outcome = (nic_outcome){0};
     if (queue >= QUEUE_COUNT)
-        return told->status = NIC_NO_QUEUE;
+        return outcome->status = NIC_NO_QUEUE;
     struct side *it = &senders[queue];
     bool inside = it->head < it->slots && it->tail < it->slots;
     bool off = word_at(NIC_CTRL) & 4 || !link_up || !(word_at(NIC_DMATXCTL) & NIC_DMATXCTL_TE) || !it->on;
     if (off || (inside && it->head == it->tail))
-        return told->status = NIC_IDLE;
-    return inside ? fetch(it, queue, told) : fault(it, queue, told);
+        return outcome->status = NIC_IDLE;
+    return inside ? fetch(it, queue, outcome) : fault(it, queue, outcome);
 }
 
-MINE uint8_t nic_collect(nic *n, uint8_t *room, size_t length, nic_told *told)
+MINE uint8_t nic_collect(nic *n, uint8_t *room, size_t length, nic_outcome *outcome)
 {
     (void)n;
-    *told = (nic_told){0};
+    *outcome = (nic_outcome){0};
     struct held *it = &out[outs_from];
     if (!outs)
-        return told->status = NIC_IDLE;
+        return outcome->status = NIC_IDLE;
     if (it->length > length)
-        return told->status = NIC_NO_ROOM;
+        return outcome->status = NIC_NO_ROOM;
     memcpy(room, it->bytes, it->length);
-    told->queue = it->queue;
-    told->len = it->length;
+    outcome->queue = it->queue;
+    outcome->len = it->length;
     free(it->bytes);
     outs_from = (outs_from + 1) % LIST;
     outs--;
-    return told->status = NIC_FRAME;
+    return outcome->status = NIC_FRAME;
 }
 
 /* --- registers: rings by offset, all others by address --- */
@@ -344,9 +345,9 @@ static uint32_t key_from(uint32_t bit)
     return window;
 }
 
-uint8_t nic_settle(nic *n, uint16_t queues, nic_told *told, size_t length, size_t *made)
+uint8_t nic_settle(nic *n, uint16_t queues, nic_outcome *outcome, size_t length, size_t *made)
 {
-    (void)n, (void)told, (void)length;
+    (void)n, (void)outcome, (void)length;
     for (uint16_t q = 0; q < queues; q++) {
         receivers[q].on = receivers[q].asked >> 25 & 1;
         senders[q].on = senders[q].asked >> 25 & 1;

@@ -86,20 +86,20 @@ def of_python(data: bytes) -> str:
 
 def check_readers(program: Path, folder: Path, seed: int, count: int) -> str:
     """Compares both readers on this many files."""
-    chance, told = random.Random(seed), []
+    chance, expected = random.Random(seed), []
     for number in range(count):
         data = spoilt(chance)
         (folder / str(number)).write_bytes(data)
-        told.append(of_python(data))
+        expected.append(of_python(data))
     made = subprocess.run([program, folder, str(count)], capture_output=True, text=True, check=False)
     if made.returncode:
         raise Wrong(f"{program} {folder} {count}: status {made.returncode}: {made.stderr}")
-    others = [number for number, (got, want) in enumerate(zip(made.stdout.splitlines(), told)) if got != want]
+    others = [number for number, (got, want) in enumerate(zip(made.stdout.splitlines(), expected)) if got != want]
     if others or made.stdout.count("\n") != count:
         number = others[0] if others else 0
         data = (folder / str(number)).read_bytes().hex()
         got = made.stdout.splitlines()[number : number + 1]
         count_of = f"{len(others)} of {count} captures are read otherwise in C"
-        raise Wrong(f"{count_of}: {got} and not {told[number]!r}: {data}")
-    ends = Counter(it.split()[-1] for it in told)
+        raise Wrong(f"{count_of}: {got} and not {expected[number]!r}: {data}")
+    ends = Counter(it.split()[-1] for it in expected)
     return f"{count} spoilt captures read alike in C and Python ({ends['end']} whole, {ends['broken']} refused)"

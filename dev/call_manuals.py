@@ -124,8 +124,8 @@ def body(text: str) -> str:
     for part in re.split(r"\n\s*\n", text):
         lines = part.split("\n")
         is_plain = not lines[0].startswith(" ")
-        told = "".join(escaped(line) + "\n" for line in lines)
-        parts.append(told if is_plain else f".Bd -literal\n{told}.Ed\n")
+        rendered = "".join(escaped(line) + "\n" for line in lines)
+        parts.append(rendered if is_plain else f".Bd -literal\n{rendered}.Ed\n")
     return ".Pp\n".join(parts)
 
 

@@ -22,7 +22,7 @@ DOC = "usr/share/doc/nic82599"
 LEFT_OUT = (f"{DOC}/LICENSE",)
 TO_LICENCE = re.compile(r"\]\(((?:\.\./)*)LICENSE\)")
 
-Told = Callable[..., str]
+Run = Callable[..., str]
 
 
 @dataclass(frozen=True)
@@ -91,8 +91,8 @@ def changelog(version: str, epoch: int) -> str:
 
 def build_id(file: Path) -> str:
     """Returns the build ID by which a debugger finds a binary's symbols."""
-    told = subprocess.run(["readelf", "--notes", file], capture_output=True, text=True, check=True).stdout
-    found = re.search(r"Build ID: ([0-9a-f]+)", told)
+    output = subprocess.run(["readelf", "--notes", file], capture_output=True, text=True, check=True).stdout
+    found = re.search(r"Build ID: ([0-9a-f]+)", output)
     if not found:
         raise ValueError(f"{file.name} has no build ID, by which a debugger finds its symbols")
     return found[1]
@@ -112,7 +112,7 @@ def control(name: str, tree: Path, package: Package, **more: str) -> None:
     put(tree / "DEBIAN/md5sums", sums)
 
 
-def build(tree: Path, out: Path, package: Package, told: Told) -> None:
+def build(tree: Path, out: Path, package: Package, run: Run) -> None:
     """Builds a package from a tree."""
     for path in [tree, *tree.rglob("*")]:
         if path.is_dir() and not path.is_symlink():
@@ -121,7 +121,7 @@ def build(tree: Path, out: Path, package: Package, told: Told) -> None:
     name = re.search(r"Package: (\S+)", (tree / "DEBIAN/control").read_text())
     assert name
     file = out / f"{name[1]}_{package.version}_{package.machine.architecture}.deb"
-    told("dpkg-deb", "--root-owner-group", "-Zgzip", "-z9", "--build", tree, file)
+    run("dpkg-deb", "--root-owner-group", "-Zgzip", "-z9", "--build", tree, file)
 
 
 def with_own_licence(tree: Path) -> None:
@@ -135,7 +135,7 @@ def with_own_licence(tree: Path) -> None:
             put(page, TO_LICENCE.sub(r"](\1copyright)", text))
 
 
-def write(prefix: Path, symbols: dict[Path, Path], package: Package, out: Path, told: Told) -> None:
+def write(prefix: Path, symbols: dict[Path, Path], package: Package, out: Path, run: Run) -> None:
     """Builds both packages of a tree below /usr. `symbols` maps each binary to its symbols file."""
     tree, beside = prefix.parent / "debian", prefix.parent / "debian-dbgsym"
     shutil.copytree(prefix, tree / "usr", symlinks=True, ignore=shutil.ignore_patterns(".debug"))
@@ -147,7 +147,7 @@ def write(prefix: Path, symbols: dict[Path, Path], package: Package, out: Path, 
     put(tree / "DEBIAN/shlibs", f"libnic82599 {package.soname} nic82599 (>= {plain})\n")
     put(tree / "DEBIAN/triggers", "activate-noawait ldconfig\n")
     put(tree / "DEBIAN/prerm", text_of("prerm"), 0o755)
-    build(tree, out, package, told)
+    build(tree, out, package, run)
     numbers = []
     for binary, file in symbols.items():
         number = build_id(binary)
@@ -157,4 +157,4 @@ def write(prefix: Path, symbols: dict[Path, Path], package: Package, out: Path, 
     (beside / "usr/share/doc").mkdir()
     (beside / "usr/share/doc/nic82599-dbgsym").symlink_to("nic82599")
     control("control-dbgsym.in", beside, package, BUILD_IDS=" ".join(sorted(numbers)))
-    build(beside, out, package, told)
+    build(beside, out, package, run)

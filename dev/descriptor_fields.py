@@ -22,7 +22,7 @@ from generated import ROOT, keep, replaced, with_each_macro_once  # noqa: E402
 HEADER, MODULE = ROOT / "c/include/nic82599_desc.h", ROOT / "python/nic82599/descriptor_fields.py"
 RUST = ROOT / "rust/nic82599/src/desc/fields.rs"
 # What is in the header around the fields.
-BEFORE, BEHIND = "} nic_desc;\n\n", "\n/* The bits of TXD's second half"
+BEFORE, AFTER = "} nic_desc;\n\n", "\n/* The bits of TXD's second half"
 # These are addresses in place, which aren't shifted.
 ADDRESSES = ("BUFFER", "HEADER")
 HEAD_PYTHON = '''\
@@ -48,7 +48,7 @@ class Field(NamedTuple):
     half: int
     low: int
     width: int
-    told: str
+    description: str
 
     @property
     def high(self) -> int:
@@ -64,7 +64,7 @@ class Form(NamedTuple):
 
     prefix: str
     name: str
-    told: str
+    description: str
     fields: list[Field]
 
 
@@ -75,8 +75,8 @@ def field_name(text: str) -> str:
 
 def field_of(half: int, line: tuple[int, int, str, str]) -> Field:
     """A field of a line of the page's table."""
-    low, width, name, told = line
-    return Field(field_name(name), half, low, width, told.replace("by the table of types below", "enum nic_rss_type"))
+    low, width, name, text = line
+    return Field(field_name(name), half, low, width, text.replace("by the table of types below", "enum nic_rss_type"))
 
 
 def forms() -> list[Form]:
@@ -104,11 +104,11 @@ def forms() -> list[Form]:
 
 def macros(form: Form) -> str:
     """The macros of a form's fields."""
-    lines = f"/* {form.told} */\n"
+    lines = f"/* {form.description} */\n"
     for half in (0, 1):
         for field in (it for it in form.fields if it.half == half):
             name = f"NIC_{form.prefix}_{field.name}"
-            lines += f"/* {('first', 'second')[half]} half: {field.told} */\n"
+            lines += f"/* {('first', 'second')[half]} half: {field.description} */\n"
             lines += f"#define {name} UINT64_C(0x{field.mask:016X})\n"
             if field.name not in ADDRESSES:
                 lines += f"#define {name}_SHIFT {field.low}\n"
@@ -128,13 +128,13 @@ def rss_enum() -> str:
     rows = [(f"    NIC_RSS_{type_name(name)} = {code},", FRAMES[name]) for name, code in rss_types().items()]
     rows[-1] = (rows[-1][0].removesuffix(","), rows[-1][1])
     width = max(len(text) for text, _ in rows)
-    return head + "".join(f"{text:{width}} /* {told} */\n" for text, told in rows) + "};\n"
+    return head + "".join(f"{text:{width}} /* {description} */\n" for text, description in rows) + "};\n"
 
 
 def header() -> str:
     """c/include/nic82599_desc.h, in which the fields stand between a type and functions."""
     fields = "".join(macros(form) for form in forms()) + rss_enum()
-    return with_each_macro_once(replaced(HEADER.read_text(), BEFORE, fields, BEHIND))
+    return with_each_macro_once(replaced(HEADER.read_text(), BEFORE, fields, AFTER))
 
 
 def module() -> str:
@@ -142,16 +142,16 @@ def module() -> str:
     text = HEAD_PYTHON
     for form in forms():
         rows = "".join(f'    "{it.name}": ({it.half}, {it.high}, {it.low}),\n' for it in form.fields)
-        text += f"# {form.told}\n{form.name}: dict[str, tuple[int, int, int]] = {{\n{rows}}}\n\n"
+        text += f"# {form.description}\n{form.name}: dict[str, tuple[int, int, int]] = {{\n{rows}}}\n\n"
     rows = "".join(f"    {type_name(name)} = {code}\n" for name, code in rss_types().items())
-    told = "The type by which a frame was hashed (RSS_TYPE). Bits of MRQC enable the types."
-    return f'{text}\nclass RssType(IntEnum):\n    """{told}"""\n\n{rows}'
+    description = "The type by which a frame was hashed (RSS_TYPE). Bits of MRQC enable the types."
+    return f'{text}\nclass RssType(IntEnum):\n    """{description}"""\n\n{rows}'
 
 
 def rust_field(field: Field) -> str:
     """The item of a field: bits in place, or the field of its bits."""
-    told = field.told.replace("enum nic_rss_type", "[`RssType`](super::RssType)")
-    head = f"    /// {('First', 'Second')[field.half]} half: {told}.\n    pub const {field.name}: "
+    text = field.description.replace("enum nic_rss_type", "[`RssType`](super::RssType)")
+    head = f"    /// {('First', 'Second')[field.half]} half: {text}.\n    pub const {field.name}: "
     if field.width == 1 or field.name in ADDRESSES:
         return f"{head}u64 = 0x{field.mask:016X};\n"
     return f"{head}HalfField = HalfField::new(0x{field.mask:016X}, {field.low});\n"
@@ -162,14 +162,14 @@ def rust_form(form: Form) -> str:
     has_parts = any(it.width > 1 and it.name not in ADDRESSES for it in form.fields)
     use = "    use crate::register::HalfField;\n\n" if has_parts else ""
     body = "".join(rust_field(it) for half in (0, 1) for it in form.fields if it.half == half)
-    return f"/// {form.told}\npub mod {form.prefix.lower()} {{\n{use}{body}}}\n\n"
+    return f"/// {form.description}\npub mod {form.prefix.lower()} {{\n{use}{body}}}\n\n"
 
 
 def rust_rss() -> str:
     """The types of hashes."""
     names = {name: "None" if name == "NoHash" else name for name in rss_types()}
-    told = {name: FRAMES[name][0].upper() + FRAMES[name][1:] for name in names}
-    kinds = "".join(f"    /// {told[name]}.\n    {it},\n" for name, it in names.items())
+    described = {name: FRAMES[name][0].upper() + FRAMES[name][1:] for name in names}
+    kinds = "".join(f"    /// {described[name]}.\n    {it},\n" for name, it in names.items())
     arms = "".join(f"            {code} => RssType::{names[name]},\n" for name, code in rss_types().items())
     return (
         "/// The type by which a frame was hashed. Bits of MRQC enable the types.\n"

@@ -59,7 +59,7 @@ def receive_fields() -> tuple[list[Field], list[Field]]:
 def receive_table() -> str:
     """Returns the table of a written-back receive descriptor."""
     halves = zip(("first", "second"), receive_fields())
-    rows = [[half, span(low, width), name, told] for half, fields in halves for low, width, name, told in fields]
+    rows = [[half, span(low, width), name, text] for half, fields in halves for low, width, name, text in fields]
     return table(["Half", "Bits", "Field", "Holds"], rows)
 
 
@@ -83,7 +83,7 @@ def transmit_fields() -> list[Field]:
 
 def transmit_table() -> str:
     """Returns the table of a transmit descriptor's second half."""
-    rows = [[span(low, width), name, told] for low, width, name, told in transmit_fields()]
+    rows = [[span(low, width), name, text] for low, width, name, text in transmit_fields()]
     return table(["Bits", "Field", "Meaning"], rows)
 
 

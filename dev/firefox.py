@@ -124,9 +124,9 @@ class Firefox(Browser):
 
     def _place(self) -> tuple[str, int]:
         """Returns the host and the port where it listens, once it does."""
-        told, began = Path(self.folder, "WebDriverBiDiServer.json"), time.monotonic()
+        server, began = Path(self.folder, "WebDriverBiDiServer.json"), time.monotonic()
         while time.monotonic() - began < PATIENCE and self.process.poll() is None:
-            if told.exists() and (text := told.read_text()).rstrip().endswith("}"):
+            if server.exists() and (text := server.read_text()).rstrip().endswith("}"):
                 it = json.loads(text)
                 return it["ws_host"], it["ws_port"]
             time.sleep(0.05)

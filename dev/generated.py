@@ -69,7 +69,7 @@ def replaced(text: str, begin: str, new: str, end: str) -> str:
     return before + begin + new + end + rest[0].partition(end)[2]
 
 
-def told(faults: list[str]) -> int:
+def report(faults: list[str]) -> int:
     """Prints the faults that a check found, one a line. Returns the status: 0 if there is none, otherwise 1."""
     print("\n".join(faults), end="\n" if faults else "")
     return 1 if faults else 0

@@ -24,11 +24,11 @@ class Look:
     """A page in the browser, with its data and the function that reports a fault."""
 
     def __init__(self, browser: Browser, file: Path, name: str, data: dict[str, Any], expect: Expect) -> None:
-        self.browser, self.file, self.name, self.data, self.told = browser, file, name, data, expect
+        self.browser, self.file, self.name, self.data, self.report = browser, file, name, data, expect
         self.count = len(data["steps"])
 
     def expect(self, holds: bool, text: str) -> None:
-        self.told(holds, f"{self.name}: {text}")
+        self.report(holds, f"{self.name}: {text}")
 
     def text(self, name: str) -> str:
         return str(self.browser.value(f"document.getElementById({name!r}).textContent"))
@@ -55,8 +55,8 @@ def check_walk(look: Look, rings: list[str], pictures: Path | None) -> None:
         for _ in range(look.count):
             browser.press("ArrowRight")
         look.is_at(look.count - 1, "the arrow")
-        told = browser.value("[...document.querySelectorAll('#grid .line')].map((one) => one.title)")
-        look.expect(sorted(told) == sorted(rings), f"the page's rings are {told}")
+        titles = browser.value("[...document.querySelectorAll('#grid .line')].map((one) => one.title)")
+        look.expect(sorted(titles) == sorted(rings), f"the page's rings are {titles}")
         wide = browser.value("document.documentElement.scrollWidth - document.documentElement.clientWidth")
         look.expect(wide <= 0, f"{wide} pixels wider than a window of {width}")
         if pictures:
@@ -182,8 +182,10 @@ def check_when(look: Look) -> None:
         look.expect(when == {f"after step {number}"}, f"step {number}: its panels say {when}")
         why, conditions = browser.value(words("#now > p:has(+ .why)")), browser.value(words("#now .why li"))
         look.expect(not conditions or why == ["Before this step:"], f"step {number}: its conditions stand under {why}")
-        told = [found[1] for one in conditions if (found := re.match(r"(\w+) frames? waits?\b", one))]
-        look.expect(told in ([], [str(before or "no")]), f"step {number}: {told} frames wait before it, not {before}")
+        counts = [found[1] for one in conditions if (found := re.match(r"(\w+) frames? waits?\b", one))]
+        look.expect(
+            counts in ([], [str(before or "no")]), f"step {number}: {counts} frames wait before it, not {before}"
+        )
         panel = f"{(browser.value(words('#frames > p')) or [''])[0]};"
         parts = re.match(r"(\w+) frames? waits? to be received[^;]*;(?: before this step (\w+))?", panel)
         shown = (parts[1], parts[2]) if parts else ("No", None)
@@ -197,15 +199,15 @@ def check_outside(look: Look, number: int) -> None:
     for selector in ("#front polygon.tail.outside", "#grid .pointer.tail.outside"):
         found = look.browser.value(f"document.querySelectorAll({selector!r}).length")
         look.expect(found == 1, f"step {number}: {found} of {selector}")
-    told = look.browser.value(words("#front svg text.bad"))
-    look.expect(told == ["tail 16: no slot"], f"step {number}: the tail is shown as {told}")
+    texts = look.browser.value(words("#front svg text.bad"))
+    look.expect(texts == ["tail 16: no slot"], f"step {number}: the tail is shown as {texts}")
 
 
-def check_slots(look: Look, number: int, told: list[str]) -> None:
+def check_slots(look: Look, number: int, wanted: list[str]) -> None:
     """Checks that at this step the slots of the ring shown have these forms."""
     look.browser.load(look.file, f"#{number}")
     forms = sorted(set(look.browser.value(words(".descriptors td b"))))
-    look.expect(forms == told, f"step {number}: slots are shown as {forms}, not as {told}")
+    look.expect(forms == wanted, f"step {number}: slots are shown as {forms}, not as {wanted}")
 
 
 def check_warnings(look: Look, warned: dict[int, str]) -> None:
@@ -216,8 +218,8 @@ def check_warnings(look: Look, warned: dict[int, str]) -> None:
     for number, text in warned.items():
         browser.press("w")
         look.is_at(number, "next warning")
-        told = browser.value(words("#now .warned li"))
-        look.expect(any(text in one for one in told), f"step {number} is warned of by {told}")
+        warnings = browser.value(words("#now .warned li"))
+        look.expect(any(text in one for one in warnings), f"step {number} is warned of by {warnings}")
         look.expect(browser.value(words("#lines li.here .sign")) == ["\u26a0"], f"step {number}: no sign at its line")
     browser.press("w")
     look.is_at(list(warned)[-1], "next warning after the last")
@@ -257,8 +259,8 @@ def check_vector(look: Look, name: str, vector: str) -> None:
             "[...document.querySelectorAll('#interrupts tr')]"
             ".map((one) => [...one.children].map((it) => it.textContent))"
         )
-        told = {row[0]: row[-1] for row in rows}
-        look.expect(told.get(name) == vector, f"{place}: the vector of {name} in {rows}")
+        vectors = {row[0]: row[-1] for row in rows}
+        look.expect(vectors.get(name) == vector, f"{place}: the vector of {name} in {rows}")
 
 
 def check_mailboxes(look: Look) -> None:
@@ -266,16 +268,16 @@ def check_mailboxes(look: Look) -> None:
     browser = look.browser
     browser.size(1_280, 800, False)
     browser.load(look.file, "#start")
-    told = set()
+    mailboxes = set()
     for _ in range(look.count):
         browser.press("ArrowRight")
         rows = browser.value(
             "[...document.querySelectorAll('#mailboxes tr')].map((one) => [...one.children].map((it) => it.innerText))"
         )
         look.expect([row[0] for row in rows[1:]] == ["0", "1"], f"the mailboxes are {rows}")
-        told.add(tuple(text.strip() for text in rows[1]))
+        mailboxes.add(tuple(text.strip() for text in rows[1]))
     asked = ("0", "VFU 1", "VFU 1", "0: 0x00000002 1: 0x00000100")
-    look.expect(asked in told, f"no step has the mailbox {asked}: {sorted(told)}")
+    look.expect(asked in mailboxes, f"no step has the mailbox {asked}: {sorted(mailboxes)}")
     look.expect("# VFMAILBOX" in browser.value("document.getElementById('lines').innerText"), "no name of an offset")
 
 

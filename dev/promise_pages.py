@@ -25,7 +25,7 @@ from pathlib import Path
 sys.dont_write_bytecode = True
 sys.path.append(str(Path(__file__).resolve().parent))
 from contracts import Contract, Crate, sentence  # noqa: E402
-from generated import ROOT, renewed, table, told  # noqa: E402
+from generated import ROOT, renewed, report, table  # noqa: E402
 
 CITED = re.compile(r" *Intel 82599 datasheet, sections? on [^.]*\.")
 FOLDER = ROOT / "docs/promises"
@@ -288,7 +288,7 @@ def main() -> int:
     faults += [fault for crate in crates.values() for it in crate.public() for fault in faults_of(crate, it)]
     faults += faults_by_hand(crates)
     stale = renewed({FOLDER / name: page_text(name, sections) for name, sections in known.items()}, only_check)
-    return told(faults) or int(stale and only_check)
+    return report(faults) or int(stale and only_check)
 
 
 if __name__ == "__main__":

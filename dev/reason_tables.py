@@ -110,16 +110,16 @@ def place_of(place: str) -> tuple[str, list[str]]:
     node = parsed(text)
     value, it = bare(node), named(node)
     name, given = shown(it) if it else ("", [])
-    told, blank = [f"U({one})" for one in given], " " if it else ""
+    arguments, blank = [f"U({one})" for one in given], " " if it else ""
     if form == "x":
-        return f"{name}{blank}0x%{'08' if it else ''}llx", [*told, f"U({value})"]
+        return f"{name}{blank}0x%{'08' if it else ''}llx", [*arguments, f"U({value})"]
     if form.startswith("bits"):
         names = f"nicl_why_bits(it, nicl_bits_{it.register if it else form.split()[1]}, {value})"
-        return (f"{name} 0x%08llx (%s)", [*told, f"U({value})", names]) if it else ("%s", [names])
+        return (f"{name} 0x%08llx (%s)", [*arguments, f"U({value})", names]) if it else ("%s", [names])
     if form:
         one, many = form.split("|")
         return "%llu %s", [f"U({value})", f'{value} == 1 ? "{one}" : "{many}"']
-    return f"{name}{blank}%llu", [*told, f"U({value})"]
+    return f"{name}{blank}%llu", [*arguments, f"U({value})"]
 
 
 def lines_of(pieces: list[str]) -> list[str]:
@@ -153,8 +153,8 @@ def format_of(text: str) -> tuple[str, list[str]]:
     pieces: list[str] = []
     given: list[str] = []
     for piece, is_place in pieces_of(text):
-        told, more = place_of(piece) if is_place else (piece.replace("%", "%%"), [])
-        pieces.append(told)
+        piece_format, more = place_of(piece) if is_place else (piece.replace("%", "%%"), [])
+        pieces.append(piece_format)
         given += more
     return "\n               ".join(f'"{line}"' for line in lines_of(pieces)), given
 
@@ -183,7 +183,7 @@ def function(row: Row) -> str:
     """Returns the function of a row."""
     if row.value:
         return f"{head(row)}\n{{\n    (void)it;\n    return {bare(parsed(row.value))};\n}}\n"
-    form, given = format_of(row.told + (f": {row.why}" if row.why else ""))
+    form, given = format_of(row.statement + (f": {row.why}" if row.why else ""))
     test = f"    if ({refuted(parsed(row.condition))})\n        return false;\n" if row.condition else ""
     said = "".join(f",\n               {line}" for line in filled(given))
     return f"{head(row)}\n{{\n{test}    return SAY({form}{said});\n}}\n"

@@ -69,8 +69,8 @@ def words_of(function: str) -> list[str]:
 
 def capitals(name: str) -> str:
     """Returns the header's form of a crate's name: NOT_LENT for NotLent."""
-    told = re.sub(r"(?<=[a-z])(?=[A-Z])", "_", name).upper()
-    return OTHERWISE.get(told, told)
+    constant = re.sub(r"(?<=[a-z])(?=[A-Z])", "_", name).upper()
+    return OTHERWISE.get(constant, constant)
 
 
 def constants(file: str) -> Numbers:
@@ -107,8 +107,8 @@ def lists() -> dict[str, Numbers]:
         words = words_of(function)
         assert sorted(found[name].values()) == [k for k, word in enumerate(words) if word], f"{function} has others"
         for it, number in found[name].items() if name != "nic_step" else ():
-            told = it.partition("_")[2].lower().replace("_", " ")
-            assert words[number] == told, f"{function} has {words[number]} for {it}"
+            wanted = it.partition("_")[2].lower().replace("_", " ")
+            assert words[number] == wanted, f"{function} has {words[number]} for {it}"
     return found
 
 

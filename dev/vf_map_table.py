@@ -32,7 +32,7 @@ def own_rows() -> list[tuple[int, str, bool]]:
     return [(int(offset, 16), names[row], index == "vf") for offset, row, index in entries]
 
 
-def told(place: Place) -> list[str]:
+def row_of(place: Place) -> list[str]:
     """Returns a row of the table: offsets, the name in VF drivers, and the device's register."""
     steps, count = (f" + 0x{place.stride:02X}*x, x below {place.of}", "(x)") if place.stride else ("", "")
     index = {"0": "", "v": "[v]", "16": "[16*v + x]"}.get(place.of, f"[v*{place.of} + x]")
@@ -46,7 +46,7 @@ def places() -> list[Place]:
 
 def page() -> str:
     """Returns the page with its table of offsets replaced."""
-    rows = [told(place) for place in places()]
+    rows = [row_of(place) for place in places()]
     return replaced(text_of(PAGE), START, table(["Offset", "Name", "Register"], rows), END)
 
 

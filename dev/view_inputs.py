@@ -173,7 +173,7 @@ def long_script() -> str:
     body += ["w RDLEN[0] 128", "w SRRCTL[0] 0x02000002", "w RXDCTL[0] 0x02000000", "qstep rx 0", "w TDBAL[0] 0x80"]
     body += ["w TDLEN[0] 128", "w TXDCTL[0] 0x02000000", "qstep tx 0", "w IVAR[0] 0x8685", "w EIMS 0x60", "w EIAC 0x60"]
     for k in range(4_096):
-        slot, behind = k % 8, (k + 1) % 8
-        body += [f"poke {16 * slot} rx{slot}", f"w RDT[0] {behind}", "arrive frame", "rx", "int pf"]
-        body += [f"poke {128 + 16 * slot} tx", f"w TDT[0] {behind}", "tx 0", "int pf", "collect", "r GPRC"]
+        slot, tail = k % 8, (k + 1) % 8
+        body += [f"poke {16 * slot} rx{slot}", f"w RDT[0] {tail}", "arrive frame", "rx", "int pf"]
+        body += [f"poke {128 + 16 * slot} tx", f"w TDT[0] {tail}", "tx 0", "int pf", "collect", "r GPRC"]
     return "\n".join(lines + body[:4_096]) + "\n"

@@ -65,15 +65,15 @@ class Served:
             return answer.status, answer.read(), answer.headers
 
     def part(self, end: int | None = None) -> dict[str, Any]:
-        told: dict[str, Any] = json.loads(self.ask("part" if end is None else f"part?end={end}")[1])
-        return told
+        part: dict[str, Any] = json.loads(self.ask("part" if end is None else f"part?end={end}")[1])
+        return part
 
     def until(self, holds: Callable[[dict[str, Any]], bool]) -> dict[str, Any]:
         """Returns the last part once the condition holds, or the last one received."""
         began = time.monotonic()
-        while not holds(told := self.part()) and time.monotonic() - began < PATIENCE:
+        while not holds(part := self.part()) and time.monotonic() - began < PATIENCE:
             time.sleep(0.1)
-        return told
+        return part
 
     def peak(self) -> int:
         """Returns its peak memory in MiB."""
@@ -99,15 +99,15 @@ def served(*words: str | Path) -> Iterator[Served]:
             it.end()
 
 
-def alike(told: dict[str, Any], file: Path, events: int, expect: Expect, what: str) -> None:
+def alike(part: dict[str, Any], file: Path, events: int, expect: Expect, what: str) -> None:
     """Checks that a part equals the page that nicview makes of a file that ends there."""
-    if not told.get("data"):
-        expect(False, f"live, {what}: no part, and {told.get('said')!r}")
+    if not part.get("data"):
+        expect(False, f"live, {what}: no part, and {part.get('said')!r}")
         return
-    want = json.loads(json.dumps(Data(of_recording(str(file), told["until"] - told["before"])).whole()))
-    got = told["data"] | {"name": file.name}
+    want = json.loads(json.dumps(Data(of_recording(str(file), part["until"] - part["before"])).whole()))
+    got = part["data"] | {"name": file.name}
     parts = sorted(key for key in want if want[key] != got.get(key))
-    expect(told["until"] == events and not parts, f"live, {what}: until {told['until']} of {events}; others: {parts}")
+    expect(part["until"] == events and not parts, f"live, {what}: until {part['until']} of {events}; others: {parts}")
 
 
 def is_event(line: bytes) -> bool:
@@ -118,9 +118,9 @@ def check_earlier(it: Served, end: int, lines: list[bytes], cut: Path, expect: E
     """Checks that the part up to an event equals the page of a file that ends there."""
     numbers = [number for number, line in enumerate(lines, 1) if is_event(line)]
     cut.write_bytes(b"".join(lines[: numbers[end - 1]]))
-    told, want = it.part(end), Data(of_recording(str(cut), LIMIT)).whole()
-    same = all(json.loads(json.dumps(want[key])) == told["data"][key] for key in ("steps", "lines", "start"))
-    expect(same and told["until"] == end, f"live: the part up to event {end} is another one")
+    part, want = it.part(end), Data(of_recording(str(cut), LIMIT)).whole()
+    same = all(json.loads(json.dumps(want[key])) == part["data"][key] for key in ("steps", "lines", "start"))
+    expect(same and part["until"] == end, f"live: the part up to event {end} is another one")
 
 
 def check_growing(folder: Path, expect: Expect) -> None:
@@ -141,8 +141,8 @@ def check_growing(folder: Path, expect: Expect) -> None:
                 to.write(last[len(last) // 2 :])
             at = end
             events = sum(map(is_event, lines[:end]))
-            told = it.until(lambda it, events=events: it.get("until") == events)  # type: ignore[misc]
-            alike(told, file, events, expect, f"{end} lines")
+            part = it.until(lambda it, events=events: it.get("until") == events)  # type: ignore[misc]
+            alike(part, file, events, expect, f"{end} lines")
         for end in (events // 2, 70, 3, 1):
             check_earlier(it, end, lines, folder / "cut.rec", expect)
         with open(file, "ab") as to:
@@ -150,12 +150,12 @@ def check_growing(folder: Path, expect: Expect) -> None:
         expect(it.part()["until"] == events, "live: a line without its end is shown")
         with open(file, "ab") as to:
             to.write(b"d 0x00080000\nr sideways # word 1\nr 0x00008 # word 0x00080000\n")
-        told = it.until(lambda it: it["said"] != "")
-        expect(f":{len(lines) + 2}: this line of a recording" in told["said"], f"live: a broken line: {told['said']!r}")
-        expect(told["until"] == events + 1, f"live: {told['until']} events are shown up to it")
+        part = it.until(lambda it: it["said"] != "")
+        expect(f":{len(lines) + 2}: this line of a recording" in part["said"], f"live: a broken line: {part['said']!r}")
+        expect(part["until"] == events + 1, f"live: {part['until']} events are shown up to it")
         file.write_bytes(b"".join(lines[:40]))
-        told = it.until(lambda it: it["number"] > 1 and it.get("until", 0) > 0)
-        alike(told, file, sum(map(is_event, lines[:40])), expect, "written again")
+        part = it.until(lambda it: it["number"] > 1 and it.get("until", 0) > 0)
+        alike(part, file, sum(map(is_event, lines[:40])), expect, "written again")
         file.unlink()
         said = it.until(lambda it: "any longer" in it["said"])["said"]
         expect("any longer" in said, f"live: a file that went: {said!r}")
@@ -212,9 +212,9 @@ def check_hostile(folder: Path, expect: Expect) -> None:
     with open(file, "ab") as to:
         to.write(b"# note: " + TAGS + b"\nr 0x00008 # word 0x00080000  # " + TAGS + b"\n" + long)
     with served(file) as it:
-        told = it.until(lambda it: "until" in it)
-        expect(TAGS.decode() in json.dumps(told["data"]["comments"]), "live: the comment isn't shown")
-        expect(len(json.dumps(told)) < 1_000_000, "live: a part has lines of megabytes")
+        part = it.until(lambda it: "until" in it)
+        expect(TAGS.decode() in json.dumps(part["data"]["comments"]), "live: the comment isn't shown")
+        expect(len(json.dumps(part)) < 1_000_000, "live: a part has lines of megabytes")
         page = it.ask("")[1]
         expect(b"<img" not in page and TAGS not in page, "live: a file's name is markup in the page")
         silent = [socket.create_connection(("127.0.0.1", it.port)) for _ in range(40)]
@@ -227,8 +227,8 @@ def check_hostile(folder: Path, expect: Expect) -> None:
             to.writelines(long for _ in range(5))
         for one in silent[::2]:
             one.close()
-        told = until_served(it)
-        expect(told is not None, "live: clients that never read keep others out")
+        part = until_served(it)
+        expect(part is not None, "live: clients that never read keep others out")
         for one in silent:
             one.close()
         with open(file, "ab") as to:
@@ -328,8 +328,8 @@ def check_script(folder: Path, expect: Expect) -> None:
     with served(file) as it:
         expect(it.until(lambda it: "until" in it)["until"] == 1, "live: a script isn't shown")
         file.write_text("r NOSUCH\n# longer\n")
-        told = it.until(lambda it: it["said"] != "")
-        expect("UnknownName" in told["said"] and told["data"] is None, f"live: a refused script: {told['said']!r}")
+        part = it.until(lambda it: it["said"] != "")
+        expect("UnknownName" in part["said"] and part["data"] is None, f"live: a refused script: {part['said']!r}")
         file.write_text("r STATUS\nr CTRL\n")
         expect(it.until(lambda it: it.get("until") == 2)["until"] == 2, "live: a script that was mended")
 
@@ -344,12 +344,12 @@ def check_many(folder: Path, expect: Expect, many: int = MANY) -> None:
         for _ in range(many // len(again) + 1):
             to.writelines(again)
     with served(file) as it:
-        told = it.until(lambda it: it["total"] >= many and it.get("until") == it["total"])
-        are_few = len(told["data"]["steps"]) <= LIMIT + 1
-        expect(told["total"] >= many and are_few, f"live: {told['total']} of {many} events")
+        part = it.until(lambda it: it["total"] >= many and it.get("until") == it["total"])
+        are_few = len(part["data"]["steps"]) <= LIMIT + 1
+        expect(part["total"] >= many and are_few, f"live: {part['total']} of {many} events")
         for end in (many // 2, 1_000, many):
-            told = it.part(end)
-            expect(told["until"] == end, f"live: the part up to event {end} ends at {told['until']}")
+            part = it.part(end)
+            expect(part["until"] == end, f"live: the part up to event {end} ends at {part['until']}")
         peak = it.peak()
     expect(peak < MOST_MIB, f"live: {peak} MiB for {many:,} events")
     print(f"live: {many:,} events in {peak} MiB", flush=True)
@@ -387,7 +387,7 @@ class Seen:
     """A page that follows, in a browser."""
 
     def __init__(self, browser: Browser, it: Served, expect: Expect) -> None:
-        self.browser, self.told = browser, expect
+        self.browser, self.report = browser, expect
         browser.size(1_280, 900, False)
         browser.open(it.url)
 
@@ -398,7 +398,7 @@ class Seen:
                 break
             time.sleep(0.05)
         shown = "typeof live === 'object' && document.getElementById('events').textContent + JSON.stringify(live)"
-        self.told(bool(is_so), f"live page: {what}: {holds} doesn't hold; {self.browser.value(shown)}")
+        self.report(bool(is_so), f"live page: {what}: {holds} doesn't hold; {self.browser.value(shown)}")
 
     def click(self, name: str) -> None:
         self.browser.value(f"document.getElementById({name!r}).click(), 0")

@@ -113,8 +113,8 @@ def compare(script: Path, vfs: int | None, recording: Path, expect: Expect) -> N
     for left, right in pairs:
         same = facts(left) == facts(right)
         expect(same, f"{name}, recorded: step {right.number}: {facts(right)} and not {facts(left)}")
-        told = want.reasons[left.number] == got.reasons[right.number]
-        expect(told, f"{name}, recorded: step {right.number} has other reasons")
+        is_same = want.reasons[left.number] == got.reasons[right.number]
+        expect(is_same, f"{name}, recorded: step {right.number} has other reasons")
     for mine, others in ((want.seen.arrived, got.seen.arrived), (want.seen.sent, got.seen.sent)):
         same = [(one.data, one.queue, one.rss) for one in mine] == [(one.data, one.queue, one.rss) for one in others]
         expect(same, f"{name}, recorded: other frames")
@@ -159,8 +159,8 @@ def compare_waiting(where: str, whole: Run, part: Run, expect: Expect) -> None:
     """Checks that frames that come in the end of a recording wait as in the whole recording."""
     came, count = len(whole.seen.arrived) - len(part.seen.arrived), len(part.steps) - 1
     want, got = whole.seen.arrived[came:], part.seen.arrived
-    told = [[(frame.queue, frame.rss, frame.slots) for frame in frames] for frames in (want, got)]
-    expect(told[0] == told[1], f"{where}: frames {told[1]} and not {told[0]}")
+    waiting = [[(frame.queue, frame.rss, frame.slots) for frame in frames] for frames in (want, got)]
+    expect(waiting[0] == waiting[1], f"{where}: frames {waiting[1]} and not {waiting[0]}")
     for left, right in zip(whole.steps[-count:], part.steps[1:], strict=True):
         here = [(sign, [one - came for one in frames if one >= came]) for sign, frames in left.waiting]
         here = [(sign, frames) for sign, frames in here if frames]
@@ -187,12 +187,12 @@ def check_refused(folder: Path, expect: Expect) -> None:
         file = folder / "bad.recording"
         file.write_text(text, encoding="latin-1")
         ran = subprocess.run([ROOT / "tools/nicview", file, "--text"], capture_output=True, text=True, check=False)
-        is_told = ran.returncode == 2 and part in ran.stderr and ran.stderr.count("\n") == 1
-        expect(is_told, f"a recording {text!r}: status {ran.returncode}, {ran.stderr[-300:]}")
+        is_right = ran.returncode == 2 and part in ran.stderr and ran.stderr.count("\n") == 1
+        expect(is_right, f"a recording {text!r}: status {ran.returncode}, {ran.stderr[-300:]}")
     file.write_text(HEAD + "lend 0 # done\npeek 0x00001 0 # misaligned\ndata d0 00\npoke 0x00008 d0 # misaligned\n")
     run = of_recording(str(file))
-    is_told = not run.notes and [step.reply for step in run.steps] == ["done", "misaligned", "misaligned"]
-    expect(is_told, f"a recording with addresses that are no multiple of 16: {run.notes}, {events(run)}")
+    is_right = not run.notes and [step.reply for step in run.steps] == ["done", "misaligned", "misaligned"]
+    expect(is_right, f"a recording with addresses that are no multiple of 16: {run.notes}, {events(run)}")
     file.write_text(HEAD + "lend 1   # done\nlend 2")
     words = [ROOT / "tools/nicview", file, "--text"]
     ran = subprocess.run(words, capture_output=True, text=True, check=False)
@@ -215,7 +215,7 @@ def check_restored(folder: Path, expect: Expect) -> None:
     expect(last(run)[0].get(0x3000) == 1, "a restored snapshot: RXCTRL isn't as it was kept")
 
 
-def told(words: list[object], text: str = "") -> tuple[int, str, str]:
+def run_tool(words: list[object], text: str = "") -> tuple[int, str, str]:
     """Returns a tool's status, output and errors."""
     called = [str(ROOT / "tools" / str(words[0])), *map(str, words[1:])]
     ran = subprocess.run(called, input=text, capture_output=True, text=True, check=False)
@@ -224,10 +224,10 @@ def told(words: list[object], text: str = "") -> tuple[int, str, str]:
 
 def check_tool(words: list[object], text: str, status: int, parts: list[str], expect: Expect) -> None:
     """Checks that a tool ends with a status, and prints these parts."""
-    ended, out, errors = told(words, text)
+    ended, out, errors = run_tool(words, text)
     for part in parts:
-        is_told = ended == status and part in out + errors
-        expect(is_told, f"{words}: status {ended}, no {part!r} in {(out + errors)[-400:]}")
+        is_right = ended == status and part in out + errors
+        expect(is_right, f"{words}: status {ended}, no {part!r} in {(out + errors)[-400:]}")
 
 
 def check_long(folder: Path, expect: Expect) -> None:
@@ -245,7 +245,7 @@ def check_long(folder: Path, expect: Expect) -> None:
     dropped = f"{file}:{lines}: step 3: rx -> dropped queue off: RXDCTL[0].ENABLE 0: the queue is off"
     check_tool(["niclint", file, "--trace", "--limit", 3], "", 1, [dropped, "6,002 events came before", "ok 4"], expect)
     check_tool(["niclint", file, "--vfs", "1"], "", 2, ["leave --vfs and --fifo out"], expect)
-    lint = told(["niclint", "-", "--trace"], file.read_text())[1]
+    lint = run_tool(["niclint", "-", "--trace"], file.read_text())[1]
     expect("6,004" not in lint and "1,909 events came before" in lint, f"niclint of standard input: {lint[-300:]}")
     for limit, count in ((None, "6005"), (5, "6")):
         words = ["nicdebug", file, *(["--limit", limit] if limit else [])]
@@ -338,8 +338,8 @@ def check_no_bytes(folder: Path, expect: Expect) -> None:
     answers = [line.split(" ", 1)[1] for line in Bench().run(text, 100)]
     expect(answers[-3:] == ["dropped short", "dropped filter", "4"], f"a frame without bytes is answered {answers}")
     run = of_recording(str(file))
-    is_told = not run.notes and "the frame has 0 bytes, of 60 at least" in str(run.reasons)
-    expect(is_told, f"a frame without bytes: {run.notes}, {run.reasons}")
+    is_right = not run.notes and "the frame has 0 bytes, of 60 at least" in str(run.reasons)
+    expect(is_right, f"a frame without bytes: {run.notes}, {run.reasons}")
     check_tool(["nicview", file, "--script"], "", 0, ["data d0 00  #: no bytes\n"], expect)
     check_tool(["nicdebug", file], "s 3\nwhy\n", 0, ["the frame has 0 bytes"], expect)
 
@@ -409,7 +409,7 @@ def check_history(folder: Path, expect: Expect) -> None:
                 nic["FCTRL"] = 1 << 8
                 nic.restore(second)
                 nic.arrive(bytes([2]) + bytes(59))
-    status, out, _ = told(["nicview", file, "--script"])
+    status, out, _ = run_tool(["nicview", file, "--script"])
     kept = [line.split("#")[0].split()[0:3:2] for line in out.splitlines() if line.startswith(("w", "arrive"))]
     is_it = status == 0 and kept == [["w", "0x00000001"], ["w", "0x00000200"], ["arrive"]]
     expect(is_it, f"a script of snapshots: status {status}, {out}")
@@ -495,8 +495,8 @@ def check_cut(folder: Path, expect: Expect) -> None:
     run = of_recording(str(cut_recording(folder)), 2)
     data = Data(run).whole()
     routes, vectors = data["routes"]
-    told = [data["texts"][number] for number in routes]
-    expect(told == ["rx 2 raises cause 3 of pf (IVAR[1] INT_Alloc[0])"], f"a cut recording: routes {told}")
+    texts = [data["texts"][number] for number in routes]
+    expect(texts == ["rx 2 raises cause 3 of pf (IVAR[1] INT_Alloc[0])"], f"a cut recording: routes {texts}")
     expect(vectors == [2, None], f"a cut recording: vectors {vectors}")
     expect([group["name"] for group in data["groups"]] == ["pf"], "a cut recording: no group of interrupts")
     expect(run.steps[-1].reply == "message pf vector 2", f"a cut recording: {run.steps[-1]}")

@@ -70,16 +70,16 @@ def comments(data: bytes) -> list[tuple[int, int, str]]:
         if kind == 6:
             _, high, low, kept, length = struct.unpack_from("<IIIII", body)
             assert kept == length
-            at, told = 20 + (kept + 3) // 4 * 4, {}
+            at, options = 20 + (kept + 3) // 4 * 4, {}
             while (option := struct.unpack_from("<HH", body, at))[0]:
-                told[option[0]] = body[at + 4 : at + 4 + option[1]]
+                options[option[0]] = body[at + 4 : at + 4 + option[1]]
                 at += 4 + (option[1] + 3) // 4 * 4
             assert at + 4 == len(body), "the end of the options"
-            found.append((high << 32 | low, int.from_bytes(told[2], "little"), told[1].decode()))
+            found.append((high << 32 | low, int.from_bytes(options[2], "little"), options[1].decode()))
     return found
 
 
-def told(words: list[object]) -> tuple[int, str]:
+def run_tool(words: list[object]) -> tuple[int, str]:
     """Returns a tool's status and errors."""
     ran = subprocess.run([*map(str, words)], capture_output=True, text=True, check=False, stdin=subprocess.DEVNULL)
     return ran.returncode, ran.stderr
@@ -90,7 +90,7 @@ def check_capture(folder: Path, expect: Expect) -> None:
     step."""
     file, made = folder / "traffic.recording", folder / "traffic.pcapng"
     record(file)
-    status, said = told([ROOT / "tools/nic2pcap", made, file])
+    status, said = run_tool([ROOT / "tools/nic2pcap", made, file])
     expect(status == 0 and said.endswith("nic2pcap: 3 frames in, 2 out\n"), f"nic2pcap: status {status}, {said}")
     sent = IP[:60]
     expect(read_pcap(made) == [FRAMES[0], IP, FRAMES[2], sent, sent], "nic2pcap: other frames")
@@ -104,11 +104,11 @@ def check_capture(folder: Path, expect: Expect) -> None:
         expect(way == (1 if want.startswith("in") else 2), f"nic2pcap: the way of {comment}")
     check_tshark(made, got, expect)
     for words, says in (([made, file, "--queue", 2], "0 frames in, 2 out"), ([made, file, "--limit", 3], "0 in")):
-        status, said = told([ROOT / "tools/nic2pcap", *words])
+        status, said = run_tool([ROOT / "tools/nic2pcap", *words])
         expect(status == 0 and (says in said or "events came before" in said), f"nic2pcap {words}: {said}")
-    status, said = told([ROOT / "tools/nic2pcap", made, ROOT / "examples/fault.nic"])
+    status, said = run_tool([ROOT / "tools/nic2pcap", made, ROOT / "examples/fault.nic"])
     expect(status == 2 and "refused UnknownName 2" in said, f"nic2pcap of a refused script: status {status}, {said}")
-    status, said = told([ROOT / "tools/nic2pcap", made, ROOT / "dev/views/found.nic"])
+    status, said = run_tool([ROOT / "tools/nic2pcap", made, ROOT / "dev/views/found.nic"])
     expect(status == 0 and said == "nic2pcap: 2 frames in, 0 out\n", f"nic2pcap of a script: status {status}, {said}")
 
 
@@ -165,8 +165,8 @@ def check_traces(folder: Path, expect: Expect) -> None:
     expect([one["ts"] for one in found["task poll"]][:3] == [9, 10, 11], f"the track of a task: {found['task poll']}")
     eight = check_events(of_script(Bench(), str(ROOT / "dev/views/eight.nic")), expect)
     faults = eight[perfetto.NAMES[perfetto.TROUBLE]]
-    told = next(one for one in faults if one["name"].endswith("fault queue 5 outside"))
-    expect("RDT[5] 16 of 16 slots (RDLEN[5] / 16)" in str(told["args"]["why"]), f"a fault in a trace: {told}")
+    fault = next(one for one in faults if one["name"].endswith("fault queue 5 outside"))
+    expect("RDT[5] 16 of 16 slots (RDLEN[5] / 16)" in str(fault["args"]["why"]), f"a fault in a trace: {fault}")
     made = folder / "trace.json"
     subprocess.run([ROOT / "tools/nicview", ROOT / "examples/first.nic", "--perfetto", "-o", made], check=False,
                    stderr=subprocess.DEVNULL)  # fmt: skip

@@ -52,7 +52,7 @@ def expressions() -> dict[str, Any]:
     texts: set[str] = set()
     for row in reason_table.rows().values():
         texts |= {text for text in (row.condition, row.value) if text}
-        for part in (row.told, row.why, row.otherwise):
+        for part in (row.statement, row.why, row.otherwise):
             places = (place.partition(":") for place in reason_table.PLACE.findall(part))
             texts |= {text for text, _, form in places if form != "s"}
     return {text: node(ast.parse(text, mode="eval").body) for text in sorted(texts)}
@@ -118,13 +118,13 @@ def operations() -> dict[str, list[str]]:
     describes them in order."""
     from nic82599.tools.forms import FORMS
 
-    told: dict[str, str] = {}
+    meanings: dict[str, str] = {}
     for line, does in rows_of("script.md", "| Line | Effect |"):
         words, parts = [one.split()[0] for one in re.findall(r"`([^`]+)`", line)], plain(does).split("; ")
         are_own = len(set(words)) == len(words) == len(parts)
         for word, own in zip(words, parts if are_own else [plain(does)] * len(words)):
-            told.setdefault(word, own)
-    return {word: [form, told[word]] for word, form in FORMS.items()}
+            meanings.setdefault(word, own)
+    return {word: [form, meanings[word]] for word, form in FORMS.items()}
 
 
 def replies() -> dict[str, str]:

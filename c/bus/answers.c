@@ -98,12 +98,12 @@ uint32_t answer_read(struct bus *it, uint32_t address, uint32_t word)
 
 void answer_eeprom(struct bus *it)
 {
-    nic_told told;
+    nic_outcome outcome;
     uint32_t control = bus_peek(it, NIC_CTRL);
     bool lifts = control & NIC_CTRL_MASTER_DISABLE && bus_peek(it, NIC_EERD) & NIC_EERD_START && given(it, BUS_EERD);
     if (lifts)
         nic_write32(&it->device, NIC_CTRL, control & ~NIC_CTRL_MASTER_DISABLE);
-    it->counts.eeprom_words += nic_eeprom_step(&it->device, &told) == NIC_DONE;
+    it->counts.eeprom_words += nic_eeprom_step(&it->device, &outcome) == NIC_DONE;
     if (lifts)
         nic_write32(&it->device, NIC_CTRL, control);
 }

@@ -195,8 +195,8 @@ void bus_hold(struct bus *it, bool is_held)
 
 bool bus_enable(struct bus *it, bool is_transmit, uint16_t queue)
 {
-    nic_told told;
-    bool is_done = nic_queue_step(&it->device, is_transmit, queue, &told) == NIC_DONE;
+    nic_outcome outcome;
+    bool is_done = nic_queue_step(&it->device, is_transmit, queue, &outcome) == NIC_DONE;
     it->counts.enables += is_done;
     return is_done;
 }

@@ -97,7 +97,7 @@ struct bus_calls {
     void (*filled)(void *of, uint16_t queue, uint64_t descriptor, bool ends);
     void (*message)(void *of, unsigned int function, unsigned int vector); /* delivers an interrupt message */
     /* A fault of the device. If null, a line on standard error. */
-    void (*fault)(void *of, bool is_transmit, const nic_told *told);
+    void (*fault)(void *of, bool is_transmit, const nic_outcome *outcome);
     /* Something that the bus can't do. If null, a line on standard error for each of the first twenty. */
     void (*problem)(void *of, const char *what);
 };

@@ -35,7 +35,7 @@ static void asked(struct bus *it, unsigned int function)
         request->asked = message;
 }
 
-static void told(struct bus *it, unsigned int function)
+static void notified(struct bus *it, unsigned int function)
 {
     struct message message = message_of(it, function);
     struct request *request = &it->mailboxes.requests[it->mailboxes.pending[function]];
@@ -56,7 +56,7 @@ void mailbox_written(struct bus *it, unsigned int function, uint32_t offset, uin
         asked(it, function);
     if (function == BUS_PHYSICAL && offset >= NIC_PFMAILBOX(0) && offset < NIC_PFMAILBOX(BUS_FUNCTIONS - 1) &&
         word & TELLS)
-        told(it, (offset - NIC_PFMAILBOX(0)) / 4 + 1);
+        notified(it, (offset - NIC_PFMAILBOX(0)) / 4 + 1);
 }
 
 struct mailbox_counts mailbox_counts(const struct bus *it, unsigned int request)

@@ -25,95 +25,96 @@ void bus_problem(struct bus *it, const char *format, ...)
         fprintf(stderr, "wrong: %s\n", what);
 }
 
-static void fault(struct bus *it, bool is_transmit, const nic_told *told)
+static void fault(struct bus *it, bool is_transmit, const nic_outcome *outcome)
 {
     const struct bus_calls *calls = &it->options.calls;
     it->counts.faults++;
-    it->counts.fault_whys[told->why % WHYS]++;
+    it->counts.fault_whys[outcome->why % WHYS]++;
     if (calls->fault)
-        calls->fault(calls->of, is_transmit, told);
+        calls->fault(calls->of, is_transmit, outcome);
     else
         fprintf(stderr, "bus: a fault in %s, queue %u slot %u: %s, bus address 0x%" PRIx64 "\n",
-                is_transmit ? "sending" : "receiving", told->queue, told->slot, nic_fault_name(told->why), told->bus);
+                is_transmit ? "sending" : "receiving", outcome->queue, outcome->slot, nic_fault_name(outcome->why),
+                outcome->bus);
 }
 
 static void collect(struct bus *it, uint16_t queue)
 {
-    nic_told told;
-    uint8_t status = nic_collect(&it->device, it->frame, sizeof it->frame, &told);
+    nic_outcome outcome;
+    uint8_t status = nic_collect(&it->device, it->frame, sizeof it->frame, &outcome);
     if (status != NIC_FRAME) { /* it would block all frames sent after it */
         bus_problem(it, "can't collect a frame of %zu bytes from queue %u: %s", nic_next_out(&it->device), queue,
                     nic_status_name(status));
         return;
     }
     if (++it->counts.frames_out == it->options.turn_out)
-        it->frame[told.len - 1] ^= 1;
+        it->frame[outcome.len - 1] ^= 1;
     if (it->sink)
-        it->sink(it->sink_of, queue, it->frame, told.len);
+        it->sink(it->sink_of, queue, it->frame, outcome.len);
 }
 
 void bus_transmit(struct bus *it, uint16_t queue)
 {
     const struct bus_calls *calls = &it->options.calls;
     for (;;) {
-        nic_told told;
+        nic_outcome outcome;
         if (calls->stepping && !calls->stepping(calls->of, true, queue))
             return;
-        uint8_t status = nic_tx_step(&it->device, queue, &told);
+        uint8_t status = nic_tx_step(&it->device, queue, &outcome);
         if (status == NIC_FAULT)
-            fault(it, true, &told);
+            fault(it, true, &outcome);
         if (status == NIC_OUT_OF_MEMORY)
             bus_problem(it, "queue %u can't send: out of memory", queue);
         if (status != NIC_ADVANCED && status != NIC_SENT)
             return;
         it->counts.transmit_steps++;
-        if (told.back && calls->wrote_back)
-            calls->wrote_back(calls->of, queue, told.at);
+        if (outcome.back && calls->wrote_back)
+            calls->wrote_back(calls->of, queue, outcome.at);
         if (status == NIC_SENT)
             collect(it, queue);
     }
 }
 
 /* For tests: corrupts the last byte that the device wrote. */
-static void turn(const struct bus_calls *calls, const nic_told *told)
+static void turn(const struct bus_calls *calls, const nic_outcome *outcome)
 {
-    uint8_t *last = calls->at ? calls->at(calls->of, told->at + told->len - 1, 1) : NULL;
+    uint8_t *last = calls->at ? calls->at(calls->of, outcome->at + outcome->len - 1, 1) : NULL;
     if (last)
         *last ^= 1;
 }
 
 /* Returns whether there may be more to do. */
-static bool wrote(struct bus *it, const nic_told *told)
+static bool wrote(struct bus *it, const nic_outcome *outcome)
 {
     const struct bus_calls *calls = &it->options.calls;
     if (calls->wrote) {
-        calls->wrote(calls->of, told->at, told->len);
-        calls->wrote(calls->of, told->desc, BUS_SLOT);
+        calls->wrote(calls->of, outcome->at, outcome->len);
+        calls->wrote(calls->of, outcome->desc, BUS_SLOT);
     }
     it->counts.receive_steps++;
-    if (told->end && ++it->counts.frames_in == it->options.turn_in)
-        turn(calls, told);
-    bool has_more = !calls->stepping || calls->stepping(calls->of, false, told->queue);
+    if (outcome->end && ++it->counts.frames_in == it->options.turn_in)
+        turn(calls, outcome);
+    bool has_more = !calls->stepping || calls->stepping(calls->of, false, outcome->queue);
     if (calls->filled)
-        calls->filled(calls->of, told->queue, told->desc, told->end);
+        calls->filled(calls->of, outcome->queue, outcome->desc, outcome->end);
     return has_more;
 }
 
 unsigned int bus_receive(struct bus *it)
 {
     for (unsigned int written = 0;;) {
-        nic_told told;
-        switch (nic_rx_step(&it->device, &told)) {
+        nic_outcome outcome;
+        switch (nic_rx_step(&it->device, &outcome)) {
         case NIC_WROTE:
             written++;
-            if (!wrote(it, &told))
+            if (!wrote(it, &outcome))
                 return written;
             break;
         case NIC_DROPPED:
             it->counts.drops++;
-            it->counts.drop_whys[told.why % WHYS]++;
+            it->counts.drop_whys[outcome.why % WHYS]++;
             break;
-        case NIC_FAULT: fault(it, false, &told); break;
+        case NIC_FAULT: fault(it, false, &outcome); break;
         default: return written;
         }
     }
@@ -121,12 +122,12 @@ unsigned int bus_receive(struct bus *it)
 
 bool bus_is_settled(struct bus *it, uint16_t queues)
 {
-    nic_told told[16];
+    nic_outcome outcomes[16];
     size_t count = 0;
-    uint8_t status = nic_settle(&it->device, queues, told, sizeof told / sizeof *told, &count);
+    uint8_t status = nic_settle(&it->device, queues, outcomes, sizeof outcomes / sizeof *outcomes, &count);
     for (size_t i = 0; i < count; i++)
-        fprintf(stderr, "bus: left to do: %s of %u: %s\n", nic_step_name(told[i].step), told[i].of,
-                nic_status_name(told[i].status));
+        fprintf(stderr, "bus: left to do: %s of %u: %s\n", nic_step_name(outcomes[i].step), outcomes[i].of,
+                nic_status_name(outcomes[i].status));
     return status == NIC_DONE && count == 0;
 }
 
@@ -140,11 +141,11 @@ void bus_send_to(struct bus *it, bus_sink *sink, void *of)
 
 bool bus_arrive(struct bus *it, const uint8_t *frame, size_t length)
 {
-    nic_told told = {0}; /* stays zero if memory runs out */
-    if (nic_arrive(&it->device, frame, length, &told) == NIC_DONE)
+    nic_outcome outcome = {0}; /* stays zero if memory runs out */
+    if (nic_arrive(&it->device, frame, length, &outcome) == NIC_DONE)
         return true;
     it->counts.not_let_in++;
-    it->counts.arrive_whys[told.why % WHYS]++;
+    it->counts.arrive_whys[outcome.why % WHYS]++;
     return false;
 }
 
@@ -170,13 +171,13 @@ unsigned int bus_least_room(const struct bus *it)
 bool bus_message(struct bus *it, unsigned int function)
 {
     const struct bus_calls *calls = &it->options.calls;
-    nic_told told;
-    if (nic_int_step(&it->device, (uint8_t)function, &told) != NIC_MESSAGE)
+    nic_outcome outcome;
+    if (nic_int_step(&it->device, (uint8_t)function, &outcome) != NIC_MESSAGE)
         return false;
     it->counts.messages[function]++;
-    it->counts.vectors[function] |= 1u << told.vector % VECTORS;
+    it->counts.vectors[function] |= 1u << outcome.vector % VECTORS;
     if (calls->message)
-        calls->message(calls->of, function, told.vector);
+        calls->message(calls->of, function, outcome.vector);
     return true;
 }
 

@@ -25,7 +25,7 @@ sys.path.insert(0, str(C))
 from drive.card.rows import listed  # noqa: E402
 from drive.page import texts_of  # noqa: E402
 from drive.planted import Unplanted, sample  # noqa: E402
-from explore.check import STRICT, Wrong, ran, sanitized_engine, told  # noqa: E402
+from explore.check import STRICT, Wrong, must_print, ran, sanitized_engine  # noqa: E402
 
 
 @dataclass(frozen=True)
@@ -194,7 +194,7 @@ PLAIN_WORD = {
     "__atomic_and_fetch(&card.polled, ~(1u << queue), __ATOMIC_ACQ_REL)": "(card.polled &= ~(1u << queue))",
 }
 # Rows in which threads of the driver share state besides their rings.
-SEEN = "interrupt-two-queues,interrupt-often,link,stats,reset-amid-interrupts,mailbox-ready-once,host-collides"
+SEEN = "interrupt-two-queues,interrupt-often,link,stats,reset-during-interrupts,mailbox-ready-once,host-collides"
 UNSEEN = "^accesses of the driver's own memory aren't seen, so no bug in their order is found: "
 
 
@@ -279,8 +279,8 @@ def check_blind(kit: Kit, wrong: Path, how: list[object]) -> None:
         (other,): "plain_word.o: compile with -fsanitize=thread\n",
         (kit.build(HERE / "corpus/pages.c"),): "compile it with .*, and link with @nic82599_drive.opts\n",
     }.items():
-        told(nicdrive(folder, [*words, *how], 0), UNSEEN + wanted, str(words))
-        told((folder / "card.txt").read_text(), UNSEEN + wanted, "card.txt")
+        must_print(nicdrive(folder, [*words, *how], 0), UNSEEN + wanted, str(words))
+        must_print((folder / "card.txt").read_text(), UNSEEN + wanted, "card.txt")
         if "no bug in their order is found" not in (folder / "card.html").read_text():
             raise Wrong(f"card.html doesn't say that accesses aren't seen: {words}")
 
@@ -388,7 +388,7 @@ def check_aliases(kit: Kit) -> str:
 
 # Bugs of corpus/bugs.h that are also found with the driver's memory in place, and misuses of pointers.
 BUGS_IN_PLACE = ("TAIL_BEFORE_DESCRIPTOR", "BUFFER_AGAIN_BEFORE_DD", "RECLAIM_BY_HEAD", "MISSING_WMB")
-FAULTS_OF_POINTERS = ("STORE_BEHIND_A_PIECE", "STORE_GIVEN_BACK", "STORE_IN_OPEN", "POINTER_TO_NOTHING")
+FAULTS_OF_POINTERS = ("STORE_PAST_A_PIECE", "STORE_GIVEN_BACK", "STORE_IN_OPEN", "POINTER_TO_NOTHING")
 
 
 def check_seen_in_place(kit: Kit) -> None:
@@ -423,7 +423,7 @@ def check_in_place(kit: Kit, runs: int, each: int = 1) -> str:
 def check_stores(kit: Kit) -> str:
     """A store through a pointer to memory that isn't lent is reported with its line if accesses are observed."""
     words = ["--rows", "receive-one", "--runs", 20, "--no-pages", "--jobs", kit.jobs, *PATIENT]
-    for mode in ("STORE_BEHIND_A_PIECE", "STORE_GIVEN_BACK"):
+    for mode in ("STORE_PAST_A_PIECE", "STORE_GIVEN_BACK"):
         folder = kit.folder / f"stores-{mode}"
         nicdrive(folder, [HERE / "tests/faulty.c", f"--flags=-DMODE={mode}", *words], 1)
         wanted = r"memory: receive0 at faulty\.c:\d+( < \S+)? writes 0x\w+, which isn't lent: \d+ bytes past the end"
@@ -489,7 +489,7 @@ def check_address(kit: Kit) -> None:
     silent = "    (void)address;\n"
     if not (found := ADDRESS.search((ADAPTER_FOLDER / "driver.c").read_text())):
         raise Wrong("c/examples/adapter/driver.c writes no address")
-    told(ran([adapter(kit, found[0], silent)], 1), "no RAL and RAH with AV 1 matched", "a driver with no address")
+    must_print(ran([adapter(kit, found[0], silent)], 1), "no RAL and RAH with AV 1 matched", "a driver with no address")
     ran([kit.build(HERE / "tests/ported.c")])
     page = (HERE / "tests/ported.c").read_text()
     lines = re.findall(r"^    (?:static const char image|uint64_t line;|nic_install_text).*\n", page, re.M)
@@ -536,12 +536,12 @@ def check_adapter(kit: Kit, sanitized: list[str] | None) -> str:
     check_recorded(kit)
     one_piece = check_one_piece(kit)
     for old, new, flags, wanted in MISTAKES:
-        told(ran([adapter(kit, old, new, *flags)], 1), wanted, f"examples/adapter with {new or flags}")
+        must_print(ran([adapter(kit, old, new, *flags)], 1), wanted, f"examples/adapter with {new or flags}")
     if sanitized:
         own = replace(kit, flags=sanitized)
         ran([adapter(own), "500"])
         for old, new, flags, wanted in MISTAKES_SANITIZED:
-            told(ran([adapter(own, old, new, *flags), "500"], 1), wanted, f"examples/adapter with {new or flags}")
+            must_print(ran([adapter(own, old, new, *flags), "500"], 1), wanted, f"examples/adapter with {new or flags}")
     passed = sum(row["state"] == "passed" for row in rows)
     return f"examples/adapter runs, and passes {passed} rows, {one_piece}" + (", sanitized too" if sanitized else "")
 
@@ -562,13 +562,13 @@ IDLE = {
     "setup-moderation": "EITR was never written",
     "setup-hash": "MRQC never asked for a hash",
     "interrupt-rearm-alone": "all queues share one vector",
-    "open-amid-frames": "no frame arrived in queue 0; no frame was being received during open",
-    "close-amid-frames": "no frame arrived in queue 0; no frame was being received during close",
-    "close-amid-sends": "no frame was transmitted by queue 0; no frame was being transmitted during close",
-    "close-amid-all": "no message was sent for queue 0",
+    "open-during-frames": "no frame arrived in queue 0; no frame was being received during open",
+    "close-during-frames": "no frame arrived in queue 0; no frame was being received during close",
+    "close-during-sends": "no frame was transmitted by queue 0; no frame was being transmitted during close",
+    "close-during-all": "no message was sent for queue 0",
     "memory-refused": "no allocation was refused; no frame arrived in queue 0",
     "suspend-quiet": "no frame arrived in queue 0; no frame was being received during suspend",
-    "reset-amid-receive": "no frame arrived in queue 0; no frame was being received during reset",
+    "reset-during-receive": "no frame arrived in queue 0; no frame was being received during reset",
     "mtu-shrinks": "no frame was dropped because of its length",
     "function-close": "no frame was transmitted by queue 0",
 }
@@ -618,7 +618,7 @@ EDITS = {
     ),
     "large buffers": Edit(
         {"PART = 2048": "PART = 6144"},
-        {"resize-amid-chains": "not reached: no frame filled several slots"},
+        {"resize-during-chains": "not reached: no frame filled several slots"},
         "NICD_ONE_BUFFER",
     ),
     "no intervals": Edit(
@@ -727,8 +727,8 @@ command.draw_all([Row("a", "b", "", "c", "d", "e", state=FAILED)], Path())
 def check_pages() -> str:
     """The command announces that it compiles ./nicbench for the pages, but only if it does."""
     folders = ", ".join(repr(str(path)) for path in (HERE, C.parent / "python"))
-    told = "nicdrive: compiling ./nicbench for the pages, once, some minutes\n"
-    for there, wanted in (("/nowhere", told), ("/", "")):
+    notice = "nicdrive: compiling ./nicbench for the pages, once, some minutes\n"
+    for there, wanted in (("/nowhere", notice), ("/", "")):
         words = [sys.executable, "-B", "-c", PAGES.replace("FOLDERS", folders), there]
         made = subprocess.run(words, capture_output=True, text=True, check=False)
         if (made.stdout, made.stderr) != ("drawn\n", wanted):
@@ -771,9 +771,9 @@ def check_refusals(kit: Kit) -> str:
     for fields, wanted in ADAPTERS.items():
         source = kit.folder / "refused.c"
         source.write_text(ADAPTER.replace("FIELDS", fields))
-        told = nicdrive(kit.folder / "refused", [source], 2)
-        if wanted not in told:
-            raise Wrong(f"an adapter with {fields}: it doesn't print \"{wanted}\":\n{told}")
+        output = nicdrive(kit.folder / "refused", [source], 2)
+        if wanted not in output:
+            raise Wrong(f"an adapter with {fields}: it doesn't print \"{wanted}\":\n{output}")
     return f"{len(REFUSALS) + len(ADAPTERS)} refusals"
 
 
@@ -821,7 +821,7 @@ def check_foreign_cards(kit: Kit, card: Path) -> None:
         json.dumps(data | {"budget": []}): "it is no card: .* must be a mapping, not list\n$",
     }.items():
         bad.write_text(text)
-        told(nicdrive(kit.folder, ["--compare", bad, card], 2), f"^nicdrive: .*{wanted}", text[:40])
+        must_print(nicdrive(kit.folder, ["--compare", bad, card], 2), f"^nicdrive: .*{wanted}", text[:40])
 
 
 def check_sanitized(kit: Kit, flags: list[str], engine: Path) -> str:

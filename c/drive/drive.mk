@@ -18,9 +18,9 @@ $(OUT)/libnic82599_drive.a: $(DRIVE_OBJECTS)
 
 # The library for drivers whose memory accesses are observed: the card's own calls aren't redirected
 # (../explore/threads.mk). Link libnic82599_threads.a after it. Pass the linker @c/out/nic82599_drive.opts.
-DRIVE_TURNED := $(patsubst $(OUT)/%.o,$(OUT)/threads/not-turned/%.o,$(DRIVE_OBJECTS))
+DRIVE_NOT_INTERCEPTED := $(patsubst $(OUT)/%.o,$(OUT)/threads/not-intercepted/%.o,$(DRIVE_OBJECTS))
 
-$(OUT)/libnic82599_drive_threads.a: $(DRIVE_TURNED)
+$(OUT)/libnic82599_drive_threads.a: $(DRIVE_NOT_INTERCEPTED)
 	$(call SAY,$(@F))
 	$Qrm -f $@
 	$Q$(AR) rcs $@ $^

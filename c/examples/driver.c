@@ -72,7 +72,7 @@ int main(void)
     static const uint8_t frame[60] = {2, 0, 0, 0, 0, 1, 2, 0, 0, 0, 0, 2, 8, 6, 'h', 'i'};
     uint8_t sent[1514];
     nic n;
-    nic_told told[32];
+    nic_outcome outcomes[32];
     size_t count;
     unsigned next = 0;
     memory = calloc(1, BYTES);
@@ -82,14 +82,14 @@ int main(void)
     tx_ring = rx_ring + SLOTS;
     printf("lend %d bytes: %s\n", BYTES, nic_status_name(nic_lend_memory(&n, 0, memory, BYTES)));
     bring_up(&n);
-    nic_settle(&n, 1, told, 32, &count); /* the device enables both sides */
+    nic_settle(&n, 1, outcomes, 32, &count); /* the device enables both sides */
     for (unsigned k = 0; k < 3; k++)
-        nic_arrive(&n, frame, sizeof frame, told);
-    nic_settle(&n, 1, told, 32, &count); /* the device writes the frames to the driver's buffers */
+        nic_arrive(&n, frame, sizeof frame, outcomes);
+    nic_settle(&n, 1, outcomes, 32, &count); /* the device writes the frames to the driver's buffers */
     poll_once(&n, &next);
-    nic_settle(&n, 1, told, 32, &count); /* the device reads the frames to send from there */
-    while (nic_collect(&n, sent, sizeof sent, told) == NIC_FRAME)
-        printf("out: %d bytes to 02:..:%02x, %c%c\n", (int)told[0].len, sent[5], sent[14], sent[15]);
+    nic_settle(&n, 1, outcomes, 32, &count); /* the device reads the frames to send from there */
+    while (nic_collect(&n, sent, sizeof sent, outcomes) == NIC_FRAME)
+        printf("out: %d bytes to 02:..:%02x, %c%c\n", (int)outcomes[0].len, sent[5], sent[14], sent[15]);
     printf("slot 0 is sent: %d\n", nic_tx_is_done(tx_ring[0]));
     nic_close(&n);
     free(memory);

@@ -13,14 +13,14 @@ enum ending { UNMASK, CLEAR_AND_UNMASK };
 
 static void bring_up(nic *n)
 {
-    nic_told told;
+    nic_outcome outcome;
     nic_lend_all(n);
     nic_write32(n, NIC_RXCTRL, NIC_RXCTRL_RXEN);
     nic_write32(n, NIC_FCTRL, NIC_FCTRL_UPE);
     nic_write32(n, NIC_RDLEN(QUEUE), 128);
     nic_write32(n, NIC_SRRCTL(QUEUE), NIC_SRRCTL_DESCTYPE_IS(1) | NIC_SRRCTL_BSIZEPACKET_IS(2));
     nic_write32(n, NIC_RXDCTL(QUEUE), NIC_RXDCTL_ENABLE);
-    nic_queue_step(n, false, QUEUE, &told);
+    nic_queue_step(n, false, QUEUE, &outcome);
     for (uint32_t slot = 0; slot < 7; slot++)
         nic_put64(n, 16 * slot, NIC_BLOCK_BYTES);
     nic_write32(n, NIC_RDT(QUEUE), 7);
@@ -34,9 +34,9 @@ static void bring_up(nic *n)
 static void receive(nic *n)
 {
     static const uint8_t frame[60] = {2, 0, 0, 0, 0, 1, 2, 0, 0, 0, 0, 2, 0x88, 0xB5};
-    nic_told told;
-    nic_arrive(n, frame, sizeof frame, &told);
-    nic_rx_step(n, &told);
+    nic_outcome outcome;
+    nic_arrive(n, frame, sizeof frame, &outcome);
+    nic_rx_step(n, &outcome);
 }
 
 /* Returns the number of completed descriptors. */
@@ -54,12 +54,12 @@ static unsigned done(nic *n)
 static void poll(enum ending ending)
 {
     nic n;
-    nic_told told;
+    nic_outcome outcome;
     if (nic_open(&n, 0, 64, 2) != NIC_DONE)
         return;
     bring_up(&n);
     receive(&n);
-    printf("message: %s\n", nic_status_name(nic_int_step(&n, 0, &told)));
+    printf("message: %s\n", nic_status_name(nic_int_step(&n, 0, &outcome)));
     nic_write32(&n, NIC_EIMC, CAUSE);
     nic_write32(&n, NIC_EICR, CAUSE);
     printf("polled: %u done\n", done(&n));
@@ -67,7 +67,7 @@ static void poll(enum ending ending)
     if (ending == CLEAR_AND_UNMASK)
         nic_write32(&n, NIC_EICR, CAUSE);
     nic_write32(&n, NIC_EIMS, CAUSE);
-    printf("message: %s, and %u are done\n", nic_status_name(nic_int_step(&n, 0, &told)), done(&n));
+    printf("message: %s, and %u are done\n", nic_status_name(nic_int_step(&n, 0, &outcome)), done(&n));
     nic_close(&n);
 }
 

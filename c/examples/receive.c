@@ -15,7 +15,7 @@ static const uint8_t frame[60] = {
 int main(void)
 {
     nic n;
-    nic_told told[16];
+    nic_outcome outcomes[16];
     size_t count;
     nic_desc written;
     /* no virtual functions, room for 64 waiting frames, 2 blocks of memory */
@@ -33,13 +33,13 @@ int main(void)
     nic_write32(&n, NIC_GPIE, NIC_GPIE_MULTIPLE_MSIX);
     nic_write32(&n, NIC_IVAR(1), NIC_IVAR_INT_ALLOC_2_IS(5) | NIC_IVAR_INT_ALLOC_VAL_2);
     nic_write32(&n, NIC_EIMS, 1u << 5);
-    nic_settle(&n, 4, told, 16, &count);        /* the device enables the queue */
+    nic_settle(&n, 4, outcomes, 16, &count);    /* the device enables the queue */
     nic_put_desc(&n, 0, 0, nic_rx_desc(0x800)); /* slot 0 gets a descriptor for block 1 */
     nic_write32(&n, NIC_RDT(3), 1);             /* hand slot 0 to the device */
-    printf("arrives: %s\n", nic_status_name(nic_arrive(&n, frame, sizeof frame, told)));
-    nic_settle(&n, 4, told, 16, &count);
+    printf("arrives: %s\n", nic_status_name(nic_arrive(&n, frame, sizeof frame, outcomes)));
+    nic_settle(&n, 4, outcomes, 16, &count);
     for (size_t k = 0; k < count; k++)
-        printf("%s %u: %s\n", nic_step_name(told[k].step), told[k].of, nic_status_name(told[k].status));
+        printf("%s %u: %s\n", nic_step_name(outcomes[k].step), outcomes[k].of, nic_status_name(outcomes[k].status));
     nic_get_desc(&n, 0, 0, &written);
     printf("done %d, %d bytes, head %u\n", nic_rx_is_done(written), nic_rx_length(written),
            (unsigned)nic_get(&n, NIC_RDH(3)));

@@ -31,7 +31,7 @@ static void set_up(nic *n, uint32_t forgotten)
 static int receive(const char *name, uint32_t forgotten)
 {
     nic n;
-    nic_told told;
+    nic_outcome outcome;
     nic_settling where = {4, 0};
     char why[2048];
     if (nic_open(&n, 0, 64, 2) != NIC_DONE)
@@ -39,12 +39,12 @@ static int receive(const char *name, uint32_t forgotten)
     nic_lend_all(&n);
     nic_put_desc(&n, 0, 0, nic_rx_desc(0x800));
     set_up(&n, forgotten);
-    while (nic_next_step(&n, &where, &told) == NIC_MORE)
+    while (nic_next_step(&n, &where, &outcome) == NIC_MORE)
         ;
-    nic_arrive(&n, frame, sizeof frame, &told);
+    nic_arrive(&n, frame, sizeof frame, &outcome);
     printf("without %s\n", name);
-    while (nic_next_step(&n, &where, &told) == NIC_MORE) /* a driver acts on each step before the next */
-        printf("    %s %u: %s\n", nic_step_name(told.step), told.of, nic_status_name(told.status));
+    while (nic_next_step(&n, &where, &outcome) == NIC_MORE) /* a driver acts on each step before the next */
+        printf("    %s %u: %s\n", nic_step_name(outcome.step), outcome.of, nic_status_name(outcome.status));
     nic_why(&n, why, sizeof why);
     fputs(why, stdout);
     nic_close(&n);

@@ -125,8 +125,8 @@ def vfs_of(source: Path) -> int:
 def check_files(kit: Kit, source: Path, program: Path, out: Path) -> None:
     """A failure's schedule fails again, and its script's expects hold."""
     name = source.stem
-    told = ran([program, "--replay", out / f"{name}.schedule"], 1)
-    if "FAILED" not in told:
+    output = ran([program, "--replay", out / f"{name}.schedule"], 1)
+    if "FAILED" not in output:
         raise Wrong(f"{name}: its schedule doesn't fail again")
     with open(out / f"{name}.nic", encoding="ascii") as script:
         last = ran([kit.nicbench, "run", "--vfs", vfs_of(source)], stdin=script).splitlines()[-1]
@@ -195,7 +195,7 @@ def check_outside(kit: Kit, runs: int, each: int = 1) -> str:
         raise Wrong(f"outside/ has {', '.join(source.stem for source in sources)}")
     for source in sources[::each]:
         found, _, _ = check_pair(kit, source, runs)
-        told(found, f"FAILED {OUTSIDE[source.stem]}", source.stem)
+        must_print(found, f"FAILED {OUTSIDE[source.stem]}", source.stem)
     return f"{len(sources[::each])} bugs of other drivers found, and their twins pass"
 
 
@@ -214,10 +214,12 @@ def check_examples(kit: Kit, runs: int) -> str:
     out = kit.out("examples")
     words = ["--quiet", "--jobs", 2, "--out", out]
     race, pmd = HERE / "examples/race.c", HERE / "examples/pmd.c"
-    told(ran([kit.build(race), *words], 1), "FAILED end: a frame is in the ring", "race")
-    told(ran([kit.build(race, "FIXED"), *words, "--strategy", "exhaustive"]), "searched all schedules", "race, fixed")
+    must_print(ran([kit.build(race), *words], 1), "FAILED end: a frame is in the ring", "race")
+    must_print(
+        ran([kit.build(race, "FIXED"), *words, "--strategy", "exhaustive"]), "searched all schedules", "race, fixed"
+    )
     for bug, wanted in PMD_BUGS.items():
-        told(ran([kit.build(pmd, f"BUG={bug}"), *words], 1), f"FAILED {wanted}", f"pmd, bug {bug}")
+        must_print(ran([kit.build(pmd, f"BUG={bug}"), *words], 1), f"FAILED {wanted}", f"pmd, bug {bug}")
     right = kit.build(pmd)
     ran([right, *words, "--runs", runs])
     ran([right, *words, "--strategy", "exhaustive", "--preemptions", 1])
@@ -366,7 +368,7 @@ WORDS = {
 }
 
 
-def told(text: str, wanted: str, what: str) -> None:
+def must_print(text: str, wanted: str, what: str) -> None:
     if not re.search(wanted, text):
         raise Wrong(f"{what}: it isn't printed that \"{wanted}\":\n{text}")
 
@@ -380,18 +382,20 @@ def check_faults(kit: Kit) -> str:
         words = [program, mode, "--quiet", "--jobs", 2, "--out", out, "--junit", junit]
         words += ["--no-shrink"] if mode in ("hang", "endless", "ticks") else []
         words += ["--hang", 2] if mode == "hang" else NO_HANG
-        told(ran(words, 1, env={**os.environ, **CRASHES}), f"FAILED {wanted}", mode)
+        must_print(ran(words, 1, env={**os.environ, **CRASHES}), f"FAILED {wanted}", mode)
         failure = xml.etree.ElementTree.parse(junit).find("testcase/failure")
         if failure is None or not (failure.text or "").strip().startswith("# "):
             raise Wrong(f"{mode}: the JUnit file has no failure with its schedule")
         if mode not in ("crash", "exit", "hang", "left"):
-            told(ran([program, mode, "--replay", out / "faulty.schedule"], 1), "FAILED", mode)
+            must_print(ran([program, mode, "--replay", out / "faulty.schedule"], 1), "FAILED", mode)
     said = ran([program, "check", "--quiet", "--jobs", 2, "--out", f"{out}/"], 1)
-    told(said, f"the schedule is {out}/faulty.schedule, the device's side of it {out}/faulty.nic", "a folder and a /")
+    must_print(
+        said, f"the schedule is {out}/faulty.schedule, the device's side of it {out}/faulty.nic", "a folder and a /"
+    )
     words = [program, "strange", "--quiet", "--jobs", 1, "--strategy", "exhaustive", "--out", out]
-    told(ran(words, 1), "misuse: a schedule ran differently the second time", "strange")
+    must_print(ran(words, 1), "misuse: a schedule ran differently the second time", "strange")
     for mode, (status, wanted) in NOTES.items():
-        told(ran([program, mode, "--quiet", "--jobs", 2, "--runs", 100, "--out", out], status), wanted, mode)
+        must_print(ran([program, mode, "--quiet", "--jobs", 2, "--runs", 100, "--out", out], status), wanted, mode)
     for mode in FINE:
         ran([program, mode, "--quiet", "--jobs", 2, "--runs", 500, "--out", out])
         ran([program, mode, "--quiet", "--jobs", 2, "--strategy", "exhaustive", "--preemptions", 1, "--out", out])
@@ -419,7 +423,7 @@ def check_never(kit: Kit) -> str:
             suite = xml.etree.ElementTree.parse(out / "result.xml").getroot()
             if (suite.find("testcase/failure") is not None) != bool(wanted) or "FAILED" in strict:
                 raise Wrong(f"vacuous {mode}: by --strict the JUnit file has another end")
-    told(ran([program, "faults", "--runs", 9]), "note: faults are allowed, but none occurred", "faults")
+    must_print(ran([program, "faults", "--runs", 9]), "note: faults are allowed, but none occurred", "faults")
     one = ran([program, "fine", "--quiet", "--jobs", 1, "--runs", 300])
     two = ran([program, "fine", "--quiet", "--jobs", 2, "--runs", 300])
     counts = [re.findall(r"(\d+) distinct schedules", said) for said in (one, two)]
@@ -466,19 +470,19 @@ def check_choices(kit: Kit) -> str:
         for strategy in STRATEGIES:
             words = [program, mode, "--quiet", "--jobs", 2, *limit, "--out", out, "--strategy", strategy]
             words += ["--runs", 2000]
-            told(ran(words, status), wanted, f"choices {mode}, {strategy}")
+            must_print(ran(words, status), wanted, f"choices {mode}, {strategy}")
             schedule = out / "choices.schedule"
             lines = schedule.read_text().splitlines() if status == 1 else []
             values = [line.partition("#")[0].strip() for line in lines if line.startswith("value ")]
             if mode in LOWEST and values != LOWEST[mode]:
                 raise Wrong(f"choices {mode}: by {strategy} it isn't shrunk to the lowest values but to {values}")
             if status == 1 and mode not in ("hang", "endless"):
-                told(ran([program, mode, "--replay", schedule], 1), wanted, f"choices {mode}, again")
+                must_print(ran([program, mode, "--replay", schedule], 1), wanted, f"choices {mode}, again")
     whole = [program, "fine", "--quiet", "--jobs", 1, "--strategy", "exhaustive", "--preemptions", 0, "--no-sleep"]
-    told(ran(whole), "searched all schedules", "choices fine")
+    must_print(ran(whole), "searched all schedules", "choices fine")
     (out / "choices.schedule").write_text("scenario choices\ntask chooses\nvalue 5\n")
     refused = ran([program, "fine", "--replay", out / "choices.schedule"], 2)
-    told(refused, ':3: "value 5" can\'t act at this point', "a value")
+    must_print(refused, ':3: "value 5" can\'t act at this point', "a value")
     return f"{len(CHOICES)} scenarios with values and timers"
 
 
@@ -500,11 +504,13 @@ def check_weak(kit: Kit) -> str:
     ran([program, "--replay", schedule], 1)
     ran([program, "--replay", schedule, "--memory", "strong"], 1)
     schedule.write_text("\n".join(line for line in lines if line != "memory weak") + "\n")
-    told(ran([program, "--replay", schedule], 2), "can't act at this point|has no \"store|run ends|still", "no line")
+    must_print(
+        ran([program, "--replay", schedule], 2), "can't act at this point|has no \"store|run ends|still", "no line"
+    )
     strong = kit.build(HERE / "corpus/length_before_dd.c", "FIXED")
     words = [strong, "--quiet", "--jobs", 2, "--out", out]
     ran(words)
-    told(ran([*words, "--memory", "weak"], 1), "FAILED end: a frame has the wrong length", "by --memory weak")
+    must_print(ran([*words, "--memory", "weak"], 1), "FAILED end: a frame has the wrong length", "by --memory weak")
     ran([strong, "--replay", out / "length_before_dd.schedule"], 1)
     return said
 
@@ -568,12 +574,12 @@ def check_refusals(kit: Kit) -> str:
     ran([kit.build(HERE / "tests/again.c")])
     program, out = kit.build(HERE / "tests/faulty.c"), kit.folder / "faults"
     for mode, wanted in REFUSALS.items():
-        told(ran([program, mode, "--quiet"], 2), wanted, mode)
+        must_print(ran([program, mode, "--quiet"], 2), wanted, mode)
     for words, wanted in WORDS.items():
         said = ran([program, "fine", *words.split()], 2)
-        told(said, wanted, words)
+        must_print(said, wanted, words)
         if not words.startswith(("--out ", "--junit ", "--replay ", "--result ")):
-            told(said, "usage: .*options", words)
+            must_print(said, "usage: .*options", words)
     schedule = out / "bad.schedule"
     fine = "scenario faulty\ntask faulty\n"
     for text, wanted in {
@@ -590,15 +596,15 @@ def check_refusals(kit: Kit) -> str:
         "\0" * 600: r":1: the line isn't printable ASCII",
     }.items():
         schedule.write_text(text)
-        told(ran([program, "fine", "--replay", schedule], 2), wanted, repr(text))
+        must_print(ran([program, "fine", "--replay", schedule], 2), wanted, repr(text))
     ran([program, "check", "--quiet", "--out", out], 1)
     schedule.write_text((out / "faulty.schedule").read_text() + "task other\n")
-    told(ran([program, "check", "--replay", schedule], 2), "the run ends before this point", "a longer schedule")
+    must_print(ran([program, "check", "--replay", schedule], 2), "the run ends before this point", "a longer schedule")
     lost = out / "lost"
     (lost / "faulty.schedule").mkdir(parents=True, exist_ok=True)
     said = ran([program, "check", "--quiet", "--out", lost], 1)
-    told(said, "faulty.schedule: can't write the file", "a schedule without a file")
-    told(said, "scenario faulty\n(?:.*\n)*task faulty +# r RDH", "a schedule without a file")
+    must_print(said, "faulty.schedule: can't write the file", "a schedule without a file")
+    must_print(said, "scenario faulty\n(?:.*\n)*task faulty +# r RDH", "a schedule without a file")
     return f"{len(REFUSALS) + len(WORDS) + 13} refusals"
 
 
@@ -624,19 +630,19 @@ def check_unpointed(kit: Kit) -> str:
     words = ["--quiet", "--jobs", 2, "--no-shrink", "--out", out, "--runs", 400]
     for mode, wanted in MISSING.items():
         said = ran([silent, mode, *words])
-        told(said, wanted, mode)
-        told(ran([silent, mode, *words, "--strategy", "exhaustive", "--preemptions", 2]), wanted, mode)
+        must_print(said, wanted, mode)
+        must_print(ran([silent, mode, *words, "--strategy", "exhaustive", "--preemptions", 2]), wanted, mode)
         found = ran([pointed, mode, *words], 1) + ran([seen, mode, *words], 1)
-        told(found, f"{POINTED[mode]}(.*\n)*.*FAILED race: driver", mode)
+        must_print(found, f"{POINTED[mode]}(.*\n)*.*FAILED race: driver", mode)
         if "without a point in between" in found:
             raise Wrong(f"unpointed {mode}: a point is reported as missing that is there:\n{found}")
     for mode in ("locked", "flags", "atomic"):
         if "without a point in between" in ran([silent, mode, *words]):
             raise Wrong(f"unpointed {mode}: a point is reported as missing that no schedule needs")
     wanted = r"note: interrupted\(\) in task one .* and interrupt\(\) in handler"
-    told(ran([silent, "interrupt", *words]), wanted, "interrupt")
-    told(ran([seen, "interrupt", *words], 1), "FAILED end: a count is lost", "interrupt")
-    told(ran([seen, "interrupt", "--replay", out / "unpointed.schedule"], 1), "start isr on one", "interrupt")
+    must_print(ran([silent, "interrupt", *words]), wanted, "interrupt")
+    must_print(ran([seen, "interrupt", *words], 1), "FAILED end: a count is lost", "interrupt")
+    must_print(ran([seen, "interrupt", "--replay", out / "unpointed.schedule"], 1), "start isr on one", "interrupt")
     masked = kit.build_form(source, "POINTED", of_memory=True)
     ran([masked, "interrupt", *words, "--strategy", "exhaustive", "--preemptions", "any"])
     return f"{len(MISSING)} drivers without a point that they need"
@@ -669,9 +675,11 @@ def check_apart(kit: Kit) -> str:
     words = ["--quiet", "--jobs", 1, "--strategy", "exhaustive", "--preemptions", "any", "--out", out]
     for mode in ("fine", "free"):
         said = ran([program, mode, *words])
-        told(said, "searched all schedules", f"apart {mode}")
+        must_print(said, "searched all schedules", f"apart {mode}")
         counts.append(int(re.findall(r": (\d+) schedules?,", said)[0]))
-        told(ran([program, mode.replace("fine", "bug").replace("free", "bug-free"), *words], 1), "transmitted", mode)
+        must_print(
+            ran([program, mode.replace("fine", "bug").replace("free", "bug-free"), *words], 1), "transmitted", mode
+        )
     if counts[1] * 3 > counts[0]:
         raise Wrong(f"apart: {counts[0]} schedules, and {counts[1]} where it is race-free")
     return f"{counts[0]} schedules, {counts[1]} where the scenario is race-free"
@@ -724,20 +732,22 @@ def check_form(kit: Kit) -> str:
     words = ["--quiet", "--jobs", 2, *NO_HANG, "--out", out]
     for mode in modes:
         if mode in FORM_FAULTS:
-            told(ran([program, mode, *words, "--no-shrink"], 1), f"FAILED {FORM_FAULTS[mode]}", mode)
+            must_print(ran([program, mode, *words, "--no-shrink"], 1), f"FAILED {FORM_FAULTS[mode]}", mode)
         else:
-            told(ran([program, mode, *words, "--runs", 1000]), UNSEEN, mode)
+            must_print(ran([program, mode, *words, "--runs", 1000]), UNSEEN, mode)
     for mode in ("mutex", "cond", "rwlock", "barriers", "keys", "state"):
         ran([program, mode, *words, "--strategy", "exhaustive", "--preemptions", 1])
     for mode in ("orders", "again", "held", "lost"):
         ran([program, mode, *words], 1)
-        told(ran([program, mode, "--replay", out / "pthreads.schedule"], 1), f"FAILED {FORM_FAULTS[mode]}", mode)
-    told(ran([program, "early", "--quiet"], 2), "pthread_create at .*: only tasks may create threads", "early")
+        must_print(ran([program, mode, "--replay", out / "pthreads.schedule"], 1), f"FAILED {FORM_FAULTS[mode]}", mode)
+    must_print(ran([program, "early", "--quiet"], 2), "pthread_create at .*: only tasks may create threads", "early")
     real = replace(kit, flags=[*kit.flags, "-pthread"]).build(HERE / "tests/real_threads.c")
     for mode, wanted in REAL_FAULTS.items():
         if mode != "stack" or "-fsanitize=address,undefined" not in kit.flags:
-            told(ran([real, mode, *words, "--no-shrink"], 1), f"FAILED {wanted}", mode)
-    told(ran([real, "thread_early", "--quiet"], 2), "a thread that isn't a task calls the explorer", "thread_early")
+            must_print(ran([real, mode, *words, "--no-shrink"], 1), f"FAILED {wanted}", mode)
+    must_print(
+        ran([real, "thread_early", "--quiet"], 2), "a thread that isn't a task calls the explorer", "thread_early"
+    )
     return f"{len(modes)} uses of a driver's own threads"
 
 
@@ -761,7 +771,7 @@ def check_cpp(kit: Kit) -> str:
         line = ["g++", "-std=c++11", *STRICT[1:], "-g", "-O1", *seen, f"-D{define}", f"-I{C}/include"]
         ran([*line, "-c", source, "-o", made])
         ran(["g++", made, "-static-libstdc++", f"-L{C}/out", f"@{C}/out/nic82599_threads.opts", "-o", program])
-        told(ran([program, *words, "--runs", 1000], 1 if "FAILED" in wanted else 0), wanted, define)
+        must_print(ran([program, *words, "--runs", 1000], 1 if "FAILED" in wanted else 0), wanted, define)
     return "threads, locks, conditions and atomics of C++"
 
 
@@ -772,15 +782,15 @@ def check_points_line(program: Path, schedule: Path) -> None:
     if f"scenario races\n{line}" not in text:
         raise Wrong(f"{schedule} doesn't say which accesses are points")
     for more in ([], ["--points", "memory:data"], ["--points", "memory:other"], ["--lenient"]):
-        told(ran([*words, *more], 1), "FAILED race: data", "a line of points")
+        must_print(ran([*words, *more], 1), "FAILED race: data", "a line of points")
     for bad in ("registers", "memory:", "memory:two names", "memory:" + "x" * 96, "memories"):
         schedule.write_text(text.replace(line, f"points {bad}\n"))
-        told(ran(words, 2), f'points: "{bad[:100]}": expected memory, or memory:NAME', f"points {bad}")
+        must_print(ran(words, 2), f'points: "{bad[:100]}": expected memory, or memory:NAME', f"points {bad}")
     schedule.write_text(text.replace(line, "") + line)
-    told(ran([*words, "--points", "memory:data"], 2), "must precede the first point", "a late line of points")
+    must_print(ran([*words, "--points", "memory:data"], 2), "must precede the first point", "a late line of points")
     schedule.write_text(text.replace(line, ""))
     ran(words, 2)
-    told(ran([*words, "--points", "memory:data"], 1), "FAILED race: data", "no line of points")
+    must_print(ran([*words, "--points", "memory:data"], 1), "FAILED race: data", "no line of points")
 
 
 def check_races(kit: Kit) -> str:
@@ -792,9 +802,11 @@ def check_races(kit: Kit) -> str:
         for mode in modes:
             said = ran([program, mode, *words, "--runs", 500], 1 if mode.startswith("no_") else 0)
             if mode.startswith("no_"):
-                told(said, r"FAILED race: .*races\.c:\d+ (it before|writes|reads)?.*without an order between", mode)
+                must_print(
+                    said, r"FAILED race: .*races\.c:\d+ (it before|writes|reads)?.*without an order between", mode
+                )
         points = ["--points", "memory:data"]
-        told(ran([program, "no_lock", *words, *points], 1), "again: .*/races.schedule\n", "points")
+        must_print(ran([program, "no_lock", *words, *points], 1), "again: .*/races.schedule\n", "points")
         check_points_line(program, out / "races.schedule")
         ways = [["--points", "memory"], points, []]
         made = [ran([program, "mutex", *words, "--runs", 100, *one]) for one in ways]
@@ -839,12 +851,12 @@ def check_freed(kit: Kit) -> str:
             if not wanted:
                 continue
             wanted = f"FAILED {wanted if wanted.startswith('race') else f'memory: {wanted}'}"
-            told(ran([wrong, mode, *words], 1), wanted, mode)
-            told(ran([wrong, mode, "--replay", out / "freed.schedule"], 1), wanted, f"{mode}, again")
-            told(ran([right, mode, "--replay", out / "freed.schedule", "--lenient"]), ": fine", f"{mode}, fixed")
+            must_print(ran([wrong, mode, *words], 1), wanted, mode)
+            must_print(ran([wrong, mode, "--replay", out / "freed.schedule"], 1), wanted, f"{mode}, again")
+            must_print(ran([right, mode, "--replay", out / "freed.schedule", "--lenient"]), ": fine", f"{mode}, fixed")
     bounds = ["--strategy", "exhaustive", "--preemptions", 2]
-    told(ran([wrong, "timer", *words, *bounds], 1), "FAILED memory: use after free", "timer, exhaustive")
-    told(ran([right, "timer", *words, *bounds]), "searched all schedules", "timer, fixed")
+    must_print(ran([wrong, "timer", *words, *bounds], 1), "FAILED memory: use after free", "timer, exhaustive")
+    must_print(ran([right, "timer", *words, *bounds]), "searched all schedules", "timer, fixed")
     return f"{sum(map(bool, FREED.values()))} uses of freed memory"
 
 
@@ -926,16 +938,16 @@ def check_named(kit: Kit) -> str:
         raise Wrong(f"named.c has the modes {', '.join(modes_of(source))}")
     for mode, (words, lines, followed) in NAMED.items():
         said = ran([program, mode, "--quiet", "--jobs", 1, "--out", out], 1)
-        told(said, f"FAILED {words}", mode)
+        must_print(said, f"FAILED {words}", mode)
         schedule, page = (out / "named.schedule").read_text(), out / "named.html"
         for line in lines:
-            told(schedule, rf"# {line} at named\.c:\d+", mode)
+            must_print(schedule, rf"# {line} at named\.c:\d+", mode)
         if followed and f'"{followed}"' not in page.read_text():
             raise Wrong(f"{mode}: nothing on its page is about {followed}")
         if followed and "check" not in words and shutil.which("node"):
-            told(ran(["node", "-e", FOLLOWED, page]), f"^{re.escape(followed)}$", f"{mode}, its page")
+            must_print(ran(["node", "-e", FOLLOWED, page]), f"^{re.escape(followed)}$", f"{mode}, its page")
     once: list[object] = ["--quiet", "--runs", 1, "--jobs", 1, "--out", out]
-    told(ran([program, "helper", *once], None), r": 1 schedule, \d+ points?, ", "one")
+    must_print(ran([program, "helper", *once], None), r": 1 schedule, \d+ points?, ", "one")
     return f"{len(NAMED)} failures by names"
 
 
@@ -961,18 +973,18 @@ def check_points(kit: Kit) -> str:
     if modes_of(source) != list(POINTS):
         raise Wrong(f"points.c has the modes {', '.join(modes_of(source))}")
     for mode, wanted in POINTS.items():
-        told(ran([wrong, mode, *words], 1), f"FAILED {wanted}", mode)
+        must_print(ran([wrong, mode, *words], 1), f"FAILED {wanted}", mode)
         if mode == "cnd_wait":
             schedule = (out / "points.schedule").read_text()
-            told(schedule, r"# thrd_create wake11 at points\.c:\d+ .*\n", "a thread of C11")
-            told(schedule, r"task thread-1 +# begins at points\.c:\d+\n", "a thread of C11")
+            must_print(schedule, r"# thrd_create wake11 at points\.c:\d+ .*\n", "a thread of C11")
+            must_print(schedule, r"task thread-1 +# begins at points\.c:\d+\n", "a thread of C11")
         bounds = ["--strategy", "exhaustive", "--preemptions", 2]
-        told(ran([right, mode, *words, *bounds]), "searched all schedules", f"{mode}, fixed")
+        must_print(ran([right, mode, *words, *bounds]), "searched all schedules", f"{mode}, fixed")
     source = HERE / "tests/main_returns.c"
     program, twin = (
         kit.build_form(source, *defines, of_memory=True, form="program") for defines in ([], ["FIXED"])
     )
-    told(ran([program, *words], 1), "FAILED end: the program exits with status 3", "main_returns")
+    must_print(ran([program, *words], 1), "FAILED end: the program exits with status 3", "main_returns")
     ran([twin, *words, "--runs", 1000])
     return f"{len(POINTS) + 1} drivers that break just before a call's effect"
 
@@ -996,7 +1008,7 @@ def check_assembly(kit: Kit) -> str:
     for define, name in barriers.items():
         said = ran([kit.build_form(source, f"BARRIER={define}", of_memory=True), *words])
         wanted = rf"assembly: the search can't see inline assembly, so {name} at assembly\.c:\d+ orders nothing"
-        told(said.splitlines()[0], wanted, define)
+        must_print(said.splitlines()[0], wanted, define)
     distance = ["BARRIER=DISTANCE", "PADDED"] if os.uname().machine == "x86_64" else []
     if "inline assembly" in ran([kit.build_form(source, *distance, of_memory=True), *words]):
         raise Wrong("assembly.c: the distance of a call is taken for a barrier")
@@ -1024,17 +1036,17 @@ def check_own_memory(kit: Kit) -> str:
         every = ["--strategy", "exhaustive", "--preemptions", "any"]
         ran([wrong, *words, *every, "--memory", "strong"])
         for memory in ("tso", "weak"):
-            told(ran([wrong, *words, "--memory", memory], 1), f"FAILED {STOPPED}", f"{mode}, {memory}")
+            must_print(ran([wrong, *words, "--memory", memory], 1), f"FAILED {STOPPED}", f"{mode}, {memory}")
             if f"memory {memory}" not in schedule.read_text().splitlines():
                 raise Wrong(f"{schedule} doesn't name its memory")
             late = r"stores is_stopped \((relaxed|release)\): 1, on its way"
-            told(ran([wrong, mode, "--replay", schedule], 1), late, f"{mode}, {memory}")
-            told(ran([right, mode, "--replay", schedule, "--lenient"]), ": fine", f"{mode}, {memory}, fixed")
+            must_print(ran([wrong, mode, "--replay", schedule], 1), late, f"{mode}, {memory}")
+            must_print(ran([right, mode, "--replay", schedule, "--lenient"]), ": fine", f"{mode}, {memory}, fixed")
             ran([right, *words, "--memory", memory, "--runs", 1000])
-    told(ran([right, "flags", *words[1:], *every, "--memory", "tso"]), "searched all schedules", "tso, fixed")
+    must_print(ran([right, "flags", *words[1:], *every, "--memory", "tso"]), "searched all schedules", "tso, fixed")
     blind = kit.build_form(source)
     for memory in ("tso", "weak"):
-        told(ran([blind, "flags", "--memory", memory], 2), UNSEEN_ATOMICS, f"{memory}, unseen")
+        must_print(ran([blind, "flags", "--memory", memory], 2), UNSEEN_ATOMICS, f"{memory}, unseen")
     return said
 
 
@@ -1046,14 +1058,14 @@ def check_program(kit: Kit, runs: int) -> str:
     for of_memory, wanted in ((False, lost), (True, r"race: transmit.*: thread-\d at forwarder")):
         program = kit.build_form(source, form="program", of_memory=of_memory)
         said = ran([program, *words], 1)
-        told(said, f"FAILED {wanted}", "forwarder")
+        must_print(said, f"FAILED {wanted}", "forwarder")
         schedule = re.findall(r"the schedule is (.+?),", said)[0]
-        told(ran([program, "--replay", schedule], 1), f"FAILED {wanted}", "forwarder")
+        must_print(ran([program, "--replay", schedule], 1), f"FAILED {wanted}", "forwarder")
         twin = kit.build_form(source, "FIXED", form="program", of_memory=of_memory)
         said = ran([twin, *words, "--runs", runs, "--strict"])
         if (UNSEEN in said) == of_memory:
             raise Wrong(f"it isn't said whether accesses are seen:\n{said}")
-        told(ran([twin, *words, "--runs", 2, "--", 1]), "no failure was found", "forwarder with one frame")
+        must_print(ran([twin, *words, "--runs", 2, "--", 1]), "no failure was found", "forwarder with one frame")
     with open(schedule.replace(".schedule", ".nic"), encoding="ascii") as script:
         if not ran([kit.nicbench, "run", "--fifo", 64], stdin=script).splitlines()[-1].startswith("ok "):
             raise Wrong("the script of a program doesn't end with ok")

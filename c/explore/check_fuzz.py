@@ -7,7 +7,7 @@ import re
 import shutil
 from pathlib import Path
 
-from explore.check import HERE, STRICT, C, Kit, Wrong, ran, told
+from explore.check import HERE, STRICT, C, Kit, Wrong, must_print, ran
 
 RACE = HERE / "examples/race.c"
 HARNESS = HERE / "fuzz/fuzz.c"
@@ -33,10 +33,10 @@ def check_inputs(kit: Kit) -> int:
         if not is_failing and "race: fine;" not in said:
             raise Wrong(f"input {given.hex()}: {said}")
         again = ran([race, "--replay", kit.folder / "race.schedule"], int(is_failing))
-        told(again, f"FAILED end: {FAILS}" if is_failing else "race: fine", f"input {given.hex()}")
+        must_print(again, f"FAILED end: {FAILS}" if is_failing else "race: fine", f"input {given.hex()}")
         failing += is_failing
-    told(ran([show, "/nowhere"], 2), "/nowhere: can't read the file", "an input that isn't there")
-    told(ran([show], 2), "give it an input file", "no input")
+    must_print(ran([show, "/nowhere"], 2), "/nowhere: can't read the file", "an input that isn't there")
+    must_print(ran([show], 2), "give it an input file", "no input")
     return failing
 
 
@@ -57,5 +57,5 @@ def check_fuzz(kit: Kit) -> str:
     found = re.search(r"Test unit written to (\S+)", out)
     if not found or FAILS not in out:
         raise Wrong(f"libFuzzer finds no race:\n{out[-1000:]}")
-    told(ran([kit.folder / "race-show", found[1]], 1, cwd=kit.folder), FAILS, "libFuzzer's input")
+    must_print(ran([kit.folder / "race-show", found[1]], 1, cwd=kit.folder), FAILS, "libFuzzer's input")
     return f"{said}; libFuzzer finds the race"

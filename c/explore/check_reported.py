@@ -11,7 +11,7 @@ from dataclasses import replace
 from pathlib import Path
 from typing import Any
 
-from explore.check import CRASHES, HERE, NO_HANG, Kit, Wrong, ran, told
+from explore.check import CRASHES, HERE, NO_HANG, Kit, Wrong, must_print, ran
 
 SOURCE = HERE / "tests/reported.c"
 FOUND = r"found by .*, (\d+) points? and (\d+) switch(?:es)?; shrunk by \d+ tr(?:y|ies) to (\d+) and (\d+)"
@@ -44,8 +44,8 @@ def check_shrinking(kit: Kit, program: Path) -> str:
         numbers = re.search(FOUND, said)
         if not numbers or not int(numbers[1]) > 40 or not int(numbers[3]) < 18 or left not in said:
             raise Wrong(f"reported much isn't shrunk to what it needs:\n{said}")
-        told(schedule, "without task watch\nwithout task count\nwithout handler isr\n", "reported much")
-        told(said, "point of no return: point", "reported much")
+        must_print(schedule, "without task watch\nwithout task count\nwithout handler isr\n", "reported much")
+        must_print(said, "point of no return: point", "reported much")
         seen.append((int(numbers[1]), int(numbers[3])))
     said, schedule = found_by(kit, program, "counted")
     if "without 2 tasks, 1 handler, 4 link changes\n" not in said or points_of(schedule).count("arrive") != 6:
@@ -57,14 +57,14 @@ def check_shrinking(kit: Kit, program: Path) -> str:
 def check_cycle(kit: Kit, program: Path) -> str:
     """An endless schedule is reported with its cycle, once."""
     said, schedule = found_by(kit, program, "round")
-    told(said, r"FAILED endless: .*\n.*shrunk by \d+ tries to \d+ and \d+, the last \d points repeating", "round")
+    must_print(said, r"FAILED endless: .*\n.*shrunk by \d+ tries to \d+ and \d+, the last \d points repeating", "round")
     points, lines = points_of(schedule), schedule.splitlines()
     where = next(number for number, line in enumerate(lines) if line.startswith("cycle "))
     round_of = points_of("\n".join(lines[where + 1 :]))
     if len(points) > 12 or not {"task one", "task other"} == set(round_of):
         raise Wrong(f"reported round: a longer cycle than it needs, or another:\n{schedule}")
     again = ran([program, "round", "--replay", kit.folder / "reported-out/reported.schedule"], 1)
-    told(again, f"and so on: the last {len(round_of)} points repeat", "reported round")
+    must_print(again, f"and so on: the last {len(round_of)} points repeat", "reported round")
     script = (kit.folder / "reported-out/reported.nic").read_text()
     if script.count("# task one: ") != points.count("task one"):
         raise Wrong(f"reported round: its script has other steps than its schedule:\n{script}")
@@ -83,7 +83,7 @@ def check_cycle(kit: Kit, program: Path) -> str:
         "scenario reported\ntask one\ncycle\nrx\n": ':4: "rx" can\'t act at this point',
     }.items():
         file.write_text(text)
-        told(ran([program, "round", "--replay", file], 2), wanted, repr(text))
+        must_print(ran([program, "round", "--replay", file], 2), wanted, repr(text))
     return f"{len(points)} points with a cycle of {len(round_of)}"
 
 
@@ -167,7 +167,7 @@ def page_of(path: Path) -> dict[str, Any]:
 
 
 OBJECTS = {
-    "corpus/eicr_cleared_behind_poll.c": {"frame 1", "rx 0 slot 1", "rx 0"},
+    "corpus/eicr_cleared_after_poll.c": {"frame 1", "rx 0 slot 1", "rx 0"},
     "corpus/lock_in_handler_and_poll.c": {"lock counters", "interrupts of pf"},
     "corpus/mailbox_not_taken.c": {"mailbox 0"},
     "corpus/buffer_again_before_dd.c": {"tx 0 slot 0", "tx 0"},
@@ -200,7 +200,7 @@ def check_page(kit: Kit, program: Path) -> str:
             raise Wrong(f"faulty {mode}: its page has no steps, or another end")
     words = [faulty, "crash", "--quiet", "--jobs", 1, *NO_HANG, "--strategy", "priorities"]
     said = ran([*words, "--out", out], 1, env={**os.environ, **CRASHES})
-    told(said, "found by random before run 0,", "a crash before the first run")
+    must_print(said, "found by random before run 0,", "a crash before the first run")
     found_by(kit, program, "round")
     if page_of(out / "reported.html")["cycle"] != len(page_of(out / "reported.html")["steps"]) - 4:
         raise Wrong("reported round: its page has another cycle")
@@ -221,11 +221,11 @@ def check_lenient(kit: Kit, program: Path) -> str:
     other = schedule.with_name("other.schedule")
     other.write_text(schedule.read_text().replace("scenario reported\n", "scenario old\n"))
     said = ran([program, "reader", "--replay", other, "--lenient"], 1)
-    told(said, r"^reported: note: the schedule is of scenario old\n", "another scenario's, --lenient")
-    told(said, "the run follows the whole schedule", "another scenario's, --lenient")
+    must_print(said, r"^reported: note: the schedule is of scenario old\n", "another scenario's, --lenient")
+    must_print(said, "the run follows the whole schedule", "another scenario's, --lenient")
     said = ran([program, "reader", "--replay", other], 2)
-    told(said, "the schedule is of scenario old, but this program is reported", "other")
-    told(ran([program, "reader", "--lenient"], 2), "--lenient: only valid with --replay", "--lenient")
+    must_print(said, "the schedule is of scenario old, but this program is reported", "other")
+    must_print(ran([program, "reader", "--lenient"], 2), "--lenient: only valid with --replay", "--lenient")
     return f"{len(PARTS)} drivers follow a schedule as far as it goes"
 
 
@@ -236,7 +236,7 @@ def made(said: str) -> int:
 def check_same_answer(kit: Kit) -> str:
     """The exhaustive search finds the same failure and runs as many schedules, however many processes there are,
     also up to a bound."""
-    source, out = HERE / "corpus/eicr_cleared_behind_poll.c", kit.folder / "reported-out"
+    source, out = HERE / "corpus/eicr_cleared_after_poll.c", kit.folder / "reported-out"
     words = ["--quiet", "--no-shrink", "--strategy", "exhaustive", "--out", out]
     wrong, right = kit.build(source), kit.build(source, "FIXED")
     alone, whole = made(ran([wrong, *words, "--jobs", 1], 1)), made(ran([right, *words, "--jobs", 1]))
@@ -253,7 +253,9 @@ def check_same_answer(kit: Kit) -> str:
     runs, seconds = ["--runs", 50], ["--seconds", "0.05"]
     for end in (runs, ["--shard", "1/2", *runs], seconds, ["--runs", 10**9, *seconds]):
         said = ran([*few, "--jobs", 2, *end])
-        told(said, f"didn't search all schedules: {end[-2]} ended the search\n", "an exhaustive search that was ended")
+        must_print(
+            said, f"didn't search all schedules: {end[-2]} ended the search\n", "an exhaustive search that was ended"
+        )
     if "aren't all" in ran([right, *words]) or "aren't all" in ran([right, "--quiet", "--runs", 50]):
         raise Wrong("a search that came to its end, or that is by chance, is reported not to be all")
     if len(schedules) != 1:

@@ -8,7 +8,7 @@ import subprocess
 import xml.etree.ElementTree
 from pathlib import Path
 
-from explore.check import HERE, Kit, Wrong, ran, told
+from explore.check import HERE, Kit, Wrong, must_print, ran
 
 RACE = HERE / "examples/race.c"
 
@@ -35,7 +35,7 @@ def check_sums(kit: Kit) -> str:
         merged = ran([program, "--merge", *files, "--out", out])
         got, wanted = numbers(merged), numbers(whole)
         if "exhaustive" in way:
-            told(merged, "searched all schedules", "shards of the exhaustive search")
+            must_print(merged, "searched all schedules", "shards of the exhaustive search")
             firsts = 2 * (2 + 1 + 2)  # (each process of each shard runs the first schedule of both bounds)
             if not wanted["schedules"] <= got["schedules"] <= wanted["schedules"] + firsts:
                 raise Wrong(f"the shards made {got}, and one search {wanted}")
@@ -45,10 +45,12 @@ def check_sums(kit: Kit) -> str:
         if numbers(alone) != wanted:
             raise Wrong(f"a result by itself has {numbers(alone)}, and its search made {wanted}")
         part = ran([program, "--merge", files[0], files[2], "--out", out])
-        told(part, r"note: missing shards: 2 \(1 of 3\)", "two shards of three")
+        must_print(part, r"note: missing shards: 2 \(1 of 3\)", "two shards of three")
         if "searched all schedules" in part or ("didn't search all schedules\n" in part) != ("exhaustive" in way):
             raise Wrong(f"two shards of three are reported to be all:\n{part}")
-        told(ran([program, "--merge", files[0], files[0]], 2), "shard 1/3 of this search is also in", "a shard twice")
+        must_print(
+            ran([program, "--merge", files[0], files[0]], 2), "shard 1/3 of this search is also in", "a shard twice"
+        )
         ran([program, "--merge", *files, "--out", out, "--strict"])
     return "shards are one search"
 
@@ -72,11 +74,11 @@ def check_causes(kit: Kit) -> str:
         ran([*words, "--seed", len(mode), "--result", out / mode], status)
     said = ran([faulty, "end", "--merge", *(out / one for one in ("end", "check", "fine")), "--out", out, "--junit",
                 out / "all.xml"], 1)  # fmt: skip
-    told(said, r"doesn't reproduce the failure: the schedule is \S+/faulty-2.schedule", "another program's")
+    must_print(said, r"doesn't reproduce the failure: the schedule is \S+/faulty-2.schedule", "another program's")
     ran([faulty, "lines", "--quiet", "--jobs", 1, "--runs", 200, "--out", out, "--result", out / "lines"], 1)
     said = ran([faulty, "lines", "--merge", out / "lines", "--out", out], 1)
-    told(said, r"FAILED end: rx 0: nobody\?\? takes it; int 5: no message\n", "words of several lines")
-    told(said, r"again: \S+ --replay \S+/faulty.schedule", "words of several lines")
+    must_print(said, r"FAILED end: rx 0: nobody\?\? takes it; int 5: no message\n", "words of several lines")
+    must_print(said, r"again: \S+ --replay \S+/faulty.schedule", "words of several lines")
     cases = xml.etree.ElementTree.parse(out / "all.xml").findall("testcase/failure")
     if [case.get("type") for case in cases] != ["end", "check"] or not all("scenario faulty" in (case.text or "")
                                                                           for case in cases):  # fmt: skip
@@ -85,7 +87,7 @@ def check_causes(kit: Kit) -> str:
     for seed in (1, 2):
         ran([vacuous, "waits", "--quiet", "--runs", 20, "--seed", seed, "--out", out, "--result", out / f"v{seed}"])
     said = ran([vacuous, "waits", "--merge", out / "v1", out / "v2", "--strict", "--out", out], 3)
-    told(said, "task poll never got past its first wait", "what never ran in two results")
+    must_print(said, "task poll never got past its first wait", "what never ran in two results")
     return "each cause once"
 
 
@@ -127,7 +129,7 @@ def check_refused(kit: Kit, tries: int) -> str:
     for old, (new, wanted) in FIELDS.items():
         at = lines.index(f"{old}\n")
         bad.write_text(summed([*lines[:at], f"{new}\n", *lines[at + 1 :]]))
-        told(ran([race, "--merge", bad, "--out", out], 2), re.escape(wanted), f"{old} as {new}")
+        must_print(ran([race, "--merge", bad, "--out", out], 2), re.escape(wanted), f"{old} as {new}")
     for text, wanted in {
         "": ":1: the file is truncated",
         "".join(lines): "the file is truncated",
@@ -137,10 +139,10 @@ def check_refused(kit: Kit, tries: int) -> str:
         "nicx-result 1\nscenario \x01\n": ":2: the line isn't printable ASCII",
     }.items():
         bad.write_text(text)
-        told(ran([race, "--merge", bad, "--out", out], 2), re.escape(wanted), repr(text[:40]))
-    told(ran([race, "--merge", "/nowhere"], 2), "/nowhere: can't read the file", "no file")
-    told(ran([race, "--merge"], 2), "--merge: missing value", "no word")
-    told(ran([race, "--result", "/nowhere/file"], 2), "--result: can't write /nowhere/file", "no folder")
+        must_print(ran([race, "--merge", bad, "--out", out], 2), re.escape(wanted), repr(text[:40]))
+    must_print(ran([race, "--merge", "/nowhere"], 2), "/nowhere: can't read the file", "no file")
+    must_print(ran([race, "--merge"], 2), "--merge: missing value", "no word")
+    must_print(ran([race, "--result", "/nowhere/file"], 2), "--result: can't write /nowhere/file", "no folder")
     chance, taken = random.Random(1), 0
     for _ in range(tries):
         taken += is_taken(race, out, changed(lines, chance))

@@ -53,7 +53,7 @@ typedef struct nicxo_step {
     uint32_t word;      /* the word read or written */
     uint64_t bus;       /* bus address of a memory access */
     uint32_t length;
-    nic_told told; /* a device step's reply */
+    nic_outcome outcome; /* a device step's reply */
 } nicxo_step;
 
 typedef struct nicxo_observer {

@@ -5,7 +5,7 @@
 THREADS_SOURCES := $(wildcard $(HERE)/explore/threads/*.c)
 THREADS_HEADERS := $(wildcard $(HERE)/explore/threads/*.h)
 THREADS_OBJECTS := $(patsubst $(HERE)/explore/threads/%.c,$(OUT)/threads/%.o,$(THREADS_SOURCES))
-THREADS_ALL     := $(patsubst $(OUT)/%.o,$(OUT)/threads/not-turned/%.o,$(EXPLORE_OBJECTS) $(THREADS_OBJECTS))
+THREADS_ALL     := $(patsubst $(OUT)/%.o,$(OUT)/threads/not-intercepted/%.o,$(EXPLORE_OBJECTS) $(THREADS_OBJECTS))
 THREADS_FORM    := $(addprefix $(OUT)/nic82599_,threads.opts program.opts threads.ld)
 
 $(OUT)/threads/%.o: $(HERE)/explore/threads/%.c $(THREADS_HEADERS) $(EXPLORE_HEADERS)
@@ -14,31 +14,31 @@ $(OUT)/threads/%.o: $(HERE)/explore/threads/%.c $(THREADS_HEADERS) $(EXPLORE_HEA
 
 # The intercepted calls are the functions __wrap_NAME, which the linker calls instead of NAME. What the engine itself
 # calls, in this archive too, stays NAME.
-$(OUT)/threads/turned: $(THREADS_OBJECTS)
+$(OUT)/threads/intercepted: $(THREADS_OBJECTS)
 	$Qnm -g --defined-only $^ | sed -n 's/.* T __wrap_//p' | LC_ALL=C sort -u >$@
 
-$(OUT)/threads/names.syms: $(OUT)/threads/turned
+$(OUT)/threads/names.syms: $(OUT)/threads/intercepted
 	$Qsed -e 's/.*/& __real_&/' $< >$@
 
-$(OUT)/threads/not-turned/%.o: $(OUT)/%.o $(OUT)/threads/names.syms
+$(OUT)/threads/not-intercepted/%.o: $(OUT)/%.o $(OUT)/threads/names.syms
 	@mkdir -p $(@D)
 	$Q$(OBJCOPY) --redefine-syms=$(OUT)/threads/names.syms $< $@
 
 # The archive contains the library itself for the same reason: the library's own calls aren't intercepted.
-$(OUT)/threads/not-turned/device.o: $(OUT)/device.o $(OUT)/threads/names.syms
+$(OUT)/threads/not-intercepted/device.o: $(OUT)/device.o $(OUT)/threads/names.syms
 	$Qgrep -v '^nic_' $(OUT)/threads/names.syms >$(OUT)/threads/others.syms
 	$Q$(OBJCOPY) --redefine-syms=$(OUT)/threads/others.syms $< $@
 
-$(OUT)/libnic82599_threads.a: $(THREADS_ALL) $(OUT)/threads/not-turned/device.o
+$(OUT)/libnic82599_threads.a: $(THREADS_ALL) $(OUT)/threads/not-intercepted/device.o
 	$(call SAY,$(@F))
 	$Qrm -f $@
 	$Q$(AR) rcs $@ $^
 
-$(OUT)/nic82599_threads.opts: $(OUT)/threads/turned
+$(OUT)/nic82599_threads.opts: $(OUT)/threads/intercepted
 	$Q{ sed -n '/^main$$/!s/.*/-Wl,--wrap=&,-u,__wrap_&/p' $<; \
 	  echo '-Wl,-u,nicxi_threads_form -Wl,-T,nic82599_threads.ld -l:libnic82599_threads.a'; } >$@
 
-$(OUT)/nic82599_program.opts: $(OUT)/threads/turned
+$(OUT)/nic82599_program.opts: $(OUT)/threads/intercepted
 	$Q{ sed 's/.*/-Wl,--wrap=&,-u,__wrap_&/' $<; \
 	  echo '-Wl,-u,nicxi_threads_form -Wl,-T,nic82599_threads.ld -l:libnic82599_threads.a'; } >$@
 

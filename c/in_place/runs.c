@@ -127,11 +127,11 @@ void nicl_runs_add(struct nicl_runs *it, uint32_t first, uint32_t end)
 
 void nicl_runs_remove(struct nicl_runs *it, uint32_t first, uint32_t end)
 {
-    uint32_t run = nicl_runs_at(it, nicl_run_begin(it, first)), behind = run + it->blocks[run].run;
+    uint32_t run = nicl_runs_at(it, nicl_run_begin(it, first)), run_end = run + it->blocks[run].run;
     if (run == first)
         take_out(it, run);
     else
         it->blocks[run].run = first - run;
-    if (end < behind)
-        insert(it, end, behind - end);
+    if (end < run_end)
+        insert(it, end, run_end - end);
 }

@@ -93,7 +93,7 @@ enum nic_status {
     NIC_TEXT_NOT_UTF8 = 102
 };
 
-/* Why a frame was dropped (nic_told.why with NIC_DROPPED). */
+/* Why a frame was dropped (nic_outcome.why with NIC_DROPPED). */
 enum nic_why {
     NIC_WHY_LINK_DOWN = 1,
     NIC_WHY_OFF = 2,    /* RXCTRL bit 0 is 0 */
@@ -107,10 +107,10 @@ enum nic_why {
     NIC_WHY_NO_SLOT = 10   /* a receive step: the device owns no slot, and SRRCTL.DROP_EN is set */
 };
 
-/* Why a slot can't be processed (nic_told.why with NIC_FAULT). */
+/* Why a slot can't be processed (nic_outcome.why with NIC_FAULT). */
 enum nic_fault {
     NIC_FAULT_OUTSIDE = 1,        /* the head or the tail isn't a slot of the ring */
-    NIC_FAULT_NOT_LENT = 2,       /* the memory isn't lent: nic_told.bus */
+    NIC_FAULT_NOT_LENT = 2,       /* the memory isn't lent: nic_outcome.bus */
     NIC_FAULT_TYPE = 3,           /* SRRCTL's descriptor type isn't "advanced, one buffer" */
     NIC_FAULT_NO_BUFFER_SIZE = 4, /* SRRCTL's buffer size is 0 */
     NIC_FAULT_OFFLOAD = 5,        /* a transmit descriptor requests segmentation, VLAN insertion or a checksum */
@@ -130,7 +130,7 @@ enum nic_step {
 };
 
 /* What an event reports; all other fields are 0. */
-typedef struct nic_told {
+typedef struct nic_outcome {
     uint64_t desc; /* WROTE: bus address of the descriptor written back */
     /* WROTE: bus address of the first byte written; ADVANCED, SENT: if `back` is 1, bus address of the descriptor or
        the head written back */
@@ -147,7 +147,7 @@ typedef struct nic_told {
     uint8_t back;   /* ADVANCED, SENT: 1 if something was written back */
     uint8_t why;    /* DROPPED: enum nic_why; FAULT: enum nic_fault */
     uint8_t vector; /* MESSAGE: below 16 */
-} nic_told;
+} nic_outcome;
 
 /* --- version and edition --- */
 
@@ -284,36 +284,36 @@ uint8_t nic_dma_write(nic *n, uint64_t bus, const uint8_t *bytes, size_t length)
 /* --- the link; frames have no frame check sequence --- */
 
 /* Puts a frame on the link. Returns DONE if the frame now waits for receive steps, DROPPED (`why`) or OUT_OF_MEMORY. */
-uint8_t nic_arrive(nic *n, const uint8_t *frame, size_t length, nic_told *told);
+uint8_t nic_arrive(nic *n, const uint8_t *frame, size_t length, nic_outcome *outcome);
 /* Returns the length of the oldest sent frame not yet collected; 0 if there is none, or the controller isn't open. */
 size_t nic_next_out(nic *n);
 /* Collects that frame into a buffer. Returns FRAME (`queue`, `len`), IDLE if there is none, or NO_ROOM if it is longer
    than `length`; then it stays. */
-uint8_t nic_collect(nic *n, uint8_t *room, size_t length, nic_told *told);
+uint8_t nic_collect(nic *n, uint8_t *room, size_t length, nic_outcome *outcome);
 /* Sets the link up or down. Returns DONE, or IDLE if it is so already. Initially it is up. */
 uint8_t nic_link(nic *n, bool up);
 
 /* --- the steps of the device; a step is IDLE if it has nothing to do, and while CTRL bit 2 is 1 --- */
 
 /* Writes one buffer's worth of the oldest waiting frame: WROTE, DROPPED, FAULT, IDLE. */
-uint8_t nic_rx_step(nic *n, nic_told *told);
+uint8_t nic_rx_step(nic *n, nic_outcome *outcome);
 /* Fetches one descriptor of a transmit queue: ADVANCED, SENT, FAULT, IDLE, NO_QUEUE, OUT_OF_MEMORY. */
-uint8_t nic_tx_step(nic *n, uint16_t queue, nic_told *told);
+uint8_t nic_tx_step(nic *n, uint16_t queue, nic_outcome *outcome);
 /* Enables or disables one side of a queue, as RXDCTL or TXDCTL bit 25 requests: DONE, IDLE, NO_QUEUE. */
-uint8_t nic_queue_step(nic *n, bool transmit, uint16_t queue, nic_told *told);
+uint8_t nic_queue_step(nic *n, bool transmit, uint16_t queue, nic_outcome *outcome);
 /* Completes the EEPROM read that EERD requests: DONE, IDLE. */
-uint8_t nic_eeprom_step(nic *n, nic_told *told);
+uint8_t nic_eeprom_step(nic *n, nic_outcome *outcome);
 /* Sends the next interrupt message of a group, 0 for the physical function, v + 1 for function v: MESSAGE, IDLE,
    NO_GROUP. */
-uint8_t nic_int_step(nic *n, uint8_t group, nic_told *told);
+uint8_t nic_int_step(nic *n, uint8_t group, nic_outcome *outcome);
 
 /* Runs steps in rounds until none has anything to do. A round is: for each queue below `queues`, its receive enable,
    then its transmit enable; the EEPROM; one transmit step of each of these queues; one receive step; one message of
-   each group. The first `*count` entries of `told` report what happened, each with its `status`, `step` and `of`.
+   each group. The first `*count` entries of `outcome` report what happened, each with its `status`, `step` and `of`.
    Returns DONE after a round that did nothing. MORE means that the array filled up before that (immediately if `length`
    is 0); another call begins a new round. OUT_OF_MEMORY means that a transmit step found no memory and didn't run; the
    steps before it are reported. NO_QUEUE means that `queues` is above 128. */
-uint8_t nic_settle(nic *n, uint16_t queues, nic_told *told, size_t length, size_t *count);
+uint8_t nic_settle(nic *n, uint16_t queues, nic_outcome *outcome, size_t length, size_t *count);
 
 /* The position of nic_next_step in its rounds. `nic_settling where = {4, 0};` begins a round of the queues below 4. */
 typedef struct nic_settling {
@@ -328,11 +328,11 @@ typedef struct nic_settling {
            if (event.status == NIC_MESSAGE)
                handle(event.vector);
 
-   MORE: a step ran, and `told` reports it with its `status`, `step` and `of`. DONE: no step of a whole round had
+   MORE: a step ran, and `outcome` reports it with its `status`, `step` and `of`. DONE: no step of a whole round had
    anything to do; the next call begins a new round. OUT_OF_MEMORY: a transmit step found no memory; the next call tries
    it again. NO_QUEUE: `queues` is above 128. If you make no other call in between, the steps and their order are those
    of nic_settle. */
-uint8_t nic_next_step(nic *n, nic_settling *where, nic_told *told);
+uint8_t nic_next_step(nic *n, nic_settling *where, nic_outcome *outcome);
 
 /* --- why nothing happens --- */
 

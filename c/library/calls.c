@@ -69,11 +69,11 @@ static void reply_write(struct recording *it, uint8_t status, const char *name)
     end_with_name(it, &text, name);
 }
 
-static void reply_told(struct recording *it, uint8_t status, const nic_told *told)
+static void reply_outcome(struct recording *it, uint8_t status, const nic_outcome *outcome)
 {
     nicl_add_reply(it);
     struct nicl_text text = nicl_text_of(it);
-    nicl_put_reply(&text, status, told);
+    nicl_put_reply(&text, status, outcome);
     nicl_put(&text, "\n");
     nicl_text_ends(it, &text);
 }
@@ -486,44 +486,44 @@ COLD void drop(const nic *n, uint8_t why, const uint8_t *frame, size_t length)
     nicl_note_drop(n, why, frame, length);
 }
 
-COLD uint8_t arrive(nic *n, const uint8_t *frame, size_t length, nic_told *told)
+COLD uint8_t arrive(nic *n, const uint8_t *frame, size_t length, nic_outcome *outcome)
 {
     struct recording *it = nicl_enter(n);
-    uint8_t status = nicl_arrive(n, frame, length, told);
+    uint8_t status = nicl_arrive(n, frame, length, outcome);
     if (it && status == NIC_OUT_OF_MEMORY) {
         refused(it, "arrive", status);
     } else if (it) {
         nicl_add_number(it, "arrive d", nicl_add_data(it, frame, length), "");
-        reply_told(it, status, told);
+        reply_outcome(it, status, outcome);
     }
     if (status == NIC_DROPPED)
-        drop(n, told->why, frame, length);
-    nicl_tell_arrival(n, told, frame);
+        drop(n, outcome->why, frame, length);
+    nicl_tell_arrival(n, outcome, frame);
     nicl_leave(it);
     return status;
 }
 
-uint8_t nic_arrive(nic *n, const uint8_t *frame, size_t length, nic_told *told)
+uint8_t nic_arrive(nic *n, const uint8_t *frame, size_t length, nic_outcome *outcome)
 {
     if (IS_CLOSED(n))
         return NIC_CLOSED;
     if (!IS_OFF)
-        return arrive(n, frame, length, told);
-    uint8_t status = nicl_arrive(n, frame, length, told);
+        return arrive(n, frame, length, outcome);
+    uint8_t status = nicl_arrive(n, frame, length, outcome);
     if (status == NIC_DROPPED)
-        drop(n, told->why, frame, length);
+        drop(n, outcome->why, frame, length);
     return status;
 }
 
-COLD uint8_t collect(nic *n, uint8_t *room, size_t length, nic_told *told)
+COLD uint8_t collect(nic *n, uint8_t *room, size_t length, nic_outcome *outcome)
 {
     struct recording *it = nicl_enter(n);
-    uint8_t status = nicl_collect(n, room, length, told);
+    uint8_t status = nicl_collect(n, room, length, outcome);
     if (it && status == NIC_FRAME) {
         nicl_add_text(it, "collect");
         nicl_add_reply(it);
-        nicl_add_number(it, "frame queue ", told->queue, " ");
-        nicl_add_hex(it, room, (size_t)told->len);
+        nicl_add_number(it, "frame queue ", outcome->queue, " ");
+        nicl_add_hex(it, room, (size_t)outcome->len);
         nicl_add_text(it, "\n");
     } else if (it && status == NIC_IDLE) {
         nicl_add_text(it, "collect");
@@ -535,10 +535,10 @@ COLD uint8_t collect(nic *n, uint8_t *room, size_t length, nic_told *told)
     return status;
 }
 
-uint8_t nic_collect(nic *n, uint8_t *room, size_t length, nic_told *told)
+uint8_t nic_collect(nic *n, uint8_t *room, size_t length, nic_outcome *outcome)
 {
-    UNLESS_WATCHED(n, nicl_collect(n, room, length, told));
-    return collect(n, room, length, told);
+    UNLESS_WATCHED(n, nicl_collect(n, room, length, outcome));
+    return collect(n, room, length, outcome);
 }
 
 uint8_t nic_link(nic *n, bool up)
@@ -557,43 +557,43 @@ uint8_t nic_link(nic *n, bool up)
 /* --- steps --- */
 
 /* Counts a frame that a step may have dropped; only the reason is known by now. */
-static uint8_t counted(const nic *n, uint8_t status, const nic_told *told)
+static uint8_t counted(const nic *n, uint8_t status, const nic_outcome *outcome)
 {
     if (__builtin_expect(status == NIC_DROPPED, 0))
-        drop(n, told->why, NULL, 0);
+        drop(n, outcome->why, NULL, 0);
     return status;
 }
 
 /* Records what a step did. A step that found no memory did nothing. */
-static uint8_t stepped(struct recording *it, uint8_t status, const nic_told *told, const char *line)
+static uint8_t stepped(struct recording *it, uint8_t status, const nic_outcome *outcome, const char *line)
 {
     if (it && status == NIC_OUT_OF_MEMORY) {
         refused(it, line, status);
     } else if (it) {
         nicl_add_text(it, line);
-        reply_told(it, status, told);
+        reply_outcome(it, status, outcome);
     }
     nicl_leave(it);
     return status;
 }
 
-COLD uint8_t receive_step(nic *n, nic_told *told)
+COLD uint8_t receive_step(nic *n, nic_outcome *outcome)
 {
     struct recording *it = nicl_enter(n);
     nicl_before_receive(it, n);
-    uint8_t status = counted(n, nicl_rx_step(n, told), told);
-    nicl_after_step(it, n, told);
-    nicl_tell_step(n, told, false);
-    return stepped(it, status, told, "rx");
+    uint8_t status = counted(n, nicl_rx_step(n, outcome), outcome);
+    nicl_after_step(it, n, outcome);
+    nicl_tell_step(n, outcome, false);
+    return stepped(it, status, outcome, "rx");
 }
 
-uint8_t nic_rx_step(nic *n, nic_told *told)
+uint8_t nic_rx_step(nic *n, nic_outcome *outcome)
 {
-    UNLESS_WATCHED(n, counted(n, nicl_rx_step(n, told), told));
-    return receive_step(n, told);
+    UNLESS_WATCHED(n, counted(n, nicl_rx_step(n, outcome), outcome));
+    return receive_step(n, outcome);
 }
 
-COLD uint8_t transmit_step(nic *n, uint16_t queue, nic_told *told)
+COLD uint8_t transmit_step(nic *n, uint16_t queue, nic_outcome *outcome)
 {
     char line[16];
     struct recording *it = nicl_enter(n);
@@ -601,35 +601,35 @@ COLD uint8_t transmit_step(nic *n, uint16_t queue, nic_told *told)
     nicl_put(&text, "tx ");
     nicl_put_number(&text, queue);
     nicl_before_transmit(it, n, queue);
-    uint8_t status = nicl_tx_step(n, queue, told);
+    uint8_t status = nicl_tx_step(n, queue, outcome);
     if (status != NIC_NO_QUEUE && status != NIC_OUT_OF_MEMORY) {
-        nicl_after_step(it, n, told);
-        nicl_tell_step(n, told, true);
+        nicl_after_step(it, n, outcome);
+        nicl_tell_step(n, outcome, true);
     }
-    return stepped(it, status, told, line);
+    return stepped(it, status, outcome, line);
 }
 
-uint8_t nic_tx_step(nic *n, uint16_t queue, nic_told *told)
+uint8_t nic_tx_step(nic *n, uint16_t queue, nic_outcome *outcome)
 {
-    UNLESS_WATCHED(n, nicl_tx_step(n, queue, told));
-    return transmit_step(n, queue, told);
+    UNLESS_WATCHED(n, nicl_tx_step(n, queue, outcome));
+    return transmit_step(n, queue, outcome);
 }
 
-uint8_t nic_queue_step(nic *n, bool transmit, uint16_t queue, nic_told *told)
+uint8_t nic_queue_step(nic *n, bool transmit, uint16_t queue, nic_outcome *outcome)
 {
-    UNLESS_WATCHED(n, nicl_queue_step(n, transmit, queue, told));
+    UNLESS_WATCHED(n, nicl_queue_step(n, transmit, queue, outcome));
     char line[24];
     struct recording *it = nicl_enter(n);
     nicl_may_switch(it);
     snprintf(line, sizeof line, "qstep %s %u", transmit ? "tx" : "rx", queue);
-    return stepped(it, nicl_queue_step(n, transmit, queue, told), told, line);
+    return stepped(it, nicl_queue_step(n, transmit, queue, outcome), outcome, line);
 }
 
-uint8_t nic_eeprom_step(nic *n, nic_told *told)
+uint8_t nic_eeprom_step(nic *n, nic_outcome *outcome)
 {
-    UNLESS_WATCHED(n, nicl_eeprom_step(n, told));
+    UNLESS_WATCHED(n, nicl_eeprom_step(n, outcome));
     struct recording *it = nicl_enter(n);
-    return stepped(it, nicl_eeprom_step(n, told), told, "eestep");
+    return stepped(it, nicl_eeprom_step(n, outcome), outcome, "eestep");
 }
 
 static void group_line(uint16_t group, char line[24])
@@ -640,65 +640,66 @@ static void group_line(uint16_t group, char line[24])
         snprintf(line, 24, "int pf");
 }
 
-uint8_t nic_int_step(nic *n, uint8_t group, nic_told *told)
+uint8_t nic_int_step(nic *n, uint8_t group, nic_outcome *outcome)
 {
-    UNLESS_WATCHED(n, nicl_int_step(n, group, told));
+    UNLESS_WATCHED(n, nicl_int_step(n, group, outcome));
     char line[24];
     struct recording *it = nicl_enter(n);
-    uint8_t status = nicl_int_step(n, group, told);
+    uint8_t status = nicl_int_step(n, group, outcome);
     group_line(group, line);
     if (it && group > MOST_VFS) {
         refused(it, "int of a function above 62", status);
         nicl_leave(it);
         return status;
     }
-    return stepped(it, status, told, line);
+    return stepped(it, status, outcome, line);
 }
 
 /* Records a step that nic_settle ran. */
-static void settled(struct recording *it, const nic_told *told)
+static void settled(struct recording *it, const nic_outcome *outcome)
 {
     char line[24];
-    switch (told->step) {
+    switch (outcome->step) {
     case NIC_RX_ENABLE:
     case NIC_TX_ENABLE:
-    case NIC_TRANSMIT: snprintf(line, sizeof line, "%s %u", nic_step_name(told->step), told->of); break;
-    case NIC_INTERRUPT: group_line(told->of, line); break;
-    default: snprintf(line, sizeof line, "%s", nic_step_name(told->step)); break;
+    case NIC_TRANSMIT: snprintf(line, sizeof line, "%s %u", nic_step_name(outcome->step), outcome->of); break;
+    case NIC_INTERRUPT: group_line(outcome->of, line); break;
+    default: snprintf(line, sizeof line, "%s", nic_step_name(outcome->step)); break;
     }
     nicl_add_text(it, line);
-    reply_told(it, told->status, told);
+    reply_outcome(it, outcome->status, outcome);
 }
 
 /* Counts the frames dropped by the steps of nic_settle. */
-static void count_drops(const nic *n, const nic_told *told, size_t count)
+static void count_drops(const nic *n, const nic_outcome *outcome, size_t count)
 {
-    for (const nic_told *end = told + count; told < end; told++)
-        counted(n, told->status, told);
+    for (const nic_outcome *end = outcome + count; outcome < end; outcome++)
+        counted(n, outcome->status, outcome);
 }
 
-COLD uint8_t settle(nic *n, uint16_t queues, nic_told *told, size_t length, size_t *count)
+COLD uint8_t settle(nic *n, uint16_t queues, nic_outcome *outcome, size_t length, size_t *count)
 {
     struct recording *it = nicl_enter(n);
     nicl_before_settle(it, n, queues);
-    uint8_t status = nicl_settle(n, queues, told, length, count);
+    uint8_t status = nicl_settle(n, queues, outcome, length, count);
     for (size_t k = 0; k < *count; k++) {
-        nicl_after_step(it, n, &told[k]);
-        nicl_tell_step(n, &told[k], told[k].step == NIC_TRANSMIT);
+        nicl_after_step(it, n, &outcome[k]);
+        nicl_tell_step(n, &outcome[k], outcome[k].step == NIC_TRANSMIT);
         if (it)
-            settled(it, &told[k]);
+            settled(it, &outcome[k]);
     }
     nicl_leave(it);
     return status;
 }
 
-uint8_t nic_settle(nic *n, uint16_t queues, nic_told *told, size_t length, size_t *count)
+uint8_t nic_settle(nic *n, uint16_t queues, nic_outcome *outcome, size_t length, size_t *count)
 {
     *count = 0;
     if (IS_CLOSED(n))
         return NIC_CLOSED;
-    uint8_t status = IS_OFF ? nicl_settle(n, queues, told, length, count) : settle(n, queues, told, length, count);
-    count_drops(n, told, *count);
+    uint8_t status =
+        IS_OFF ? nicl_settle(n, queues, outcome, length, count) : settle(n, queues, outcome, length, count);
+    count_drops(n, outcome, *count);
     return status;
 }
 
@@ -707,47 +708,47 @@ uint8_t nic_settle(nic *n, uint16_t queues, nic_told *told, size_t length, size_
 enum { GROUPS = 64 };
 
 /* Runs the step at a position of the round. After the first group that doesn't exist there are no others. */
-static uint8_t step_at(nic *n, uint16_t queues, uint16_t at, nic_told *told)
+static uint8_t step_at(nic *n, uint16_t queues, uint16_t at, nic_outcome *outcome)
 {
     uint16_t enables = (uint16_t)(2 * queues), place = (uint16_t)(at - enables);
     if (at < enables)
-        return nicl_queue_step(n, at % 2, at / 2, told);
+        return nicl_queue_step(n, at % 2, at / 2, outcome);
     if (place == 0)
-        return nicl_eeprom_step(n, told);
+        return nicl_eeprom_step(n, outcome);
     if (place <= queues)
-        return nicl_tx_step(n, (uint16_t)(place - 1), told);
+        return nicl_tx_step(n, (uint16_t)(place - 1), outcome);
     if (place == queues + 1)
-        return nicl_rx_step(n, told);
-    return nicl_int_step(n, (uint8_t)(place - queues - 2), told);
+        return nicl_rx_step(n, outcome);
+    return nicl_int_step(n, (uint8_t)(place - queues - 2), outcome);
 }
 
 /* Stores the kind of this step. */
-static void name_step(uint16_t queues, uint16_t at, nic_told *told)
+static void name_step(uint16_t queues, uint16_t at, nic_outcome *outcome)
 {
     uint16_t enables = (uint16_t)(2 * queues), place = (uint16_t)(at - enables);
     if (at < enables) {
-        told->step = at % 2 ? NIC_TX_ENABLE : NIC_RX_ENABLE;
-        told->of = at / 2;
+        outcome->step = at % 2 ? NIC_TX_ENABLE : NIC_RX_ENABLE;
+        outcome->of = at / 2;
     } else if (place == 0) {
-        told->step = NIC_EEPROM;
+        outcome->step = NIC_EEPROM;
     } else if (place <= queues) {
-        told->step = NIC_TRANSMIT;
-        told->of = (uint16_t)(place - 1);
+        outcome->step = NIC_TRANSMIT;
+        outcome->of = (uint16_t)(place - 1);
     } else if (place == queues + 1) {
-        told->step = NIC_RECEIVE;
+        outcome->step = NIC_RECEIVE;
     } else {
-        told->step = NIC_INTERRUPT;
-        told->of = (uint16_t)(place - queues - 2);
+        outcome->step = NIC_INTERRUPT;
+        outcome->of = (uint16_t)(place - queues - 2);
     }
 }
 
 /* Tries the steps in order until one did something, or none of a whole round did. */
-static uint8_t next_step(nic *n, nic_settling *where, nic_told *told)
+static uint8_t next_step(nic *n, nic_settling *where, nic_outcome *outcome)
 {
     uint16_t places = (uint16_t)(3 * where->queues + 2 + GROUPS);
     for (uint16_t idle = 0; idle < places; idle++) {
         uint16_t at = where->at < places ? where->at : 0;
-        uint8_t status = step_at(n, where->queues, at, told);
+        uint8_t status = step_at(n, where->queues, at, outcome);
         if (status == NIC_OUT_OF_MEMORY || status == NIC_BROKEN)
             return status;
         if (status == NIC_NO_GROUP) {
@@ -756,7 +757,7 @@ static uint8_t next_step(nic *n, nic_settling *where, nic_told *told)
         }
         where->at = (uint16_t)(at + 1);
         if (status != NIC_IDLE && status != NIC_NO_GROUP) {
-            name_step(where->queues, at, told);
+            name_step(where->queues, at, outcome);
             return NIC_MORE;
         }
     }
@@ -764,30 +765,30 @@ static uint8_t next_step(nic *n, nic_settling *where, nic_told *told)
     return NIC_DONE;
 }
 
-COLD uint8_t watched_step(nic *n, nic_settling *where, nic_told *told)
+COLD uint8_t watched_step(nic *n, nic_settling *where, nic_outcome *outcome)
 {
     struct recording *it = nicl_enter(n);
     nicl_before_settle(it, n, where->queues);
-    uint8_t status = next_step(n, where, told);
+    uint8_t status = next_step(n, where, outcome);
     if (status == NIC_MORE) {
-        nicl_after_step(it, n, told);
-        nicl_tell_step(n, told, told->step == NIC_TRANSMIT);
+        nicl_after_step(it, n, outcome);
+        nicl_tell_step(n, outcome, outcome->step == NIC_TRANSMIT);
         if (it)
-            settled(it, told);
+            settled(it, outcome);
     }
     nicl_leave(it);
     return status;
 }
 
-uint8_t nic_next_step(nic *n, nic_settling *where, nic_told *told)
+uint8_t nic_next_step(nic *n, nic_settling *where, nic_outcome *outcome)
 {
     if (IS_CLOSED(n))
         return NIC_CLOSED;
     if (where->queues > QUEUES)
         return NIC_NO_QUEUE;
-    uint8_t status = IS_OFF ? next_step(n, where, told) : watched_step(n, where, told);
+    uint8_t status = IS_OFF ? next_step(n, where, outcome) : watched_step(n, where, outcome);
     if (status == NIC_MORE)
-        counted(n, told->status, told);
+        counted(n, outcome->status, outcome);
     return status;
 }
 

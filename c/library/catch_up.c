@@ -114,21 +114,21 @@ void nicl_before_settle(struct recording *it, nic *n, uint32_t queues)
 }
 
 /* A transmit step writes back the descriptor, or the head at another address. */
-static void note_write_back(nic *n, const nic_told *told)
+static void note_write_back(nic *n, const nic_outcome *outcome)
 {
-    struct nicl_ring ring = nicl_ring_of(n, true, told->queue);
-    bool is_slot = told->at - ring.base < (uint64_t)NIC_DESC_BYTES * ring.slots;
-    nicl_shadow_note(n, told->at, is_slot ? NIC_DESC_BYTES : HEAD_BYTES);
+    struct nicl_ring ring = nicl_ring_of(n, true, outcome->queue);
+    bool is_slot = outcome->at - ring.base < (uint64_t)NIC_DESC_BYTES * ring.slots;
+    nicl_shadow_note(n, outcome->at, is_slot ? NIC_DESC_BYTES : HEAD_BYTES);
 }
 
-void nicl_after_step(const struct recording *it, nic *n, const nic_told *told)
+void nicl_after_step(const struct recording *it, nic *n, const nic_outcome *outcome)
 {
     if (!is_in_place(it, n))
         return;
-    if (told->status == NIC_WROTE) {
-        nicl_shadow_note(n, told->at, told->len);
-        nicl_shadow_note(n, told->desc, NIC_DESC_BYTES);
-    } else if ((told->status == NIC_ADVANCED || told->status == NIC_SENT) && told->back) {
-        note_write_back(n, told);
+    if (outcome->status == NIC_WROTE) {
+        nicl_shadow_note(n, outcome->at, outcome->len);
+        nicl_shadow_note(n, outcome->desc, NIC_DESC_BYTES);
+    } else if ((outcome->status == NIC_ADVANCED || outcome->status == NIC_SENT) && outcome->back) {
+        note_write_back(n, outcome);
     }
 }

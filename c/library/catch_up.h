@@ -15,6 +15,6 @@ void nicl_before_transmit(struct recording *it, nic *n, uint32_t queue);
 void nicl_before_settle(struct recording *it, nic *n, uint32_t queues);
 
 /* After a step: notes that the device wrote what it reported, as a replay's device does too. */
-void nicl_after_step(const struct recording *it, nic *n, const nic_told *told);
+void nicl_after_step(const struct recording *it, nic *n, const nic_outcome *outcome);
 
 #endif

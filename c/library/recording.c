@@ -52,7 +52,7 @@ static struct recording *recordings;
 static char *path;      /* the caller's path; null: nothing is recorded */
 static int opened = -1; /* the first file, if nic_record opened it */
 static unsigned files;  /* number of controllers that got a file */
-static bool is_told;    /* nic_record was called, or the environment was read */
+static bool is_decided; /* nic_record was called, or the environment was read */
 
 static void hold(void)
 {
@@ -213,7 +213,7 @@ static void take_path(const char *given)
     static bool is_prepared;
     if (!is_prepared)
         prepare();
-    is_prepared = is_told = true;
+    is_prepared = is_decided = true;
     free(path);
     path = given && *given ? malloc(strlen(given) + 1) : NULL;
     if (path)
@@ -240,7 +240,7 @@ bool nic_record(const char *given)
 void nicl_begin(const nic *n, uint8_t vfs, uint16_t fifo, uint32_t blocks)
 {
     hold();
-    if (!is_told)
+    if (!is_decided)
         take_path(getenv("NIC82599_RECORD"));
     struct recording *it = path ? calloc(1, sizeof *it) : NULL;
     if (it) {

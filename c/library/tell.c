@@ -20,7 +20,7 @@ enum { MOST_KINDS = 64, NAME = 96, TEXT = 1024 };
 struct kind {
     struct kind *next;
     char name[NAME];
-    uint64_t count, told; /* how many there were, and how many when the last line was printed */
+    uint64_t count, printed; /* how many there were, and how many when the last line was printed */
 };
 
 struct teller {
@@ -94,7 +94,7 @@ static struct kind *first_of(struct teller *it, const char *name)
     kind->count++;
     if (!is_round(kind->count))
         return NULL;
-    kind->told = kind->count;
+    kind->printed = kind->count;
     if (kind->count == 1)
         return kind;
     say(it, "%s: %" PRIu64 " so far", kind->name, kind->count);
@@ -118,7 +118,7 @@ static void finish(struct teller *it)
 {
     while (it->kinds) {
         struct kind *kind = it->kinds;
-        if (kind->count > kind->told)
+        if (kind->count > kind->printed)
             say(it, "%s: %" PRIu64 " in all", kind->name, kind->count);
         it->kinds = kind->next;
         free(kind);
@@ -151,7 +151,7 @@ void nicl_tell_forked(void)
 {
     for (const struct teller *it = tellers; it; it = it->next)
         for (struct kind *kind = it->kinds; kind; kind = kind->next)
-            kind->told = kind->count;
+            kind->printed = kind->count;
 }
 
 /* --- stray accesses --- */
@@ -221,13 +221,13 @@ static void join(char *text)
             *c = ';';
 }
 
-static void tell_drop(nic *n, const nic_told *told, const uint8_t *frame)
+static void tell_drop(nic *n, const nic_outcome *outcome, const uint8_t *frame)
 {
     struct teller *it = teller_of(n);
     char name[NAME], text[TEXT];
-    unsigned kind = nicl_drop_kind(told->why, frame);
+    unsigned kind = nicl_drop_kind(outcome->why, frame);
     const char *cast = kind == NICL_TO_ALL ? " of broadcast" : kind == NICL_TO_MANY ? " of multicast" : "";
-    snprintf(name, sizeof name, "frames dropped (%s%s)", nic_why_name(told->why), cast);
+    snprintf(name, sizeof name, "frames dropped (%s%s)", nic_why_name(outcome->why), cast);
     if (!it || !first_of(it, name))
         return;
     nicl_why_drop(n, kind, 1, text, sizeof text);
@@ -235,29 +235,30 @@ static void tell_drop(nic *n, const nic_told *told, const uint8_t *frame)
     say(it, "%s", text);
 }
 
-static void tell_fault(nic *n, const nic_told *told, bool transmit)
+static void tell_fault(nic *n, const nic_outcome *outcome, bool transmit)
 {
     struct teller *it = teller_of(n);
     char name[NAME], text[TEXT], reply[NAME];
-    snprintf(name, sizeof name, "faults of %s %u (%s)", transmit ? "tx" : "rx", told->queue, nic_fault_name(told->why));
+    snprintf(name, sizeof name, "faults of %s %u (%s)", transmit ? "tx" : "rx", outcome->queue,
+             nic_fault_name(outcome->why));
     if (!it || !first_of(it, name))
         return;
-    nicl_why_fault(n, told, transmit, text, sizeof text);
+    nicl_why_fault(n, outcome, transmit, text, sizeof text);
     join(text);
-    nicl_reply(reply, sizeof reply, NIC_FAULT, told);
+    nicl_reply(reply, sizeof reply, NIC_FAULT, outcome);
     say(it, "%s: %s: %s", transmit ? "tx" : "rx", reply, text);
 }
 
-void nicl_tell_arrival(nic *n, const nic_told *told, const uint8_t *frame)
+void nicl_tell_arrival(nic *n, const nic_outcome *outcome, const uint8_t *frame)
 {
-    if (tellers && told->status == NIC_DROPPED)
-        tell_drop(n, told, frame);
+    if (tellers && outcome->status == NIC_DROPPED)
+        tell_drop(n, outcome, frame);
 }
 
-void nicl_tell_step(nic *n, const nic_told *told, bool transmit)
+void nicl_tell_step(nic *n, const nic_outcome *outcome, bool transmit)
 {
-    if (tellers && told->status == NIC_FAULT)
-        tell_fault(n, told, transmit);
-    else if (tellers && told->status == NIC_DROPPED)
-        tell_drop(n, told, NULL);
+    if (tellers && outcome->status == NIC_FAULT)
+        tell_fault(n, outcome, transmit);
+    else if (tellers && outcome->status == NIC_DROPPED)
+        tell_drop(n, outcome, NULL);
 }

@@ -23,7 +23,7 @@ void nicl_tell_forked(void);
 /* Report a stray access, as a script's line; what happened to an arriving frame; and what a step did. */
 void nicl_tell_stray(const nic *n, uint32_t address, const char *line);
 void nicl_tell_vf_stray(const nic *n, uint8_t vf, uint32_t offset, const char *line);
-void nicl_tell_arrival(nic *n, const nic_told *told, const uint8_t *frame);
-void nicl_tell_step(nic *n, const nic_told *told, bool transmit);
+void nicl_tell_arrival(nic *n, const nic_outcome *outcome, const uint8_t *frame);
+void nicl_tell_step(nic *n, const nic_outcome *outcome, bool transmit);
 
 #endif

@@ -9,7 +9,7 @@
 static unsigned broken;
 
 /* Counts a status; after the first BROKEN there is no other. */
-static void told(uint8_t status)
+static void print_status(uint8_t status)
 {
     CHECK(!broken || status == NIC_BROKEN);
     broken += status == NIC_BROKEN;
@@ -19,31 +19,31 @@ static void all_calls(nic *n, uint8_t *own)
 {
     static const uint8_t frame[60] = {2};
     nic_kept kept = {0};
-    nic_told report;
+    nic_outcome report;
     nic_settling where = {2, 0};
     uint8_t bytes[64];
     uint32_t word;
     uint64_t line;
     size_t count = 1;
-    told(nic_lend_memory(n, 0x1000, own, 2 * NIC_BLOCK_BYTES));
-    told(nic_write32(n, NIC_RXCTRL, 1));
-    told(nic_read32(n, NIC_RXCTRL, &word));
-    told(nic_vf_peek32(n, 0, 8, &word));
-    told(nic_lend(n, 0));
-    told(nic_dma_write(n, 0x1000, frame, sizeof frame));
-    told(nic_dma_read(n, 0x1000, bytes, sizeof bytes));
-    told(nic_arrive(n, frame, sizeof frame, &report));
-    told(nic_rx_step(n, &report));
-    told(nic_settle(n, 2, &report, 1, &count));
+    print_status(nic_lend_memory(n, 0x1000, own, 2 * NIC_BLOCK_BYTES));
+    print_status(nic_write32(n, NIC_RXCTRL, 1));
+    print_status(nic_read32(n, NIC_RXCTRL, &word));
+    print_status(nic_vf_peek32(n, 0, 8, &word));
+    print_status(nic_lend(n, 0));
+    print_status(nic_dma_write(n, 0x1000, frame, sizeof frame));
+    print_status(nic_dma_read(n, 0x1000, bytes, sizeof bytes));
+    print_status(nic_arrive(n, frame, sizeof frame, &report));
+    print_status(nic_rx_step(n, &report));
+    print_status(nic_settle(n, 2, &report, 1, &count));
     CHECK(count <= 1);
-    told(nic_next_step(n, &where, &report));
-    told(nic_snapshot(n, &kept));
+    print_status(nic_next_step(n, &where, &report));
+    print_status(nic_snapshot(n, &kept));
     if (kept.kept)
-        told(nic_restore(n, &kept));
+        print_status(nic_restore(n, &kept));
     nic_drop_snapshot(&kept);
-    told(nic_install_text(n, (const uint8_t *)"size 64\n", 8, &line));
-    told(nic_collect(n, bytes, sizeof bytes, &report));
-    told(nic_take(n, 0));
+    print_status(nic_install_text(n, (const uint8_t *)"size 64\n", 8, &line));
+    print_status(nic_collect(n, bytes, sizeof bytes, &report));
+    print_status(nic_take(n, 0));
 }
 
 int main(int count, char **words)

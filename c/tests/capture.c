@@ -9,7 +9,7 @@ enum { BUFFER = 0x800, TX_RING = 0x1800 };
 
 static void bring_up(nic *n)
 {
-    nic_told told;
+    nic_outcome outcome;
     ANSWERS(NIC_DONE, nic_lend_all(n));
     ANSWERS(NIC_DONE, nic_write32(n, NIC_RXCTRL, NIC_RXCTRL_RXEN));
     ANSWERS(NIC_DONE, nic_write32(n, NIC_DMATXCTL, NIC_DMATXCTL_TE));
@@ -20,29 +20,29 @@ static void bring_up(nic *n)
     ANSWERS(NIC_DONE, nic_write32(n, NIC_TDBAL(0), TX_RING));
     ANSWERS(NIC_DONE, nic_write32(n, NIC_TDLEN(0), 128));
     ANSWERS(NIC_DONE, nic_write32(n, NIC_TXDCTL(0), NIC_TXDCTL_ENABLE));
-    ANSWERS(NIC_DONE, nic_queue_step(n, false, 0, &told));
-    ANSWERS(NIC_DONE, nic_queue_step(n, true, 0, &told));
+    ANSWERS(NIC_DONE, nic_queue_step(n, false, 0, &outcome));
+    ANSWERS(NIC_DONE, nic_queue_step(n, true, 0, &outcome));
 }
 
 /* Receives and sends one frame, in slot `slot` of both rings. */
 static size_t echo(nic *n, uint32_t slot, const uint8_t *frame, size_t length, uint8_t *sent, size_t room)
 {
-    nic_told told[4];
+    nic_outcome outcomes[4];
     size_t count;
     uint64_t second = (uint64_t)length << 46 | 0x2B300000 | length;
     ANSWERS(NIC_DONE, nic_put64(n, 16 * slot, BUFFER));
     ANSWERS(NIC_DONE, nic_write32(n, NIC_RDT(0), (slot + 1) % 8));
-    ANSWERS(NIC_DONE, nic_arrive(n, frame, length, told));
-    ANSWERS(NIC_DONE, nic_settle(n, 1, told, 4, &count));
-    CHECK(count == 1 && told[0].status == NIC_WROTE && told[0].len == length && told[0].end);
+    ANSWERS(NIC_DONE, nic_arrive(n, frame, length, outcomes));
+    ANSWERS(NIC_DONE, nic_settle(n, 1, outcomes, 4, &count));
+    CHECK(count == 1 && outcomes[0].status == NIC_WROTE && outcomes[0].len == length && outcomes[0].end);
     ANSWERS(NIC_DONE, nic_put64(n, TX_RING + 16 * slot, BUFFER));
     ANSWERS(NIC_DONE, nic_put64(n, TX_RING + 16 * slot + 8, second));
     ANSWERS(NIC_DONE, nic_write32(n, NIC_TDT(0), (slot + 1) % 8));
-    ANSWERS(NIC_DONE, nic_settle(n, 1, told, 4, &count));
-    CHECK(count == 1 && told[0].status == NIC_SENT);
-    ANSWERS(NIC_FRAME, nic_collect(n, sent, room, told));
-    CHECK(told[0].len == length && memcmp(sent, frame, length) == 0);
-    return told[0].len;
+    ANSWERS(NIC_DONE, nic_settle(n, 1, outcomes, 4, &count));
+    CHECK(count == 1 && outcomes[0].status == NIC_SENT);
+    ANSWERS(NIC_FRAME, nic_collect(n, sent, room, outcomes));
+    CHECK(outcomes[0].len == length && memcmp(sent, frame, length) == 0);
+    return outcomes[0].len;
 }
 
 int main(int words, char **word)

@@ -42,7 +42,7 @@ static void frame_of(const kind *it, uint8_t *frame, size_t length)
 /* A receive queue for every entry of the redirection table, and a transmit queue. */
 static void bring_up(nic *n)
 {
-    nic_told told[8];
+    nic_outcome outcomes[8];
     size_t count;
     ANSWERS(NIC_DONE, nic_lend_all(n));
     ANSWERS(NIC_DONE, nic_write32(n, NIC_RXCTRL, NIC_RXCTRL_RXEN));
@@ -63,7 +63,7 @@ static void bring_up(nic *n)
     ANSWERS(NIC_DONE, nic_write32(n, NIC_TDBAL(TX), TX_RING));
     ANSWERS(NIC_DONE, nic_write32(n, NIC_TDLEN(TX), SLOTS * NIC_DESC_BYTES));
     ANSWERS(NIC_DONE, nic_write32(n, NIC_TXDCTL(TX), NIC_TXDCTL_ENABLE));
-    ANSWERS(NIC_DONE, nic_settle(n, 8, told, 8, &count));
+    ANSWERS(NIC_DONE, nic_settle(n, 8, outcomes, 8, &count));
     CHECK(count == 2);
 }
 
@@ -73,7 +73,7 @@ static void receives_each_kind(nic *n)
     for (uint32_t slot = 0; slot < sizeof kinds / sizeof *kinds; slot++) {
         const kind *it = &kinds[slot];
         uint8_t frame[90];
-        nic_told told;
+        nic_outcome outcome;
         nic_desc d;
         uint64_t first = it->packet | NIC_RXWB_RSS_TYPE_IS(it->rss_type);
         frame_of(it, frame, sizeof frame);
@@ -81,9 +81,9 @@ static void receives_each_kind(nic *n)
         ANSWERS(NIC_DONE, nic_get_desc(n, RING, slot, &d));
         CHECK(d.first == BUFFER && d.second == 0 && !nic_rx_is_done(d) && (d.second & NIC_RXD_DD) == 0);
         ANSWERS(NIC_DONE, nic_write32(n, NIC_RDT(RX), slot + 1));
-        ANSWERS(NIC_DONE, nic_arrive(n, frame, sizeof frame, &told));
-        ANSWERS(NIC_WROTE, nic_rx_step(n, &told));
-        CHECK(told.queue == RX && told.slot == slot);
+        ANSWERS(NIC_DONE, nic_arrive(n, frame, sizeof frame, &outcome));
+        ANSWERS(NIC_WROTE, nic_rx_step(n, &outcome));
+        CHECK(outcome.queue == RX && outcome.slot == slot);
         ANSWERS(NIC_DONE, nic_get_desc(n, RING, slot, &d));
         CHECK(nic_rx_is_done(d) && nic_rx_is_end(d) && nic_rx_length(d) == sizeof frame);
         CHECK(nic_rx_rss_type(d) == it->rss_type && nic_rx_hash(d) != 0);
@@ -98,7 +98,7 @@ static void receives_each_kind(nic *n)
 static void receives_in_two_buffers(nic *n)
 {
     static uint8_t frame[1500];
-    nic_told told[4];
+    nic_outcome outcomes[4];
     nic_desc first, second;
     size_t count;
     uint32_t slot = nic_get(n, NIC_RDH(RX)), next = (slot + 1) % SLOTS;
@@ -106,8 +106,8 @@ static void receives_in_two_buffers(nic *n)
     ANSWERS(NIC_DONE, nic_put_desc(n, RING, slot, nic_rx_desc(BUFFER)));
     ANSWERS(NIC_DONE, nic_put_desc(n, RING, next, nic_rx_desc(BUFFER + 1024)));
     ANSWERS(NIC_DONE, nic_write32(n, NIC_RDT(RX), (slot + 2) % SLOTS));
-    ANSWERS(NIC_DONE, nic_arrive(n, frame, sizeof frame, told));
-    ANSWERS(NIC_DONE, nic_settle(n, 8, told, 4, &count));
+    ANSWERS(NIC_DONE, nic_arrive(n, frame, sizeof frame, outcomes));
+    ANSWERS(NIC_DONE, nic_settle(n, 8, outcomes, 4, &count));
     ANSWERS(NIC_DONE, nic_get_desc(n, RING, slot, &first));
     ANSWERS(NIC_DONE, nic_get_desc(n, RING, next, &second));
     CHECK(nic_rx_is_done(first) && !nic_rx_is_end(first) && nic_rx_length(first) == 1024);
@@ -119,17 +119,17 @@ static void receives_in_two_buffers(nic *n)
 static void sends(nic *n)
 {
     static uint8_t sent[1514];
-    nic_told told;
+    nic_outcome outcome;
     nic_desc head = nic_tx_desc(BUFFER, 40, 100, 0), end = nic_tx_desc(BUFFER + 512, 60, 100, NIC_TXD_EOP | NIC_TXD_RS);
     nic_desc d;
     CHECK(nic_desc_field(end.second, NIC_TXD_PAYLEN) == 100 && nic_desc_field(end.second, NIC_TXD_DTALEN) == 60);
     ANSWERS(NIC_DONE, nic_put_desc(n, TX_RING, 0, head));
     ANSWERS(NIC_DONE, nic_put_desc(n, TX_RING, 1, end));
     ANSWERS(NIC_DONE, nic_write32(n, NIC_TDT(TX), 2));
-    ANSWERS(NIC_ADVANCED, nic_tx_step(n, TX, &told));
-    ANSWERS(NIC_SENT, nic_tx_step(n, TX, &told));
-    CHECK(told.len == 100 && told.back == 1 && told.at == TX_RING + NIC_DESC_BYTES);
-    ANSWERS(NIC_FRAME, nic_collect(n, sent, sizeof sent, &told));
+    ANSWERS(NIC_ADVANCED, nic_tx_step(n, TX, &outcome));
+    ANSWERS(NIC_SENT, nic_tx_step(n, TX, &outcome));
+    CHECK(outcome.len == 100 && outcome.back == 1 && outcome.at == TX_RING + NIC_DESC_BYTES);
+    ANSWERS(NIC_FRAME, nic_collect(n, sent, sizeof sent, &outcome));
     ANSWERS(NIC_DONE, nic_get_desc(n, TX_RING, 0, &d));
     CHECK(d.first == head.first && d.second == head.second && !nic_tx_is_done(d));
     ANSWERS(NIC_DONE, nic_get_desc(n, TX_RING, 1, &d));
@@ -140,13 +140,13 @@ static void sends(nic *n)
 static void reports_the_head(nic *n)
 {
     uint8_t bytes[4];
-    nic_told told;
+    nic_outcome outcome;
     nic_desc end = nic_tx_desc(BUFFER, 60, 60, NIC_TXD_EOP | NIC_TXD_RS), d;
     ANSWERS(NIC_DONE, nic_write32(n, NIC_TDWBAL(TX), HEAD | NIC_TDWBAL_HEAD_WB_EN));
     ANSWERS(NIC_DONE, nic_put_desc(n, TX_RING, 2, end));
     ANSWERS(NIC_DONE, nic_write32(n, NIC_TDT(TX), 3));
-    ANSWERS(NIC_SENT, nic_tx_step(n, TX, &told));
-    CHECK(told.back == 1 && told.at == HEAD);
+    ANSWERS(NIC_SENT, nic_tx_step(n, TX, &outcome));
+    CHECK(outcome.back == 1 && outcome.at == HEAD);
     ANSWERS(NIC_DONE, nic_dma_read(n, HEAD, bytes, sizeof bytes));
     CHECK(nic_head_of_bytes(bytes) == 3 && nic_get(n, NIC_TDH(TX)) == 3);
     ANSWERS(NIC_DONE, nic_get_desc(n, TX_RING, 2, &d));
@@ -157,7 +157,7 @@ static void reports_the_head(nic *n)
 static void refuses(const nic_kept *kept, uint64_t clear, uint64_t set, uint8_t status, uint8_t why)
 {
     nic n = {NULL};
-    nic_told told;
+    nic_outcome outcome;
     nic_desc d = nic_tx_desc(BUFFER, 60, 60, NIC_TXD_EOP);
     uint32_t slot;
     ANSWERS(NIC_DONE, nic_open(&n, 0, 64, 1));
@@ -166,8 +166,8 @@ static void refuses(const nic_kept *kept, uint64_t clear, uint64_t set, uint8_t 
     d.second = (d.second & ~clear) | set;
     ANSWERS(NIC_DONE, nic_put_desc(&n, TX_RING, slot, d));
     ANSWERS(NIC_DONE, nic_write32(&n, NIC_TDT(TX), slot + 1));
-    ANSWERS(status, nic_tx_step(&n, TX, &told));
-    CHECK(told.why == why);
+    ANSWERS(status, nic_tx_step(&n, TX, &outcome));
+    CHECK(outcome.why == why);
     nic_close(&n);
 }
 

@@ -1,7 +1,7 @@
 /* Makes random calls and writes the script of the same events: `differential SEED VFS SCRIPT ANSWERS` writes the
    script, and what `nicbench run` must print for it. With the same seed, the Rust crate's tests make the same calls
    (rust/nic82599/tests/common/differential.rs), so no expression draws two random numbers in an order that C leaves
-   unspecified. What a script doesn't show is checked here: the other fields of nic_told, ranges of memory that begin
+   unspecified. What a script doesn't show is checked here: the other fields of nic_outcome, ranges of memory that begin
    and end anywhere, and looks without side effects. */
 #include <string.h>
 
@@ -242,35 +242,35 @@ static uint64_t slot_at(uint32_t base_low, uint32_t base_high, uint32_t slot)
 }
 
 /* Checks the fields that a script's answer doesn't show. */
-static void check_told(uint8_t status, const nic_told *told)
+static void check_outcome(uint8_t status, const nic_outcome *outcome)
 {
     uint64_t second = 0;
-    CHECK(told->status == status && told->step == 0 && told->of == 0);
+    CHECK(outcome->status == status && outcome->step == 0 && outcome->of == 0);
     if (status == NIC_WROTE) {
-        CHECK(told->desc == slot_at(NIC_RDBAL(told->queue), NIC_RDBAH(told->queue), told->slot));
-        ANSWERS(NIC_DONE, nic_get64(&n, told->desc + 8, &second));
-        CHECK((second & 1) && (second >> 1 & 1) == told->end && (second >> 32 & 0xFFFF) == told->len);
+        CHECK(outcome->desc == slot_at(NIC_RDBAL(outcome->queue), NIC_RDBAH(outcome->queue), outcome->slot));
+        ANSWERS(NIC_DONE, nic_get64(&n, outcome->desc + 8, &second));
+        CHECK((second & 1) && (second >> 1 & 1) == outcome->end && (second >> 32 & 0xFFFF) == outcome->len);
     }
     if (status == NIC_FAULT)
-        CHECK((told->why == NIC_FAULT_NOT_LENT) || told->bus == 0);
+        CHECK((outcome->why == NIC_FAULT_NOT_LENT) || outcome->bus == 0);
     if (status != NIC_ADVANCED && status != NIC_SENT)
-        CHECK(told->back == 0);
-    if (told->back)
-        ANSWERS(NIC_DONE, nic_get64(&n, told->at & ~UINT64_C(15), &second));
+        CHECK(outcome->back == 0);
+    if (outcome->back)
+        ANSWERS(NIC_DONE, nic_get64(&n, outcome->at & ~UINT64_C(15), &second));
 }
 
 /* Writes the answer that `nicbench run` prints for a step. */
-static void answer_told(uint8_t status, const nic_told *told)
+static void answer_outcome(uint8_t status, const nic_outcome *outcome)
 {
     char words[160];
-    nicl_reply(words, sizeof words, status, told);
+    nicl_reply(words, sizeof words, status, outcome);
     answer(words);
 }
 
-static void tell(uint8_t status, const nic_told *told)
+static void tell(uint8_t status, const nic_outcome *outcome)
 {
-    check_told(status, told);
-    answer_told(status, told);
+    check_outcome(status, outcome);
+    answer_outcome(status, outcome);
 }
 
 /* --- frames --- */
@@ -296,29 +296,29 @@ static size_t some_frame(uint8_t *frame)
 static void arrive(void)
 {
     uint8_t frame[MOST_BYTES];
-    nic_told told;
+    nic_outcome outcome;
     size_t length = some_frame(frame);
-    uint8_t status = nic_arrive(&n, frame, length, &told);
+    uint8_t status = nic_arrive(&n, frame, length, &outcome);
     fprintf(script, "arrive d%u\n", data(frame, length));
-    tell(status, &told);
+    tell(status, &outcome);
 }
 
 static void collect(void)
 {
     uint8_t frame[10000];
-    nic_told told;
+    nic_outcome outcome;
     size_t length = nic_next_out(&n);
     CHECK(length <= sizeof frame);
     if (length)
-        ANSWERS(NIC_NO_ROOM, nic_collect(&n, frame, length - 1, &told));
+        ANSWERS(NIC_NO_ROOM, nic_collect(&n, frame, length - 1, &outcome));
     fprintf(script, "collect\n");
-    if (nic_collect(&n, frame, sizeof frame, &told) == NIC_IDLE) {
+    if (nic_collect(&n, frame, sizeof frame, &outcome) == NIC_IDLE) {
         CHECK(length == 0);
         answer("idle");
         return;
     }
-    CHECK(told.len == length && length);
-    fprintf(answers, "%u frame queue %u ", line++, told.queue);
+    CHECK(outcome.len == length && length);
+    fprintf(answers, "%u frame queue %u ", line++, outcome.queue);
     hex(answers, frame, length);
 }
 
@@ -326,9 +326,9 @@ static void collect(void)
 
 static void queue_step(bool transmit, uint16_t queue)
 {
-    nic_told told;
+    nic_outcome outcome;
     fprintf(script, "qstep %s %u\n", transmit ? "tx" : "rx", queue);
-    tell(nic_queue_step(&n, transmit, queue, &told), &told);
+    tell(nic_queue_step(&n, transmit, queue, &outcome), &outcome);
 }
 
 static void group_line(uint8_t group)
@@ -341,29 +341,29 @@ static void group_line(uint8_t group)
 
 static void step_by_chance(void)
 {
-    nic_told told;
+    nic_outcome outcome;
     uint16_t queue = (uint16_t)(below(20) ? below(QUEUES) : below(65536));
     uint8_t group = (uint8_t)(below(4) ? below(2) : below(64));
     switch (below(8)) {
     case 0:
     case 1:
-    case 2: fprintf(script, "rx\n"), tell(nic_rx_step(&n, &told), &told); break;
-    case 3: fprintf(script, "tx %u\n", queue), tell(nic_tx_step(&n, queue, &told), &told); break;
-    case 4: group_line(group), tell(nic_int_step(&n, group, &told), &told); break;
+    case 2: fprintf(script, "rx\n"), tell(nic_rx_step(&n, &outcome), &outcome); break;
+    case 3: fprintf(script, "tx %u\n", queue), tell(nic_tx_step(&n, queue, &outcome), &outcome); break;
+    case 4: group_line(group), tell(nic_int_step(&n, group, &outcome), &outcome); break;
     case 5:
         if (below(2))
             queue_step(below(2), queue);
         break;
-    case 6: fprintf(script, "tx %u\n", queue), tell(nic_tx_step(&n, queue, &told), &told); break;
-    default: fprintf(script, "eestep\n"), tell(nic_eeprom_step(&n, &told), &told); break;
+    case 6: fprintf(script, "tx %u\n", queue), tell(nic_tx_step(&n, queue, &outcome), &outcome); break;
+    default: fprintf(script, "eestep\n"), tell(nic_eeprom_step(&n, &outcome), &outcome); break;
     }
 }
 
 /* Checks a step that nic_settle must have run: it reported something or was idle. */
-static size_t settled(const nic_told *told, size_t at, size_t count, enum nic_step step, uint16_t of, bool known)
+static size_t settled(const nic_outcome *outcome, size_t at, size_t count, enum nic_step step, uint16_t of, bool known)
 {
-    if (at < count && told[at].step == step && told[at].of == of) {
-        answer_told(told[at].status, &told[at]);
+    if (at < count && outcome[at].step == step && outcome[at].of == of) {
+        answer_outcome(outcome[at].status, &outcome[at]);
         return at + 1;
     }
     answer(known ? "idle" : "no group");
@@ -377,36 +377,36 @@ static bool has_group(uint8_t group)
 }
 
 /* Checks one round of nic_settle, step by step. */
-static size_t round_of(const nic_told *told, size_t at, size_t count)
+static size_t round_of(const nic_outcome *outcome, size_t at, size_t count)
 {
     for (uint16_t queue = 0; queue < QUEUES; queue++) {
         fprintf(script, "qstep rx %u\nqstep tx %u\n", queue, queue);
-        at = settled(told, at, count, NIC_RX_ENABLE, queue, true);
-        at = settled(told, at, count, NIC_TX_ENABLE, queue, true);
+        at = settled(outcome, at, count, NIC_RX_ENABLE, queue, true);
+        at = settled(outcome, at, count, NIC_TX_ENABLE, queue, true);
     }
     fprintf(script, "eestep\n");
-    at = settled(told, at, count, NIC_EEPROM, 0, true);
+    at = settled(outcome, at, count, NIC_EEPROM, 0, true);
     for (uint16_t queue = 0; queue < QUEUES; queue++) {
         fprintf(script, "tx %u\n", queue);
-        at = settled(told, at, count, NIC_TRANSMIT, queue, true);
+        at = settled(outcome, at, count, NIC_TRANSMIT, queue, true);
     }
     fprintf(script, "rx\n");
-    at = settled(told, at, count, NIC_RECEIVE, 0, true);
+    at = settled(outcome, at, count, NIC_RECEIVE, 0, true);
     for (uint8_t group = 0; group <= vfs; group++) {
         group_line(group);
-        at = settled(told, at, count, NIC_INTERRUPT, group, has_group(group));
+        at = settled(outcome, at, count, NIC_INTERRUPT, group, has_group(group));
     }
     return at;
 }
 
 static void settle(void)
 {
-    nic_told told[1024];
+    nic_outcome outcomes[1024];
     size_t count = 0, at = 0, before;
-    ANSWERS(NIC_DONE, nic_settle(&n, QUEUES, told, sizeof told / sizeof *told, &count));
+    ANSWERS(NIC_DONE, nic_settle(&n, QUEUES, outcomes, sizeof outcomes / sizeof *outcomes, &count));
     do {
         before = at;
-        at = round_of(told, at, count);
+        at = round_of(outcomes, at, count);
     } while (at > before);
     CHECK(at == count);
 }

@@ -60,26 +60,26 @@ static void closed_memory(nic *n)
 
 static void closed_steps(nic *n)
 {
-    nic_told told;
+    nic_outcome outcome;
     nic_settling where = {1, 9};
     char text[8] = "text";
     uint8_t frame[60] = {2};
     size_t count = 5;
-    memset(&told, 7, sizeof told);
-    ANSWERS(NIC_CLOSED, nic_arrive(n, frame, sizeof frame, &told));
+    memset(&outcome, 7, sizeof outcome);
+    ANSWERS(NIC_CLOSED, nic_arrive(n, frame, sizeof frame, &outcome));
     CHECK(nic_next_out(n) == 0);
-    ANSWERS(NIC_CLOSED, nic_collect(n, frame, sizeof frame, &told));
+    ANSWERS(NIC_CLOSED, nic_collect(n, frame, sizeof frame, &outcome));
     ANSWERS(NIC_CLOSED, nic_link(n, true));
-    ANSWERS(NIC_CLOSED, nic_rx_step(n, &told));
-    ANSWERS(NIC_CLOSED, nic_tx_step(n, 0, &told));
-    ANSWERS(NIC_CLOSED, nic_queue_step(n, true, 0, &told));
-    ANSWERS(NIC_CLOSED, nic_eeprom_step(n, &told));
-    ANSWERS(NIC_CLOSED, nic_int_step(n, 0, &told));
-    ANSWERS(NIC_CLOSED, nic_settle(n, 1, &told, 1, &count));
-    ANSWERS(NIC_CLOSED, nic_next_step(n, &where, &told));
+    ANSWERS(NIC_CLOSED, nic_rx_step(n, &outcome));
+    ANSWERS(NIC_CLOSED, nic_tx_step(n, 0, &outcome));
+    ANSWERS(NIC_CLOSED, nic_queue_step(n, true, 0, &outcome));
+    ANSWERS(NIC_CLOSED, nic_eeprom_step(n, &outcome));
+    ANSWERS(NIC_CLOSED, nic_int_step(n, 0, &outcome));
+    ANSWERS(NIC_CLOSED, nic_settle(n, 1, &outcome, 1, &count));
+    ANSWERS(NIC_CLOSED, nic_next_step(n, &where, &outcome));
     ANSWERS(NIC_CLOSED, nic_note(n, text));
     CHECK(nic_why(n, text, sizeof text) == 0 && !*text && where.at == 9);
-    CHECK(count == 0 && told.queue == 0x0707 && told.status == 7 && frame[0] == 2);
+    CHECK(count == 0 && outcome.queue == 0x0707 && outcome.status == 7 && frame[0] == 2);
 }
 
 /* No call with a handle that was never opened, or that is closed, changes anything, not even what it points to. */
@@ -196,37 +196,37 @@ static void borders(nic *n)
 
 static void bad_steps(nic *n)
 {
-    nic_told told;
+    nic_outcome outcome;
     size_t count = 9;
     for (uint32_t queue = 128; queue < 65536; queue++) {
-        ANSWERS(NIC_NO_QUEUE, nic_tx_step(n, (uint16_t)queue, &told));
-        ANSWERS(NIC_NO_QUEUE, nic_queue_step(n, queue & 1, (uint16_t)queue, &told));
+        ANSWERS(NIC_NO_QUEUE, nic_tx_step(n, (uint16_t)queue, &outcome));
+        ANSWERS(NIC_NO_QUEUE, nic_queue_step(n, queue & 1, (uint16_t)queue, &outcome));
     }
     for (uint32_t group = 1; group < 256; group++)
-        ANSWERS(NIC_NO_GROUP, nic_int_step(n, (uint8_t)group, &told));
-    ANSWERS(NIC_NO_QUEUE, nic_settle(n, UINT16_MAX, &told, 1, &count));
+        ANSWERS(NIC_NO_GROUP, nic_int_step(n, (uint8_t)group, &outcome));
+    ANSWERS(NIC_NO_QUEUE, nic_settle(n, UINT16_MAX, &outcome, 1, &count));
     CHECK(count == 0);
-    ANSWERS(NIC_NO_QUEUE, nic_settle(n, 129, &told, 1, &count));
-    ANSWERS(NIC_DONE, nic_settle(n, 128, &told, 1, &count));
+    ANSWERS(NIC_NO_QUEUE, nic_settle(n, 129, &outcome, 1, &count));
+    ANSWERS(NIC_DONE, nic_settle(n, 128, &outcome, 1, &count));
     CHECK(count == 0);
-    ANSWERS(NIC_MORE, nic_settle(n, 4, &told, 0, &count));
+    ANSWERS(NIC_MORE, nic_settle(n, 4, &outcome, 0, &count));
     CHECK(count == 0);
 }
 
 static void bad_frames(nic *n)
 {
     static uint8_t frame[100000];
-    nic_told told;
+    nic_outcome outcome;
     uint32_t hash;
     uint8_t key[40] = {0};
-    ANSWERS(NIC_DROPPED, nic_arrive(n, frame, 0, &told));
-    ANSWERS(NIC_DROPPED, nic_arrive(n, frame, sizeof frame, &told));
+    ANSWERS(NIC_DROPPED, nic_arrive(n, frame, 0, &outcome));
+    ANSWERS(NIC_DROPPED, nic_arrive(n, frame, sizeof frame, &outcome));
     ANSWERS(NIC_DONE, nic_write32(n, NIC_RXCTRL, 1));
-    ANSWERS(NIC_DROPPED, nic_arrive(n, frame, 0, &told));
-    CHECK(told.why == NIC_WHY_SHORT);
-    ANSWERS(NIC_DROPPED, nic_arrive(n, frame, sizeof frame, &told));
-    CHECK(told.why == NIC_WHY_LONG);
-    ANSWERS(NIC_IDLE, nic_collect(n, frame, 0, &told));
+    ANSWERS(NIC_DROPPED, nic_arrive(n, frame, 0, &outcome));
+    CHECK(outcome.why == NIC_WHY_SHORT);
+    ANSWERS(NIC_DROPPED, nic_arrive(n, frame, sizeof frame, &outcome));
+    CHECK(outcome.why == NIC_WHY_LONG);
+    ANSWERS(NIC_IDLE, nic_collect(n, frame, 0, &outcome));
     ANSWERS(NIC_DONE, nic_hash(key, frame, 0, &hash));
     CHECK(hash == 0);
     ANSWERS(NIC_DONE, nic_hash(key, frame, 36, &hash));
@@ -314,10 +314,10 @@ static void call_of_memory(nic *n, unsigned which, uint8_t *bytes, size_t length
 
 static void call_of_frames(nic *n, unsigned which, uint8_t *bytes, size_t length)
 {
-    nic_told told;
+    nic_outcome outcome;
     switch (which) {
-    case 11: MAY(nic_arrive(n, bytes, length, &told), NIC_DONE, NIC_DROPPED); break;
-    case 12: MAY(nic_collect(n, bytes, length, &told), NIC_FRAME, NIC_IDLE, NIC_NO_ROOM); break;
+    case 11: MAY(nic_arrive(n, bytes, length, &outcome), NIC_DONE, NIC_DROPPED); break;
+    case 12: MAY(nic_collect(n, bytes, length, &outcome), NIC_FRAME, NIC_IDLE, NIC_NO_ROOM); break;
     case 13: CHECK(nic_next_out(n) < 20000); break;
     default: MAY(nic_link(n, below(8)), NIC_DONE, NIC_IDLE);
     }
@@ -325,18 +325,18 @@ static void call_of_frames(nic *n, unsigned which, uint8_t *bytes, size_t length
 
 static void step(nic *n, unsigned which)
 {
-    nic_told told[8];
+    nic_outcome outcomes[8];
     size_t count = 0;
     switch (which) {
-    case 15: MAY(nic_rx_step(n, told), NIC_WROTE, NIC_DROPPED, NIC_FAULT, NIC_IDLE); break;
+    case 15: MAY(nic_rx_step(n, outcomes), NIC_WROTE, NIC_DROPPED, NIC_FAULT, NIC_IDLE); break;
     case 16:
-        MAY(nic_tx_step(n, (uint16_t)some32(), told), NIC_ADVANCED, NIC_SENT, NIC_FAULT, NIC_IDLE, NIC_NO_QUEUE);
+        MAY(nic_tx_step(n, (uint16_t)some32(), outcomes), NIC_ADVANCED, NIC_SENT, NIC_FAULT, NIC_IDLE, NIC_NO_QUEUE);
         break;
-    case 17: MAY(nic_queue_step(n, below(2), (uint16_t)some32(), told), NIC_DONE, NIC_IDLE, NIC_NO_QUEUE); break;
-    case 18: MAY(nic_eeprom_step(n, told), NIC_DONE, NIC_IDLE); break;
-    case 19: MAY(nic_int_step(n, (uint8_t)some32(), told), NIC_MESSAGE, NIC_IDLE, NIC_NO_GROUP); break;
+    case 17: MAY(nic_queue_step(n, below(2), (uint16_t)some32(), outcomes), NIC_DONE, NIC_IDLE, NIC_NO_QUEUE); break;
+    case 18: MAY(nic_eeprom_step(n, outcomes), NIC_DONE, NIC_IDLE); break;
+    case 19: MAY(nic_int_step(n, (uint8_t)some32(), outcomes), NIC_MESSAGE, NIC_IDLE, NIC_NO_GROUP); break;
     default:
-        MAY(nic_settle(n, (uint16_t)below(140), told, below(9), &count), NIC_DONE, NIC_MORE, NIC_NO_QUEUE);
+        MAY(nic_settle(n, (uint16_t)below(140), outcomes, below(9), &count), NIC_DONE, NIC_MORE, NIC_NO_QUEUE);
         CHECK(count <= 8);
     }
 }
@@ -376,10 +376,10 @@ static void ask_why(nic *n, uint8_t *bytes, size_t length)
 
 static void next_steps(nic *n)
 {
-    nic_told told;
+    nic_outcome outcome;
     nic_settling where = {(uint16_t)(below(8) ? below(130) : chance()), (uint16_t)chance()};
     for (int k = 0; k < 4; k++)
-        MAY(nic_next_step(n, &where, &told), NIC_MORE, NIC_DONE, NIC_NO_QUEUE);
+        MAY(nic_next_step(n, &where, &outcome), NIC_MORE, NIC_DONE, NIC_NO_QUEUE);
 }
 
 static void one_call(nic *n)

@@ -16,10 +16,10 @@ static size_t contents(const char *name)
 
 static uint32_t word_at(nic *n, uint32_t index)
 {
-    nic_told told;
+    nic_outcome outcome;
     ANSWERS(NIC_DONE, nic_write32(n, NIC_EERD, NIC_EERD_ADDR_IS(index) | NIC_EERD_START));
-    ANSWERS(NIC_DONE, nic_eeprom_step(n, &told));
-    ANSWERS(NIC_IDLE, nic_eeprom_step(n, &told));
+    ANSWERS(NIC_DONE, nic_eeprom_step(n, &outcome));
+    ANSWERS(NIC_IDLE, nic_eeprom_step(n, &outcome));
     CHECK(nic_get(n, NIC_EERD) & NIC_EERD_DONE);
     return nic_field(nic_get(n, NIC_EERD), NIC_EERD_DATA);
 }

@@ -38,7 +38,7 @@ static uint8_t *at(const struct twins *t, uint64_t bus)
 
 static void bring_up(nic *n)
 {
-    nic_told told;
+    nic_outcome outcome;
     nic_write32(n, NIC_RXCTRL, NIC_RXCTRL_RXEN);
     nic_write32(n, NIC_FCTRL, NIC_FCTRL_UPE);
     nic_write32(n, NIC_DMATXCTL, NIC_DMATXCTL_TE);
@@ -46,11 +46,11 @@ static void bring_up(nic *n)
     nic_write32(n, NIC_RDLEN(0), NIC_DESC_BYTES * SLOTS);
     nic_write32(n, NIC_SRRCTL(0), NIC_SRRCTL_DESCTYPE_IS(1) | NIC_SRRCTL_BSIZEPACKET_IS(1));
     nic_write32(n, NIC_RXDCTL(0), NIC_RXDCTL_ENABLE);
-    ANSWERS(NIC_DONE, nic_queue_step(n, false, 0, &told));
+    ANSWERS(NIC_DONE, nic_queue_step(n, false, 0, &outcome));
     nic_write32(n, NIC_TDBAL(0), AT * BLOCK + TX_RING);
     nic_write32(n, NIC_TDLEN(0), NIC_DESC_BYTES * SLOTS);
     nic_write32(n, NIC_TXDCTL(0), NIC_TXDCTL_ENABLE);
-    ANSWERS(NIC_DONE, nic_queue_step(n, true, 0, &told));
+    ANSWERS(NIC_DONE, nic_queue_step(n, true, 0, &outcome));
 }
 
 static void make(struct twins *t, uint8_t *host)
@@ -101,7 +101,7 @@ static void send_frame(struct twins *t)
     tail(t, NIC_TDT(0), &t->transmit_tail);
 }
 
-static void one_arrives(struct twins *t, nic_told *a, nic_told *b)
+static void one_arrives(struct twins *t, nic_outcome *a, nic_outcome *b)
 {
     uint8_t frame[660];
     size_t length = 60 + below(600);
@@ -111,7 +111,7 @@ static void one_arrives(struct twins *t, nic_told *a, nic_told *b)
     CHECK(nic_arrive(&t->copies, frame, length, a) == nic_arrive(&t->place, frame, length, b));
 }
 
-static void collect(struct twins *t, nic_told *a, nic_told *b)
+static void collect(struct twins *t, nic_outcome *a, nic_outcome *b)
 {
     uint8_t sent[2][2048];
     CHECK(nic_collect(&t->copies, sent[0], 2048, a) == nic_collect(&t->place, sent[1], 2048, b));
@@ -119,7 +119,7 @@ static void collect(struct twins *t, nic_told *a, nic_told *b)
     t->collected += a->status == NIC_FRAME;
 }
 
-static void alike(const nic_told *a, const nic_told *b)
+static void alike(const nic_outcome *a, const nic_outcome *b)
 {
     CHECK(a->status == b->status && a->desc == b->desc && a->at == b->at && a->len == b->len && a->bus == b->bus);
     CHECK(a->queue == b->queue && a->slot == b->slot && a->end == b->end && a->back == b->back && a->why == b->why);
@@ -127,13 +127,14 @@ static void alike(const nic_told *a, const nic_told *b)
 
 static void settle(struct twins *t)
 {
-    static nic_told told[2][100];
+    static nic_outcome outcome[2][100];
     size_t count[2];
-    CHECK(nic_settle(&t->copies, 1, told[0], 100, &count[0]) == nic_settle(&t->place, 1, told[1], 100, &count[1]));
+    CHECK(nic_settle(&t->copies, 1, outcome[0], 100, &count[0]) ==
+          nic_settle(&t->place, 1, outcome[1], 100, &count[1]));
     CHECK(count[0] == count[1]);
     for (size_t k = 0; k < count[0]; k++) {
-        alike(&told[0][k], &told[1][k]);
-        t->wrote += told[0][k].status == NIC_WROTE;
+        alike(&outcome[0][k], &outcome[1][k]);
+        t->wrote += outcome[0][k].status == NIC_WROTE;
     }
 }
 
@@ -141,32 +142,32 @@ static void settle(struct twins *t)
 static void step_by_step(struct twins *t)
 {
     nic_settling where[2] = {{1, 0}, {1, 0}};
-    nic_told told[2];
-    while (nic_next_step(&t->copies, &where[0], &told[0]) == NIC_MORE) {
-        ANSWERS(NIC_MORE, nic_next_step(&t->place, &where[1], &told[1]));
-        alike(&told[0], &told[1]);
-        t->wrote += told[0].status == NIC_WROTE;
+    nic_outcome outcomes[2];
+    while (nic_next_step(&t->copies, &where[0], &outcomes[0]) == NIC_MORE) {
+        ANSWERS(NIC_MORE, nic_next_step(&t->place, &where[1], &outcomes[1]));
+        alike(&outcomes[0], &outcomes[1]);
+        t->wrote += outcomes[0].status == NIC_WROTE;
     }
-    ANSWERS(NIC_DONE, nic_next_step(&t->place, &where[1], &told[1]));
+    ANSWERS(NIC_DONE, nic_next_step(&t->place, &where[1], &outcomes[1]));
 }
 
 /* Disables a side of the queue and requests its enable again. The next settle runs that step, and reads its slots. */
 static void restart(struct twins *t)
 {
-    nic_told told;
+    nic_outcome outcome;
     bool transmit = below(2);
     uint32_t address = transmit ? NIC_TXDCTL(0) : NIC_RXDCTL(0);
     for (unsigned k = 0; k < 2; k++) {
         nic *n = k ? &t->place : &t->copies;
         nic_write32(n, address, 0);
-        nic_queue_step(n, transmit, 0, &told);
+        nic_queue_step(n, transmit, 0, &outcome);
         nic_write32(n, address, NIC_RXDCTL_ENABLE);
     }
 }
 
 static void one_call(struct twins *t)
 {
-    nic_told a = {0}, b = {0};
+    nic_outcome a = {0}, b = {0};
     switch (below(40) ? below(8) : 8) {
     case 0: post_buffer(t); break;
     case 1: one_arrives(t, &a, &b); break;
@@ -422,7 +423,7 @@ static int is_over;
 static void *lends_on(void *unused)
 {
     nic n;
-    nic_told told;
+    nic_outcome outcome;
     uint8_t *low = malloc(BLOCK), frame[60] = {2}, *high = NULL;
     (void)unused;
     CHECK(low);
@@ -434,8 +435,8 @@ static void *lends_on(void *unused)
     while (!__atomic_load_n(&is_over, __ATOMIC_RELAXED)) {
         ANSWERS(NIC_DONE, nic_lend_memory(&n, 0, low, BLOCK));
         ANSWERS(NIC_DONE, nic_lend_memory(&n, BLOCK, high, BLOCK));
-        ANSWERS(NIC_DONE, nic_arrive(&n, frame, sizeof frame, &told));
-        ANSWERS(NIC_DROPPED, nic_rx_step(&n, &told));
+        ANSWERS(NIC_DONE, nic_arrive(&n, frame, sizeof frame, &outcome));
+        ANSWERS(NIC_DROPPED, nic_rx_step(&n, &outcome));
         ANSWERS(NIC_DONE, nic_unlend_memory(&n, 0, BLOCK));
         ANSWERS(NIC_DONE, nic_take(&n, 1));
     }

@@ -28,7 +28,7 @@ static void set_up_rss(nic *n)
 
 static void bring_up(nic *n)
 {
-    nic_told told;
+    nic_outcome outcome;
     uint32_t word;
     ANSWERS(NIC_DONE, nic_lend_all(n));
     ANSWERS(NIC_DONE, nic_write32(n, NIC_RXCTRL, NIC_RXCTRL_RXEN));
@@ -40,8 +40,8 @@ static void bring_up(nic *n)
     ANSWERS(NIC_DONE, nic_write32(n, NIC_RXDCTL(RX), NIC_RXDCTL_ENABLE));
     ANSWERS(NIC_DONE, nic_read32(n, NIC_RXDCTL(RX), &word));
     CHECK((word & NIC_RXDCTL_ENABLE) == 0);
-    ANSWERS(NIC_DONE, nic_queue_step(n, false, RX, &told));
-    ANSWERS(NIC_IDLE, nic_queue_step(n, false, RX, &told));
+    ANSWERS(NIC_DONE, nic_queue_step(n, false, RX, &outcome));
+    ANSWERS(NIC_IDLE, nic_queue_step(n, false, RX, &outcome));
     CHECK(nic_get(n, NIC_RXDCTL(RX)) == NIC_RXDCTL_ENABLE);
     ANSWERS(NIC_DONE, nic_write32(n, NIC_RDBAL(RX), 0x800));
     CHECK(nic_get(n, NIC_RDBAL(RX)) == RING);
@@ -51,20 +51,20 @@ static void bring_up(nic *n)
 
 static void receives(nic *n)
 {
-    nic_told told;
+    nic_outcome outcome;
     uint8_t written[60];
     uint64_t first, second;
     uint32_t hash, word;
     ANSWERS(NIC_DONE, nic_put64(n, RING, BUFFER));
     ANSWERS(NIC_DONE, nic_put64(n, RING + 8, 0));
-    ANSWERS(NIC_DONE, nic_arrive(n, frame, sizeof frame, &told));
-    ANSWERS(NIC_IDLE, nic_rx_step(n, &told));
+    ANSWERS(NIC_DONE, nic_arrive(n, frame, sizeof frame, &outcome));
+    ANSWERS(NIC_IDLE, nic_rx_step(n, &outcome));
     ANSWERS(NIC_DONE, nic_write32(n, NIC_RDT(RX), 1));
-    ANSWERS(NIC_WROTE, nic_rx_step(n, &told));
-    CHECK(told.queue == RX && told.slot == 0 && told.end == 1);
-    CHECK(told.desc == RING && told.at == BUFFER && told.len == sizeof frame);
-    ANSWERS(NIC_MESSAGE, nic_int_step(n, 0, &told));
-    CHECK(told.group == 0 && told.vector == CAUSE);
+    ANSWERS(NIC_WROTE, nic_rx_step(n, &outcome));
+    CHECK(outcome.queue == RX && outcome.slot == 0 && outcome.end == 1);
+    CHECK(outcome.desc == RING && outcome.at == BUFFER && outcome.len == sizeof frame);
+    ANSWERS(NIC_MESSAGE, nic_int_step(n, 0, &outcome));
+    CHECK(outcome.group == 0 && outcome.vector == CAUSE);
     ANSWERS(NIC_DONE, nic_dma_read(n, BUFFER, written, sizeof written));
     CHECK(memcmp(written, frame, sizeof frame) == 0);
     ANSWERS(NIC_DONE, nic_hash(key, frame + 26, 12, &hash));
@@ -79,28 +79,28 @@ static void receives(nic *n)
 
 static void sends(nic *n)
 {
-    nic_told told;
+    nic_outcome outcome;
     uint8_t sent[60];
     uint64_t second;
     ANSWERS(NIC_DONE, nic_write32(n, NIC_DMATXCTL, NIC_DMATXCTL_TE));
     ANSWERS(NIC_DONE, nic_write32(n, NIC_TDBAL(TX), TX_RING));
     ANSWERS(NIC_DONE, nic_write32(n, NIC_TDLEN(TX), 128));
     ANSWERS(NIC_DONE, nic_write32(n, NIC_TXDCTL(TX), NIC_TXDCTL_ENABLE));
-    ANSWERS(NIC_DONE, nic_queue_step(n, true, TX, &told));
+    ANSWERS(NIC_DONE, nic_queue_step(n, true, TX, &outcome));
     ANSWERS(NIC_DONE, nic_dma_write(n, TX_BUFFER, frame, 32));
     ANSWERS(NIC_DONE, nic_put64(n, TX_RING, TX_BUFFER));
     ANSWERS(NIC_DONE, nic_put64(n, TX_RING + 8, UINT64_C(0x000800002b300020)));
-    ANSWERS(NIC_IDLE, nic_tx_step(n, TX, &told));
+    ANSWERS(NIC_IDLE, nic_tx_step(n, TX, &outcome));
     ANSWERS(NIC_DONE, nic_write32(n, NIC_TDT(TX), 1));
-    ANSWERS(NIC_SENT, nic_tx_step(n, TX, &told));
-    CHECK(told.queue == TX && told.len == 60 && told.back == 1 && told.at == TX_RING);
+    ANSWERS(NIC_SENT, nic_tx_step(n, TX, &outcome));
+    CHECK(outcome.queue == TX && outcome.len == 60 && outcome.back == 1 && outcome.at == TX_RING);
     ANSWERS(NIC_DONE, nic_get64(n, TX_RING + 8, &second));
     CHECK(second == UINT64_C(0x000800012b300020));
     CHECK(nic_next_out(n) == 60);
-    ANSWERS(NIC_NO_ROOM, nic_collect(n, sent, 59, &told));
-    ANSWERS(NIC_FRAME, nic_collect(n, sent, sizeof sent, &told));
-    CHECK(told.queue == TX && told.len == 60 && memcmp(sent, frame, 32) == 0 && sent[32] == 0 && sent[59] == 0);
-    ANSWERS(NIC_IDLE, nic_collect(n, sent, sizeof sent, &told));
+    ANSWERS(NIC_NO_ROOM, nic_collect(n, sent, 59, &outcome));
+    ANSWERS(NIC_FRAME, nic_collect(n, sent, sizeof sent, &outcome));
+    CHECK(outcome.queue == TX && outcome.len == 60 && memcmp(sent, frame, 32) == 0 && sent[32] == 0 && sent[59] == 0);
+    ANSWERS(NIC_IDLE, nic_collect(n, sent, sizeof sent, &outcome));
     CHECK(nic_next_out(n) == 0);
 }
 
@@ -108,7 +108,7 @@ static void sends(nic *n)
 static void receives_in_a_function(void)
 {
     nic n;
-    nic_told told[32];
+    nic_outcome outcomes[32];
     size_t count;
     uint32_t word;
     ANSWERS(NIC_DONE, nic_open(&n, 2, 64, 2));
@@ -129,14 +129,14 @@ static void receives_in_a_function(void)
     ANSWERS(NIC_DONE, nic_vf_write32(&n, 0, NIC_VTIVAR(0), 0x81));
     ANSWERS(NIC_DONE, nic_vf_write32(&n, 0, NIC_VTEIMS, 2));
     ANSWERS(NIC_DONE, nic_put64(&n, 0, BUFFER));
-    ANSWERS(NIC_DONE, nic_settle(&n, 2, told, 32, &count));
-    CHECK(count == 1 && told[0].status == NIC_DONE && told[0].step == NIC_RX_ENABLE && told[0].of == 0);
+    ANSWERS(NIC_DONE, nic_settle(&n, 2, outcomes, 32, &count));
+    CHECK(count == 1 && outcomes[0].status == NIC_DONE && outcomes[0].step == NIC_RX_ENABLE && outcomes[0].of == 0);
     ANSWERS(NIC_DONE, nic_vf_write32(&n, 0, NIC_VFRDT(0), 1));
-    ANSWERS(NIC_DONE, nic_arrive(&n, frame, sizeof frame, told));
-    ANSWERS(NIC_DONE, nic_settle(&n, 2, told, 32, &count));
-    CHECK(count == 2 && told[0].status == NIC_WROTE && told[0].step == NIC_RECEIVE && told[0].queue == 0);
-    CHECK(told[1].status == NIC_MESSAGE && told[1].step == NIC_INTERRUPT && told[1].of == 1);
-    CHECK(told[1].group == 1 && told[1].vector == 1);
+    ANSWERS(NIC_DONE, nic_arrive(&n, frame, sizeof frame, outcomes));
+    ANSWERS(NIC_DONE, nic_settle(&n, 2, outcomes, 32, &count));
+    CHECK(count == 2 && outcomes[0].status == NIC_WROTE && outcomes[0].step == NIC_RECEIVE && outcomes[0].queue == 0);
+    CHECK(outcomes[1].status == NIC_MESSAGE && outcomes[1].step == NIC_INTERRUPT && outcomes[1].of == 1);
+    CHECK(outcomes[1].group == 1 && outcomes[1].vector == 1);
     ANSWERS(NIC_DONE, nic_vf_peek32(&n, 0, NIC_VFGPRC_OFFSET, &word));
     CHECK(word == 1);
     ANSWERS(NIC_DONE, nic_vf_read32(&n, 1, NIC_VFGPRC_OFFSET, &word));

@@ -155,10 +155,10 @@ static void in_place(void)
 static void no_bytes(void)
 {
     nic n;
-    nic_told told;
+    nic_outcome outcome;
     begin(&n, "empty", 8);
-    ANSWERS(NIC_DROPPED, nic_arrive(&n, NULL, 0, &told));
-    ANSWERS(NIC_DROPPED, nic_arrive(&n, (const uint8_t *)"", 1, &told));
+    ANSWERS(NIC_DROPPED, nic_arrive(&n, NULL, 0, &outcome));
+    ANSWERS(NIC_DROPPED, nic_arrive(&n, (const uint8_t *)"", 1, &outcome));
     finish(&n);
     CHECK(holds("empty", LENT_HEAD "data d0 00  #: no bytes\n"
                                    "arrive d0                    # dropped off\n"

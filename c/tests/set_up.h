@@ -27,12 +27,12 @@ static void each_put(nic *n, int count, uint64_t ring, uint32_t slot, nic_desc d
 
 static void each_arrive(nic *n, int count)
 {
-    nic_told told;
+    nic_outcome outcome;
     uint8_t frame[60] = {2, 0, 0, 0, 0, 1, 2, 0, 0, 0, 0, 9, 8, 0, 0x45};
     frame[26] = (uint8_t)below(256);
-    uint8_t status = nic_arrive(&n[0], frame, sizeof frame, &told);
+    uint8_t status = nic_arrive(&n[0], frame, sizeof frame, &outcome);
     for (int k = 1; k < count; k++)
-        ANSWERS(status, nic_arrive(&n[k], frame, sizeof frame, &told));
+        ANSWERS(status, nic_arrive(&n[k], frame, sizeof frame, &outcome));
 }
 
 /* Sets up a queue, usually correctly. */

@@ -28,7 +28,7 @@ static uint64_t mixed_bytes(uint64_t sum, const uint8_t *bytes, size_t length)
     return sum;
 }
 
-static uint64_t mixed_told(uint64_t sum, const nic_told *t)
+static uint64_t mixed_outcome(uint64_t sum, const nic_outcome *t)
 {
     const uint64_t fields[] = {t->desc, t->at,     t->len,  t->bus, t->queue, t->slot, t->group,
                                t->of,   t->status, t->step, t->end, t->back,  t->why,  t->vector};
@@ -60,10 +60,10 @@ static uint64_t looked(nic *n)
 static uint64_t one_call(nic *n)
 {
     uint8_t bytes[600] = {0};
-    nic_told told;
+    nic_outcome outcome;
     uint32_t word = 0, address = addresses[below(sizeof addresses / sizeof *addresses)];
     size_t length = 40 + below(400);
-    memset(&told, 0, sizeof told);
+    memset(&outcome, 0, sizeof outcome);
     for (size_t k = 0; k < 60; k++)
         bytes[k] = (uint8_t)chance();
     switch (below(16)) {
@@ -74,14 +74,14 @@ static uint64_t one_call(nic *n)
     case 4: return below(4) ? 0 : nic_take(n, below(BLOCKS + 2));
     case 5: return mixed(nic_dma_read(n, below(BLOCKS * NIC_BLOCK_BYTES), bytes, length), mixed_bytes(1, bytes, 600));
     case 6: return nic_dma_write(n, below(BLOCKS * NIC_BLOCK_BYTES), bytes, length);
-    case 7: bytes[0] = 2; return mixed_told(nic_arrive(n, bytes, length, &told), &told);
+    case 7: bytes[0] = 2; return mixed_outcome(nic_arrive(n, bytes, length, &outcome), &outcome);
     case 8: return nic_write32(n, NIC_RDT(RX), below(8));
-    case 9: return mixed_told(nic_rx_step(n, &told), &told);
+    case 9: return mixed_outcome(nic_rx_step(n, &outcome), &outcome);
     case 10: return nic_write32(n, NIC_TDT(TX), below(8));
-    case 11: return mixed_told(nic_tx_step(n, TX, &told), &told);
-    case 12: return mixed_told(nic_int_step(n, (uint8_t)below(4), &told), &told);
-    case 13: return mixed_told(nic_queue_step(n, below(2), (uint16_t)below(4), &told), &told);
-    case 14: return mixed(nic_collect(n, bytes, sizeof bytes, &told), mixed_bytes(told.len, bytes, sizeof bytes));
+    case 11: return mixed_outcome(nic_tx_step(n, TX, &outcome), &outcome);
+    case 12: return mixed_outcome(nic_int_step(n, (uint8_t)below(4), &outcome), &outcome);
+    case 13: return mixed_outcome(nic_queue_step(n, below(2), (uint16_t)below(4), &outcome), &outcome);
+    case 14: return mixed(nic_collect(n, bytes, sizeof bytes, &outcome), mixed_bytes(outcome.len, bytes, sizeof bytes));
     default: return nic_next_out(n);
     }
 }
@@ -100,7 +100,7 @@ static void course(nic *n, uint64_t seed, uint64_t *answers)
 static void set_off(nic *n)
 {
     static const uint8_t frame[60] = {2, 0, 0, 0, 0, 1, 2, 0, 0, 0, 0, 2, 8, 0};
-    nic_told told;
+    nic_outcome outcome;
     ANSWERS(NIC_DONE, nic_open(n, 2, 8, BLOCKS));
     for (uint32_t block = 0; block < 4; block++)
         ANSWERS(NIC_DONE, nic_lend(n, block));
@@ -109,12 +109,12 @@ static void set_off(nic *n)
     ANSWERS(NIC_DONE, nic_write32(n, NIC_RDLEN(RX), 128));
     ANSWERS(NIC_DONE, nic_write32(n, NIC_SRRCTL(RX), NIC_SRRCTL_DESCTYPE_IS(1) | NIC_SRRCTL_BSIZEPACKET_IS(2)));
     ANSWERS(NIC_DONE, nic_write32(n, NIC_RXDCTL(RX), NIC_RXDCTL_ENABLE));
-    ANSWERS(NIC_DONE, nic_queue_step(n, false, RX, &told));
+    ANSWERS(NIC_DONE, nic_queue_step(n, false, RX, &outcome));
     ANSWERS(NIC_DONE, nic_write32(n, NIC_DMATXCTL, NIC_DMATXCTL_TE));
     ANSWERS(NIC_DONE, nic_write32(n, NIC_TDBAL(TX), TX_RING));
     ANSWERS(NIC_DONE, nic_write32(n, NIC_TDLEN(TX), 128));
     ANSWERS(NIC_DONE, nic_write32(n, NIC_TXDCTL(TX), NIC_TXDCTL_ENABLE));
-    ANSWERS(NIC_DONE, nic_queue_step(n, true, TX, &told));
+    ANSWERS(NIC_DONE, nic_queue_step(n, true, TX, &outcome));
     ANSWERS(NIC_DONE, nic_dma_write(n, TX_BUFFER, frame, sizeof frame));
     for (unsigned slot = 0; slot < 7; slot++) {
         uint64_t command = slot == 2 ? UINT64_C(0x0008000022300020) : UINT64_C(0x000800002b300020);
@@ -123,13 +123,13 @@ static void set_off(nic *n)
         ANSWERS(NIC_DONE, nic_put64(n, RING + 16 * slot, 0x800));
     }
     ANSWERS(NIC_DONE, nic_write32(n, NIC_TDT(TX), 5));
-    ANSWERS(NIC_SENT, nic_tx_step(n, TX, &told));
-    ANSWERS(NIC_SENT, nic_tx_step(n, TX, &told));
-    ANSWERS(NIC_ADVANCED, nic_tx_step(n, TX, &told));
+    ANSWERS(NIC_SENT, nic_tx_step(n, TX, &outcome));
+    ANSWERS(NIC_SENT, nic_tx_step(n, TX, &outcome));
+    ANSWERS(NIC_ADVANCED, nic_tx_step(n, TX, &outcome));
     for (unsigned k = 0; k < 3; k++)
-        ANSWERS(NIC_DONE, nic_arrive(n, frame, sizeof frame, &told));
+        ANSWERS(NIC_DONE, nic_arrive(n, frame, sizeof frame, &outcome));
     ANSWERS(NIC_DONE, nic_write32(n, NIC_RDT(RX), 4));
-    ANSWERS(NIC_WROTE, nic_rx_step(n, &told));
+    ANSWERS(NIC_WROTE, nic_rx_step(n, &outcome));
     CHECK(nic_next_out(n) == 60);
 }
 

@@ -6,9 +6,9 @@
 
 enum { RUNS = 1500, CALLS = 60, MOST = 8192 };
 
-static nic_told settled[MOST];
+static nic_outcome settled[MOST];
 
-static bool is_same(const nic_told *a, const nic_told *b)
+static bool is_same(const nic_outcome *a, const nic_outcome *b)
 {
     bool numbers = a->desc == b->desc && a->at == b->at && a->len == b->len && a->bus == b->bus;
     bool places = a->queue == b->queue && a->slot == b->slot && a->group == b->group && a->of == b->of;
@@ -20,17 +20,17 @@ static bool is_same(const nic_told *a, const nic_told *b)
 static size_t settle_both(nic n[2], uint16_t queues)
 {
     nic_settling where = {queues, 0};
-    nic_told told;
+    nic_outcome outcome;
     size_t count, k = 0;
-    memset(&told, 0xff, sizeof told);
+    memset(&outcome, 0xff, sizeof outcome);
     ANSWERS(NIC_DONE, nic_settle(&n[0], queues, settled, MOST, &count));
-    while (nic_next_step(&n[1], &where, &told) == NIC_MORE) {
-        CHECK(k < count && is_same(&settled[k], &told));
-        memset(&told, 0xff, sizeof told);
+    while (nic_next_step(&n[1], &where, &outcome) == NIC_MORE) {
+        CHECK(k < count && is_same(&settled[k], &outcome));
+        memset(&outcome, 0xff, sizeof outcome);
         k++;
     }
     CHECK(k == count);
-    ANSWERS(NIC_DONE, nic_next_step(&n[1], &where, &told));
+    ANSWERS(NIC_DONE, nic_next_step(&n[1], &where, &outcome));
     return count;
 }
 
@@ -56,7 +56,7 @@ static size_t run(void)
 static void handles(void)
 {
     nic n;
-    nic_told told[8];
+    nic_outcome outcomes[8];
     nic_settling where = {1, 0};
     unsigned messages = 0;
     size_t count;
@@ -64,12 +64,12 @@ static void handles(void)
         ANSWERS(NIC_DONE, nic_open(&n, 0, FIFO, 1));
         nic_write32(&n, NIC_EIMS, 3);
         nic_write32(&n, NIC_EICS, 3);
-        while (is_handled && nic_next_step(&n, &where, told) == NIC_MORE) {
-            CHECK(told->status == NIC_MESSAGE && told->step == NIC_INTERRUPT && told->vector == 0);
+        while (is_handled && nic_next_step(&n, &where, outcomes) == NIC_MORE) {
+            CHECK(outcomes->status == NIC_MESSAGE && outcomes->step == NIC_INTERRUPT && outcomes->vector == 0);
             nic_write32(&n, NIC_EIMC, 3);
             messages++;
         }
-        ANSWERS(NIC_DONE, nic_settle(&n, 1, told, 8, &count));
+        ANSWERS(NIC_DONE, nic_settle(&n, 1, outcomes, 8, &count));
         CHECK(count == (is_handled ? 0 : 2));
         nic_close(&n);
     }
@@ -80,19 +80,19 @@ static void handles(void)
 static void borders(void)
 {
     nic n;
-    nic_told told = {0};
+    nic_outcome outcome = {0};
     nic_settling many = {129, 5}, odd = {128, UINT16_MAX};
     ANSWERS(NIC_DONE, nic_open(&n, 63, FIFO, 1));
-    told.slot = 7;
-    ANSWERS(NIC_NO_QUEUE, nic_next_step(&n, &many, &told));
-    CHECK(told.slot == 7 && many.at == 5);
-    ANSWERS(NIC_DONE, nic_next_step(&n, &odd, &told));
+    outcome.slot = 7;
+    ANSWERS(NIC_NO_QUEUE, nic_next_step(&n, &many, &outcome));
+    CHECK(outcome.slot == 7 && many.at == 5);
+    ANSWERS(NIC_DONE, nic_next_step(&n, &odd, &outcome));
     nic_write32(&n, NIC_RXDCTL(127), NIC_RXDCTL_ENABLE);
     for (uint32_t at = 0; at < 1000; at++) {
         odd.at = (uint16_t)at;
         nic_write32(&n, NIC_RXDCTL(127), at & 1 ? 0 : NIC_RXDCTL_ENABLE);
-        ANSWERS(NIC_MORE, nic_next_step(&n, &odd, &told));
-        CHECK(told.step == NIC_RX_ENABLE && told.of == 127 && odd.at == 255);
+        ANSWERS(NIC_MORE, nic_next_step(&n, &odd, &outcome));
+        CHECK(outcome.step == NIC_RX_ENABLE && outcome.of == 127 && odd.at == 255);
     }
     nic_close(&n);
 }

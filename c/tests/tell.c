@@ -9,14 +9,14 @@
 
 enum { RING = 0x1000, ON = 0x02000000, MANY = 120 };
 
-static nic_told told;
+static nic_outcome outcome;
 
 static void arrive(nic *n, const uint8_t to[6], size_t length, unsigned times)
 {
     uint8_t frame[1600] = {0};
     memcpy(frame, to, 6);
     while (times--)
-        nic_arrive(n, frame, length, &told);
+        nic_arrive(n, frame, length, &outcome);
 }
 
 static void strays(nic *n)
@@ -45,12 +45,12 @@ static void drops(nic *n)
     nic_write32(n, NIC_FCTRL, NIC_FCTRL_UPE);
     arrive(n, one, 1600, 1);
     arrive(n, one, 60, 1);
-    nic_rx_step(n, &told); /* the queue is off */
+    nic_rx_step(n, &outcome); /* the queue is off */
 }
 
 static void settle(nic *n)
 {
-    nic_told events[8];
+    nic_outcome events[8];
     size_t count;
     ANSWERS(NIC_DONE, nic_settle(n, 1, events, 8, &count));
 }
@@ -75,7 +75,7 @@ static void faults(nic *n)
     settle(n);
     nic_lend(n, RING / NIC_BLOCK_BYTES);
     nic_write32(n, NIC_TDT(0), 1);
-    CHECK(nic_next_step(n, &where, &told) == NIC_MORE && told.status == NIC_FAULT);
+    CHECK(nic_next_step(n, &where, &outcome) == NIC_MORE && outcome.status == NIC_FAULT);
     nic_put_desc(n, RING, 0, nic_tx_desc(0x8000, 60, 60, NIC_TXD_EOP | NIC_TXD_IFCS));
     nic_write32(n, NIC_TXDCTL(0), 0);
     settle(n);

@@ -21,18 +21,18 @@ static bool is_alone;
 
 static void arrive(nic *n, unsigned last, size_t length, unsigned first)
 {
-    nic_told told;
+    nic_outcome outcome;
     uint8_t frame[1600] = {2, 0, 0, 0, 0, (uint8_t)last, 2, 0, 0, 0, 0, 9, 8, 0, 0x45};
     if (first)
         memset(frame, (int)first, 5);
-    nic_arrive(n, frame, length, &told);
+    nic_arrive(n, frame, length, &outcome);
 }
 
 static void settle(nic *n, uint16_t queues)
 {
-    nic_told told[64];
+    nic_outcome outcomes[64];
     size_t count;
-    while (nic_settle(n, queues, told, 64, &count) == NIC_MORE)
+    while (nic_settle(n, queues, outcomes, 64, &count) == NIC_MORE)
         ;
 }
 
@@ -40,7 +40,7 @@ static void make(nic *n, const char *text)
 {
     unsigned long long a = 0, b = 0, c = 0;
     char word[16];
-    nic_told told;
+    nic_outcome outcome;
     CHECK(sscanf(text, "%15s %lli %lli %lli", word, (long long *)&a, (long long *)&b, (long long *)&c) >= 1);
     if (!strcmp(word, "w"))
         ANSWERS(NIC_DONE, nic_write32(n, (uint32_t)a, (uint32_t)b));
@@ -58,9 +58,9 @@ static void make(nic *n, const char *text)
     else if (!strcmp(word, "settle"))
         settle(n, (uint16_t)a);
     else if (!strcmp(word, "rx"))
-        nic_rx_step(n, &told);
+        nic_rx_step(n, &outcome);
     else if (!strcmp(word, "int"))
-        ANSWERS(NIC_MESSAGE, nic_int_step(n, (uint8_t)a, &told));
+        ANSWERS(NIC_MESSAGE, nic_int_step(n, (uint8_t)a, &outcome));
     else if (!strcmp(word, "link"))
         ANSWERS(NIC_DONE, nic_link(n, a != 0));
     else
@@ -121,7 +121,7 @@ static uint64_t look(nic *n)
 static void is_unchanged(nic *asked)
 {
     nic other;
-    nic_told left, right;
+    nic_outcome left, right;
     uint64_t before = look(asked);
     char text[ROOM];
     ANSWERS(NIC_DONE, nic_open(&other, 2, 8, 8));
@@ -141,7 +141,7 @@ static void is_unchanged(nic *asked)
     nic_close(&other);
 }
 
-static void try_case(FILE *told)
+static void try_case(FILE *out)
 {
     char text[ROOM];
     nic n;
@@ -149,8 +149,8 @@ static void try_case(FILE *told)
     for (unsigned k = 0; k < lines; k++)
         make(&n, setup[k].text);
     nic_why(&n, text, sizeof text);
-    if (told)
-        fprintf(told, "case %s\n%s\n", name, text);
+    if (out)
+        fprintf(out, "case %s\n%s\n", name, text);
     else if (strcmp(text, want)) {
         fprintf(stderr, "case %s:\n%sand not:\n%s", name, text, want);
         exit(1);
@@ -228,7 +228,7 @@ static void take(char *text)
 int main(int count, char **words)
 {
     char text[WIDE];
-    FILE *file = fopen(words[1], "r"), *told = count > 2 ? fopen(words[2], "w") : NULL;
+    FILE *file = fopen(words[1], "r"), *out = count > 2 ? fopen(words[2], "w") : NULL;
     bool is_base = true;
     CHECK(file);
     while (fgets(text, sizeof text, file)) {
@@ -240,16 +240,16 @@ int main(int count, char **words)
             memcpy(base, setup, sizeof base);
             of_base = lines;
         } else {
-            try_case(told);
+            try_case(out);
         }
         is_base = false;
         begin_case();
         sscanf(text, "case %255[^\n]", name);
     }
-    try_case(told);
+    try_case(out);
     fclose(file);
-    if (told)
-        fclose(told);
+    if (out)
+        fclose(out);
     printf("%u set-ups\n", cases);
     return 0;
 }

@@ -10,7 +10,7 @@ static char text[ROOM];
 static unsigned long asked;
 
 /* Returns whether the text has a line with this beginning and end. */
-static bool is_told(const char *begin, const char *end)
+static bool says(const char *begin, const char *end)
 {
     for (const char *line = text; *line; line = strchr(line, '\n') + 1) {
         size_t length = (size_t)(strchr(line, '\n') - line);
@@ -24,15 +24,15 @@ static bool is_told(const char *begin, const char *end)
 /* Runs a step on a copy of the controller, each from the same state. */
 static uint8_t step(nic *n, const nic_kept *kept, uint8_t kind, uint16_t of)
 {
-    nic_told told;
+    nic_outcome outcome;
     uint8_t status;
     switch (kind) {
-    case NIC_RX_ENABLE: status = nic_queue_step(n, false, of, &told); break;
-    case NIC_TX_ENABLE: status = nic_queue_step(n, true, of, &told); break;
-    case NIC_EEPROM: status = nic_eeprom_step(n, &told); break;
-    case NIC_TRANSMIT: status = nic_tx_step(n, of, &told); break;
-    case NIC_RECEIVE: status = nic_rx_step(n, &told); break;
-    default: status = nic_int_step(n, (uint8_t)of, &told); break;
+    case NIC_RX_ENABLE: status = nic_queue_step(n, false, of, &outcome); break;
+    case NIC_TX_ENABLE: status = nic_queue_step(n, true, of, &outcome); break;
+    case NIC_EEPROM: status = nic_eeprom_step(n, &outcome); break;
+    case NIC_TRANSMIT: status = nic_tx_step(n, of, &outcome); break;
+    case NIC_RECEIVE: status = nic_rx_step(n, &outcome); break;
+    default: status = nic_int_step(n, (uint8_t)of, &outcome); break;
     }
     asked++;
     if (status != NIC_IDLE)
@@ -45,7 +45,7 @@ static bool switches(nic *n, const nic_kept *kept, bool tx, uint16_t queue)
     char end[32];
     snprintf(end, sizeof end, "no `qstep %s %u` followed", tx ? "tx" : "rx", queue);
     bool is_due = step(n, kept, tx ? NIC_TX_ENABLE : NIC_RX_ENABLE, queue) == NIC_DONE;
-    CHECK(is_told("", end) == is_due);
+    CHECK(says("", end) == is_due);
     return is_due;
 }
 
@@ -56,16 +56,16 @@ static void sends(nic *n, const nic_kept *kept, uint16_t queue)
     snprintf(end, sizeof end, "but no `tx %u` followed", queue);
     uint8_t status = step(n, kept, NIC_TRANSMIT, queue);
     bool is_done = status == NIC_ADVANCED || status == NIC_SENT;
-    CHECK(!is_told(begin, end) || is_done);
-    CHECK(is_told(begin, "") || status == NIC_IDLE);
-    CHECK(status != NIC_FAULT || is_told(begin, ""));
+    CHECK(!says(begin, end) || is_done);
+    CHECK(says(begin, "") || status == NIC_IDLE);
+    CHECK(status != NIC_FAULT || says(begin, ""));
 }
 
 static void receives(nic *n, const nic_kept *kept)
 {
     uint8_t status = step(n, kept, NIC_RECEIVE, 0);
-    CHECK(!is_told("rx: ", "but no `rx` followed") || status == NIC_WROTE);
-    CHECK(is_told("rx: ", "") || status == NIC_IDLE);
+    CHECK(!says("rx: ", "but no `rx` followed") || status == NIC_WROTE);
+    CHECK(says("rx: ", "") || status == NIC_IDLE);
 }
 
 static void interrupts(nic *n, const nic_kept *kept, uint8_t group)
@@ -73,7 +73,7 @@ static void interrupts(nic *n, const nic_kept *kept, uint8_t group)
     char end[32] = "but no `int pf` followed";
     if (group)
         snprintf(end, sizeof end, "but no `int %u` followed", group - 1u);
-    CHECK(is_told("int", end) == (step(n, kept, NIC_INTERRUPT, group) == NIC_MESSAGE));
+    CHECK(says("int", end) == (step(n, kept, NIC_INTERRUPT, group) == NIC_MESSAGE));
 }
 
 static void try_all(nic *n)
@@ -89,14 +89,14 @@ static void try_all(nic *n)
     receives(n, &kept);
     for (uint8_t group = 0; group < 4; group++)
         interrupts(n, &kept, group);
-    CHECK(is_told("eestep: ", "`eestep` followed") == (step(n, &kept, NIC_EEPROM, 0) == NIC_DONE));
+    CHECK(says("eestep: ", "`eestep` followed") == (step(n, &kept, NIC_EEPROM, 0) == NIC_DONE));
     nic_drop_snapshot(&kept);
 }
 
 static void run(void)
 {
     nic n;
-    nic_told told[64];
+    nic_outcome outcomes[64];
     size_t count;
     open_all(&n, 1, (uint8_t)below(3));
     for (int k = 0; k < CALLS; k++) {
@@ -104,7 +104,7 @@ static void run(void)
         if (below(6) == 0)
             try_all(&n);
         if (below(12) == 0)
-            nic_settle(&n, (uint16_t)below(QUEUES + 1), told, 64, &count);
+            nic_settle(&n, (uint16_t)below(QUEUES + 1), outcomes, 64, &count);
     }
     nic_write32(&n, NIC_CTRL, 0);
     try_all(&n);

@@ -22,7 +22,7 @@ static const char part[] =
 
 static void set_up(nic *n)
 {
-    nic_told told;
+    nic_outcome outcome;
     uint8_t frame[60] = {2, 0, 0, 0, 0, 1};
     ANSWERS(NIC_DONE, nic_open(n, 1, 8, 4));
     ANSWERS(NIC_DONE, nic_lend_all(n));
@@ -32,13 +32,13 @@ static void set_up(nic *n)
     nic_write32(n, NIC_RDLEN(0), 128);
     nic_write32(n, NIC_SRRCTL(0), NIC_SRRCTL_DESCTYPE_IS(1) | NIC_SRRCTL_BSIZEPACKET_IS(2));
     nic_write32(n, NIC_RXDCTL(0), NIC_RXDCTL_ENABLE);
-    ANSWERS(NIC_DONE, nic_queue_step(n, false, 0, &told));
+    ANSWERS(NIC_DONE, nic_queue_step(n, false, 0, &outcome));
     nic_write32(n, NIC_RXDCTL(0), 0);
-    ANSWERS(NIC_DONE, nic_arrive(n, frame, sizeof frame, &told));
+    ANSWERS(NIC_DONE, nic_arrive(n, frame, sizeof frame, &outcome));
     nic_write32(n, NIC_IVAR(0), NIC_IVAR_INT_ALLOC_VAL_0);
     nic_write32(n, NIC_EIMS, 1);
     nic_write32(n, NIC_EICS, 1 | NIC_EICS_LSC);
-    ANSWERS(NIC_MESSAGE, nic_int_step(n, 0, &told));
+    ANSWERS(NIC_MESSAGE, nic_int_step(n, 0, &outcome));
 }
 
 int main(void)

@@ -26,7 +26,7 @@ void arrivals_let_in(struct arrivals *it)
 static void end(struct arrivals *it, uint64_t frames)
 {
     it->waiting -= frames < it->waiting ? frames : it->waiting;
-    it->is_amid = false;
+    it->is_partial = false;
 }
 
 void arrivals_count(struct arrivals *it)
@@ -41,7 +41,7 @@ void arrivals_written(struct arrivals *it, uint16_t queue)
 {
     uint64_t before = it->done;
     arrivals_count(it);
-    it->is_amid = it->done == before;
+    it->is_partial = it->done == before;
     it->queue = queue;
 }
 
@@ -54,6 +54,6 @@ void arrivals_fault(struct arrivals *it)
 /* If a queue is disabled, the device drops the rest of its frame without reporting it. */
 void arrivals_check(struct arrivals *it)
 {
-    if (it->is_amid && !(bus_peek(it->bus, NIC_RXDCTL(it->queue)) & NIC_RXDCTL_ENABLE))
+    if (it->is_partial && !(bus_peek(it->bus, NIC_RXDCTL(it->queue)) & NIC_RXDCTL_ENABLE))
         end(it, 1);
 }

@@ -12,9 +12,9 @@ struct bus;
 struct arrivals {
     const struct bus *bus;
     uint64_t waiting;
-    uint64_t done;  /* frames that the bus had received and dropped at the last check */
-    bool is_amid;   /* part of the first frame is written */
-    uint16_t queue; /* the queue that it is written to */
+    uint64_t done;   /* frames that the bus had received and dropped at the last check */
+    bool is_partial; /* part of the first frame is written */
+    uint16_t queue;  /* the queue that it is written to */
 };
 
 /* Starts with no frame waiting: at the beginning, and after a reset. */

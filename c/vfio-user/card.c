@@ -43,14 +43,15 @@ static void refused(void *of, const char *what, struct dma by, uint16_t queue, s
         tell_accesses(it, dma_socket(by));
 }
 
-static void fault(void *of, bool is_transmit, const nic_told *told)
+static void fault(void *of, bool is_transmit, const nic_outcome *outcome)
 {
     struct card *it = of;
     if (!is_transmit)
         arrivals_fault(&it->arrivals);
-    log_client(dma_socket(rings_owner(it->rings, is_transmit, told->queue)), LOG_FAULT,
+    log_client(dma_socket(rings_owner(it->rings, is_transmit, outcome->queue)), LOG_FAULT,
                "card: a fault in %s, queue %u slot %u: %s, bus address 0x%" PRIx64,
-               is_transmit ? "sending" : "receiving", told->queue, told->slot, nic_fault_name(told->why), told->bus);
+               is_transmit ? "sending" : "receiving", outcome->queue, outcome->slot, nic_fault_name(outcome->why),
+               outcome->bus);
 }
 
 /* ---- calls from the bus ---- */
@@ -237,10 +238,10 @@ static void lose(struct card *it, const struct function *function, uint32_t offs
     const struct dma_address where = {dma_of(function), offset};
     uint32_t its = 1u << function->socket;
     it->lost_writes++;
-    if (!(it->told_lost & its))
+    if (!(it->reported_lost & its))
         refused(it, "a register write while the card is being reset (only the first is reported): register", where.of,
                 0, where, sizeof(uint32_t));
-    it->told_lost |= its;
+    it->reported_lost |= its;
 }
 
 /* Writes a register for a client, which owns the rings that the write sets up. */

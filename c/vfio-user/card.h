@@ -66,9 +66,9 @@ struct card {
     card_sink *sink;
     void *sink_to;
     struct arrivals arrivals;
-    uint64_t lost_writes; /* register writes while the card was being reset */
-    uint64_t long_by_tag; /* frames let in although their tag made them longer than the device accepts */
-    uint32_t told_lost;   /* bit per client socket: its first lost write was reported */
+    uint64_t lost_writes;   /* register writes while the card was being reset */
+    uint64_t long_by_tag;   /* frames let in although their tag made them longer than the device accepts */
+    uint32_t reported_lost; /* bit per client socket: its first lost write was reported */
 };
 
 /* Opens the card. Returns false if memory runs out. */

@@ -62,14 +62,14 @@ static const char *frames(struct request *it)
 static const char *expect(struct request *it)
 {
     unsigned int count, most, mac[6];
-    int end = 0, behind = 0;
+    int end = 0, after = 0;
     uint8_t from[6];
     memcpy(from, it->server->options.card.mac, sizeof from);
     if (sscanf(it->rest, "%7u %5u%n %2x:%2x:%2x:%2x:%2x:%2x%n", &count, &most, &end, &mac[0], &mac[1], &mac[2], &mac[3],
-               &mac[4], &mac[5], &behind) == 8)
+               &mac[4], &mac[5], &after) == 8)
         for (int i = 0; i < 6; i++)
             from[i] = (uint8_t)mac[i];
-    if (!end || it->rest[behind ? behind : end] || count > TRAFFIC_MOST || most < FRAME_MIN || most > FRAME_JUMBO)
+    if (!end || it->rest[after ? after : end] || count > TRAFFIC_MOST || most < FRAME_MIN || most > FRAME_JUMBO)
         return "expect COUNT MOST [FROM]: at most 1000000 frames of 60 to 9014 bytes, from this address";
     return traffic_expect(&it->server->traffic, count, (uint16_t)most, from) ? NULL : short_of_memory;
 }

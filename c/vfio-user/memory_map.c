@@ -77,7 +77,7 @@ static bool enroll(struct memory_map *it)
 /* ---- ranges ---- */
 
 /* Returns the first range that ends above the address; it->count if there is none. */
-static unsigned int first_behind(const struct memory_map *it, uint64_t address)
+static unsigned int first_after(const struct memory_map *it, uint64_t address)
 {
     unsigned int low = 0, high = it->count;
     while (low < high) {
@@ -335,7 +335,7 @@ int memory_map_add(struct memory_map *it, const struct memory_range *asked, int 
     if (range.size == 0 || !is_page(range.address) || !is_page(range.size) || !is_page(offset) ||
         range.address > UINT64_MAX - (range.size - 1) || (file < 0 && range.is_writable))
         return EINVAL;
-    unsigned int place = first_behind(it, range.address);
+    unsigned int place = first_after(it, range.address);
     if (place < it->count && it->ranges[place].address - range.address < range.size)
         return EEXIST;
     if (place < it->count && it->ranges[place].address <= range.address)
@@ -357,7 +357,7 @@ int memory_map_remove(struct memory_map *it, uint64_t address, uint64_t size)
     uint64_t last = address + (size - 1);
     if (size == 0 || last < address)
         return EINVAL;
-    unsigned int first = first_behind(it, address), end = first;
+    unsigned int first = first_after(it, address), end = first;
     while (end < it->count && it->ranges[end].address <= last)
         end++;
     if (first == end)
@@ -436,7 +436,7 @@ void memory_map_end(struct memory_map *it)
 
 void *memory_map_run(const struct memory_map *it, uint64_t address, size_t *length, bool write)
 {
-    unsigned int place = first_behind(it, address);
+    unsigned int place = first_after(it, address);
     if (place == it->count || address < it->ranges[place].address)
         return NULL;
     const struct memory_range *range = &it->ranges[place];

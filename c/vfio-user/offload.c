@@ -86,7 +86,7 @@ void offload_become(struct offload *it, struct offload *copy)
 
 void offload_give_up(struct offload *it, unsigned int queue)
 {
-    it->queues[queue].is_amid = it->queues[queue].is_ready = false;
+    it->queues[queue].is_partial = it->queues[queue].is_ready = false;
 }
 
 void offload_forget(struct offload *it, unsigned int queue)
@@ -158,7 +158,7 @@ uint64_t offload_data(struct offload *it, unsigned int queue, uint64_t second, c
                       const struct legacy_sum *legacy, uint16_t tag)
 {
     struct offload_queue *of = &it->queues[queue];
-    if (!of->is_amid)
+    if (!of->is_partial)
         begin(of, second);
     if (legacy) {
         of->job.has_tag |= (second & NIC_TXD_VLE) != 0;
@@ -166,8 +166,8 @@ uint64_t offload_data(struct offload *it, unsigned int queue, uint64_t second, c
         if (legacy->is_wanted)
             of->job.legacy = *legacy;
     }
-    of->is_amid = !(second & NIC_TXD_EOP);
-    of->is_ready = !of->is_amid;
+    of->is_partial = !(second & NIC_TXD_EOP);
+    of->is_ready = !of->is_partial;
     if (second & NIC_TXD_POPTS & ~DONE_HERE) /* the device reports the fault, and ends the frame */
         return second;
     if (of->job.is_large) {

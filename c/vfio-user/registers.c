@@ -24,11 +24,11 @@ static bool is_address(const char *text, uint32_t bytes, uint32_t *address)
 /* Splits "TDT[3]" into name and index; "EICR" is "EICR[0]". */
 static bool split(const char *text, char name[NAME_BYTES], uint32_t *index)
 {
-    int end = 0, behind = 0;
+    int end = 0, after = 0;
     unsigned int number = 0;
     if (sscanf(text, "%31[A-Za-z0-9_]%n", name, &end) != 1)
         return false;
-    if (text[end] && (sscanf(text + end, "[%4u]%n", &number, &behind) != 1 || text[end + behind]))
+    if (text[end] && (sscanf(text + end, "[%4u]%n", &number, &after) != 1 || text[end + after]))
         return false;
     *index = number;
     return true;

@@ -50,7 +50,7 @@ struct ring {
 struct rings {
     struct rings_options options;
     struct rings_counts counts;
-    uint32_t told_off, told_zeros; /* remarks already reported, by client socket */
+    uint32_t reported_off, reported_zeros; /* remarks already reported, by client socket */
     struct ring rings[2][RINGS_QUEUES];
     uint16_t owner[RINGS_BLOCKS]; /* rings of the blocks: 1 + 128 * side + queue */
     bool is_lent[RINGS_BLOCKS];
@@ -123,13 +123,13 @@ static void refuse_ring(struct rings *it, const char *what, struct dma by, const
 }
 
 /* Reports a driver's mistake that isn't an access, once for each client. */
-static void remark(struct rings *it, uint32_t *told, const char *what, struct dma by, const struct ring *ring,
+static void remark(struct rings *it, uint32_t *seen, const char *what, struct dma by, const struct ring *ring,
                    uint16_t queue)
 {
     uint32_t its = 1u << dma_socket(by);
-    if (!(*told & its))
+    if (!(*seen & its))
         it->options.refused(it->options.of, what, by, queue, ring->base, ring->slots * NIC_DESC_BYTES);
-    *told |= its;
+    *seen |= its;
 }
 
 /* ---- places of rings ---- */
@@ -247,9 +247,9 @@ static void forget_offload(struct rings *it, enum side side, uint16_t queue)
 static void switch_off(struct rings *it, enum side side, uint16_t queue)
 {
     uint32_t address = side == TRANSMIT ? NIC_TXDCTL(queue) : NIC_RXDCTL(queue);
-    nic_told told;
+    nic_outcome seen;
     nic_write32(it->options.device, address, peek(it, address) & ~NIC_RXDCTL_ENABLE);
-    nic_queue_step(it->options.device, side == TRANSMIT, queue, &told);
+    nic_queue_step(it->options.device, side == TRANSMIT, queue, &seen);
 }
 
 /* Takes the ring from its owner, so that it accesses no memory. Its place remains as long as the device may use it:
@@ -528,7 +528,7 @@ void rings_tail(struct rings *it, struct dma client, bool is_transmit, uint16_t 
         it->counts.tails_off++;
         const char *what = is_transmit ? "tail write to a disabled transmit ring (only the first is reported)"
                                        : "tail write to a disabled receive ring (only the first is reported)";
-        remark(it, &it->told_off, what, client, ring, queue);
+        remark(it, &it->reported_off, what, client, ring, queue);
     }
     budget_spend(it->options.budget, BUDGET_STEP);
     read_ahead(it, ring, ring->next_ahead < ring->slots ? ring->next_ahead : tail, tail, fetches);
@@ -574,8 +574,8 @@ static bool take_slot(struct rings *it, struct ring *ring, uint16_t queue, uint3
     }
     if (!descriptor->first && !descriptor->second) {
         it->counts.zeros++;
-        remark(it, &it->told_zeros, "descriptor of zeros; is the guest's memory shared (share=on)? Ring", ring->base.of,
-               ring, queue);
+        remark(it, &it->reported_zeros, "descriptor of zeros; is the guest's memory shared (share=on)? Ring",
+               ring->base.of, ring, queue);
     }
     return true;
 }
@@ -817,13 +817,13 @@ void rings_become(struct rings *it, struct rings *copy)
 {
     const struct rings_options options = it->options;
     struct rings_counts counts = it->counts;
-    uint32_t told_off = it->told_off, told_zeros = it->told_zeros;
+    uint32_t reported_off = it->reported_off, reported_zeros = it->reported_zeros;
     counts.blocks = copy->counts.blocks;
     *it = *copy;
     it->options = options;
     it->counts = counts;
-    it->told_off = told_off;
-    it->told_zeros = told_zeros;
+    it->reported_off = reported_off;
+    it->reported_zeros = reported_zeros;
     free(copy);
 }
 

@@ -65,9 +65,9 @@ static int version(struct work *it)
    too, and clients cope with that. */
 static void tell_of_memory(struct session *it, const struct vfu_dma_map *asked)
 {
-    if (it->is_told_of_memory)
+    if (it->has_reported_memory)
         return;
-    it->is_told_of_memory = true;
+    it->has_reported_memory = true;
     log_client(it->channel.owner, LOG_MESSAGE,
                "%s: memory at 0x%" PRIx64 ", 0x%" PRIx64
                " bytes, isn't shared, so the card can't access it. If it is the "
@@ -416,15 +416,15 @@ static enum channel_state reply(struct work *it, int error)
 static enum channel_state serve_one(struct session *it, uint64_t began)
 {
     struct work work = {.session = it, .message = &it->message, .began = began};
-    it->counts.messages += !it->is_amid;
-    it->is_amid = false;
+    it->counts.messages += !it->is_continued;
+    it->is_continued = false;
     if ((it->message.head.flags & VFU_TYPE) != 0) {
         message_drop_files(&it->message);
         return CHANNEL_WRONG;
     }
     int error = answer(&work);
-    it->is_amid = error == GOES_ON;
-    if (it->is_amid)
+    it->is_continued = error == GOES_ON;
+    if (it->is_continued)
         return CHANNEL_OPEN;
     it->done = 0;
     message_drop_files(&it->message);
@@ -434,9 +434,9 @@ static enum channel_state serve_one(struct session *it, uint64_t began)
 /* Drops a message without a reply, because its client no longer waits for one. */
 static void drop_message(struct session *it)
 {
-    if (it->is_amid)
+    if (it->is_continued)
         message_drop_files(&it->message);
-    it->is_amid = false;
+    it->is_continued = false;
     it->done = 0;
 }
 
@@ -451,7 +451,7 @@ void session_begin(struct session *it, const struct session_calls *calls, void *
     line_begin(&it->line, has_line, owner);
     it->calls = calls;
     it->function = function;
-    it->has_version = it->is_told_of_memory = it->is_stalled = it->is_paused = it->is_amid = false;
+    it->has_version = it->has_reported_memory = it->is_stalled = it->is_paused = it->is_continued = false;
     it->done = 0;
     it->counts = (struct session_counts){0};
 }
@@ -459,7 +459,7 @@ void session_begin(struct session *it, const struct session_calls *calls, void *
 void session_open(struct session *it, int file)
 {
     channel_begin(&it->channel, file, it->channel.owner);
-    it->has_version = it->is_told_of_memory = it->is_stalled = it->is_paused = false;
+    it->has_version = it->has_reported_memory = it->is_stalled = it->is_paused = false;
 }
 
 bool session_is_open(const struct session *it)
@@ -524,7 +524,7 @@ bool session_serve(struct session *it)
         if (it->is_stalled)
             break;
         enum channel_state now = CHANNEL_OPEN;
-        if (!it->is_amid && !channel_next(&it->channel, &it->message, &now)) {
+        if (!it->is_continued && !channel_next(&it->channel, &it->message, &now)) {
             state = now == CHANNEL_OPEN ? state : now;
             break;
         }
@@ -532,7 +532,7 @@ bool session_serve(struct session *it)
         state = now == CHANNEL_OPEN ? state : now;
         if (now != CHANNEL_OPEN)
             break;
-        it->is_paused = it->is_amid || !it->calls->may_serve(it->function) || budget_is_late(began);
+        it->is_paused = it->is_continued || !it->calls->may_serve(it->function) || budget_is_late(began);
         if (it->is_paused)
             return true;
     }

@@ -39,10 +39,10 @@ struct session {
     const struct session_calls *calls;
     void *function;
     const char *name; /* name of the socket, for lines on standard error */
-    bool has_version, is_told_of_memory;
-    bool is_stalled; /* received messages wait for replies to be sent, or for memory to be unmapped */
-    bool is_paused;  /* received messages wait for the next turn */
-    bool is_amid;    /* the rest of the current message waits for the next turn too */
+    bool has_version, has_reported_memory;
+    bool is_stalled;   /* received messages wait for replies to be sent, or for memory to be unmapped */
+    bool is_paused;    /* received messages wait for the next turn */
+    bool is_continued; /* the rest of the current message waits for the next turn too */
     struct message message;
     uint64_t done; /* parts of the current message that are done: writes, or vectors */
     int error;     /* result of the current message so far */

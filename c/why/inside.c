@@ -12,11 +12,11 @@ static uint32_t due(nic *copy, uint8_t group)
 {
     uint32_t causes = group ? (uint32_t)NIC_PVTEICR(group - 1) : (uint32_t)NIC_EICR;
     uint32_t before = nicl_word_at(copy, causes);
-    nic_told told;
+    nic_outcome outcome;
     if (!before)
         return 0;
     nicl_write32(copy, group ? (uint32_t)NIC_PVTEIAC(group - 1) : (uint32_t)NIC_EIAC, UINT32_MAX);
-    while (nicl_int_step(copy, group, &told) == NIC_MESSAGE)
+    while (nicl_int_step(copy, group, &outcome) == NIC_MESSAGE)
         ;
     return before & ~nicl_word_at(copy, causes);
 }
@@ -26,12 +26,12 @@ static uint32_t due(nic *copy, uint8_t group)
 static bool look_at_sides(nic *copy, struct nicl_inside *inside)
 {
     bool went_off = false;
-    nic_told told;
+    nic_outcome outcome;
     for (uint16_t queue = 0; queue < NICL_QUEUES; queue++) {
         for (int side = NICL_RX; side <= NICL_TX; side++) {
             uint32_t control = side == NICL_TX ? (uint32_t)NIC_TXDCTL(queue) : (uint32_t)NIC_RXDCTL(queue);
             bool is_on = nicl_word_at(copy, control) & NIC_RXDCTL_ENABLE;
-            bool is_switched = nicl_queue_step(copy, side == NICL_TX, queue, &told) == NIC_DONE;
+            bool is_switched = nicl_queue_step(copy, side == NICL_TX, queue, &outcome) == NIC_DONE;
             inside->is_wanted[side][queue] = is_on != is_switched;
             went_off |= side == NICL_RX && is_on && is_switched;
         }
@@ -41,9 +41,9 @@ static bool look_at_sides(nic *copy, struct nicl_inside *inside)
 
 static void arm(nic *copy, uint16_t queue)
 {
-    nic_told told;
+    nic_outcome outcome;
     nicl_write32(copy, NIC_RXDCTL(queue), NIC_RXDCTL_ENABLE);
-    nicl_queue_step(copy, false, queue, &told);
+    nicl_queue_step(copy, false, queue, &outcome);
     nicl_write32(copy, NIC_RDT(queue), UINT16_MAX);
 }
 
@@ -51,14 +51,14 @@ static void arm(nic *copy, uint16_t queue)
    the queue, disables it and drops the frame. */
 static void look_at_frames(nic *copy, struct nicl_inside *inside)
 {
-    nic_told told;
+    nic_outcome outcome;
     for (uint16_t queue = 0; queue < NICL_QUEUES; queue++)
         arm(copy, queue);
-    while (nicl_rx_step(copy, &told) == NIC_FAULT) {
+    while (nicl_rx_step(copy, &outcome) == NIC_FAULT) {
         if (!inside->all_waiting++)
-            inside->front = told.queue;
-        inside->waiting[told.queue]++;
-        arm(copy, told.queue);
+            inside->front = outcome.queue;
+        inside->waiting[outcome.queue]++;
+        arm(copy, outcome.queue);
     }
 }
 

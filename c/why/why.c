@@ -349,7 +349,7 @@ static void unraised(struct nicl_why *it, unsigned group, uint32_t causes, uint3
 }
 
 /* Reports pending causes that have no message. */
-static void untold(struct nicl_why *it, unsigned group, uint32_t causes, uint32_t masks, bool is_stopped)
+static void unreported(struct nicl_why *it, unsigned group, uint32_t causes, uint32_t masks, bool is_stopped)
 {
     uint32_t both = causes & masks, lost = group ? 0 : (uint32_t)nicl_why_without_vector(it, both);
     uint32_t due = it->inside.due[group] & both;
@@ -364,7 +364,7 @@ static void untold(struct nicl_why *it, unsigned group, uint32_t causes, uint32_
         nicl_why_pf_hidden(it);
     nicl_why_no_vector(it, lost);
     if (it->inside.is_known && both & ~lost & ~due)
-        (group ? nicl_why_vf_told : nicl_why_pf_told)(it, both & ~lost & ~due);
+        (group ? nicl_why_vf_reported : nicl_why_pf_reported)(it, both & ~lost & ~due);
     if (due && !is_stopped)
         (group ? nicl_why_vf_not_made : nicl_why_pf_not_made)(it, due, name);
 }
@@ -377,7 +377,7 @@ static void group_of_causes(struct nicl_why *it, unsigned group, bool is_stopped
     about(it, group ? "int" : "int pf", group ? (int)group - 1 : -1);
     unraised(it, group, causes, masks);
     if (causes)
-        untold(it, group, causes, masks, is_stopped);
+        unreported(it, group, causes, masks, is_stopped);
     if (!group && it->lines > before && (masks || named_causes(it, 0) || WORD(NIC_IVAR_MISC))) /* messages are in use */
         nicl_why_no_msix(it);
 }
@@ -464,10 +464,10 @@ static unsigned rx_queues_of_pool(struct nicl_why *it)
 static void rx_pools(struct nicl_why *it)
 {
     unsigned queues = rx_queues_of_pool(it);
-    for (uint16_t queue = 0, told = UINT16_MAX; queues && queue < NICL_QUEUES; queue++)
-        if (queue / queues != told && is_in_use(it, NICL_RX, queue)) {
-            told = (uint16_t)(queue / queues);
-            nicl_why_rx_pool_off(it, told);
+    for (uint16_t queue = 0, reported = UINT16_MAX; queues && queue < NICL_QUEUES; queue++)
+        if (queue / queues != reported && is_in_use(it, NICL_RX, queue)) {
+            reported = (uint16_t)(queue / queues);
+            nicl_why_rx_pool_off(it, reported);
         }
 }
 
@@ -546,17 +546,17 @@ size_t nic_why(nic *n, char *text, size_t size)
     return end(&it);
 }
 
-size_t nicl_why_fault(nic *n, const nic_told *told, bool transmit, char *text, size_t size)
+size_t nicl_why_fault(nic *n, const nic_outcome *reported, bool transmit, char *text, size_t size)
 {
     struct nicl_why it;
-    struct nicl_ring ring = nicl_ring_of(n, transmit, told->queue);
+    struct nicl_ring ring = nicl_ring_of(n, transmit, reported->queue);
     begin(&it, n, text, size);
-    if (told->why == NIC_FAULT_NOT_LENT)
-        not_lent(&it, told->bus, ring.head, address_of(&ring, ring.head));
+    if (reported->why == NIC_FAULT_NOT_LENT)
+        not_lent(&it, reported->bus, ring.head, address_of(&ring, ring.head));
     else if (!transmit)
-        rx_set_up(&it, told->queue);
-    else if (!nicl_why_tx_head_outside(&it, told->queue) && !nicl_why_tx_tail_outside(&it, told->queue))
-        tx_slots(&it, &ring, told->queue);
+        rx_set_up(&it, reported->queue);
+    else if (!nicl_why_tx_head_outside(&it, reported->queue) && !nicl_why_tx_tail_outside(&it, reported->queue))
+        tx_slots(&it, &ring, reported->queue);
     return end(&it);
 }
 

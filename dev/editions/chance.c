@@ -359,7 +359,7 @@ static void steps(struct event *event)
     event->call = once_in(3) ? CALL_nic_settle : CALL_nic_next_step;
     event->queue = (uint16_t)(once_in(20) ? below(140) : QUEUES);
     event->number = once_in(4) ? below(700) : 0;
-    event->length = once_in(4) ? below(SLOTS) : TOLD;
+    event->length = once_in(4) ? below(SLOTS) : OUTCOMES;
 }
 
 static void memory(struct event *event)

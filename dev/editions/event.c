@@ -10,7 +10,7 @@ enum { FILL = 0xA5 };
 
 #define CARD (&side->cards[event->card])
 #define SNAPSHOT (&side->kept[event->kept])
-#define TOLD_OF (&answer->told[0])
+#define OUTCOME_OF (&answer->outcome[0])
 #define CALL(name, ...)                                                                                                \
     static uint8_t make_##name(struct side *side, const struct event *event, struct answer *answer)                    \
     {                                                                                                                  \
@@ -34,16 +34,16 @@ CALL(nic_lend_memory, CARD, event->bus, side->own[event->card % CARDS][event->ow
 CALL(nic_unlend_memory, CARD, event->bus, event->length)
 CALL(nic_dma_read, CARD, event->bus, answer->bytes, event->length)
 CALL(nic_dma_write, CARD, event->bus, event->given, event->length)
-CALL(nic_arrive, CARD, event->given, event->length, TOLD_OF)
-CALL(nic_collect, CARD, answer->bytes, event->length, TOLD_OF)
+CALL(nic_arrive, CARD, event->given, event->length, OUTCOME_OF)
+CALL(nic_collect, CARD, answer->bytes, event->length, OUTCOME_OF)
 CALL(nic_link, CARD, event->flag)
-CALL(nic_rx_step, CARD, TOLD_OF)
-CALL(nic_tx_step, CARD, event->queue, TOLD_OF)
-CALL(nic_queue_step, CARD, event->flag, event->queue, TOLD_OF)
-CALL(nic_eeprom_step, CARD, TOLD_OF)
-CALL(nic_int_step, CARD, event->vf, TOLD_OF)
-CALL(nic_settle, CARD, event->queue, answer->told, event->length, &answer->count)
-CALL(nic_next_step, CARD, &answer->where, TOLD_OF)
+CALL(nic_rx_step, CARD, OUTCOME_OF)
+CALL(nic_tx_step, CARD, event->queue, OUTCOME_OF)
+CALL(nic_queue_step, CARD, event->flag, event->queue, OUTCOME_OF)
+CALL(nic_eeprom_step, CARD, OUTCOME_OF)
+CALL(nic_int_step, CARD, event->vf, OUTCOME_OF)
+CALL(nic_settle, CARD, event->queue, answer->outcome, event->length, &answer->count)
+CALL(nic_next_step, CARD, &answer->where, OUTCOME_OF)
 CALL(nic_install_image, CARD, event->given, event->length)
 CALL(nic_install_text, CARD, event->given, event->length, &answer->line)
 CALL(nic_hash, event->given, event->given + 40, event->length, &answer->word)
@@ -141,9 +141,9 @@ static void fill(const struct event *event, struct answer *answer)
 /* Clears the bytes of a report after its last field, which mean nothing. */
 static void clear_ends(struct answer *answer)
 {
-    size_t end = offsetof(nic_told, vector) + sizeof answer->told->vector;
-    for (size_t at = 0; at < TOLD; at++)
-        memset((uint8_t *)&answer->told[at] + end, FILL, sizeof(nic_told) - end);
+    size_t end = offsetof(nic_outcome, vector) + sizeof answer->outcome->vector;
+    for (size_t at = 0; at < OUTCOMES; at++)
+        memset((uint8_t *)&answer->outcome[at] + end, FILL, sizeof(nic_outcome) - end);
 }
 
 void event_make(struct side *side, const struct event *event, struct answer *answer)
@@ -182,10 +182,11 @@ static uint64_t digest_number(uint64_t digest, uint64_t number)
 }
 
 /* Digests a report by its fields instead of its layout, so that the digest is the same on each machine. */
-static uint64_t digest_told(uint64_t digest, const nic_told *told)
+static uint64_t digest_outcome(uint64_t digest, const nic_outcome *outcome)
 {
-    const uint64_t fields[] = {told->desc, told->at,     told->len,  told->bus, told->queue, told->slot, told->group,
-                               told->of,   told->status, told->step, told->end, told->back,  told->why,  told->vector};
+    const uint64_t fields[] = {outcome->desc, outcome->at,    outcome->len, outcome->bus,    outcome->queue,
+                               outcome->slot, outcome->group, outcome->of,  outcome->status, outcome->step,
+                               outcome->end,  outcome->back,  outcome->why, outcome->vector};
     for (size_t k = 0; k < sizeof fields / sizeof *fields; k++)
         digest = digest_number(digest, fields[k]);
     return digest;
@@ -193,13 +194,13 @@ static uint64_t digest_told(uint64_t digest, const nic_told *told)
 
 uint64_t event_digest(uint64_t digest, const struct event *event, const struct answer *answer)
 {
-    size_t told = event->call == CALL_nic_settle && answer->count < TOLD ? answer->count : 1;
+    size_t count = event->call == CALL_nic_settle && answer->count < OUTCOMES ? answer->count : 1;
     digest = digest_number(digest, answer->status);
     digest = digest_number(digest, answer->word);
     digest = digest_number(digest, (uint32_t)answer->count);
     digest = digest_number(digest, (uint32_t)answer->line);
-    for (size_t k = 0; k < told; k++)
-        digest = digest_told(digest, &answer->told[k]);
+    for (size_t k = 0; k < count; k++)
+        digest = digest_outcome(digest, &answer->outcome[k]);
     return digest_bytes(digest, answer->bytes, event->room);
 }
 
@@ -226,12 +227,12 @@ void event_print(const struct event *event)
 
 void event_print_answer(const struct event *event, const struct answer *answer)
 {
-    size_t told = answer->count < TOLD ? answer->count : 1;
+    size_t count = answer->count < OUTCOMES ? answer->count : 1;
     printf("  %s, word 0x%x, count %llu, line %llu\n", nic_status_name(answer->status), (unsigned)answer->word,
            (unsigned long long)answer->count, (unsigned long long)answer->line);
-    for (size_t k = 0; k < told; k++) {
+    for (size_t k = 0; k < count; k++) {
         printf("    report ");
-        print_bytes((const uint8_t *)&answer->told[k], sizeof(nic_told));
+        print_bytes((const uint8_t *)&answer->outcome[k], sizeof(nic_outcome));
     }
     if (event->room) {
         printf("    bytes ");

@@ -4,7 +4,16 @@
 
 #include "calls.h"
 
-enum { CARDS = 2, KEPT = 3, OWN = 2, OWN_BYTES = 4 * 2048, TOLD = 64, ROOM = 16384, GIVEN = 4096, NOT_OPEN = CARDS };
+enum {
+    CARDS = 2,
+    KEPT = 3,
+    OWN = 2,
+    OWN_BYTES = 4 * 2048,
+    OUTCOMES = 64,
+    ROOM = 16384,
+    GIVEN = 4096,
+    NOT_OPEN = CARDS
+};
 
 /* A library, with what it opened and was lent. The handle after the last card is never opened. */
 struct side {
@@ -35,7 +44,7 @@ struct answer {
     uint8_t status;
     uint8_t is_made; /* nic_new, nic_snapshot: created one */
     nic_settling where;
-    nic_told told[TOLD];
+    nic_outcome outcome[OUTCOMES];
     uint8_t bytes[ROOM];
 };
 

@@ -120,7 +120,7 @@ static bool settle_refused(size_t k)
     event.length = answers[k].count;
     make(1 - k, &event, &answers[1 - k], 0);
     answers[k].status = answers[1 - k].status; /* MORE if the array is full */
-    event.length = TOLD;
+    event.length = OUTCOMES;
     return true;
 }
 
@@ -317,7 +317,7 @@ static void count_status(const struct answer *answer)
 {
     seen.statuses[answer->status]++;
     if (answer->status == NIC_DROPPED || answer->status == NIC_FAULT)
-        seen.whys[answer->status == NIC_FAULT][answer->told->why & 15]++;
+        seen.whys[answer->status == NIC_FAULT][answer->outcome->why & 15]++;
 }
 
 static void one_event(uint64_t from)

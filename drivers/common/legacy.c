@@ -108,8 +108,8 @@ uint32_t legacy_writing(void *memory, const struct bus_access *access, uint32_t 
 uint32_t legacy_read(void *memory, const struct bus_access *access, uint32_t word)
 {
     (void)memory;
-    bool is_turned = access->part == BUS_SRRCTL && legacy.of[access->queue].is_legacy;
-    return is_turned ? word & ~NIC_SRRCTL_DESCTYPE : word;
+    bool is_cleared = access->part == BUS_SRRCTL && legacy.of[access->queue].is_legacy;
+    return is_cleared ? word & ~NIC_SRRCTL_DESCTYPE : word;
 }
 
 void legacy_filled(void *of, uint16_t queue, uint64_t at, bool ends)

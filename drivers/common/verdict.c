@@ -11,13 +11,13 @@
 #include <stdlib.h>
 #include <time.h>
 
-#define TOLD_MOST 20
+#define PROBLEMS_MOST 20
 
 static unsigned int problem_count;
 
 void problem(const char *format, ...)
 {
-    if (++problem_count > TOLD_MOST)
+    if (++problem_count > PROBLEMS_MOST)
         return;
     va_list rest;
     va_start(rest, format);
@@ -32,11 +32,11 @@ unsigned int problems(void)
     return problem_count;
 }
 
-bool same(const char *what, uint64_t told, uint64_t counted)
+bool same(const char *what, uint64_t reported, uint64_t counted)
 {
-    if (told != counted)
-        problem("%s: reported %" PRIu64 ", counted %" PRIu64, what, told, counted);
-    return told == counted;
+    if (reported != counted)
+        problem("%s: reported %" PRIu64 ", counted %" PRIu64, what, reported, counted);
+    return reported == counted;
 }
 
 int verdict(void)

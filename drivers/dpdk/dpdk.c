@@ -18,7 +18,7 @@
 #define ARGUMENTS 16
 #define PACKETS_KEPT 64 /* packets cached per core */
 #define SEED 82599      /* seeds DPDK's random numbers, from which the host takes its functions' addresses */
-#define TURNED 10       /* the frame in which --turn changes a byte */
+#define FLIPPED 10      /* the frame in which --turn changes a byte */
 
 struct rte_mempool *pool;
 const uint8_t card_mac[6] = {0x02, 0x00, 0x00, 0x00, 0x82, 0x99};
@@ -151,7 +151,7 @@ bool dpdk_pair(const char *word, const char *next, struct dpdk_options *options)
         return *(options->strays = next) != 0;
     if (strcmp(word, "--turn") != 0 || (!is_in && strcmp(next, "out") != 0))
         return false;
-    *(is_in ? &options->bus.turn_in : &options->bus.turn_out) = TURNED;
+    *(is_in ? &options->bus.turn_in : &options->bus.turn_out) = FLIPPED;
     return true;
 }
 

@@ -160,11 +160,11 @@ static void transmit(void *unused)
 static const char *went_out(void)
 {
     uint8_t bytes[MOST_LENGTH], wanted[MOST_LENGTH];
-    nic_told told;
+    nic_outcome outcome;
     for (unsigned int k = 0; k < way->frames; k++) {
-        if (nic_collect(nicx_device(), bytes, sizeof bytes, &told) != NIC_FRAME)
+        if (nic_collect(nicx_device(), bytes, sizeof bytes, &outcome) != NIC_FRAME)
             return "a frame was never transmitted";
-        if (told.len != fill(wanted, k) || memcmp(bytes, wanted, told.len) != 0)
+        if (outcome.len != fill(wanted, k) || memcmp(bytes, wanted, outcome.len) != 0)
             return "a frame went out with other bytes, or out of order";
     }
     return nic_next_out(nicx_device()) ? "a frame was transmitted twice" : NULL;

@@ -77,7 +77,7 @@ static const struct {
     {"no longer", list_none, false, false, false},
 };
 
-static const char *told(uint16_t port, const struct rte_ether_addr *to, bool expected, const char *what)
+static const char *verdict(uint16_t port, const struct rte_ether_addr *to, bool expected, const char *what)
 {
     bool in = comes_in(port, to);
     if (in != expected)
@@ -93,10 +93,10 @@ void filters(uint16_t port)
     for (size_t i = 0; i < RTE_DIM(rows); i++) {
         if (rows[i].ask(port) != 0)
             problem("the driver refuses: %s", rows[i].what);
-        printf("  %-20s %-5s ", rows[i].what, told(port, &own, true, rows[i].what));
-        printf("%-5s %-10s ", told(port, &other, rows[i].other, rows[i].what),
-               told(port, &group, rows[i].group, rows[i].what));
-        printf("%-10s %s\n", told(port, &second, rows[i].second, rows[i].what),
-               told(port, &everyone, true, rows[i].what));
+        printf("  %-20s %-5s ", rows[i].what, verdict(port, &own, true, rows[i].what));
+        printf("%-5s %-10s ", verdict(port, &other, rows[i].other, rows[i].what),
+               verdict(port, &group, rows[i].group, rows[i].what));
+        printf("%-10s %s\n", verdict(port, &second, rows[i].second, rows[i].what),
+               verdict(port, &everyone, true, rows[i].what));
     }
 }

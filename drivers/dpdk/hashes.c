@@ -30,21 +30,21 @@ static uint32_t soft_hash(const uint8_t *input, size_t length, const uint8_t *ke
 
 enum hash hash_compare(const struct rte_mbuf *packet, const struct frame *frame, const struct rss *rss)
 {
-    bool told = packet->ol_flags & RTE_MBUF_F_RX_RSS_HASH;
+    bool is_reported = packet->ol_flags & RTE_MBUF_F_RX_RSS_HASH;
     size_t at = 0, length = frame_hashed(frame, &at);
     uint32_t expected = 0, bench = 0;
     if (!rss_hash(rss, frame, &expected)) {
-        if (told && is_said())
+        if (is_reported && is_said())
             fprintf(stderr, "a frame of %u bytes has a hash\n", frame->length);
-        return told ? HASH_WRONG : HASH_NONE;
+        return is_reported ? HASH_WRONG : HASH_NONE;
     }
     uint32_t soft = soft_hash(frame->bytes + at, length, rss->key);
     nic_hash(rss->key, frame->bytes + at, length, &bench);
-    if (told && packet->hash.rss == soft && packet->hash.rss == bench && packet->hash.rss == expected)
+    if (is_reported && packet->hash.rss == soft && packet->hash.rss == bench && packet->hash.rss == expected)
         return HASH_RIGHT;
     if (is_said())
         fprintf(stderr, "the driver tells %s hash, %08x; rte_softrss %08x, nic_hash %08x, drivers/common %08x\n",
-                told ? "a" : "no", told ? packet->hash.rss : 0, soft, bench, expected);
+                is_reported ? "a" : "no", is_reported ? packet->hash.rss : 0, soft, bench, expected);
     return HASH_WRONG;
 }
 

@@ -48,7 +48,7 @@ static struct {
     uint8_t bytes[2048];
     size_t length;
 } out[OUT_MOST];
-static unsigned int out_count, out_all, turned, frames = 1000;
+static unsigned int out_count, out_all, flipped, frames = 1000;
 static uint64_t payload_bytes;
 
 static void take(const uint8_t *frame, size_t length)
@@ -58,7 +58,7 @@ static void take(const uint8_t *frame, size_t length)
         return;
     memcpy(out[out_count].bytes, frame, length);
     out[out_count].length = length;
-    if (turned && out_all == turned)
+    if (flipped && out_all == flipped)
         out[out_count].bytes[length - 1] ^= 1;
     out_count++;
 }
@@ -370,7 +370,7 @@ static bool read_words(int count, char **words, struct dpdk_options *options)
         else if (!dpdk_word(words[i], options))
             return false;
     }
-    turned = (unsigned int)options->bus.turn_out;
+    flipped = (unsigned int)options->bus.turn_out;
     return options->bus.turn_in == 0;
 }
 

@@ -19,8 +19,8 @@
 #define VLAN 100
 #define OTHER_VLAN 200
 #define COLUMNS 9
-#define FLOOD 140 /* frames: more than a ring and this test's receive list hold */
-#define BEHIND 10 /* frames to the host after the flood */
+#define FLOOD 140      /* frames: more than a ring and this test's receive list hold */
+#define AFTER_FLOOD 10 /* frames to the host after the flood */
 
 static struct rte_ether_addr further = {{0x02, 0, 0, 0, 0, 0x77}}, another = {{0x02, 0, 0, 0, 0, 0x78}},
                              group = {{0x01, 0, 0x5e, 0x01, 0x02, 0x03}},
@@ -207,27 +207,27 @@ static void block(const char *what, unsigned int at_once)
     port_drain(HOST);
     port_drain(F0);
     flood(F0, FRAME_OTHER, FRAME_KINDS, FLOOD); /* not IP: no hash, so all go to one queue */
-    flood(HOST, FRAME_OTHER, FRAME_KINDS, BEHIND);
+    flood(HOST, FRAME_OTHER, FRAME_KINDS, AFTER_FLOOD);
     unsigned int came = port_drain(HOST), waited = port_drain(F0);
     bus_receive(run_bus);
     unsigned int later = port_drain(HOST);
     waited += port_drain(F0);
-    printf("  %-36s the host gets %u of %u at once, %u once VF0 polls; VF0 gets %u of %u\n", what, came, BEHIND, later,
-           waited, FLOOD);
+    printf("  %-36s the host gets %u of %u at once, %u once VF0 polls; VF0 gets %u of %u\n", what, came, AFTER_FLOOD,
+           later, waited, FLOOD);
     same("frames to the host after a full ring", came, at_once);
-    same("frames to the host, and later", came + later, BEHIND);
+    same("frames to the host, and later", came + later, AFTER_FLOOD);
     same("frames to a function that doesn't poll", waited + (bus_counts(run_bus)->drops - drops), FLOOD);
 }
 
 static void blocks(void)
 {
     uint16_t host = ports[HOST].number;
-    printf("  %u frames to VF0, which doesn't poll, then %u to the host:\n", FLOOD, BEHIND);
+    printf("  %u frames to VF0, which doesn't poll, then %u to the host:\n", FLOOD, AFTER_FLOOD);
     block("as they start", 0);
     failed("rte_pmd_ixgbe_set_all_queues_drop_en", rte_pmd_ixgbe_set_all_queues_drop_en(host, 1));
     block("with QDE, which isn't there", 0);
     failed("rte_pmd_ixgbe_set_vf_split_drop_en", rte_pmd_ixgbe_set_vf_split_drop_en(host, 0, 1));
-    block("with DROP_EN in VF0's SRRCTL", BEHIND);
+    block("with DROP_EN in VF0's SRRCTL", AFTER_FLOOD);
     failed("rte_pmd_ixgbe_set_vf_split_drop_en", rte_pmd_ixgbe_set_vf_split_drop_en(host, 0, 0));
 }
 

@@ -277,16 +277,16 @@ static unsigned int arrive_at(uint16_t queue, unsigned int *number)
 
 static void restart_receive(uint16_t port)
 {
-    unsigned int number = 0, frames = 0, written, behind;
+    unsigned int number = 0, frames = 0, written, later;
     if (rte_eth_dev_rx_queue_stop(port, 0) != 0 || rte_eth_dev_rx_queue_start(port, 0) != 0)
         problem("the receive queue 0 isn't started again");
     unsigned int head = bus_peek(run_bus, NIC_RDH(0)), tail = bus_peek(run_bus, NIC_RDT(0));
     while ((written = arrive_at(0, &number)) > 0)
         frames++;
-    behind = arrive_at(1, &number);
+    later = arrive_at(1, &number);
     printf("  receive queue 0: RDH is %u, RDT %u; the device writes %u frames for it, of which the driver sees %u,\n"
            "    the next one waits, and of a frame for queue 1 after it the device writes %u descriptors\n",
-           head, tail, frames, take(port, 0), behind);
+           head, tail, frames, take(port, 0), later);
 }
 
 uint16_t choose(uint16_t port)

@@ -57,13 +57,13 @@ static CALL locate(EFI_PCI_IO_PROTOCOL *io, UINTN *segment, UINTN *bus, UINTN *d
     return EFI_SUCCESS;
 }
 
-static CALL attributes(EFI_PCI_IO_PROTOCOL *io, unsigned int operation, UINT64 asked, UINT64 *told)
+static CALL attributes(EFI_PCI_IO_PROTOCOL *io, unsigned int operation, UINT64 asked, UINT64 *result)
 {
     (void)io;
     (void)operation;
     (void)asked;
-    if (told)
-        *told = MEMORY_SPACE | BUS_MASTER | BELOW_4_GB;
+    if (result)
+        *result = MEMORY_SPACE | BUS_MASTER | BELOW_4_GB;
     return EFI_SUCCESS;
 }
 

@@ -43,9 +43,9 @@ static bool turns;
 
 static void settle(void)
 {
-    nic_told told[64];
+    nic_outcome outcomes[64];
     size_t count;
-    while (nic_settle(&device, 128, told, COUNT(told), &count) == NIC_MORE)
+    while (nic_settle(&device, 128, outcomes, COUNT(outcomes), &count) == NIC_MORE)
         ;
 }
 

@@ -33,10 +33,10 @@ void interface_begin(void)
     control = socket(AF_INET, SOCK_DGRAM, 0);
 }
 
-bool equal(const char *what, uint64_t told, uint64_t counted)
+bool equal(const char *what, uint64_t reported, uint64_t counted)
 {
     compared_count++;
-    return same(what, told, counted);
+    return same(what, reported, counted);
 }
 
 unsigned int compared(void)

@@ -17,7 +17,7 @@ struct interface {
 void interface_begin(void);
 
 /* Compares two counts, and counts the comparison. */
-bool equal(const char *what, uint64_t told, uint64_t counted);
+bool equal(const char *what, uint64_t reported, uint64_t counted);
 unsigned int compared(void);
 
 /* Finds a function's interface by its driver's name and its place on the bus. Returns false, without a problem, if

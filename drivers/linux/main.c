@@ -19,7 +19,7 @@
 
 #define DEVICE 0x10F7 /* 82599EB, KX4 */
 #define FIFO 64
-#define TURNED 10 /* the frame in which --turn changes a byte */
+#define FLIPPED 10 /* the frame in which --turn changes a byte */
 
 static const char *const phases[] = {PHASE_NAMES, NULL};
 
@@ -34,8 +34,8 @@ struct words {
 
 static bool read_turn(const char *word, struct words *it)
 {
-    it->turn_in = strcmp(word, "in") == 0 ? TURNED : it->turn_in;
-    it->turn_out = strcmp(word, "out") == 0 ? TURNED : it->turn_out;
+    it->turn_in = strcmp(word, "in") == 0 ? FLIPPED : it->turn_in;
+    it->turn_out = strcmp(word, "out") == 0 ? FLIPPED : it->turn_out;
     return strcmp(word, "in") == 0 || strcmp(word, "out") == 0;
 }
 

@@ -134,10 +134,10 @@ class Server:
 
     def __init__(self, place: Place, name: str, *words: str) -> None:
         self.folder = Path(tempfile.mkdtemp(prefix=f"{name}.", dir=place.folder))
-        self.path, self.told = self.folder / "card", self.folder / "said"
+        self.path, self.output = self.folder / "card", self.folder / "said"
         given = [f"--socket-path={self.path}", f"--control={self.folder}/control", *words]
-        with open(self.told, "wb") as told:
-            self.process = started([place.program, *given], stdout=told, stderr=subprocess.STDOUT)
+        with open(self.output, "wb") as output:
+            self.process = started([place.program, *given], stdout=output, stderr=subprocess.STDOUT)
         self.socket = socket.socket(socket.AF_UNIX)
         for _ in range(200):
             try:
@@ -146,7 +146,7 @@ class Server:
             except OSError:
                 time.sleep(0.05)
         else:
-            raise Wrong(f"the server doesn't start: {self.told.read_text()}")
+            raise Wrong(f"the server doesn't start: {self.output.read_text()}")
         self.answers = self.socket.makefile("r")
 
     def ask(self, words: str) -> list[str]:
@@ -157,10 +157,10 @@ class Server:
         """Ends the server. Returns what it printed."""
         self.process.terminate()
         status = self.process.wait(timeout=20)
-        told = self.told.read_text()
+        output = self.output.read_text()
         if status:
-            raise Wrong(f"the server ended with status {status}: {told[-600:]}")
-        return told
+            raise Wrong(f"the server ended with status {status}: {output[-600:]}")
+        return output
 
 
 class Peer(Protocol):
@@ -322,11 +322,11 @@ def has(text: str, what: str, pattern: str) -> None:
         raise Wrong(f"{what}: no line is like {pattern!r}; the last are:\n" + "\n".join(text.splitlines()[-15:]))
 
 
-def clean(told: str) -> None:
+def clean(output: str) -> None:
     """Requires that the server reported no fault and no refused access."""
-    has(told, "server", r"^device: .* faults 0$")
-    has(told, "server", r"^rings: .* accesses refused 0,")
-    has(told, "server", r"^wire: lost: no other end 0, other end full 0, too long 0$")
+    has(output, "server", r"^device: .* faults 0$")
+    has(output, "server", r"^rings: .* accesses refused 0,")
+    has(output, "server", r"^wire: lost: no other end 0, other end full 0, too long 0$")
 
 
 def passed_frames(text: str, many: int, count: int = FRAMES) -> None:
@@ -343,11 +343,11 @@ def seconds_of(text: str) -> str:
     carrier = re.search(r"carrier at ([\d.]+) s", text)
     sent = re.search(r"^frames: sent (\d+) .* in ([\d.]+) s", text, re.MULTILINE)
     got = re.search(r"^frames: received \d+ of (\d+) .* in ([\d.]+) s", text, re.MULTILINE)
-    told = [f"carrier {carrier[1]} s after the kernel's start"] if carrier else []
+    figures = [f"carrier {carrier[1]} s after the kernel's start"] if carrier else []
     for what, found in (("out", sent), ("in", got)):
         if found:
-            told.append(f"{what} {int(found[1]) / max(0.001, float(found[2])):,.0f} frames/s")
-    return ", ".join(told)
+            figures.append(f"{what} {int(found[1]) / max(0.001, float(found[2])):,.0f} frames/s")
+    return ", ".join(figures)
 
 
 @contextmanager
@@ -388,12 +388,12 @@ def ipxe(place: Place) -> str:
     with running(server, guest):
         guest.wait_for("all is printed", 120)
         guest.kill()
-        told = server.end()
+        output = server.end()
     text = "\n".join(guest.lines)
     has(text, "iPXE", r"seq=4")
     has(text, "iPXE", r"using 82599")
-    has(told, "server", r"^wire: out .*, of which replies 5,")
-    has(told, "server", r"^device: received 5 frames in 5 descriptors, .* faults 0$")
+    has(output, "server", r"^wire: out .*, of which replies 5,")
+    has(output, "server", r"^device: received 5 frames in 5 descriptors, .* faults 0$")
     return "4 of 4 pings, descriptors legacy both ways"
 
 
@@ -411,10 +411,10 @@ def arm64(place: Place) -> str:
              *device(server.path, romfile="")]
     guest = Guest(words, server, server.folder / "guest.log")
     with running(server, guest):
-        text, told = guest.end(), server.end()
+        text, output = guest.end(), server.end()
     if len(re.findall("4 packets received", text)) != 2:
         raise Wrong("8 pings weren't answered:\n" + text[-1500:])
-    clean(told)
+    clean(output)
     return f"8 of 8 pings, {seconds_of(text)}"
 
 
@@ -430,10 +430,10 @@ def boots(kernel: str, processors: int = 1) -> Callable[[Place], str]:
     """A stock kernel boots, and frames pass both ways with every byte correct."""
 
     def run(place: Place) -> str:
-        text, told = alone(Machine(place, kernel, TRAFFIC, processors))
+        text, output = alone(Machine(place, kernel, TRAFFIC, processors))
         has(text, "guest", "3 packets received")
         passed_frames(text, 1)
-        clean(told)
+        clean(output)
         return f"{FRAMES} frames each way, each byte; {seconds_of(text)}"
 
     return run
@@ -442,10 +442,10 @@ def boots(kernel: str, processors: int = 1) -> Callable[[Place], str]:
 def four_queues(place: Place) -> str:
     """Four processors, so four queues each way, and memory beyond 4 GiB."""
     script = TRAFFIC + "ethtool -l eth0 | tail -1\ngrep -c TxRx /proc/interrupts | sed 's/^/vectors: /'\n"
-    text, told = alone(Machine(place, "kernel-6.1", script, 4, "5G"))
+    text, output = alone(Machine(place, "kernel-6.1", script, 4, "5G"))
     passed_frames(text, 1)
     has(text, "guest", r"^vectors: 4$")
-    clean(told)
+    clean(output)
     return f"4 queues, 5 GiB; {FRAMES} frames each way; {seconds_of(text)}"
 
 
@@ -454,14 +454,14 @@ def without_msix(kind: str) -> Callable[[Place], str]:
 
     def run(place: Place) -> str:
         script = TRAFFIC + "grep -E 'eth0|ixgbe' /proc/interrupts\n"
-        text, told = alone(Machine(place, "kernel-6.1", script, 2), f"--interrupts={kind}")
+        text, output = alone(Machine(place, "kernel-6.1", script, 2), f"--interrupts={kind}")
         has(text, "guest", "3 packets received")
         passed_frames(text, 1)
         has(text, "guest", r"PCI-MSI .*eth0" if kind == "msi" else r"IO-APIC .*fasteoi .*eth0")
-        clean(told)
-        raised = re.search(r"interrupts: (MSI|INTx):(\d+)", told)
+        clean(output)
+        raised = re.search(r"interrupts: (MSI|INTx):(\d+)", output)
         if not raised or raised[1].lower() != kind or int(raised[2]) < 100:
-            raise Wrong(f"the guest wasn't informed by {kind}: {told}")
+            raise Wrong(f"the guest wasn't informed by {kind}: {output}")
         return f"{FRAMES} frames each way, {raised[2]} interrupts by {raised[1]}; {seconds_of(text)}"
 
     return run
@@ -472,21 +472,21 @@ def jumbo(place: Place) -> str:
     script = "up 10.0.0.2\nip link set eth0 mtu 9000\ncarrier\npasses 9014\nload 8021q\n"
     script += "ip link add link eth0 name v7 type vlan id 7\nip addr add 10.7.0.2/24 dev v7\nip link set v7 up\n"
     script += "ping -c 2 -W 1 10.7.0.1 >/dev/null\necho '@control counts'\nsleep 1\n"
-    text, told = alone(Machine(place, "kernel-6.1", script))
+    text, output = alone(Machine(place, "kernel-6.1", script))
     passed_frames(text, 1)
     has(text, "guest", r"^control: offloads: checksums in \d+ frames, tags in [1-9]\d*")
-    clean(told)
+    clean(output)
     return f"{FRAMES} frames of up to 9,014 bytes each way; tags inserted"
 
 
 def links(place: Place) -> str:
     """Links, rings, queues and MTU change, and frames pass after each change."""
     script = (HERE / "guest/links.sh").read_text()
-    text, told = alone(Machine(place, "kernel-6.1", script, 4))
+    text, output = alone(Machine(place, "kernel-6.1", script, 4))
     passed = len(re.findall(r"^1 packets transmitted, 1 packets received", text, re.MULTILINE))
     if passed != 8:
         raise Wrong(f"{passed} of 8 pings were answered:\n" + text[-2000:])
-    has(told, "server", r"^device: .* faults 0$")
+    has(output, "server", r"^device: .* faults 0$")
     return "8 changes (link, reset, rings, queues, MTU, down and up, driver again), a ping after each"
 
 
@@ -508,12 +508,12 @@ def iommu(place: Place) -> str:
     """A strict IOMMU: every buffer is mapped and unmapped."""
     before = ("-device", "intel-iommu,caching-mode=on,intremap=off")
     machine = Machine(place, "kernel-6.1", TRAFFIC, append="intel_iommu=on iommu.strict=1", before=before)
-    text, told = alone(machine)
+    text, output = alone(machine)
     passed_frames(text, 1)
-    clean(told)
-    maps = re.search(r"memory: (\d+) maps, (\d+) unmaps", told)
+    clean(output)
+    maps = re.search(r"memory: (\d+) maps, (\d+) unmaps", output)
     if not maps or int(maps[2]) < 100:
-        raise Wrong(f"the IOMMU isn't used: {told}")
+        raise Wrong(f"the IOMMU isn't used: {output}")
     return f"{FRAMES} frames each way, {maps[1]} maps and {maps[2]} unmaps"
 
 
@@ -566,11 +566,11 @@ def dpdk(place: Place) -> str:
     """DPDK's testpmd in the guest: Debian's packages, with uio_pci_generic."""
     script = (HERE / "guest/dpdk.sh").read_text()
     machine = Machine(place, "kernel-6.1", script, 2, "1G", modules=("uio_pci_generic",), more=add_testpmd(place))
-    text, told = alone(machine)
+    text, output = alone(machine)
     has(text, "server", rf"^control: {FRAMES} of {FRAMES}, twice 0, wrong 0$")
     has(text, "testpmd", rf"RX-packets: {FRAMES} +RX-dropped: 0 ")
     has(text, "testpmd", rf"TX-packets: {FRAMES} +TX-dropped: 0 ")
-    clean(told)
+    clean(output)
     (package,) = [it for it in (place.fetched / "dpdk/packages").read_text().split() if it.startswith("dpdk-dev_")]
     return f"testpmd {package.split('_')[1]}, macswap: {FRAMES} frames in and out, each byte"
 
@@ -585,25 +585,25 @@ def back_to_back(place: Place, name: str, scripts: Sequence[str]) -> tuple[str, 
         server.wait_for("SERVES")
         client = Machine(place, "kernel-6.1", scripts[1]).start("guest", right, *device(right.path))
         with running(right, client):
-            text, told = client.end(), right.end()
+            text, output = client.end(), right.end()
         server.kill()
-    other = left.told.read_text()
-    for each in (told, other):
+    other = left.output.read_text()
+    for each in (output, other):
         has(each, "server", r"^device: .* faults 0$")
-    return text, told, other
+    return text, output, other
 
 
 def vlan(place: Place) -> str:
     """A VLAN's frames of full size, both ways: MTU 1,500 on the VLAN and on the card, so 1,518 bytes with the tag."""
     scripts = [(HERE / f"guest/{it}.sh").read_text() for it in ("vlan_serve", "vlan_get")]
-    text, told, other = back_to_back(place, "vlan", scripts)
+    text, output, other = back_to_back(place, "vlan", scripts)
     has(text, "guest", r"^MTU: 1500 1500$")
     if len(re.findall(r"^10 packets transmitted, 10 packets received", text, re.MULTILINE)) != 2:
         raise Wrong("20 pings weren't answered:\n" + text[-2000:])
     has(text, "guest", r"^sums are equal$")
     has(text, "guest", r"^fragments made: 0$")
     longer: list[str] = []
-    for each in (told, other):
+    for each in (output, other):
         has(each, "server", r"^offloads: .* tags in [1-9]\d*; .* received longer by a tag [1-9]\d*$")
         longer += re.findall(r"received longer by a tag (\d+)$", each, re.MULTILINE)
     frames = " and ".join(longer)
@@ -624,7 +624,7 @@ def two_guests(mtu: int) -> Callable[[Place], str]:
     return run
 
 
-def turned(place: Place) -> str:
+def flipped(place: Place) -> str:
     """One byte is changed each way, which must be reported."""
     script = TRAFFIC.replace("passes 1514", "echo '@control turn 77 99'\npasses 1514")
     text, _ = alone(Machine(place, "kernel-6.1", script))
@@ -662,7 +662,7 @@ RUNS: dict[str, Run] = {
     "http-9000": Run(two_guests(9000)),
     "dpdk": Run(dpdk, ("tools", "kernel-6.1", "dpdk")),
 }
-TURN = Run(turned)
+TURN = Run(flipped)
 QUICK = ["ipxe", "arm64"]
 
 

@@ -87,8 +87,8 @@ class Initrd:
             self.add_needed(found[0], root)
 
     def add_needed(self, file: Path, root: Path) -> None:
-        told = subprocess.run(["readelf", "-d", file], capture_output=True, text=True, check=True).stdout
-        for name in re.findall(r"\(NEEDED\).*\[(.*)\]", told):
+        output = subprocess.run(["readelf", "-d", file], capture_output=True, text=True, check=True).stdout
+        for name in re.findall(r"\(NEEDED\).*\[(.*)\]", output):
             self.add_library(name, root)
 
     def write(self, to: Path) -> None:

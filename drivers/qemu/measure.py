@@ -196,7 +196,7 @@ def shown(value: float) -> str:
     return f"{value:,.0f}" if value >= 100 else f"{value:.1f}" if value >= 10 else f"{value:.2f}"
 
 
-def machine_told() -> str:
+def machine_name() -> str:
     text = Path("/proc/cpuinfo").read_text()
     model = re.search(r"^model name\s*: (.*)$", text, re.MULTILINE)
     load = os.getloadavg()[0]
@@ -211,8 +211,8 @@ def main(words: list[str]) -> int:
         for turn in range(int(words[3])):
             for card in CARDS:
                 got = alone(place, card)
-                told = ", ".join(shown(it) for it in got)
-                print(f"turn {turn + 1}, {card.name}, alone: {told}", file=sys.stderr, flush=True)
+                figures = ", ".join(shown(it) for it in got)
+                print(f"turn {turn + 1}, {card.name}, alone: {figures}", file=sys.stderr, flush=True)
                 got.append(between_two(place, card))
                 print(f"turn {turn + 1}, {card.name}, two guests: {shown(got[-1])}", file=sys.stderr, flush=True)
                 old = best.get(card.name, got)
@@ -221,7 +221,7 @@ def main(words: list[str]) -> int:
         print(f"WRONG: {fault}\n  (logs: {place.folder})")
         place.is_kept = True
         return 1
-    print(row(f"{machine_told()}; best of {words[3]}", [it.name for it in CARDS]))
+    print(row(f"{machine_name()}; best of {words[3]}", [it.name for it in CARDS]))
     print(row("---", ["---:"] * len(CARDS)))
     for number, figure in enumerate(FIGURES):
         print(row(f"{figure.name}, {figure.unit}", [shown(best[it.name][number]) for it in CARDS]))

@@ -144,9 +144,9 @@ def main(script: str, elf: str, frames: int, for_qemu: Sequence[str]) -> int:
             print(f"drivers/small/run: {fault}", file=sys.stderr)
             kernel.end()
             return 1
-        told = kernel.end().strip()
-        print(told)
-    if "accel=kvm" in for_qemu and not re.search(r"INTx:\d+ \(unmasked by an eventfd [1-9]", told):
+        output = kernel.end().strip()
+        print(output)
+    if "accel=kvm" in for_qemu and not re.search(r"INTx:\d+ \(unmasked by an eventfd [1-9]", output):
         print("drivers/small/run: the line was never unmasked by an eventfd", file=sys.stderr)
         return 1
     return 0

@@ -29,13 +29,13 @@ static void turn_round(uint8_t *frame)
 /* Sends back what came, until no frame is left or no slot is free. A frame without a slot stays in its buffer. */
 static void echo(void)
 {
-    static bool is_turned; /* the oldest frame has its addresses swapped but found no free slot */
+    static bool is_swapped; /* the oldest frame has its addresses swapped but found no free slot */
     uint16_t length;
     for (uint8_t *frame = card_frame(&length); frame; frame = card_frame(&length)) {
-        if (!is_turned)
+        if (!is_swapped)
             turn_round(frame);
-        is_turned = !card_send(frame, length);
-        if (is_turned)
+        is_swapped = !card_send(frame, length);
+        if (is_swapped)
             return;
         card_next();
     }

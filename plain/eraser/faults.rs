@@ -54,16 +54,16 @@ fn messages_of_enum(source: &mut Source, item: usize) -> Result<(), Fault> {
         }
         let text = message_at(source, at)?;
         let variant = source.next(at);
-        let told = format!("{name}::{}", source.at(variant));
+        let qualified = format!("{name}::{}", source.at(variant));
         let next = source.after(variant);
-        let mut pattern = told.clone();
+        let mut pattern = qualified.clone();
         if source.at(next) == "(" {
             let close = source.closing(next)?;
             if let Some(kind) = source.past(next, &["(", "#", "[", "from", "]"]) {
                 let begin = source.after(next);
                 let kind = source.next(kind);
                 let of = source.code(kind, close);
-                conversions += &conversion(&name, &told, &of);
+                conversions += &conversion(&name, &qualified, &of);
                 source.clear(begin, kind);
             }
             if source.code(next + 1, close).contains(',') {

@@ -119,8 +119,8 @@ pub fn check(source: &Source) -> Result<(), Fault> {
 
 /// Whether a word followed by `!` is a macro call.
 fn is_call(source: &Source, at: usize) -> bool {
-    let behind = source.after(source.after(at));
-    ["(", "[", "{"].contains(&source.at(behind)) || source.at(at) == "macro_rules"
+    let next = source.after(source.after(at));
+    ["(", "[", "{"].contains(&source.at(next)) || source.at(at) == "macro_rules"
 }
 
 fn attribute(source: &Source, at: usize) -> Result<(), Fault> {

@@ -176,8 +176,8 @@ fn bound_names(pattern: &str) -> Result<Vec<String>, &'static str> {
     while let Some(first) = rest.find(is_in_word) {
         let word = &rest[first..];
         let length = word.find(|it| !is_in_word(it)).unwrap_or(word.len());
-        let (word, behind) = word.split_at(length);
-        let follows = behind.trim_start();
+        let (word, tail) = word.split_at(length);
+        let follows = tail.trim_start();
         let is_bound = word.starts_with(|it: char| it.is_lowercase() || it == '_')
             && word != "_"
             && !["mut", "ref", "true", "false"].contains(&word)
@@ -190,7 +190,7 @@ fn bound_names(pattern: &str) -> Result<Vec<String>, &'static str> {
             names.push(if is_mut { format!("mut {word}") } else { word.to_string() });
         }
         is_mut = word == "mut";
-        rest = behind;
+        rest = tail;
     }
     Ok(names)
 }

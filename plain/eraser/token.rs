@@ -41,10 +41,10 @@ pub fn tokens(path: &str, text: &str) -> Result<Vec<Token>, Fault> {
     let (mut rest, mut line) = (text, 1);
     while let Some(first) = rest.chars().next() {
         let (kind, length) = first_token(rest, first).map_err(|what| Fault::at(path, line, what))?;
-        let (token, behind) = rest.split_at(length);
+        let (token, tail) = rest.split_at(length);
         found.push(Token { kind, text: token.to_string(), line });
         line += token.matches('\n').count();
-        rest = behind;
+        rest = tail;
     }
     Ok(found)
 }
@@ -109,12 +109,12 @@ fn span(text: &str, is_so: impl Fn(char) -> bool) -> usize {
 /// Returns the length of a string at the start: `".."`, `b".."`, `r#".."#`.
 fn string(text: &str) -> Result<Option<usize>, &'static str> {
     let prefix = span(text, |it| it == 'b' || it == 'r');
-    let (prefix, behind) = text.split_at(prefix);
+    let (prefix, tail) = text.split_at(prefix);
     if prefix.len() > 2 {
         return Ok(None);
     }
-    let hashes = if prefix.ends_with('r') { span(behind, |it| it == '#') } else { 0 };
-    let body = match behind[hashes..].strip_prefix('"') {
+    let hashes = if prefix.ends_with('r') { span(tail, |it| it == '#') } else { 0 };
+    let body = match tail[hashes..].strip_prefix('"') {
         Some(body) => body,
         None => return Ok(None),
     };

@@ -68,18 +68,18 @@ def page_files() -> dict[str, bytes]:
 
 def metadata(version: str) -> str:
     """Returns the METADATA file."""
-    told = project()
-    lines = ["Metadata-Version: 2.4", f"Name: {told['name']}", f"Version: {version}", f"Summary: {told['description']}"]
-    lines += [f"License-Expression: {told['license']}", "License-File: LICENSE"]
-    lines += [f"Keywords: {','.join(told['keywords'])}"] + [f"Classifier: {it}" for it in told["classifiers"]]
-    lines += [f"Requires-Python: {told['requires-python']}", "Description-Content-Type: text/markdown"]
-    return "\n".join(lines) + "\n\n" + (HERE / told["readme"]).read_text()
+    data = project()
+    lines = ["Metadata-Version: 2.4", f"Name: {data['name']}", f"Version: {version}", f"Summary: {data['description']}"]
+    lines += [f"License-Expression: {data['license']}", "License-File: LICENSE"]
+    lines += [f"Keywords: {','.join(data['keywords'])}"] + [f"Classifier: {it}" for it in data["classifiers"]]
+    lines += [f"Requires-Python: {data['requires-python']}", "Description-Content-Type: text/markdown"]
+    return "\n".join(lines) + "\n\n" + (HERE / data["readme"]).read_text()
 
 
 def entry_points() -> str:
     """Returns the file that lists the commands and the pytest plugin."""
-    told = project()
-    groups = {"console_scripts": told["scripts"], **told["entry-points"]}
+    data = project()
+    groups = {"console_scripts": data["scripts"], **data["entry-points"]}
     return "\n".join(
         f"[{group}]\n" + "".join(f"{name} = {what}\n" for name, what in points.items())
         for group, points in groups.items()
@@ -118,8 +118,8 @@ def write_wheel(
     platform, by default this machine's."""
     tag = f"py3-none-{platform if binaries else 'any'}"
     info = f"nic82599-{version}.dist-info"
-    told = f"Wheel-Version: 1.0\nGenerator: nic82599_wheel\nRoot-Is-Purelib: {str(not binaries).lower()}\nTag: {tag}\n"
-    texts = {"METADATA": metadata(version), "WHEEL": told, "entry_points.txt": entry_points()}
+    tags = f"Wheel-Version: 1.0\nGenerator: nic82599_wheel\nRoot-Is-Purelib: {str(not binaries).lower()}\nTag: {tag}\n"
+    texts = {"METADATA": metadata(version), "WHEEL": tags, "entry_points.txt": entry_points()}
     texts["licenses/LICENSE"] = (ROOT / "LICENSE").read_text()
     if provenance is not None:
         texts["PROVENANCE"] = provenance

@@ -262,7 +262,7 @@ class _Settling(ctypes.Structure):
     _fields_ = [("queues", ctypes.c_uint16), ("at", ctypes.c_uint16)]
 
 
-class _Told(ctypes.Structure):
+class _Outcome(ctypes.Structure):
     _fields_ = [
         ("desc", ctypes.c_uint64),
         ("at", ctypes.c_uint64),
@@ -972,12 +972,13 @@ class Nic(_Registers, _OneOwner):
         """Takes the oldest transmitted frame. Returns None if there is none."""
         while True:
             length = self.next_out()
-            room, told = _Room() if length <= ctypes.sizeof(_Room) else ctypes.create_string_buffer(length), _Told()
-            status = self._call("nic_collect", room, len(room), ctypes.byref(told))
+            room = _Room() if length <= ctypes.sizeof(_Room) else ctypes.create_string_buffer(length)
+            outcome = _Outcome()
+            status = self._call("nic_collect", room, len(room), ctypes.byref(outcome))
             if status == statuses.IDLE:
                 return None
             if status == statuses.FRAME:
-                return Frame(told.queue, ctypes.string_at(room, told.len))
+                return Frame(outcome.queue, ctypes.string_at(room, outcome.len))
             if status != statuses.NO_ROOM:  # another thread took that frame, and the next one is longer
                 raise _refused(status, "collect")
 
@@ -993,16 +994,16 @@ class Nic(_Registers, _OneOwner):
 
     def _event(self, call: str, *words: object) -> Event | None:
         """Runs a step and returns its event; None if it was idle."""
-        told = _Told()
-        status = self._call(call, *words, ctypes.byref(told))
+        outcome = _Outcome()
+        status = self._call(call, *words, ctypes.byref(outcome))
         if status == statuses.IDLE:
             return None
         if status not in _TELLERS:
             shown = ", ".join(str(word) for word in words if isinstance(word, int))
             raise _refused(status, f"{call.removeprefix('nic_')} {shown}".strip())
         # The single-step calls don't fill in the step.
-        told.step = statuses.STEPS.index("rx" if call == "nic_rx_step" else "tx")
-        return _TELLERS[status](told)
+        outcome.step = statuses.STEPS.index("rx" if call == "nic_rx_step" else "tx")
+        return _TELLERS[status](outcome)
 
     def rx_step(self) -> Wrote | Dropped | Fault | None:
         """Writes one buffer of the frame that has waited longest."""
@@ -1034,11 +1035,11 @@ class Nic(_Registers, _OneOwner):
         group. After every 256 events it begins a new round. Returns the events in order. Raises NoQueue above 128,
         and OutOfMemory."""
         events: list[Event] = []
-        told, count = (_Told * 256)(), ctypes.c_size_t()
+        outcomes, count = (_Outcome * 256)(), ctypes.c_size_t()
         given = _whole(queues, 16, "number of queues")
         while True:
-            status = self._call("nic_settle", given, ctypes.byref(told), len(told), ctypes.byref(count))
-            events += [_TELLERS[it.status](it) for it in told[: count.value]]
+            status = self._call("nic_settle", given, ctypes.byref(outcomes), len(outcomes), ctypes.byref(count))
+            events += [_TELLERS[it.status](it) for it in outcomes[: count.value]]
             if status == statuses.DONE:
                 return events
             if status != statuses.MORE:
@@ -1057,9 +1058,9 @@ class Nic(_Registers, _OneOwner):
         Message(function=None, vector=0)
         """
         given = _whole(queues, 16, "number of queues")
-        where, told = _Settling(given, 0), _Told()
-        while (status := self._call("nic_next_step", ctypes.byref(where), ctypes.byref(told))) == statuses.MORE:
-            yield _TELLERS[told.status](told)
+        where, outcome = _Settling(given, 0), _Outcome()
+        while (status := self._call("nic_next_step", ctypes.byref(where), ctypes.byref(outcome))) == statuses.MORE:
+            yield _TELLERS[outcome.status](outcome)
         if status != statuses.DONE:
             raise _refused(status, f"steps {given}")
 
@@ -1103,17 +1104,17 @@ class Nic(_Registers, _OneOwner):
             raise _refused(status, "install_text")
 
 
-_TELLERS: dict[int, Callable[[_Told], Event]] = {
-    statuses.DONE: lambda told: Done(statuses.STEPS[told.step], told.of),
-    statuses.DROPPED: lambda told: Dropped(statuses.WHYS[told.why]),
-    statuses.WROTE: lambda told: Wrote(told.queue, told.slot, bool(told.end), told.desc, told.at, told.len),
-    statuses.ADVANCED: lambda told: Advanced(told.queue, told.slot, told.at if told.back else None),
-    statuses.SENT: lambda told: Sent(told.queue, told.len, told.at if told.back else None),
-    statuses.FAULT: lambda told: Fault(
-        statuses.STEPS[told.step],
-        told.queue,
-        statuses.FAULTS[told.why],
-        told.bus if told.why == statuses.FAULT_NOT_LENT else None,
+_TELLERS: dict[int, Callable[[_Outcome], Event]] = {
+    statuses.DONE: lambda it: Done(statuses.STEPS[it.step], it.of),
+    statuses.DROPPED: lambda it: Dropped(statuses.WHYS[it.why]),
+    statuses.WROTE: lambda it: Wrote(it.queue, it.slot, bool(it.end), it.desc, it.at, it.len),
+    statuses.ADVANCED: lambda it: Advanced(it.queue, it.slot, it.at if it.back else None),
+    statuses.SENT: lambda it: Sent(it.queue, it.len, it.at if it.back else None),
+    statuses.FAULT: lambda it: Fault(
+        statuses.STEPS[it.step],
+        it.queue,
+        statuses.FAULTS[it.why],
+        it.bus if it.why == statuses.FAULT_NOT_LENT else None,
     ),
-    statuses.MESSAGE: lambda told: Message(told.group - 1 if told.group else None, told.vector),
+    statuses.MESSAGE: lambda it: Message(it.group - 1 if it.group else None, it.vector),
 }

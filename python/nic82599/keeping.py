@@ -111,11 +111,11 @@ class Lent:
 
     def noted(self, call: Callable[[], int], blocks: range, buffer: object = None) -> int:
         """Calls a function that lends blocks in a buffer or takes them back, and returns its status."""
-        told, noted = tee(starmap(call, ((),)))
+        statuses, noted = tee(starmap(call, ((),)))
         # If ctypes refuses the call, there is no note.
         self._notes.extend(zip(noted, ((blocks, buffer),)))
         self.take_in()
-        return next(told)
+        return next(statuses)
 
     def take_in(self) -> None:
         """Applies the notes. If the controller is closed, drops them and all buffers."""

@@ -123,9 +123,9 @@ def _option(code: int, value: bytes) -> bytes:
 
 
 def _block(kind: int, body: bytes, options: list[tuple[int, bytes]]) -> bytes:
-    told = b"".join(_option(code, value) for code, value in options) + (bytes(4) if options else b"")
-    size = struct.pack("<I", 12 + len(body) + len(told))
-    return struct.pack("<I", kind) + size + body + told + size
+    encoded = b"".join(_option(code, value) for code, value in options) + (bytes(4) if options else b"")
+    size = struct.pack("<I", 12 + len(body) + len(encoded))
+    return struct.pack("<I", kind) + size + body + encoded + size
 
 
 def pcapng_of(packets: Iterable[Packet], name: str) -> Iterator[bytes]:

@@ -65,14 +65,14 @@ def _loaded_from(name: str) -> str:
 
 def library() -> str:
     """Returns the path of the C library, or its soname if only the system has it. Raises Missing."""
-    told = os.environ.get("NIC82599_LIBRARY")
-    places = [Path(told)] if told else _places(SONAME, "c/out/libnic82599.so", f"lib/{SONAME}", f"{MULTIARCH}/{SONAME}")
+    path = os.environ.get("NIC82599_LIBRARY")
+    places = [Path(path)] if path else _places(SONAME, "c/out/libnic82599.so", f"lib/{SONAME}", f"{MULTIARCH}/{SONAME}")
     for place in places:
         if place.exists():
             return str(place)
-    if not told and _is_loaded_by_name(SONAME):
+    if not path and _is_loaded_by_name(SONAME):
         return SONAME
-    looked = " and ".join(str(place) for place in places) + ("" if told else f" and no {SONAME} in the system")
+    looked = " and ".join(str(place) for place in places) + ("" if path else f" and no {SONAME} in the system")
     raise Missing(f"no C library at {looked}: {BUILDS_LIBRARY}; NIC82599_LIBRARY names another")
 
 
@@ -89,9 +89,9 @@ def engine() -> str:
 
 def program() -> str:
     """Returns the path of the program `nicbench`, in a clone that of its launcher. Raises Missing."""
-    told = os.environ.get("NICBENCH")
-    if told:
-        return told
+    path = os.environ.get("NICBENCH")
+    if path:
+        return path
     for place in _places("nicbench", "nicbench", "bin/nicbench"):
         if os.access(place, os.X_OK):
             return str(place)

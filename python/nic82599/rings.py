@@ -22,7 +22,7 @@ REGISTERS = {
     "tx": ("TDBAL", "TDBAH", "TDLEN", "TDH", "TDT", "TXDCTL", "TDWBAL", "TDWBAH"),
 }
 # The most rows of a table. If the ring has more slots, the table begins this many slots before the head.
-ROWS, BEHIND = 64, 8
+ROWS, BEFORE = 64, 8
 
 
 @dataclass(frozen=True)
@@ -64,14 +64,14 @@ class Ring:
 
     def _row(self, slot: Slot) -> str:
         marks = [name for name, at in (("head", self.head), ("tail", self.tail)) if at == slot.number]
-        told = self._known.told(self._ring, slot.number)
-        cells = (str(slot.number), " ".join(marks), f"0x{slot.at:x}", self._known.look(self._ring, slot.number), told)
+        words = self._known.describe(self._ring, slot.number)
+        cells = (str(slot.number), " ".join(marks), f"0x{slot.at:x}", self._known.look(self._ring, slot.number), words)
         return "<tr>" + "".join(f"<td>{escape(it)}</td>" for it in cells) + "</tr>"
 
     def _repr_html_(self) -> str:
         """Returns an HTML table of the slots. A long ring is shown from the head on, and only in part."""
         count = len(self.slots)
-        first = self.head - BEHIND if count > ROWS and self.head < count else 0
+        first = self.head - BEFORE if count > ROWS and self.head < count else 0
         shown = [self.slots[(first + row) % count] for row in range(min(count, ROWS))]
         left = f" ({count - len(shown)} more slots not shown)" if count > len(shown) else ""
         names = "".join(f"<th>{it}</th>" for it in ("slot", "", "address", "", "descriptor"))

@@ -63,7 +63,7 @@ def calls_of(library: ctypes.CDLL, more: dict[str, list[Any]]) -> dict[str, Call
         call = calls[name] = getattr(library, f"nicp_{name}")
         call.argtypes, call.restype = words, ctypes.c_int64
     library.nicp_live.argtypes, library.nicp_live.restype = [_AT], None
-    library.nicp_told.argtypes, library.nicp_told.restype = [ctypes.c_char_p], None
+    library.nicp_set_words.argtypes, library.nicp_set_words.restype = [ctypes.c_char_p], None
     return calls
 
 

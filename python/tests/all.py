@@ -47,11 +47,11 @@ import why_nothing  # noqa: E402
 def texts() -> int:
     """Checks the examples in the docstrings, and returns how many there are."""
     modules = (nic82599, nic82599.buffers, nic82599.descriptors, nic82599.frames, nic82599.tools.printable)
-    told = [doctest.testmod(it) for it in modules]
-    told.append(doctest.testfile(str(PROMPT), module_relative=False))
-    if any(it.failed for it in told):
+    results = [doctest.testmod(it) for it in modules]
+    results.append(doctest.testfile(str(PROMPT), module_relative=False))
+    if any(it.failed for it in results):
         sys.exit(1)
-    return sum(it.attempted for it in told)
+    return sum(it.attempted for it in results)
 
 
 def types() -> str:
@@ -71,10 +71,10 @@ def types() -> str:
 def units(module: ModuleType) -> int:
     """Runs a module's tests, and returns how many there are."""
     suite = unittest.defaultTestLoader.loadTestsFromModule(module)
-    told = unittest.TextTestRunner(stream=sys.stderr, verbosity=0).run(suite)
-    if not told.wasSuccessful():
+    result = unittest.TextTestRunner(stream=sys.stderr, verbosity=0).run(suite)
+    if not result.wasSuccessful():
         sys.exit(1)
-    return told.testsRun
+    return result.testsRun
 
 
 def main() -> None:

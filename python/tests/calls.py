@@ -67,15 +67,15 @@ class Life(unittest.TestCase):
             Nic(library="/nowhere/libnic82599.so")
         with tempfile.NamedTemporaryFile() as file, self.assertRaises(nic82599.LibraryMissing):
             Nic(library=file.name)
-        told = os.environ.pop("NIC82599_LIBRARY", None)
+        before = os.environ.pop("NIC82599_LIBRARY", None)
         try:
             os.environ["NIC82599_LIBRARY"] = "/nowhere/libnic82599.so"
             with self.assertRaisesRegex(nic82599.LibraryMissing, "make -C c"):
                 Nic()
         finally:
             del os.environ["NIC82599_LIBRARY"]
-            if told is not None:
-                os.environ["NIC82599_LIBRARY"] = told
+            if before is not None:
+                os.environ["NIC82599_LIBRARY"] = before
 
 
 class Snapshots(unittest.TestCase):
@@ -251,8 +251,8 @@ class Registers(unittest.TestCase):
         pool."""
         nic, none, one = Nic(vfs=40), Nic(), Nic(vfs=1)
         self.addCleanup(lambda: [it.close() for it in (nic, none, one)])
-        told = {0: "no pools", 1: "16 pools", 2: "32 pools", 3: "64 pools"}
-        for mode, pools in told.items():
+        expected = {0: "no pools", 1: "16 pools", 2: "32 pools", 3: "64 pools"}
+        for mode, pools in expected.items():
             nic["GCR_EXT"] = mode
             for number in range(64):
                 function, count = nic.vf(number), (0, 16, 32, 64)[mode]
@@ -499,7 +499,7 @@ class MemoryOfPackets(unittest.TestCase):
             nic.close()
             own.clear()
 
-    def test_made_anew(self) -> None:
+    def test_made_again(self) -> None:
         """A second `__init__` frees the former controller and releases its buffers."""
         own = bytearray(2048)
         nic = Nic(blocks=4)

@@ -209,7 +209,7 @@ class StopThatDoesNotWait(Both):
         super().close()
 
 
-class IdleToldEarly(Both):
+class IdleReportedEarly(Both):
     def reclaim(self, queue: int) -> int:
         before = self.tx.used
         after = super().reclaim(queue)
@@ -349,7 +349,7 @@ class ReadsTooMuch(Both):
         return super().receive(queue)
 
 
-def left_behind(begun: int) -> None:
+def outlive(begun: int) -> None:
     """Runs in a process that would outlive the card. Writes its ID for the test, then a byte to the pipe."""
     with open(os.environ["PROCESSES"], "a") as file:
         file.write(f"{os.getpid()}\n")
@@ -359,7 +359,7 @@ def left_behind(begun: int) -> None:
 
 @contextlib.contextmanager
 def until_begun() -> Iterator[int]:
-    """Waits at the end of the block until `left_behind` has written its ID."""
+    """Waits at the end of the block until `outlive` has written its ID."""
     ends = os.pipe()
     try:
         yield ends[1]
@@ -375,7 +375,7 @@ class Forks(Both):
     def receive(self, queue: int) -> bytes | tuple[bytes, int] | None:
         with until_begun() as begun:
             if os.fork() == 0:
-                left_behind(begun)
+                outlive(begun)
         return super().receive(queue)
 
 
@@ -395,7 +395,7 @@ class LeavesADaemon(Both):
             if os.fork() == 0:
                 os.setsid()
                 if os.fork() == 0:
-                    left_behind(begun)
+                    outlive(begun)
                 os._exit(0)
         return super().open(setup)
 
@@ -424,7 +424,7 @@ class PieceLeft(Both):
 class FromAThread(Both):
     def receive(self, queue: int) -> bytes | tuple[bytes, int] | None:
         other = threading.Thread(target=lambda: self.read32("STATUS"))
-        threading.excepthook = lambda _told: None
+        threading.excepthook = lambda _args: None
         other.start()
         other.join()
         return super().receive(queue)

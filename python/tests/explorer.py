@@ -218,8 +218,8 @@ class Found(unittest.TestCase):
 
     def test_race(self) -> None:
         for strategy in ("random", "priorities", "mixed", "exhaustive"):
-            told = self.failure(Race(), None if strategy == "exhaustive" else 1_000, strategy=strategy)
-            self.assertIn("end: a frame is in the ring", told, strategy)
+            output = self.failure(Race(), None if strategy == "exhaustive" else 1_000, strategy=strategy)
+            self.assertIn("end: a frame is in the ring", output, strategy)
         search(Fixed(), 300)
         search(Fixed(), None, strategy="exhaustive", preemptions=0)
 
@@ -261,8 +261,8 @@ class Found(unittest.TestCase):
             def bring_up(self) -> None:
                 self.do_raise()
 
-        told = self.failure(Faulty("point raise"), 50, shrink=False)
-        lines = told[told.index("Traceback (") :].splitlines()
+        output = self.failure(Faulty("point raise"), 50, shrink=False)
+        lines = output[output.index("Traceback (") :].splitlines()
         self.assertRegex(lines[1], r'  File ".*explorer\.py", line \d+, in <lambda>')
         self.assertEqual(lines[-1], "KeyError: 'here'")
         self.assertRegex(self.failure(Ends("point"), 50), r"crash: end: ZeroDivisionError: .*\n(.*\n)+.*in end\n")
@@ -273,7 +273,7 @@ class Found(unittest.TestCase):
         """Calls from a thread that isn't a task are refused, and so is a search by a task."""
         class Own(Faulty):
             def do_own(self) -> None:
-                with mock.patch("threading.excepthook", lambda _told: None):
+                with mock.patch("threading.excepthook", lambda _args: None):
                     own = threading.Thread(target=self.do_poll)
                     own.start()
                     own.join()
@@ -296,11 +296,11 @@ class Found(unittest.TestCase):
             time.sleep(0.3)
             os.killpg(made.pid, signal.SIGINT)
             try:
-                told = made.communicate(timeout=60)[1]  # ends when every process has closed its standard error
+                output = made.communicate(timeout=60)[1]  # ends when every process has closed its standard error
             except subprocess.TimeoutExpired:
                 os.killpg(made.pid, signal.SIGKILL)
                 raise
-        self.assertEqual(told.splitlines()[-1], "KeyboardInterrupt")
+        self.assertEqual(output.splitlines()[-1], "KeyboardInterrupt")
 
     def test_no_memory_in_place(self) -> None:
         class Early(Faulty):
@@ -347,14 +347,14 @@ class Found(unittest.TestCase):
         twice = Twice("add", "add", "point")
         for scenario, strategy in ((Race(), "mixed"), (Race(), "exhaustive"), (twice, "exhaustive")):
             runs = None if strategy == "exhaustive" else 500
-            told = [self.failure(scenario, runs, strategy=strategy, jobs=jobs) for jobs in (1, 2, 3)]
-            told[0] = re.sub(r"(by exhaustive) in run \d+", r"\1", told[0])
-            self.assertEqual(len(set(told)), 1, told)
+            output = [self.failure(scenario, runs, strategy=strategy, jobs=jobs) for jobs in (1, 2, 3)]
+            output[0] = re.sub(r"(by exhaustive) in run \d+", r"\1", output[0])
+            self.assertEqual(len(set(output)), 1, output)
         search(Fixed(), 60, jobs=3)
         search(Faulty("up", "up"), None, strategy="exhaustive", preemptions=2, jobs=3)
-        told = self.failure(Faulty("die", "point"), 200, jobs=2, shrink=False)
-        self.assertIn("crash: the process was killed by signal 11", told)
-        self.assertRegex(told, r"(in|before) run \d+ of seed 1")
+        output = self.failure(Faulty("die", "point"), 200, jobs=2, shrink=False)
+        self.assertIn("crash: the process was killed by signal 11", output)
+        self.assertRegex(output, r"(in|before) run \d+ of seed 1")
 
     def test_shares(self) -> None:
         """Exhaustive searches with several processes run every schedule that one runs."""
@@ -382,8 +382,8 @@ class Found(unittest.TestCase):
         self.assertRaises(BadWord, replay, Race(), HERE / "race.schedule", 0)
         wrong = Interrupted()
         wrong.where = "nobody"
-        for scenario, told in ((Faulty(), "begin creates no task"), (wrong, "isr runs on a task that doesn't exist")):
-            with self.assertRaisesRegex(ValueError, told):
+        for scenario, text in ((Faulty(), "begin creates no task"), (wrong, "isr runs on a task that doesn't exist")):
+            with self.assertRaisesRegex(ValueError, text):
                 search(scenario, 5)
         for name in ("", "a name", "a/b", "x" * 64):
             wrong = Faulty("point")
@@ -515,7 +515,7 @@ class Reader(Scenario):
         return None
 
 
-class Told(unittest.TestCase):
+class Failures(unittest.TestCase):
     """How a failure is reported: shrunk, with its cycle, and for a driver that was changed."""
 
     def found(self, scenario: Scenario, **words: object) -> Failure:
@@ -561,8 +561,8 @@ class Told(unittest.TestCase):
         with tempfile.TemporaryDirectory() as folder:
             path = self.found(Faulty("hang"), hang=1, out=folder).path
             for _ in range(2):
-                told = replay(Faulty("hang"), path, 1)
-                self.assertEqual((told.outcome, told.words), ("hang", "t0 runs without reaching a point"))
+                result = replay(Faulty("hang"), path, 1)
+                self.assertEqual((result.outcome, result.words), ("hang", "t0 runs without reaching a point"))
         self.assertEqual(search(Fixed(), 20).never, [])
 
     def test_seconds(self) -> None:
@@ -581,14 +581,14 @@ class Told(unittest.TestCase):
             self.assertEqual((again.outcome, again.points, again.cycle), ("endless", failure.result.points, 4))
             script = (Path(folder) / "polite.nic").read_text()
             self.assertEqual(script.count("# task one: "), failure.result.actors.count("task one"))
-            for wrong, told in {
+            for wrong, message in {
                 "task one\ncycle\n": "the cycle has no point",
                 "cycle\ntask one\ncycle\n": ":4: the file already has a cycle",
                 "task one\nwithout task one\n": ":3: \"without\" lines must precede",
                 "without rx\n": ':2: the scenario has no "rx"',
             }.items():
                 failure.path.write_text(f"scenario polite\n{wrong}")
-                with self.assertRaisesRegex(BadSchedule, told):
+                with self.assertRaisesRegex(BadSchedule, message):
                     replay(Polite(), failure.path)
 
     def test_lenient(self) -> None:
@@ -611,8 +611,8 @@ class Told(unittest.TestCase):
         parts = [traced(strategy="exhaustive", shard=(k, 3)) for k in (1, 2, 3)]
         self.assertEqual(set().union(*map(set, parts)), set(whole))
         self.assertTrue(sum(map(len, parts)) <= len(whole) + 2 * BOUNDS and min(map(len, parts)) > 3)
-        told = [self.found(Race(), shard=(k, 3)).args[0].splitlines()[1] for k in (1, 2, 3)]
-        runs = [int(re.search(r"in run (\d+) of", line)[1]) for line in told]
+        lines = [self.found(Race(), shard=(k, 3)).args[0].splitlines()[1] for k in (1, 2, 3)]
+        runs = [int(re.search(r"in run (\d+) of", line)[1]) for line in lines]
         whole_run = int(re.search(r"in run (\d+) of", self.found(Race()).args[0].splitlines()[1])[1])
         self.assertEqual(([run % 3 for run in runs], min(runs)), ([0, 1, 2], whole_run))
         for wrong in ((0, 2), (3, 2), (1, 65_537), (1,), "1/2", None, (1.0, 2)):
@@ -740,21 +740,21 @@ class Plugin(unittest.TestCase):
     def test_all(self) -> None:
         with tempfile.TemporaryDirectory() as folder:
             (Path(folder) / "test_it.py").write_text(TESTS)
-            told = self.pytest(folder, "--nic-out", folder, "--strict-markers", "--nic-jobs", "2")
+            output = self.pytest(folder, "--nic-out", folder, "--strict-markers", "--nic-jobs", "2")
             self.assertTrue((Path(folder) / "race.nic").exists())
-            self.assertIn("4 failed, 2 passed", told)
-            self.assertIn("end: a frame is in the ring", told)
-            self.assertIn("test_nothing returns no Scenario", told)
-            self.assertIn("nic_schedules: walks is none of runs, seed", told)
-            self.assertIn("nic_schedules: depth: 17 isn't a whole number from 1 to 16", told)
+            self.assertIn("4 failed, 2 passed", output)
+            self.assertIn("end: a frame is in the ring", output)
+            self.assertIn("test_nothing returns no Scenario", output)
+            self.assertIn("nic_schedules: walks is none of runs, seed", output)
+            self.assertIn("nic_schedules: depth: 17 isn't a whole number from 1 to 16", output)
             self.assertIn("--nic-jobs: 0 is no whole number", self.pytest(folder, "--nic-jobs", "0"))
             self.assertIn("--nic-shard: (3, 2) isn't (K, N)",
                           self.pytest(folder, "--nic-shard", "3/2"))  # fmt: skip
             self.assertIn("1 passed", self.pytest(folder, "--nic-shard", "1/2", "-k", "fixed"))
             self.assertIn("--nic-out: no such folder", self.pytest(folder, "--nic-out", "/nowhere"))
-            told = self.pytest(folder, "--nic-replay", "race.schedule", "-k", "race or fixed")
-            self.assertIn("1 failed, 1 skipped", told)
-            self.assertIn("replayed", told)
+            output = self.pytest(folder, "--nic-replay", "race.schedule", "-k", "race or fixed")
+            self.assertIn("1 failed, 1 skipped", output)
+            self.assertIn("replayed", output)
 
     def test_example(self) -> None:
         example = HERE.parent / "examples/race.py"

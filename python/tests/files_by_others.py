@@ -65,9 +65,9 @@ class Files(unittest.TestCase):
                     name, *words = tool.split()
                     made = started(name, *words, str(path))
                     self.assertEqual(made.returncode, status, made.stderr)
-                    told = made.stdout + made.stderr
-                    self.assertIn(f"{path}{line}" if status else line, told)
-                    self.assertNotIn("Traceback", told)
+                    output = made.stdout + made.stderr
+                    self.assertIn(f"{path}{line}" if status else line, output)
+                    self.assertNotIn("Traceback", output)
                     self.assertLess(max(map(len, made.stderr.splitlines()), default=0), 400)
         for word, number in (("007", 7), ("0x" + "0" * 5000 + "1f", 31), (DIGITS, TOO_LARGE)):
             self.assertEqual(number_of(word), number)
@@ -93,9 +93,9 @@ class Files(unittest.TestCase):
             ("nicview", script, "--\x1b[31m"),
         ):  # fmt: skip
             with self.subTest(name, words=words):
-                told = started(name, *map(str, words), cwd=self.folder)
-                self.assertNotIn("Traceback", told.stderr)
-                self.assertEqual(ACTS.findall(told.stdout + told.stderr), [])
+                ran = started(name, *map(str, words), cwd=self.folder)
+                self.assertNotIn("Traceback", ran.stderr)
+                self.assertEqual(ACTS.findall(ran.stdout + ran.stderr), [])
         for name in ("page", "text"):
             self.assertEqual(ACTS.findall((self.folder / name).read_text()), [])
 
@@ -146,11 +146,11 @@ class Files(unittest.TestCase):
                 raise Refused("UnknownName", text.decode().split("\n").index("w NOSUCH 1") + 1)
 
         self.assertEqual([refusals.most_of("w" * size) for size in (1, 1 << 19, 1 << 20, 1 << 23)], [100, 100, 64, 8])
-        for looked, told in ((1 << 26, 100), (1 << 15, 14)):
+        for looked, count in ((1 << 26, 100), (1 << 15, 14)):
             bench, text = Refusing(), "w NOSUCH 1\n" * 200
             with mock.patch.object(refusals, "LOOKED", looked):
                 found = list(refusals.refusals(bench, text, Refused("UnknownName", 1)))  # type: ignore[arg-type]
-            self.assertEqual((len(found), bench.asked), (told, told - 1))
+            self.assertEqual((len(found), bench.asked), (count, count - 1))
         place = explained("w " + "RDT" * 100_000 + " 1", Refused("UnknownName", 1))
         self.assertLess(len(place.text), 400)
         with mock.patch("difflib.get_close_matches", return_value=[]) as compared:

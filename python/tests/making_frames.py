@@ -114,8 +114,8 @@ class Scaling(unittest.TestCase):
                 frame = frames.made(kind, *ends, 1000 + number, by_chance.randrange(65536), tags=tags)
                 nic.arrive(frame)
                 (wrote,) = [event for event in nic.settle(16) if type(event).__name__ == "Wrote"]
-                told = descriptors.received(nic.memory[wrote.descriptor : wrote.descriptor + 16])
-                got = (told.rss_type, told.rss_hash, wrote.queue)
+                received = descriptors.received(nic.memory[wrote.descriptor : wrote.descriptor + 16])
+                got = (received.rss_type, received.rss_hash, wrote.queue)
                 self.assertEqual(got, (rss.type_of(frame), rss.hash_of(frame), rss.queue_of(frame)), frame.hex())
 
     def test_as_the_library(self) -> None:

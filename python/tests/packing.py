@@ -93,7 +93,7 @@ class Wheel(unittest.TestCase):
         name = backend.write_wheel(cls.folder / folder, backend.version(), backend.modules(), cls.binaries)
         return f"{folder}/{name}"
 
-    def told(self, code: str, *words: str) -> subprocess.CompletedProcess[str]:
+    def python(self, code: str, *words: str) -> subprocess.CompletedProcess[str]:
         """Runs code with only the unpacked package, and returns its output."""
         environment = plain_environment(PYTHONPATH=str(self.installed))
         call = [sys.executable, "-c", code, *words]
@@ -109,10 +109,10 @@ class Wheel(unittest.TestCase):
             record = next(name for name in names if name.endswith("/RECORD"))
             rows = list(csv.reader(io.StringIO(archive.read(record).decode())))
             self.assertEqual([row[0] for row in rows], names)
-            for name, told, length in rows[:-1]:
+            for name, digest, length in rows[:-1]:
                 data = archive.read(name)
                 sum_of = base64.urlsafe_b64encode(hashlib.sha256(data).digest()).rstrip(b"=").decode()
-                self.assertEqual((told, int(length)), (f"sha256={sum_of}", len(data)), name)
+                self.assertEqual((digest, int(length)), (f"sha256={sum_of}", len(data)), name)
             self.assertEqual(archive.getinfo("nic82599/nicbench").external_attr >> 16, 0o100755)
 
     def test_all_that_is_kept(self) -> None:
@@ -129,12 +129,12 @@ class Wheel(unittest.TestCase):
             self.assertIsNone(backend.browser_page.__wrapped__())
 
     def test_library_beside(self) -> None:
-        made = self.told("import nic82599 as n; nic = n.Nic(); print(hex(nic['SRRCTL[3]']), n.places.library())")
+        made = self.python("import nic82599 as n; nic = n.Nic(); print(hex(nic['SRRCTL[3]']), n.places.library())")
         self.assertEqual(made.stdout, f"0x402 {self.installed}/nic82599/{places.SONAME}\n", made.stderr)
 
     def test_explorer_beside(self) -> None:
         """The package contains everything that a search needs."""
-        made = self.told(SEARCH)
+        made = self.python(SEARCH)
         self.assertEqual(made.stdout, "1\n", made.stderr)
 
     def test_commands(self) -> None:
@@ -142,7 +142,7 @@ class Wheel(unittest.TestCase):
         for name, place in tomllib.loads((ROOT / "python/pyproject.toml").read_text())["project"]["scripts"].items():
             module, function = place.split(":")
             code = f"import sys; sys.argv[0] = '{name}'; from {module} import {function} as it; sys.exit(it())"
-            made = self.told(code, "--help")
+            made = self.python(code, "--help")
             self.assertEqual(made.returncode, 0, made.stderr)
             self.assertNotRegex(made.stdout, r"tools/|\./nicbench", name)
 
@@ -152,7 +152,7 @@ class Wheel(unittest.TestCase):
 
     def test_view_is_that_of_the_clone(self) -> None:
         code = "import sys; from nic82599.tools.nicview import command; sys.exit(command())"
-        made = self.told(code, str(SCRIPT), "--text")
+        made = self.python(code, str(SCRIPT), "--text")
         clone = subprocess.run([ROOT / "tools/nicview", SCRIPT, "--text"], capture_output=True, text=True)
         self.assertEqual((made.returncode, made.stdout), (0, clone.stdout), made.stderr)
 
@@ -160,10 +160,10 @@ class Wheel(unittest.TestCase):
         (self.installed / "nic82599/nicbench").rename(self.installed / "kept")
         try:
             code = f"import sys; sys.argv[1:] = ['{SCRIPT}', '--text']; import os; os.environ['PATH'] = ''\n"
-            made = self.told(code + "from nic82599.tools.nicview import command; sys.exit(command())")
+            made = self.python(code + "from nic82599.tools.nicview import command; sys.exit(command())")
             self.assertEqual(made.returncode, 4)
             self.assertRegex(made.stderr, r"^nicview: no program nicbench in .* or on the PATH: [^\n]*\n$")
-            made = self.told("import sys; from nic82599.places import nicbench; sys.exit(nicbench())")
+            made = self.python("import sys; from nic82599.places import nicbench; sys.exit(nicbench())")
             self.assertEqual((made.returncode, made.stderr.count("\n")), (127, 1))
         finally:
             (self.installed / "kept").rename(self.installed / "nic82599/nicbench")
@@ -231,14 +231,14 @@ class Clone(unittest.TestCase):
 
 class Places(unittest.TestCase):
     def test_variables_decide(self) -> None:
-        told = {name: os.environ.get(name) for name in ("NIC82599_LIBRARY", "NICBENCH")}
+        kept = {name: os.environ.get(name) for name in ("NIC82599_LIBRARY", "NICBENCH")}
         os.environ |= {"NIC82599_LIBRARY": "/nowhere/it.so", "NICBENCH": "/nowhere/nicbench"}
         try:
             self.assertEqual(places.program(), "/nowhere/nicbench")
             with self.assertRaisesRegex(places.Missing, "no C library at /nowhere/it.so: "):
                 places.library()
         finally:
-            for name, value in told.items():
+            for name, value in kept.items():
                 os.environ.pop(name) if value is None else os.environ.update({name: value})
 
     def test_clone(self) -> None:

@@ -42,8 +42,8 @@ NO_RESET = "no reset of the device (NICD_SHARED_DEVICE)"
 # For each class of card_drivers.py, the row that fails and a pattern of its message.
 WRONG = {
     "SlotWithoutDd": ("receive-empty", "check: receive returned true, but no frame came"),
-    "StopThatDoesNotWait": ("close-amid-frames", "queue 0 is on although the driver is closed"),
-    "IdleToldEarly": ("send-wrap", r"check: reclaim reports all of queue 0 as transmitted, but frame \d+ .*isn't"),
+    "StopThatDoesNotWait": ("close-during-frames", "queue 0 is on although the driver is closed"),
+    "IdleReportedEarly": ("send-wrap", r"check: reclaim reports all of queue 0 as transmitted, but frame \d+ .*isn't"),
     "LengthBeforeDd": ("receive-one", "check: a frame of 0 bytes is delivered from queue 0"),
     "LockTwice": ("receive-one", "deadlock: receive0 waits for counters, which receive0 holds"),
     "RaisesInReceive": ("receive-one", r"check: IndexError: list index out of range \(card_drivers.py:\d+\)"),
@@ -98,9 +98,9 @@ def row(driver: type[Driver], name: str, runs: int, folder: str, hang: int = 600
 
 def rows_of(driver: type[Driver]) -> dict[str, str]:
     """Returns a driver's rows, and what it lacks for each."""
-    status, told = ran(driver, "--list")
-    assert status == 0, told
-    return {line.split("\t")[0]: line.split("\t")[2] for line in told.splitlines()}
+    status, output = ran(driver, "--list")
+    assert status == 0, output
+    return {line.split("\t")[0]: line.split("\t")[2] for line in output.splitlines()}
 
 
 class Cards(unittest.TestCase):
@@ -109,35 +109,35 @@ class Cards(unittest.TestCase):
         self.assertGreater(len(rows), 100)
         with tempfile.TemporaryDirectory() as folder:
             for name, lack in rows.items():
-                status, told = row(drivers.Both, name, 25, folder)
-                self.assertEqual(status, 0 if lack == "-" else 4, told)
+                status, output = row(drivers.Both, name, 25, folder)
+                self.assertEqual(status, 0 if lack == "-" else 4, output)
 
-    def test_what_is_wrong_is_told(self) -> None:
+    def test_what_is_wrong_is_reported(self) -> None:
         for name, (failed, words) in WRONG.items():
             driver = getattr(drivers, name)
             with self.subTest(name), tempfile.TemporaryDirectory() as folder:
-                status, told = row(driver, failed, 300, folder, 2 if words.startswith("hang") else 600)
-                self.assertEqual(status, 2 if name == "RaisesInInit" else 1, told)
-                self.assertRegex(told, words)
+                status, output = row(driver, failed, 300, folder, 2 if words.startswith("hang") else 600)
+                self.assertEqual(status, 2 if name == "RaisesInInit" else 1, output)
+                self.assertRegex(output, words)
                 if status == 1:
                     self.assertIn("# ", (Path(folder) / f"{failed}.schedule").read_text())
                 if name not in NONE_PASSES:
-                    status, told = row(driver, "setup-ring-values", 25, folder)
-                    self.assertEqual(status, 0, told)
+                    status, output = row(driver, "setup-ring-values", 25, folder)
+                    self.assertEqual(status, 0, output)
 
     def test_an_exception_has_its_lines(self) -> None:
         with tempfile.TemporaryDirectory() as folder:
-            _, told = row(drivers.RaisesInReceive, "receive-one", 50, folder)
-            told = (Path(folder) / "receive-one.traceback").read_text()
-            self.assertRegex(told, r"(?s)return bytes\(self.rx.buffers\[99\]\).+\nIndexError: list index out of range")
-            self.assertNotIn("calls.py", told)
+            _, text = row(drivers.RaisesInReceive, "receive-one", 50, folder)
+            text = (Path(folder) / "receive-one.traceback").read_text()
+            self.assertRegex(text, r"(?s)return bytes\(self.rx.buffers\[99\]\).+\nIndexError: list index out of range")
+            self.assertNotIn("calls.py", text)
             schedule = Path(folder) / "receive-one.schedule"
             self.assertRegex(schedule.read_text(), r"r EICS = 0x\w+ at card_drivers.py:\d+\n")
-            status, told = ran(drivers.RaisesInReceive, "--row", "receive-one", "--replay", str(schedule))
+            status, text = ran(drivers.RaisesInReceive, "--row", "receive-one", "--replay", str(schedule))
             self.assertEqual(status, 1)
-            self.assertRegex(told, r"(?m)^IndexError: list index out of range$")
+            self.assertRegex(text, r"(?m)^IndexError: list index out of range$")
 
-    def test_what_is_left_out_is_told(self) -> None:
+    def test_what_is_left_out_is_reported(self) -> None:
         everything = set(rows_of(drivers.Everything).values())
         self.assertEqual(everything, {"-", NO_RESET})
         for name in OPTIONAL:
@@ -146,7 +146,7 @@ class Cards(unittest.TestCase):
             self.assertEqual(lacks, LACKS.get(name, {f"no {name}"}), name)
 
 
-    def test_what_a_driver_never_does_is_told(self) -> None:
+    def test_what_a_driver_never_does_is_reported(self) -> None:
         for flag in (Can.NO_MODERATION, Can.NO_HEADS, Can.ONE_VECTOR, Can.ONE_BUFFER, Can.NO_ADDRESS):
             kept = dict(vars(drivers.Everything)) | {"can": drivers.Everything.can | flag}
             lacks = set(rows_of(type("Never", (Driver,), kept)).values()) - {"-", NO_RESET}
@@ -184,9 +184,11 @@ class Refusals(unittest.TestCase):
     def test_what_the_card_refuses(self) -> None:
         fields = {"name": "a b", "queues": 5, "slots": 12, "frame": 9, "threads": 1}
         for field, value in fields.items():
-            status, told = ran(type("Wrong", (drivers.Both,), {field: value}), "--list")
+            status, output = ran(type("Wrong", (drivers.Both,), {field: value}), "--list")
             self.assertEqual(status, 2)
-            self.assertRegex(told, "card: the driver is refused: the name|queues is|slots must|frame must|thread isn't")
+            self.assertRegex(
+                output, "card: the driver is refused: the name|queues is|slots must|frame must|thread isn't"
+            )
 
     def test_lengths_are_bytes(self) -> None:
         """Item sizes don't matter, nor does what the driver's bytes claim about themselves."""
@@ -239,8 +241,8 @@ class Command(unittest.TestCase):
             words = [sys.executable, "-P", "-m", "nic82599.drive", driver, *rows]
             made = subprocess.run(words, env=how, capture_output=True, text=True, check=False)
             self.assertIn(r"check: red \x1b[31m and \u202e turned", made.stdout)
-            told = [made.stdout, made.stderr, *((Path(folder) / f"card.{it}").read_text() for it in ("txt", "html"))]
-            self.assertEqual(re.findall("[\x00-\x08\x0b-\x1f\x7f-\x9f\u202e]", "".join(told)), [])
+            texts = [made.stdout, made.stderr, *((Path(folder) / f"card.{it}").read_text() for it in ("txt", "html"))]
+            self.assertEqual(re.findall("[\x00-\x08\x0b-\x1f\x7f-\x9f\u202e]", "".join(texts)), [])
             failure = ElementTree.parse(Path(folder) / "card.xml").find("testcase/failure")
             self.assertIn(r"red \x1b[31m", failure.get("message") if failure is not None else "")
 
@@ -250,15 +252,15 @@ class Command(unittest.TestCase):
             self.skipTest("the command needs a clone, and the test /proc")
         for name in ("Forks", "ForksAndGoesOn", *(["LeavesADaemon"] if adopts() else [])):
             with self.subTest(name), tempfile.TemporaryDirectory() as folder:
-                told = Path(folder) / "processes"
-                told.touch()
-                how = {**os.environ, "PYTHONPATH": str(HERE.parent), "PROCESSES": str(told)}
+                listing = Path(folder) / "processes"
+                listing.touch()
+                how = {**os.environ, "PYTHONPATH": str(HERE.parent), "PROCESSES": str(listing)}
                 rows = ["--rows", "receive-one", "--runs", "10", "--every", "10", "--no-pages", "-o", folder]
                 words = [sys.executable, "-P", "-m", "nic82599.drive", f"{HERE / 'card_drivers.py'}:{name}", *rows]
                 words += ["--hang", "600"]  # each of these drivers waits until its child process is running
                 made = subprocess.run(words, env=how, capture_output=True, text=True, timeout=3600, check=False)
                 self.assertIn(f"{drivers.Both.name}: 1 passed, 0 failed", made.stdout, made.stderr)
-                processes = [int(it) for it in told.read_text().split()]
+                processes = [int(it) for it in listing.read_text().split()]
                 self.assertEqual(len(processes) > 0, name != "ForksAndGoesOn")
                 self.assertEqual([it for it in processes if is_there(it)], [])
 

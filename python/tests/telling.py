@@ -26,8 +26,9 @@ with Nic(blocks=1) as nic:
     nic.arrive(bytes(60))
     nic.settle(1)
 """
-TOLD = """\
-nic82599: stray: r 0x10148: this is FWSM, which the bench doesn't model: don't wait: a reset is done when the write returns
+PRINTED = """\
+nic82599: stray: r 0x10148: this is FWSM, which the bench doesn't model: don't wait: \
+a reset is done when the write returns
 nic82599: 1 frame was dropped: FCTRL.UPE was 0, no RAL and RAH with AV 1 matched; the last one to 02:00:00:00:00:09
 the driver goes on
 nic82599: rx: fault queue 0 outside: RDT[0] 9 of 8 slots (RDLEN[0] / 16)
@@ -36,7 +37,7 @@ nic82599: frames dropped (filter): 2 in all
 SILENT = "the driver goes on\n"
 
 
-def told(program: str, given: str | None) -> str:
+def output_of(program: str, given: str | None) -> str:
     """Returns a program's standard error and output combined, with this value of NIC82599_TELL, or without it for
     None."""
     how = {name: value for name, value in os.environ.items() if name != "NIC82599_TELL"}
@@ -49,14 +50,14 @@ def told(program: str, given: str | None) -> str:
 
 class Telling(unittest.TestCase):
     def test_as_it_happens(self) -> None:
-        self.assertEqual(told(PROGRAM, "1"), TOLD)
+        self.assertEqual(output_of(PROGRAM, "1"), PRINTED)
 
     def test_not_asked_for(self) -> None:
         for given in (None, "", "0"):
             with self.subTest(given=given):
-                self.assertEqual(told(PROGRAM, given), SILENT)
+                self.assertEqual(output_of(PROGRAM, given), SILENT)
 
     def test_not_closed(self) -> None:
         """A program that doesn't close its controllers reports its counts when it ends."""
         program = PROGRAM.replace("with Nic(blocks=1) as nic:", "nic = Nic(blocks=1)\nif True:")
-        self.assertEqual(told(program, "1"), TOLD)
+        self.assertEqual(output_of(program, "1"), PRINTED)

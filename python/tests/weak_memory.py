@@ -320,10 +320,10 @@ class Kit(unittest.TestCase):
                 found, queue = flow.rss(nic)
                 nic.arrive(flow.frame(60 + 100 * number, number))
                 nic.settle()
-                told = received(nic.memory[128 * queue : 128 * queue + 16])
-                self.assertEqual((told.done, told.rss_hash), (True, found), flow)
+                fields = received(nic.memory[128 * queue : 128 * queue + 16])
+                self.assertEqual((fields.done, fields.rss_hash), (True, found), flow)
                 at = 2048 * (queue + 1)
-                self.assertEqual(frame_number(nic.memory[at : at + told.length]), number)
+                self.assertEqual(frame_number(nic.memory[at : at + fields.length]), number)
                 nic.memory[128 * queue : 128 * queue + 16] = rx_descriptor(at)
 
     def test_mailbox(self) -> None:

@@ -82,11 +82,11 @@ def set_up(base: dict[str, str], lines: list[str]) -> list[str]:
 class Why(unittest.TestCase):
     def test_cases(self) -> None:
         count = 0
-        for name, lines, told in cases():
+        for name, lines, wanted in cases():
             with self.subTest(name), Nic(2, 8, 8) as nic:
                 for line in lines:
                     make(nic, line)
-                self.assertEqual(nic.why().splitlines(), told)
+                self.assertEqual(nic.why().splitlines(), wanted)
             count += 1
         self.assertGreater(count, 45)
 
@@ -95,9 +95,9 @@ class Why(unittest.TestCase):
         with Nic(fifo=1, blocks=1) as nic:
             for queue in range(128):
                 nic[f"RDLEN[{queue}]"] = 128
-            told = nic.why().splitlines()
-            self.assertEqual(len([line for line in told if line.endswith("the queue is off")]), 128)
-            self.assertEqual(told[-1], "rx 127: SRRCTL[127].DESCTYPE 0: the bench supports only 1")
+            reasons = nic.why().splitlines()
+            self.assertEqual(len([line for line in reasons if line.endswith("the queue is off")]), 128)
+            self.assertEqual(reasons[-1], "rx 127: SRRCTL[127].DESCTYPE 0: the bench supports only 1")
 
     def test_restored(self) -> None:
         """Drops are counted from a restored snapshot on, separately for each controller."""
@@ -233,7 +233,7 @@ OFF = "RXCTRL.RXEN 0: receiving is off\nrx 0: RDH[0] 0, RDT[0] 0: head and tail 
 
 @unittest.skipUnless(with_pytest(), "pytest isn't installed")
 class Plugin(unittest.TestCase):
-    def told(self, *words: str) -> str:
+    def printed(self, *words: str) -> str:
         """Runs pytest and returns its output."""
         with tempfile.TemporaryDirectory() as folder:
             (Path(folder) / "test_broken.py").write_text(FAILING)
@@ -244,7 +244,7 @@ class Plugin(unittest.TestCase):
             return ran.stdout + ran.stderr
 
     def test_sections(self) -> None:
-        text = self.told()
+        text = self.printed()
         self.assertIn("8 failed, 2 passed", text)
         parts = dict(re.findall(r"^_+ (test_\w+) _+$(.*?)(?=^_+ test_|^=+ short)", text, re.M | re.S))
         for name in ("in_a_with", "by_a_fixture", "of_a_session_again", "still_open", "two"):

@@ -120,11 +120,11 @@ fn make(clone: &Path, targets: &[String]) -> Result<(), String> {
     for name in ["MAKEFLAGS", "MFLAGS", "MAKELEVEL", "CARGO_MAKEFLAGS", "TARGET", "OUT_DIR", "V"] {
         command.env_remove(name);
     }
-    let told = command.output().map_err(|why| format!("can't start make ({why}): {HELP}"))?;
-    if told.status.success() {
+    let output = command.output().map_err(|why| format!("can't start make ({why}): {HELP}"))?;
+    if output.status.success() {
         return Ok(());
     }
-    Err(format!("`make -C c` in {} fails:\n{}", clone.display(), String::from_utf8_lossy(&told.stderr).trim()))
+    Err(format!("`make -C c` in {} fails:\n{}", clone.display(), String::from_utf8_lossy(&output.stderr).trim()))
 }
 
 /// Debian's name for this machine's library folder within a prefix.
@@ -148,10 +148,10 @@ fn version_beside(folder: &Path) -> Option<String> {
 
 fn asked(word: &str) -> Option<String> {
     // (by default pkg-config leaves out the system folders)
-    let told =
+    let output =
         Command::new("pkg-config").env("PKG_CONFIG_ALLOW_SYSTEM_LIBS", "1").args([word, "nic82599"]).output().ok()?;
-    let text = String::from_utf8(told.stdout).ok()?;
-    if told.status.success() {
+    let text = String::from_utf8(output.stdout).ok()?;
+    if output.status.success() {
         Some(text.trim().to_owned())
     } else {
         None

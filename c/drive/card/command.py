@@ -220,8 +220,8 @@ def command() -> int:
 def _command(given: argparse.Namespace) -> int:
     try:
         if given.compare:
-            told, is_worse = report.compare(report.read(given.compare[0]), report.read(given.compare[1]))
-            print(told, end="")
+            differences, is_worse = report.compare(report.read(given.compare[0]), report.read(given.compare[1]))
+            print(differences, end="")
             return ONE_FAILED if is_worse else ALL_PASSED
         if given.list and not given.driver:
             return list_all(given)

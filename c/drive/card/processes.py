@@ -85,11 +85,11 @@ def _children() -> Iterator[int]:
         with contextlib.suppress(OSError, ValueError, IndexError):
             file = os.open(f"/proc/{name}/stat", os.O_RDONLY)
             try:
-                told = os.read(file, MOST_OF_STAT)
+                stat = os.read(file, MOST_OF_STAT)
             finally:
                 os.close(file)
             # The name is in parentheses and may contain any characters. The state and the parent follow it.
-            if int(told.rpartition(b")")[2].split(None, 2)[1]) == os.getpid():
+            if int(stat.rpartition(b")")[2].split(None, 2)[1]) == os.getpid():
                 yield int(name)
 
 

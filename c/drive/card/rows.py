@@ -171,10 +171,10 @@ class Runner:
         except (OSError, xml.etree.ElementTree.ParseError):
             return
         path.unlink()
-        told = {one.get("name"): one.get("value", "") for one in suite.iter("property")}
-        row.schedules += int(told.get("schedules") or 0)
-        row.points += int(told.get("points") or 0)
-        row.distinct = row.distinct or told.get("distinct") or ""
+        properties = {one.get("name"): one.get("value", "") for one in suite.iter("property")}
+        row.schedules += int(properties.get("schedules") or 0)
+        row.points += int(properties.get("points") or 0)
+        row.distinct = row.distinct or properties.get("distinct") or ""
         row.seconds += float(suite.get("time") or 0)
         if (failure := suite.find("testcase/failure")) is not None:
             row.schedule = printable(failure.text or "")
@@ -182,8 +182,8 @@ class Runner:
     def read_failure(self, row: Row, printed: str) -> None:
         found = re.search(r": FAILED (.+)", printed)
         fail(row, found[1] if found else "it failed")
-        if (told := self.folder / f"{row.name}.traceback").exists():  # what a Python driver raised
-            row.schedule = f"{printable(told.read_text()).rstrip()}\n\n{row.schedule}"
+        if (traceback := self.folder / f"{row.name}.traceback").exists():  # what a Python driver raised
+            row.schedule = f"{printable(traceback.read_text()).rstrip()}\n\n{row.schedule}"
         row.schedule_file = f"{row.name}.schedule"
         row.page = page_of(self.folder / f"{row.name}.html")
         memory = " --memory weak" if self.budget.memory == "weak" else ""

@@ -2,14 +2,14 @@
    and "weak" if it needs weak memory. driver.c takes the names from this file, check.py all of it. */
 WRONG(BUFFER_AGAIN_BEFORE_DD, "send-one", "reclaim reports all of queue 0 as transmitted, but frame 0 in slot 0 isn't",
       "A buffer is reclaimed before the device reports it as transmitted")
-WRONG(EICR_CLEARED_BEHIND_POLL, "interrupt-receive",
+WRONG(EICR_CLEARED_AFTER_POLL, "interrupt-receive",
       "frame \\d is in slot \\d of queue 0 but never reached the caller: cause 0 is enabled in EIMS but not raised",
       "A poll that found its ring empty clears EICR before it unmasks")
-WRONG(ENABLE_NOT_POLLED, "resize-amid-traffic", "RDBAL.0. is written while the queue is on|isn't lent",
+WRONG(ENABLE_NOT_POLLED, "resize-during-traffic", "RDBAL.0. is written while the queue is on|isn't lent",
       "A queue being disabled stays on for a while, and its ring is moved meanwhile")
 WRONG(LENGTH_BEFORE_DD, "receive-one", "a frame of 0 bytes is delivered from queue 0",
       "The length of a frame is read before DD")
-WRONG(LINK_CHANGE_LOST, "link-amid-reset", "the link is down, but the driver reports it as up",
+WRONG(LINK_CHANGE_LOST, "link-during-reset", "the link is down, but the driver reports it as up",
       "A reset clears the cause of a link change")
 WRONG(LOCK_IN_HANDLER_AND_POLL, "interrupt-spurious", "deadlock: .* waits for a lock, which .* holds",
       "A handler takes the lock held by the poll it interrupts")
@@ -20,9 +20,9 @@ WRONG(MESSAGE_BEFORE_ACK, "mailbox-function-sends", "message 0 of the function i
 WRONG(RS_ON_EVERY_FOURTH, "send-one",
       "1 frame of queue 0 hasn't been transmitted, although all have: slot 0 was never reclaimed, because it has no RS",
       "Only every fourth descriptor requests a report, so the others wait for it")
-WRONG(RSTD_TOLD_ONCE, "mailbox-ready-once", "deadlock: ready waits",
+WRONG(RSTD_SEEN_ONCE, "mailbox-ready-once", "deadlock: ready waits",
       "One read clears RSTD, but a different thread needed it")
-WRONG(STOP_THAT_DOES_NOT_WAIT, "close-amid-frames", "queue 0 is on although the driver is closed|isn't lent",
+WRONG(STOP_THAT_DOES_NOT_WAIT, "close-during-frames", "queue 0 is on although the driver is closed|isn't lent",
       "A stop doesn't wait until the queue is off")
 WRONG(TAIL_BEFORE_DESCRIPTOR, "receive-wrap", "fault: queue 0: 0x\\w+ isn't lent .*; receive0 last wrote RDT\\[0\\]",
       "The tail is advanced before its descriptor is written")
@@ -39,7 +39,7 @@ WRONG(INTERRUPT_MODERATION, "interrupt-receive", "is in slot \\d of queue 0 but 
       "A poll loses an interrupt, because something else unmasks too")
 WRONG(MAILBOX_WITHDRAWN_REQUEST, "host-withdrawn-request", "it was mixed or overwritten",
       "The reply to a withdrawn request overwrites the next request")
-WRONG(RING_RESIZE_JUMBO, "resize-amid-chains", "frame \\d of 5000 bytes is delivered with|other bytes",
+WRONG(RING_RESIZE_JUMBO, "resize-during-chains", "frame \\d of 5000 bytes is delivered with|other bytes",
       "Half a frame is left over when a ring is replaced")
 WRONG(TRANSMIT_WATCHDOG, "send-one", "sent frame 0 was transmitted a second time",
       "A watchdog resends transmitted frames before the queue is off")
@@ -47,7 +47,8 @@ WRONG(SLOT_WITHOUT_DD, "receive-empty", "receive returned true, but no frame cam
 WRONG(SLOT_TAKEN_TWICE, "receive-one", "frame 0 is delivered a second time", "A slot is taken twice")
 WRONG(ACCEPTED_AND_DROPPED, "send-full", "never transmitted|reclaim reports all of queue 0",
       "With a full ring, the frame is accepted but dropped")
-WRONG(IDLE_TOLD_EARLY, "send-wrap", "reclaim reports all of queue 0 as transmitted, but frame \\d in slot \\d isn't",
+WRONG(IDLE_REPORTED_EARLY, "send-wrap",
+      "reclaim reports all of queue 0 as transmitted, but frame \\d in slot \\d isn't",
       "All frames are reported as transmitted after the first")
 WRONG(CAUSE_READ_AWAY, "setup-cause-read", "a read of EICR clears the causes 0x0001 of queues",
       "A handler reads EICR to clear it, which the card doesn't do with MSI-X")
@@ -97,19 +98,19 @@ WRONG(IVAR_OF_TWO_QUEUES, "rss-four-vectors", "of queue [23] but never reached t
 WRONG(MISSING_WMB, "send-one", "fault: queue 0: legacy", "A tail write overtakes the store of its descriptor", "weak")
 WRONG(MISSING_RMB, "receive-one", "frame 0 is delivered with wrong bytes", "The bytes of a frame are read before DD",
       "weak")
-WRONG(VECTORS_AFTER_RECEPTION, "open-amid-interrupts",
+WRONG(VECTORS_AFTER_RECEPTION, "open-during-interrupts",
       "frame \\d is in slot \\d of queue 0 but never reached the caller: cause 0 is enabled in EIMS but not raised",
       "IVAR is set after reception is on, so earlier frames raise no cause")
-WRONG(CAUSES_RAISED_TOO_EARLY, "open-amid-interrupts",
+WRONG(CAUSES_RAISED_TOO_EARLY, "open-during-interrupts",
       "frame \\d is in slot \\d of queue 0 but never reached the caller",
       "EICS raises the causes of earlier frames, but EICR is cleared afterwards")
 WRONG(CAUSES_ENABLED_FIRST, "setup-vector-order", "EIMS enables the causes 0x0001 of queues, but the IVAR byte",
       "EIMS enables the causes before IVAR sets their vectors")
-WRONG(FILTER_BY_RESTART, "filter-amid-traffic", "is delivered before|never reached the caller|wasn't received",
+WRONG(FILTER_BY_RESTART, "filter-during-traffic", "is delivered before|never reached the caller|wasn't received",
       "A filter is changed by a restart, which loses accepted frames")
-WRONG(FILTER_CLEARED_FIRST, "list-amid-traffic", "to its own address wasn't received",
+WRONG(FILTER_CLEARED_FIRST, "list-during-traffic", "to its own address wasn't received",
       "All addresses are cleared before the new ones are written")
-WRONG(FILTER_BY_STOP, "promiscuous-amid-traffic", "to its own address wasn't received",
+WRONG(FILTER_BY_STOP, "promiscuous-during-traffic", "to its own address wasn't received",
       "Reception is off while the filter is changed")
 WRONG(RETA_CHANGED_BY_HALF, "rss-changed", "arrived in queue \\d instead of \\d",
       "Only the first half of a new table is written")

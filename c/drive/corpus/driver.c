@@ -367,7 +367,7 @@ static void set_interrupts(void)
         nicx_vf_write32((uint8_t)vf, NIC_VTEIMS, own_causes());
         return;
     }
-    bool clears = BUG != EICR_CLEARED_BEHIND_POLL && BUG != CAUSE_READ_AWAY;
+    bool clears = BUG != EICR_CLEARED_AFTER_POLL && BUG != CAUSE_READ_AWAY;
     nicx_write32(NIC_GPIE, NIC_GPIE_MULTIPLE_MSIX | NIC_GPIE_PBA_SUPPORT | NIC_GPIE_EIAME |
                                (BUG == CAUSE_READ_AWAY ? 0 : NIC_GPIE_OCD));
     nicx_write32(NIC_IVAR_MISC, NIC_IVAR_MISC_INT_ALLOC_1_IS(OTHER_VECTOR) | NIC_IVAR_MISC_INT_ALLOC_VAL_1);
@@ -731,7 +731,7 @@ static uint32_t reclaim(uint16_t queue)
         nicx_lock(&tx->lock);
     uint32_t before = tx->frames;
     clean(queue);
-    uint32_t left = BUG == IDLE_TOLD_EARLY && before > tx->frames ? 0 : tx->frames;
+    uint32_t left = BUG == IDLE_REPORTED_EARLY && before > tx->frames ? 0 : tx->frames;
     if (BUG != DOUBLE_CLEANER)
         nicx_unlock(&tx->lock);
     return left;
@@ -792,7 +792,7 @@ static void rearm(uint16_t queue)
         nicx_vf_write32((uint8_t)(driver.setup.port - 1), NIC_VTEIMS, cause);
         return;
     }
-    if (BUG == EICR_CLEARED_BEHIND_POLL)
+    if (BUG == EICR_CLEARED_AFTER_POLL)
         nicx_write32(NIC_EICR, cause);
     nicx_write32(NIC_EIMS, BUG == EIMS_OF_ALL_QUEUES ? own_causes() : cause);
     driver.is_polled[queue] = false;
@@ -800,7 +800,7 @@ static void rearm(uint16_t queue)
 
 /* --- further functions --- */
 
-static bool start_anew(bool takes_memory);
+static bool start_again(bool takes_memory);
 
 static void forget_addresses(void)
 {
@@ -812,7 +812,7 @@ static bool filter(const nicd_filter *wanted)
 {
     driver.filter = *wanted;
     if (BUG == FILTER_BY_RESTART)
-        return start_anew(false);
+        return start_again(false);
     if (BUG == FILTER_BY_STOP)
         nicx_write32(NIC_RXCTRL, 0);
     if (BUG == FILTER_CLEARED_FIRST)
@@ -835,7 +835,7 @@ static bool rss(const nicd_rss *wanted)
 }
 
 /* Stops everything, then starts it according to the current setup. */
-static bool start_anew(bool takes_memory)
+static bool start_again(bool takes_memory)
 {
     rest_threads();
     mask_all();
@@ -860,7 +860,7 @@ static bool mtu(uint32_t frame)
     rest_threads();
     driver.setup.frame = frame;
     lose(OTHER_MTU);
-    return start_anew(false);
+    return start_again(false);
 }
 
 static void move_rings(void)
@@ -909,7 +909,7 @@ static bool resize(uint16_t slots)
     if (BUG != RING_RESIZE_JUMBO)
         driver.partial.length = 0;
     lose(RESIZE);
-    bool is_done = start_anew(false);
+    bool is_done = start_again(false);
     give_rings(&old);
     return is_done;
 }
@@ -920,7 +920,7 @@ static bool reset(void)
         look_at_link();
     driver.partial.length = 0;
     lose(RESET);
-    return start_anew(BUG == MEMORY_LOST_BY_RESET);
+    return start_again(BUG == MEMORY_LOST_BY_RESET);
 }
 
 static bool suspend(void)
@@ -968,7 +968,7 @@ static void forget_seen(uint32_t bits)
 static uint32_t read_mailbox(void)
 {
     uint32_t word = nicx_vf_read32((uint8_t)(driver.setup.port - 1), NIC_VFMAILBOX);
-    if (BUG == RSTD_TOLD_ONCE)
+    if (BUG == RSTD_SEEN_ONCE)
         return word;
     keep_seen(word & (NIC_PVFMAILBOX_PFSTS | NIC_PVFMAILBOX_PFACK | NIC_PVFMAILBOX_RSTD));
     return word | seen();

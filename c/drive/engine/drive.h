@@ -99,11 +99,11 @@ enum reach {
     LATE_CALL,  /* a handler was called while the ring was full */
     AGAIN_CALL, /* a handler was called while its queue was being polled */
     OWN_VECTORS,
-    KEPT_OUT,  /* the filter dropped a frame */
-    TOO_LONG,  /* a frame was dropped because of its length */
-    AMID_IN,   /* a frame was on its way in during the row's call */
-    AMID_OUT,  /* a frame was on its way out during the row's call, if the driver has `send` */
-    AMID_LINK, /* the link changed during the row's call */
+    KEPT_OUT,    /* the filter dropped a frame */
+    TOO_LONG,    /* a frame was dropped because of its length */
+    DURING_IN,   /* a frame was on its way in during the row's call */
+    DURING_OUT,  /* a frame was on its way out during the row's call, if the driver has `send` */
+    DURING_LINK, /* the link changed during the row's call */
     ASLEEP_FRAME,
     ASLEEP_LINK,
     LINK_DOWN,
@@ -137,7 +137,7 @@ enum call {
 struct reached {
     const char *row;
     uint8_t reaches[MOST_REACHES]; /* enum reach; NO_REACH ends the list */
-    uint8_t call;                  /* enum call: the row's call, which AMID_IN, AMID_OUT and AMID_LINK refer to */
+    uint8_t call;                  /* enum call: the row's call, which DURING_IN, DURING_OUT and DURING_LINK refer to */
 };
 
 struct scenario {

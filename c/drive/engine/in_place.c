@@ -128,10 +128,10 @@ void nicd_in_place_see(const nicxo_step *step)
     if (!nicd.beyond)
         return;
     if (step->kind == STEP_RX && step->status == NIC_WROTE) {
-        nicd_in_place_copy(step->told.at, step->told.len);
-        nicd_in_place_copy(step->told.desc, NIC_DESC_BYTES);
-    } else if (step->kind == STEP_TX && step->told.back && !nicd.holds_back) {
-        nicd_in_place_copy(step->told.at, NIC_DESC_BYTES);
+        nicd_in_place_copy(step->outcome.at, step->outcome.len);
+        nicd_in_place_copy(step->outcome.desc, NIC_DESC_BYTES);
+    } else if (step->kind == STEP_TX && step->outcome.back && !nicd.holds_back) {
+        nicd_in_place_copy(step->outcome.at, NIC_DESC_BYTES);
     } else if (step->kind == STEP_POKE && step->status == NIC_DONE && !writes[nicxo_thread()]) {
         nicd_in_place_copy(step->bus, step->length);
     }

@@ -235,38 +235,38 @@ static void tell_strange_out(unsigned queue, uint16_t slot, uint64_t length, uin
 
 /* Judges transmitted frame number `count` of its queue. It must be the next accepted frame, or a later one if those
    between may be lost. */
-static void judge_out(const nic_told *told, uint32_t next[NICD_QUEUES], uint32_t count[NICD_QUEUES])
+static void judge_out(const nic_outcome *outcome, uint32_t next[NICD_QUEUES], uint32_t count[NICD_QUEUES])
 {
-    unsigned queue = (unsigned)(told->queue - nicd.base);
+    unsigned queue = (unsigned)(outcome->queue - nicd.base);
     if (queue >= nicd.setup.queues) {
-        nicd_note("a frame of %u bytes was transmitted by queue %u, which isn't the driver's", (unsigned)told->len,
-                  told->queue);
+        nicd_note("a frame of %u bytes was transmitted by queue %u, which isn't the driver's", (unsigned)outcome->len,
+                  outcome->queue);
         return;
     }
     for (uint32_t k = next[queue]; k < nicd.accepted[queue]; k++) {
         const struct sent *sent = &nicd.sent[queue][k];
-        if (told->len == sent->length && first_other(sent, told->len) == told->len) {
+        if (outcome->len == sent->length && first_other(sent, outcome->len) == outcome->len) {
             next[queue] = k + 1;
             return;
         }
         if (!is_lossy() || sent->life == nicd.life)
             break;
     }
-    tell_strange_out(queue, nicd.out_slots[queue][count[queue] % MOST_OUT].slot, told->len, next[queue]);
+    tell_strange_out(queue, nicd.out_slots[queue][count[queue] % MOST_OUT].slot, outcome->len, next[queue]);
 }
 
 static void judge_sent(void)
 {
     uint32_t next[NICD_QUEUES] = {0}, count[NICD_QUEUES] = {0};
-    nic_told told;
+    nic_outcome outcome;
     while (!nicd.fault && nic_next_out(nicx_device())) {
-        if (nic_collect(nicx_device(), out, sizeof out, &told) != NIC_FRAME) {
+        if (nic_collect(nicx_device(), out, sizeof out, &outcome) != NIC_FRAME) {
             nicd_note("a transmitted frame is longer than any frame passed to send");
             return;
         }
-        judge_out(&told, next, count);
+        judge_out(&outcome, next, count);
         if (!nicd.fault)
-            count[told.queue - nicd.base]++;
+            count[outcome.queue - nicd.base]++;
     }
     for (unsigned queue = 0; queue < nicd.setup.queues && !nicd.fault; queue++)
         for (uint32_t k = next[queue]; k < nicd.accepted[queue] && !nicd.fault; k++)

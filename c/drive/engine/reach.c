@@ -65,9 +65,9 @@ static const struct {
     [OWN_VECTORS] = {"the queues have separate vectors", "all queues share one vector", ONCE},
     [KEPT_OUT] = {"a frame was filtered out", "no frame was filtered out", ONCE},
     [TOO_LONG] = {"a frame was dropped because of its length", "no frame was dropped because of its length", ONCE},
-    [AMID_IN] = {"frames were being received during %s", "no frame was being received during %s", ONCE},
-    [AMID_OUT] = {"frames were being transmitted during %s", "no frame was being transmitted during %s", ONCE},
-    [AMID_LINK] = {"the link changed during %s", "the link never changed during %s", ONCE},
+    [DURING_IN] = {"frames were being received during %s", "no frame was being received during %s", ONCE},
+    [DURING_OUT] = {"frames were being transmitted during %s", "no frame was being transmitted during %s", ONCE},
+    [DURING_LINK] = {"the link changed during %s", "the link never changed during %s", ONCE},
     [ASLEEP_FRAME] = {"a frame arrived after suspend", "no frame arrived between suspend and resume", ONCE},
     [ASLEEP_LINK] = {"the link changed after suspend", "the link never changed between suspend and resume", ONCE},
     [LINK_DOWN] = {"the link went down", "the link never went down", ONCE},
@@ -191,9 +191,9 @@ void nicd_reach_call(void)
     if (!is_rows_call())
         return;
     if (is_on_way_in())
-        nicd_reach(AMID_IN);
+        nicd_reach(DURING_IN);
     if (is_on_way_out())
-        nicd_reach(AMID_OUT);
+        nicd_reach(DURING_OUT);
 }
 
 static void see_call(const nicxo_step *step)
@@ -201,9 +201,9 @@ static void see_call(const nicxo_step *step)
     if (!is_rows_call())
         return;
     if (step->kind == STEP_ARRIVE || (step->kind == STEP_RX && step->status == NIC_WROTE))
-        nicd_reach(AMID_IN);
+        nicd_reach(DURING_IN);
     if (step->kind == STEP_LINK)
-        nicd_reach(AMID_LINK);
+        nicd_reach(DURING_LINK);
 }
 
 /* --- each step --- */
@@ -239,13 +239,13 @@ static void see_write(uint32_t address, uint32_t word)
 
 static void see_received(const nicxo_step *step)
 {
-    unsigned number = step->told.queue, queue = number - nicd.base;
+    unsigned number = step->outcome.queue, queue = number - nicd.base;
     if (step->status != NIC_WROTE || queue >= nicd.setup.queues)
         return;
     counts->came[queue]++;
-    if (!step->told.end)
+    if (!step->outcome.end)
         nicd_reach(CHAIN);
-    if (!queue && !step->told.slot && ++now.firsts[0] > 1)
+    if (!queue && !step->outcome.slot && ++now.firsts[0] > 1)
         nicd_reach(WRAPS);
     if (!queue && nicd_peek(NIC_RDH(number)) == nicd_peek(NIC_RDT(number)))
         nicd_reach(FULL);
@@ -264,7 +264,7 @@ static uint32_t longest_that_was_sent(unsigned queue)
 
 static void see_sent(const nicxo_step *step)
 {
-    unsigned number = step->told.queue, queue = number - nicd.base;
+    unsigned number = step->outcome.queue, queue = number - nicd.base;
     if (queue >= nicd.setup.queues || (step->status != NIC_SENT && step->status != NIC_ADVANCED))
         return;
     if (step->status == NIC_ADVANCED)
@@ -283,12 +283,12 @@ static void see_sent(const nicxo_step *step)
 static void see_message(const nicxo_step *step)
 {
     unsigned port = nicd.setup.port;
-    if (step->status != NIC_MESSAGE || step->told.group != port)
+    if (step->status != NIC_MESSAGE || step->outcome.group != port)
         return;
     for (unsigned queue = 0; queue < nicd.setup.queues; queue++) {
         uint32_t word = nicd_peek(port ? NIC_PVTIVAR(nicd.base / 2u) : NIC_IVAR(queue / 2)) >> 16 * (queue % 2);
-        bool is_of_receive = word & 0x80 && (word & 0x3F) == step->told.vector;
-        bool is_of_transmit = word & 0x8000 && (word >> 8 & 0x3F) == step->told.vector;
+        bool is_of_receive = word & 0x80 && (word & 0x3F) == step->outcome.vector;
+        bool is_of_transmit = word & 0x8000 && (word >> 8 & 0x3F) == step->outcome.vector;
         if (is_of_receive || (is_of_transmit && !nicd_must_reach(nicd.reached, TAKEN)))
             nicd_reach_of(MESSAGES, queue);
     }
@@ -298,9 +298,9 @@ static void see_arrival(const nicxo_step *step)
 {
     if (nicd.is_asleep)
         nicd_reach(ASLEEP_FRAME);
-    if (step->status == NIC_DROPPED && step->told.why == NIC_WHY_FILTER)
+    if (step->status == NIC_DROPPED && step->outcome.why == NIC_WHY_FILTER)
         nicd_reach(KEPT_OUT);
-    if (step->status == NIC_DROPPED && step->told.why == NIC_WHY_LONG)
+    if (step->status == NIC_DROPPED && step->outcome.why == NIC_WHY_LONG)
         nicd_reach(TOO_LONG);
 }
 
@@ -340,7 +340,7 @@ static bool is_asked(enum reach reach)
     case SENT:
     case SENT_WRAPS:
     case SENT_LONG:
-    case AMID_OUT: return d->send != NULL;
+    case DURING_OUT: return d->send != NULL;
     case MESSAGES: return has_messages;
     case POLLED:
     case AGAIN_CALL: return d->receive != NULL; /* its own threads poll, unseen by the card */

@@ -33,7 +33,7 @@ static void cover(const nicxo_step *step, bool is_drivers)
 {
     bool is_write = step->kind == STEP_WRITE || step->kind == STEP_VF_WRITE;
     if (step->kind >= STEP_RX)
-        seen->replies[step->kind][step->status % STATUSES][step->told.why % REASONS]++;
+        seen->replies[step->kind][step->status % STATUSES][step->outcome.why % REASONS]++;
     if (!is_drivers)
         return;
     if ((step->kind == STEP_READ || step->kind == STEP_WRITE) && step->address / 4 < REGISTERS)
@@ -96,7 +96,7 @@ static void see_arrival(const nicxo_step *step)
     frame->life = nicd.life;
     frame->era = nicd.era;
     frame->state = step->status == NIC_DONE ? WAITS : IS_DROPPED;
-    frame->why = step->told.why;
+    frame->why = step->outcome.why;
     if (step->status == NIC_DONE)
         nicd.waiting[nicd.let_in++] = step->of;
 }
@@ -120,13 +120,13 @@ static void lose(enum lost why)
 
 static void see_written(const nicxo_step *step)
 {
-    unsigned queue = (unsigned)(step->told.queue - nicd.base);
-    nicd.partial = step->told.queue;
-    if (!step->told.end || !oldest())
+    unsigned queue = (unsigned)(step->outcome.queue - nicd.base);
+    nicd.partial = step->outcome.queue;
+    if (!step->outcome.end || !oldest())
         return;
     uint16_t number = nicd.waiting[nicd.oldest];
-    nicd.frames[number].queue = (uint8_t)step->told.queue;
-    nicd.frames[number].slot = step->told.slot;
+    nicd.frames[number].queue = (uint8_t)step->outcome.queue;
+    nicd.frames[number].slot = step->outcome.slot;
     nicd.frames[number].written_era = nicd.era;
     leave(IS_WRITTEN);
     if (queue < NICD_QUEUES)
@@ -140,8 +140,8 @@ static void see_receive(const nicxo_step *step)
         see_written(step);
     } else if (step->status == NIC_DROPPED) {
         if (frame) {
-            frame->why = step->told.why;
-            frame->queue = (uint8_t)step->told.queue;
+            frame->why = step->outcome.why;
+            frame->queue = (uint8_t)step->outcome.queue;
         }
         leave(IS_DROPPED);
     } else if (step->status == NIC_FAULT) {
@@ -178,13 +178,13 @@ static bool is_pool_reset(const nicxo_step *step)
 
 static void see_sent(const nicxo_step *step)
 {
-    unsigned queue = (unsigned)(step->told.queue - nicd.base);
+    unsigned queue = (unsigned)(step->outcome.queue - nicd.base);
     if (step->status == NIC_SENT && queue < NICD_QUEUES) {
-        uint32_t slots = nicd_peek(NIC_TDLEN(step->told.queue)) / NIC_DESC_BYTES;
-        uint32_t head = nicd_peek(NIC_TDH(step->told.queue));
+        uint32_t slots = nicd_peek(NIC_TDLEN(step->outcome.queue)) / NIC_DESC_BYTES;
+        uint32_t head = nicd_peek(NIC_TDH(step->outcome.queue));
         struct went *went = &nicd.out_slots[queue][nicd.went[queue] % MOST_OUT];
         went->slot = (uint16_t)(head ? head - 1 : slots - 1);
-        went->back = step->told.back;
+        went->back = step->outcome.back;
         nicd.went[queue]++;
         nicd.went_now[queue]++;
         seen->sent++;
@@ -239,13 +239,14 @@ static bool is_unwritten(uint64_t slot)
 static void tell_fault(const nicxo_step *step)
 {
     bool sends = step->kind == STEP_TX;
-    unsigned queue = step->told.queue;
+    unsigned queue = step->outcome.queue;
     if (step->status != NIC_FAULT || nicxo_outcome() != NICX_FAULT)
         return;
     struct nicl_ring ring = nicl_ring_of(nicx_device(), sends, queue);
     uint64_t length = (uint64_t)NIC_DESC_BYTES * ring.slots;
-    bool is_buffer = step->told.why == NIC_FAULT_NOT_LENT && step->told.bus - ring.base >= length;
-    bool is_new = sends && step->told.why == NIC_FAULT_LEGACY && is_unwritten(ring.base + NIC_DESC_BYTES * ring.head);
+    bool is_buffer = step->outcome.why == NIC_FAULT_NOT_LENT && step->outcome.bus - ring.base >= length;
+    bool is_new =
+        sends && step->outcome.why == NIC_FAULT_LEGACY && is_unwritten(ring.base + NIC_DESC_BYTES * ring.head);
     nicxo_add_words(" (%s slot %u, its %s%s)", sends ? "transmit" : "receive", (unsigned)ring.head,
                     is_buffer ? "buffer" : "descriptor",
                     is_new ? ": all 0: the tail was moved past it before it was written" : "");
@@ -281,17 +282,18 @@ static void judge_sleep(const nicxo_step *step, bool is_of_driver)
 {
     if (!nicd.is_asleep)
         return;
-    if (step->kind == STEP_INT && step->status == NIC_MESSAGE && step->told.group == nicd.setup.port)
+    if (step->kind == STEP_INT && step->status == NIC_MESSAGE && step->outcome.group == nicd.setup.port)
         nicd_note("vector %u sends a message while the driver is suspended: EIMS is 0x%08x, EICR 0x%08x",
-                  step->told.vector,
+                  step->outcome.vector,
                   (unsigned)nicd_peek(nicd.setup.port ? NIC_PVTEIMS(nicd.setup.port - 1u) : NIC_EIMS),
                   (unsigned)nicd_peek(nicd.setup.port ? NIC_PVTEICR(nicd.setup.port - 1u) : NIC_EICR));
     else if (step->kind == STEP_RX && step->status == NIC_WROTE)
         nicd_note("slot %u of receive queue %u is written while the driver is suspended: RXDCTL is 0x%08x",
-                  step->told.slot, step->told.queue - nicd.base, (unsigned)nicd_peek(NIC_RXDCTL(step->told.queue)));
+                  step->outcome.slot, step->outcome.queue - nicd.base,
+                  (unsigned)nicd_peek(NIC_RXDCTL(step->outcome.queue)));
     else if (step->kind == STEP_TX && (step->status == NIC_SENT || step->status == NIC_ADVANCED))
         nicd_note("transmit queue %u sends while the driver is suspended: TXDCTL is 0x%08x",
-                  step->told.queue - nicd.base, (unsigned)nicd_peek(NIC_TXDCTL(step->told.queue)));
+                  step->outcome.queue - nicd.base, (unsigned)nicd_peek(NIC_TXDCTL(step->outcome.queue)));
     else if (is_of_driver && step->kind >= STEP_READ && step->kind <= STEP_TAKE && nicxo_thread() < NICX_TASKS)
         nicd_note("%s acts for the driver while it is suspended", nicxo_thread_name(nicxo_thread()));
 }

@@ -45,9 +45,9 @@ static struct nicp_driver python;
    next step. */
 static int64_t call(enum function function, uint64_t a, uint64_t b, uint64_t c)
 {
-    int64_t told = nicp_ask(function, a, b, c);
-    if (told != NICP_RAISED)
-        return told;
+    int64_t answer = nicp_ask(function, a, b, c);
+    if (answer != NICP_RAISED)
+        return answer;
     nicd_failed("%s", nicp_words());
     return 0;
 }

@@ -30,7 +30,7 @@ static bool is_begun(void *unused)
     return nicd.partial >= 0 || nicd.frames[0].state >= IS_WRITTEN;
 }
 
-static void reset_amid_frame(void)
+static void reset_during_frame(void)
 {
     nicx_wait_until(is_begun, NULL);
     nicx_pause(); /* lets the driver read it */
@@ -246,25 +246,25 @@ const struct scenario nicd_link[] = {
     ROW("link-down-up", "the link goes down and up during traffic", "A link change raises LSC; LINKS shows the state",
         "Link Status", RECEIVES | LINK | INTERRUPTS, .ways = LOSSY | DROPS, .setup = {.interrupts = true},
         .takes = true, .sends = 3, .comes = 4, .links = 2, .end = nicd_judge_link),
-    ROW("link-amid-reset", "the link goes down while the device is reset",
+    ROW("link-during-reset", "the link goes down while the device is reset",
         "A reset clears causes raised before it, so software checks the link afterwards", "Link Status",
         RECEIVES | LINK | INTERRUPTS | RESET, .ways = LOSSY | DROPS, .setup = {.interrupts = true},
         .control = reset_once, .takes = true, .links = 1, .end = nicd_judge_link),
     {0}};
 
 const struct scenario nicd_resets[] = {
-    ROW("reset-amid-receive", "a reset while frames are received", reset_rule, "Software Reset", RECEIVES | RESET,
+    ROW("reset-during-receive", "a reset while frames are received", reset_rule, "Software Reset", RECEIVES | RESET,
         .ways = LOSSY | DROPS, .control = reset_once, .takes = true, .comes = 4, .late = 2),
-    ROW("reset-amid-send", "a reset while frames are sent", reset_rule, "Software Reset", SENDS | RESET,
+    ROW("reset-during-send", "a reset while frames are sent", reset_rule, "Software Reset", SENDS | RESET,
         .ways = LOSSY | DROPS, .control = reset_once, .sends = 6),
-    ROW("reset-amid-interrupts", "a reset during traffic both ways, with interrupts", reset_rule, "Software Reset",
+    ROW("reset-during-interrupts", "a reset during traffic both ways, with interrupts", reset_rule, "Software Reset",
         RECEIVES | RESET | INTERRUPTS, .ways = LOSSY | DROPS, .setup = {.interrupts = true}, .control = reset_once,
         .takes = true, .sends = 3, .comes = 4, .late = 2),
     ROW("reset-twice", "two resets, then traffic", reset_rule, "Software Reset", RECEIVES | RESET,
         .ways = LOSSY | DROPS, .control = reset_twice, .takes = true, .comes = 3, .late = 2, .see = nicd_see_held),
-    ROW("reset-amid-chains", "a reset during frames with several buffers",
+    ROW("reset-during-chains", "a reset during frames with several buffers",
         "A frame that lost its end in a reset is dropped", "Software Reset", RECEIVES | RESET, .ways = LOSSY | DROPS,
-        .setup = {.frame = 5000}, .control = reset_amid_frame, .takes = true, .comes = 2, .late = 2, .length = 5000),
+        .setup = {.frame = 5000}, .control = reset_during_frame, .takes = true, .comes = 2, .late = 2, .length = 5000),
     ROW("reset-memory", "three resets and a close leave nothing allocated",
         "A reset that allocates memory frees what it replaces", "reset of the adapter", RESET, .ways = LOSSY | DROPS,
         .control = reset_and_count, .takes = true, .comes = 2),
@@ -282,10 +282,10 @@ const struct scenario nicd_changes[] = {
     ROW("mtu-shrinks", "a smaller MTU during traffic", "A frame above MAXFRS is dropped", "Maximum Frame Size",
         RECEIVES | MTU, .ways = LOSSY | DROPS, .setup = {.frame = 4096}, .control = shrink_frames,
         .begin = come_shorter, .end = judge_shrunk),
-    ROW("resize-amid-traffic", "new rings during traffic", resize_rule, "Dynamic Disabling of Receive Queues",
+    ROW("resize-during-traffic", "new rings during traffic", resize_rule, "Dynamic Disabling of Receive Queues",
         RECEIVES | RESIZE, .ways = LOSSY | DROPS, .control = make_rings_longer, .takes = true, .sends = 3, .comes = 4,
         .late = 12, .end = judge_rings, .see = nicd_see_held),
-    ROW("resize-amid-chains", "new rings during frames with several buffers",
+    ROW("resize-during-chains", "new rings during frames with several buffers",
         "A frame that lost its end with the old ring is dropped", "Dynamic Disabling of Receive Queues",
         RECEIVES | RESIZE, .ways = LOSSY | DROPS, .setup = {.frame = 5000}, .control = make_rings_longer, .takes = true,
         .comes = 2, .late = 2, .length = 5000, .end = judge_rings, .see = nicd_see_held),

@@ -19,20 +19,20 @@ static uint32_t word(uint8_t vf, bool of_host, uint32_t k, uint32_t number)
 /* Bits that a read of VFMAILBOX clears, kept for later. */
 static uint32_t kept[FUNCTIONS_THERE];
 
-static bool was_told(uint8_t vf, uint32_t bit)
+static bool was_signalled(uint8_t vf, uint32_t bit)
 {
     kept[vf] |= nicx_vf_read32(vf, NIC_VFMAILBOX) & (NIC_PVFMAILBOX_PFSTS | NIC_PVFMAILBOX_PFACK);
-    bool is_told = kept[vf] & bit;
+    bool is_set = kept[vf] & bit;
     kept[vf] &= ~bit;
-    return is_told;
+    return is_set;
 }
 
 static bool function_puts(uint8_t vf, uint32_t k)
 {
     nicx_vf_write32(vf, NIC_VFMAILBOX, NIC_PVFMAILBOX_VFU);
-    uint32_t told = nicx_vf_read32(vf, NIC_VFMAILBOX);
-    kept[vf] |= told & (NIC_PVFMAILBOX_PFSTS | NIC_PVFMAILBOX_PFACK);
-    if (!(told & NIC_PVFMAILBOX_VFU))
+    uint32_t value = nicx_vf_read32(vf, NIC_VFMAILBOX);
+    kept[vf] |= value & (NIC_PVFMAILBOX_PFSTS | NIC_PVFMAILBOX_PFACK);
+    if (!(value & NIC_PVFMAILBOX_VFU))
         return false;
     if (kept[vf] & NIC_PVFMAILBOX_PFSTS) { /* reads the host's message first */
         nicx_vf_write32(vf, NIC_VFMAILBOX, 0);
@@ -49,7 +49,7 @@ static void function_gives(uint8_t vf, uint32_t k)
 {
     while (!function_puts(vf, k))
         nicx_wait();
-    while (!was_told(vf, NIC_PVFMAILBOX_PFACK))
+    while (!was_signalled(vf, NIC_PVFMAILBOX_PFACK))
         nicx_wait();
 }
 
@@ -77,11 +77,11 @@ static void function_withdraws(void)
     nicx_vf_write32(0, NIC_VFCTRL, NIC_PVFCTRL_RST);
     kept[0] = 0;
     while (!function_puts(0, 1)) {
-        was_told(0, NIC_PVFMAILBOX_PFSTS); /* drops an answer to the first request */
+        was_signalled(0, NIC_PVFMAILBOX_PFSTS); /* drops an answer to the first request */
         nicx_wait();
     }
     while (answer != word(0, true, 1, 0)) {
-        while (!was_told(0, NIC_PVFMAILBOX_PFSTS))
+        while (!was_signalled(0, NIC_PVFMAILBOX_PFSTS))
             nicx_wait();
         answer = nicx_vf_read32(0, NIC_VFMBMEM(0));
     }
@@ -103,7 +103,7 @@ static void function_reads_one(uint32_t k)
 static void function_reads(void)
 {
     for (uint32_t k = 0; k < 2; k++) {
-        while (!was_told(0, NIC_PVFMAILBOX_PFSTS))
+        while (!was_signalled(0, NIC_PVFMAILBOX_PFSTS))
             nicx_wait();
         function_reads_one(k);
     }
@@ -116,7 +116,7 @@ static void function_does_both(void)
     while (!has_given || mail.read[0] < 2) {
         if (!has_given && function_puts(0, 0))
             has_given = true;
-        else if (was_told(0, NIC_PVFMAILBOX_PFSTS))
+        else if (was_signalled(0, NIC_PVFMAILBOX_PFSTS))
             function_reads_one(mail.read[0]);
         else
             nicx_wait();
@@ -180,12 +180,12 @@ static void serve_and_answer(void *unused)
 /* Sends two messages, the second after the function has read the first, and receives meanwhile. */
 static void tell_and_serve(void *unused)
 {
-    uint32_t told = 0, number;
+    uint32_t value = 0, number;
     (void)unused;
     for (;;) {
         bool acted = take(0, &number);
-        if (told < 2 && mail.read[0] == told && answer(0, told)) {
-            told++;
+        if (value < 2 && mail.read[0] == value && answer(0, value)) {
+            value++;
             acted = true;
         }
         if (!acted)

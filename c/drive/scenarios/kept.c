@@ -6,7 +6,14 @@
 
 #include "../engine/drive.h"
 
-enum { SETTINGS = 6, EVENTS = 5, AMID = 3, MOST_ROWS = SETTINGS * EVENTS + AMID, LONG_FRAME = 4096, MOST_TITLE = 64 };
+enum {
+    SETTINGS = 6,
+    EVENTS = 5,
+    CHANGES = 3,
+    MOST_ROWS = SETTINGS * EVENTS + CHANGES,
+    LONG_FRAME = 4096,
+    MOST_TITLE = 64
+};
 
 struct setting {
     const char *name, *what;
@@ -226,10 +233,10 @@ static void wait_for_link(void)
 }
 
 static const struct event events[EVENTS] = {
-    {"reset", "a reset", "Software Reset", RESET, CALL_RESET, reset_it, {AMID_IN}},
-    {"suspend", "suspend and resume", "suspend of the adapter", SUSPEND, CALL_SUSPEND, suspend_it, {AMID_IN}},
-    {"resize", "new rings", "resize of the adapter", RESIZE, CALL_RESIZE, resize_it, {AMID_IN}},
-    {"mtu", "a new MTU", "mtu of the adapter", MTU, CALL_MTU, change_length, {AMID_IN}},
+    {"reset", "a reset", "Software Reset", RESET, CALL_RESET, reset_it, {DURING_IN}},
+    {"suspend", "suspend and resume", "suspend of the adapter", SUSPEND, CALL_SUSPEND, suspend_it, {DURING_IN}},
+    {"resize", "new rings", "resize of the adapter", RESIZE, CALL_RESIZE, resize_it, {DURING_IN}},
+    {"mtu", "a new MTU", "mtu of the adapter", MTU, CALL_MTU, change_length, {DURING_IN}},
     {"link", "the link goes down and up", "Link Status", 0, NO_CALL, wait_for_link, {LINK_DOWN, LINK_UP}},
 };
 
@@ -283,10 +290,10 @@ static const char *judge_pair(void)
 static const struct change {
     const char *name, *what;
     const nicd_filter *old, *wanted;
-} changes[AMID] = {
-    {"filter-amid-traffic", "all frames were accepted, then no longer, while they arrive", &promiscuous, &own_alone},
-    {"list-amid-traffic", "new addresses are accepted while frames arrive", &own_alone, &listed},
-    {"promiscuous-amid-traffic", "all frames become accepted while they arrive", &own_alone, &promiscuous},
+} changes[CHANGES] = {
+    {"filter-during-traffic", "all frames were accepted, then no longer, while they arrive", &promiscuous, &own_alone},
+    {"list-during-traffic", "new addresses are accepted while frames arrive", &own_alone, &listed},
+    {"promiscuous-during-traffic", "all frames become accepted while they arrive", &own_alone, &promiscuous},
 };
 
 static const struct change *change;
@@ -390,7 +397,7 @@ static void make_pair(unsigned row, unsigned of_setting, unsigned of_event)
 
 static void make_change(unsigned row, unsigned number)
 {
-    static const uint8_t reaches[] = {TAKEN, SENT, CAME_AFTER, AMID_IN, KEPT_OUT};
+    static const uint8_t reaches[] = {TAKEN, SENT, CAME_AFTER, DURING_IN, KEPT_OUT};
     struct scenario *it = &nicd_kept[row];
     rows[row].change = (uint8_t)number;
     it->name = changes[number].name;
@@ -416,6 +423,6 @@ void nicd_make_rows(void)
         for (unsigned e = 0; e < EVENTS; e++)
             if (!events[e].needs || settings[s].needs != events[e].needs)
                 make_pair(row++, s, e);
-    for (unsigned k = 0; k < AMID; k++)
+    for (unsigned k = 0; k < CHANGES; k++)
         make_change(row++, k);
 }

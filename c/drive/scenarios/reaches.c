@@ -1,5 +1,5 @@
 /* What each row must reach in at least one schedule (enum reach), as observed at the device and in the card. A row
-   that passes without it is reported as not reached. The last field is the call that AMID_IN and similar entries
+   that passes without it is reported as not reached. The last field is the call that DURING_IN and similar entries
    refer to. */
 #include "../engine/drive.h"
 
@@ -86,7 +86,7 @@ const struct reached nicd_reaches[] = {
     {"rss-none", {TAKEN_0}, NO_CALL},
     {"rss-four-queues", {TAKEN}, NO_CALL},
     {"rss-four-vectors", {TAKEN, MESSAGES}, NO_CALL},
-    {"rss-changed", {TAKEN, AMID_IN, CAME_AFTER}, CALL_RSS},
+    {"rss-changed", {TAKEN, DURING_IN, CAME_AFTER}, CALL_RSS},
 
     /* filters */
     {"filter-own", {TAKEN, KEPT_OUT}, NO_CALL},
@@ -100,21 +100,21 @@ const struct reached nicd_reaches[] = {
 
     /* life */
     {"open-close", {WAS_OPENED, WAS_CLOSED}, NO_CALL},
-    {"open-amid-frames", {WAS_OPENED, TAKEN, AMID_IN}, CALL_OPEN},
-    {"open-amid-interrupts", {WAS_OPENED, TAKEN, MESSAGES}, NO_CALL},
-    {"close-amid-frames", {WAS_CLOSED, TAKEN, AMID_IN}, CALL_CLOSE},
-    {"close-amid-sends", {WAS_CLOSED, SENT, AMID_OUT}, CALL_CLOSE},
-    {"close-amid-all", {WAS_CLOSED, TAKEN, MESSAGES, AMID_IN, AMID_OUT}, CALL_CLOSE},
-    {"close-two-queues", {WAS_CLOSED, TAKEN, AMID_IN}, CALL_CLOSE},
+    {"open-during-frames", {WAS_OPENED, TAKEN, DURING_IN}, CALL_OPEN},
+    {"open-during-interrupts", {WAS_OPENED, TAKEN, MESSAGES}, NO_CALL},
+    {"close-during-frames", {WAS_CLOSED, TAKEN, DURING_IN}, CALL_CLOSE},
+    {"close-during-sends", {WAS_CLOSED, SENT, DURING_OUT}, CALL_CLOSE},
+    {"close-during-all", {WAS_CLOSED, TAKEN, MESSAGES, DURING_IN, DURING_OUT}, CALL_CLOSE},
+    {"close-two-queues", {WAS_CLOSED, TAKEN, DURING_IN}, CALL_CLOSE},
     {"restart", {WAS_REOPENED, TAKEN, SENT}, NO_CALL},
     {"memory-refused", {NO_MEMORY, WAS_OPENED, TAKEN}, NO_CALL},
-    {"suspend", {TAKEN, SENT, AMID_IN, AMID_OUT}, CALL_SUSPEND},
-    {"suspend-quiet", {TAKEN, AMID_IN, ASLEEP_FRAME, ASLEEP_LINK}, CALL_SUSPEND},
+    {"suspend", {TAKEN, SENT, DURING_IN, DURING_OUT}, CALL_SUSPEND},
+    {"suspend-quiet", {TAKEN, DURING_IN, ASLEEP_FRAME, ASLEEP_LINK}, CALL_SUSPEND},
 
     /* link */
     {"link-down", {LINK_DOWN}, NO_CALL},
     {"link-down-up", {LINK_DOWN, LINK_UP, TAKEN}, NO_CALL},
-    {"link-amid-reset", {LINK_DOWN, AMID_LINK}, CALL_RESET},
+    {"link-during-reset", {LINK_DOWN, DURING_LINK}, CALL_RESET},
     {"link-flap", {LINK_DOWN, LINK_UP}, NO_CALL},
 
     /* stats */
@@ -123,20 +123,20 @@ const struct reached nicd_reaches[] = {
     {"stats-two-threads", {TAKEN, SENT, COUNTED}, NO_CALL},
 
     /* reset */
-    {"reset-amid-receive", {TAKEN, AMID_IN}, CALL_RESET},
-    {"reset-amid-send", {SENT, AMID_OUT}, CALL_RESET},
-    {"reset-amid-interrupts", {TAKEN, MESSAGES, AMID_IN, AMID_OUT}, CALL_RESET},
-    {"reset-twice", {TAKEN, SENT, AMID_IN}, CALL_RESET},
-    {"reset-amid-chains", {TAKEN, CHAIN, AMID_IN}, CALL_RESET},
+    {"reset-during-receive", {TAKEN, DURING_IN}, CALL_RESET},
+    {"reset-during-send", {SENT, DURING_OUT}, CALL_RESET},
+    {"reset-during-interrupts", {TAKEN, MESSAGES, DURING_IN, DURING_OUT}, CALL_RESET},
+    {"reset-twice", {TAKEN, SENT, DURING_IN}, CALL_RESET},
+    {"reset-during-chains", {TAKEN, CHAIN, DURING_IN}, CALL_RESET},
     {"reset-memory", {CALLED, WAS_CLOSED}, CALL_RESET},
     {"fault-receive", {MET_FAULT, TAKEN}, CALL_RESET},
     {"fault-send", {MET_FAULT, SENT}, CALL_RESET},
 
     /* changes */
-    {"mtu-grows", {TAKEN, LONG, AMID_IN}, CALL_MTU},
-    {"mtu-shrinks", {TAKEN, LONG, TOO_LONG, AMID_IN}, CALL_MTU},
-    {"resize-amid-traffic", {TAKEN, SENT, AMID_IN, AMID_OUT}, CALL_RESIZE},
-    {"resize-amid-chains", {TAKEN, CHAIN, AMID_IN}, CALL_RESIZE},
+    {"mtu-grows", {TAKEN, LONG, DURING_IN}, CALL_MTU},
+    {"mtu-shrinks", {TAKEN, LONG, TOO_LONG, DURING_IN}, CALL_MTU},
+    {"resize-during-traffic", {TAKEN, SENT, DURING_IN, DURING_OUT}, CALL_RESIZE},
+    {"resize-during-chains", {TAKEN, CHAIN, DURING_IN}, CALL_RESIZE},
     {"resize-refused", {NO_MEMORY, TAKEN, SENT}, NO_CALL},
 
     /* function */
@@ -144,7 +144,7 @@ const struct reached nicd_reaches[] = {
     {"function-wrap", {TAKEN, WRAPS}, NO_CALL},
     {"function-interrupts", {TAKEN, SENT, MESSAGES}, NO_CALL},
     {"function-two-queues", {TAKEN, SENT}, NO_CALL},
-    {"function-close", {WAS_CLOSED, TAKEN, SENT, AMID_IN, AMID_OUT}, CALL_CLOSE},
+    {"function-close", {WAS_CLOSED, TAKEN, SENT, DURING_IN, DURING_OUT}, CALL_CLOSE},
     {"function-reset-under-it", {TAKEN, SENT, CALLED}, CALL_RESET},
     {"mailbox-function-sends", {MAIL_GIVEN}, NO_CALL},
     {"mailbox-function-receives", {MAIL_TAKEN}, NO_CALL},
@@ -160,7 +160,7 @@ const struct reached nicd_reaches[] = {
     /* neighbour */
     {"neighbour-traffic", {TAKEN, SENT, WRAPS}, NO_CALL},
     {"neighbour-interrupts", {TAKEN, SENT, MESSAGES}, NO_CALL},
-    {"neighbour-close", {WAS_CLOSED, AMID_IN}, CALL_CLOSE},
-    {"neighbour-resize", {TAKEN, AMID_IN}, CALL_RESIZE},
+    {"neighbour-close", {WAS_CLOSED, DURING_IN}, CALL_CLOSE},
+    {"neighbour-resize", {TAKEN, DURING_IN}, CALL_RESIZE},
     {NULL, {NO_REACH}, NO_CALL},
 };

@@ -4,7 +4,7 @@
 /* --- descriptors, judged after the fetch, which preserves what the driver wrote --- */
 
 static struct {
-    bool is_amid;     /* the frame's first descriptor was fetched, its last wasn't */
+    bool is_partial;  /* the frame's first descriptor was fetched, its last wasn't */
     uint32_t payload; /* PAYLEN of the first descriptor */
     uint16_t first;   /* slot of the first descriptor */
     uint32_t length;  /* sum of DTALEN so far */
@@ -31,7 +31,7 @@ static void judge_end(unsigned slot)
             "slot %u has PAYLEN %u for a frame of %u bytes in slots %u to %u: the bench doesn't read it, the card "
             "does",
             frame.first, (unsigned)frame.payload, (unsigned)frame.length, frame.first, slot);
-    frame.is_amid = false;
+    frame.is_partial = false;
 }
 
 static void see_descriptor(const nicxo_step *step, bool is_drivers)
@@ -39,13 +39,13 @@ static void see_descriptor(const nicxo_step *step, bool is_drivers)
     (void)is_drivers;
     if (step->kind != STEP_TX || (step->status != NIC_SENT && step->status != NIC_ADVANCED))
         return;
-    unsigned slot = fetched(step->told.queue);
-    uint64_t second = second_of(step->told.queue, slot);
+    unsigned slot = fetched(step->outcome.queue);
+    uint64_t second = second_of(step->outcome.queue, slot);
     if ((second & NIC_TXD_DTYP) != NIC_TXD_DTYP_IS(3))
         return;
     nicd_reach(DESCRIPTOR);
-    if (!frame.is_amid) {
-        frame.is_amid = true;
+    if (!frame.is_partial) {
+        frame.is_partial = true;
         frame.length = 0;
         frame.first = (uint16_t)slot;
         frame.payload = (uint32_t)nic_desc_field(second, NIC_TXD_PAYLEN);
@@ -60,7 +60,7 @@ static void see_descriptor(const nicxo_step *step, bool is_drivers)
 
 static void forget_frame(void)
 {
-    frame.is_amid = false;
+    frame.is_partial = false;
 }
 
 static void send_short_and_long(void)

@@ -10,7 +10,7 @@ WRONG(ABORT_IN_CLOSE, "open-close", "crash: .*signal 6")
 WRONG(OUTSIDE_DMA, "receive-one",
       "memory: receive0 at faulty\\.c:\\d+ < faulty\\.c:\\d+ writes 0x1000, which isn't lent")
 WRONG(OTHERS_DMA, "receive-one", "the driver lends block 200, which nicd_dma_alloc didn't return")
-WRONG(BEHIND_THE_FRAME, "receive-one", "receive of queue 0 writes beyond the bytes of its frame")
+WRONG(PAST_THE_FRAME, "receive-one", "receive of queue 0 writes beyond the bytes of its frame")
 WRONG(NO_LENGTH, "receive-one", "a frame of 0 bytes is delivered from queue 0")
 WRONG(OTHER_QUEUE, "receive-one", "a frame is delivered from queue 3, but the driver has 1")
 WRONG(FREE_TWICE, "open-close", "nicd_dma_free of 0x\\w+, which nicd_dma_alloc didn't return")
@@ -21,7 +21,7 @@ WRONG(FROM_A_THREAD, "receive-one",
 WRONG(THREAD_LEFT, "open-close", "thread0 still acts for the driver after close returned")
 WRONG(LOCK_LEFT, "receive-wrap", "deadlock: receive0 waits for a lock, which receive0 holds")
 WRONG(MEMORY_LEFT, "open-close", "1 allocation of DMA memory wasn't freed: \\d+ bytes at 0x\\w+, which open allocated")
-WRONG(STORE_BEHIND_A_PIECE, "receive-one",
+WRONG(STORE_PAST_A_PIECE, "receive-one",
       "memory: receive0 writes 0x\\w+, which isn't lent: 0 bytes past the end of the 128 bytes at .*; to see the line "
       "of the store, "
       "compile with -g and -fsanitize=thread")

@@ -97,7 +97,7 @@ static void close_driver(void)
 static void store_where_nothing_is(void)
 {
     uint8_t *ring = nicd_dma_pointer(driver.ring);
-    if (MODE == STORE_BEHIND_A_PIECE)
+    if (MODE == STORE_PAST_A_PIECE)
         ring[NIC_DESC_BYTES * SLOTS] = 1;
     if (MODE == STORE_GIVEN_BACK) {
         uint64_t bus = nicd_dma_alloc(100);
@@ -121,7 +121,7 @@ static void fault_in_receive(void)
         continue;
     if (MODE == OUTSIDE_DMA)
         nicx_dma_write(driver.ring + NIC_DESC_BYTES * SLOTS, bytes, sizeof bytes);
-    if (MODE >= STORE_BEHIND_A_PIECE && MODE <= POINTER_TO_NOTHING)
+    if (MODE >= STORE_PAST_A_PIECE && MODE <= POINTER_TO_NOTHING)
         store_where_nothing_is();
     if (MODE == OTHERS_DMA)
         nicx_lend(200);
@@ -141,7 +141,7 @@ static bool receive(uint16_t queue, nicd_frame *frame)
     calls++;
     frame->length = MODE == NO_LENGTH ? 0 : (uint32_t)nic_desc_field(second, NIC_RXWB_PKT_LEN);
     nicx_dma_read(driver.buffers[slot], frame->bytes, frame->length);
-    if (MODE == BEHIND_THE_FRAME)
+    if (MODE == PAST_THE_FRAME)
         memset(frame->bytes + NICD_FRAME_MOST, 1, 8);
     if (MODE == STATE_LEFT && calls == 400)
         frame->bytes[20] ^= 1;

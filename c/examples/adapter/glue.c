@@ -16,19 +16,19 @@ static nic n;
 
 /* --- the device of a run: it acts when the driver waits, and when the run lets it --- */
 
-static bool was_told[VECTORS]; /* a message of this vector arrived */
+static bool was_raised[VECTORS]; /* a message of this vector arrived */
 
 static void let_device_act(void)
 {
     nic_settling where = {1, 0}; /* a round of one queue */
-    nic_told told;
-    while (nic_next_step(&n, &where, &told) == NIC_MORE) {
-        if (told.status == NIC_MESSAGE)
-            was_told[told.vector] = true;
-        if (told.status == NIC_FAULT)
-            printf("queue %u: a fault: %s\n", told.queue, nic_fault_name(told.why));
-        if (told.status == NIC_DROPPED)
-            printf("a frame is dropped: %s\n", nic_why_name(told.why));
+    nic_outcome outcome;
+    while (nic_next_step(&n, &where, &outcome) == NIC_MORE) {
+        if (outcome.status == NIC_MESSAGE)
+            was_raised[outcome.vector] = true;
+        if (outcome.status == NIC_FAULT)
+            printf("queue %u: a fault: %s\n", outcome.queue, nic_fault_name(outcome.why));
+        if (outcome.status == NIC_DROPPED)
+            printf("a frame is dropped: %s\n", nic_why_name(outcome.why));
     }
 }
 
@@ -225,23 +225,23 @@ static void poll_queue(void)
 static void collect(void)
 {
     uint8_t bytes[LONGEST];
-    nic_told told;
-    while (nic_collect(&n, bytes, sizeof bytes, &told) == NIC_FRAME)
-        compare("sent", returned++, bytes, (uint32_t)told.len);
+    nic_outcome outcome;
+    while (nic_collect(&n, bytes, sizeof bytes, &outcome) == NIC_FRAME)
+        compare("sent", returned++, bytes, (uint32_t)outcome.len);
 }
 
 static int run(unsigned frames)
 {
     static char why[4096];
     uint8_t bytes[LONGEST];
-    nic_told told;
+    nic_outcome outcome;
     if (nic_open(&n, 0, 64, BLOCKS) != NIC_DONE || !driver_open(address, SLOTS, true))
         return 1;
     for (unsigned number = 0; number < frames && returned == number;) {
         for (unsigned k = 0; k <= number % BURST && number < frames; k++, number++)
-            nic_arrive(&n, bytes, make(number, bytes), &told);
-        for (let_device_act(); was_told[0]; let_device_act()) {
-            was_told[0] = false;
+            nic_arrive(&n, bytes, make(number, bytes), &outcome);
+        for (let_device_act(); was_raised[0]; let_device_act()) {
+            was_raised[0] = false;
             poll_queue();
         }
         collect();

@@ -150,9 +150,9 @@ enum { RX_DONE = 0, TX_DONE = 32 };
 static inline const char *went_out(unsigned count)
 {
     uint8_t frame[FRAME];
-    nic_told told;
+    nic_outcome outcome;
     for (unsigned k = 0; k < count; k++) {
-        if (nic_collect(nicx_device(), frame, sizeof frame, &told) != NIC_FRAME)
+        if (nic_collect(nicx_device(), frame, sizeof frame, &outcome) != NIC_FRAME)
             return "a frame was never transmitted";
         if (frame[FRAME - 1] != k)
             return "a frame was transmitted with another frame's bytes";

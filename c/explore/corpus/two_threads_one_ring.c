@@ -45,8 +45,8 @@ static const char *end(void)
 {
     unsigned out = 0;
     uint8_t frame[FRAME];
-    nic_told told;
-    while (nic_collect(nicx_device(), frame, sizeof frame, &told) == NIC_FRAME)
+    nic_outcome outcome;
+    while (nic_collect(nicx_device(), frame, sizeof frame, &outcome) == NIC_FRAME)
         out |= 1u << frame[FRAME - 1];
     return out == (1u << FRAMES) - 1 ? NULL : "a frame was never transmitted";
 }

@@ -104,9 +104,9 @@ void nicxi_note_call(const void *at)
         *call = at;
 }
 
-static void note_call(const void *behind)
+static void note_call(const void *return_address)
 {
-    nicxi_note_call((const char *)behind - 1);
+    nicxi_note_call((const char *)return_address - 1);
 }
 
 static void note_set(uint32_t address)
@@ -179,7 +179,7 @@ static void after(const struct step *step)
     }
     if (nicxi.self && nicxi.self->is_void && is_change(step))
         nicxi.self->is_void = false;
-    nicxi_told(step);
+    nicxi_announce(step);
     *call_of(nicxi.self) = NULL;
 }
 
@@ -453,7 +453,7 @@ void nicxi_memory_point(enum local local, uint64_t at, uint32_t size)
     step->length = size;
     if (!let_others(nicxi.self))
         return;
-    nicxi_told(step);
+    nicxi_announce(step);
 }
 
 static struct step *before_atomic(const struct atomic *atomic)
@@ -502,7 +502,7 @@ void nicxi_atomic_point(const struct atomic *atomic)
     if (!let_others(nicxi.self))
         return;
     note_atomic(step, atomic);
-    nicxi_told(step);
+    nicxi_announce(step);
 }
 
 int nicxi_store_point(const struct atomic *atomic, const void *bytes, bool releases)
@@ -512,7 +512,7 @@ int nicxi_store_point(const struct atomic *atomic, const void *bytes, bool relea
         return -1;
     int slot = nicxi_keep_own(atomic->at, bytes, atomic->size, releases);
     step->is_kept = slot >= 0;
-    nicxi_told(step);
+    nicxi_announce(step);
     step->is_kept = false;
     return slot;
 }
@@ -547,7 +547,7 @@ void nicxi_asks(const char *call)
 void nicxi_asked_in_vain(void)
 {
     if (nicxi.self)
-        nicxi_told(&nicxi.self->next);
+        nicxi_announce(&nicxi.self->next);
 }
 
 /* The step is the driver's too, so no other step is independent of it. */

@@ -254,7 +254,7 @@ static void arrive(struct step *step)
     step->of = nicxi.next_frame;
     nicxi.next_frame = nicxi_next_kept(nicxi.omitted.frames, (uint16_t)(step->of + 1), nicxi.frame_count);
     nicxi.came++;
-    step->status = nic_arrive(&nicxi.device, frame->bytes, frame->length, &step->told);
+    step->status = nic_arrive(&nicxi.device, frame->bytes, frame->length, &step->outcome);
 }
 
 static void change_link(struct step *step)
@@ -269,12 +269,12 @@ static void change_link(struct step *step)
 static void message(const struct actor *actor, struct step *step)
 {
     step->kind = STEP_INT;
-    step->status = nic_int_step(&nicxi.device, (uint8_t)actor->of, &step->told);
+    step->status = nic_int_step(&nicxi.device, (uint8_t)actor->of, &step->outcome);
     if (step->status != NIC_MESSAGE)
         return;
     for (uint16_t k = NICX_TASKS; k < NICX_TASKS + nicxi.handlers; k++) {
         struct thread *handler = &nicxi.threads[k];
-        if (handler->group == actor->of && handler->vector == step->told.vector)
+        if (handler->group == actor->of && handler->vector == step->outcome.vector)
             handler->pending = !nicxi.omitted.threads[k];
     }
 }
@@ -286,11 +286,11 @@ void nicxi_judge(const struct step *step)
         nicxi_failed(NICX_MISUSE, "the controller ran out of memory");
     if (step->status != NIC_FAULT || (nicxi.scenario->allowed & NICX_FAULTS))
         return;
-    if (step->told.why == NIC_FAULT_NOT_LENT)
-        nicxi_failed(NICX_FAULT, "queue %u: 0x%llx isn't lent%s", step->told.queue, (unsigned long long)step->told.bus,
-                     nicxi_taken_words(step->told.bus, back));
+    if (step->outcome.why == NIC_FAULT_NOT_LENT)
+        nicxi_failed(NICX_FAULT, "queue %u: 0x%llx isn't lent%s", step->outcome.queue,
+                     (unsigned long long)step->outcome.bus, nicxi_taken_words(step->outcome.bus, back));
     else
-        nicxi_failed(NICX_FAULT, "queue %u: %s", step->told.queue, nic_fault_name(step->told.why));
+        nicxi_failed(NICX_FAULT, "queue %u: %s", step->outcome.queue, nic_fault_name(step->outcome.why));
 }
 
 bool nicxi_device_step(struct actor *actor, struct step *step)
@@ -300,24 +300,24 @@ bool nicxi_device_step(struct actor *actor, struct step *step)
     switch (actor->kind) {
     case BY_RX:
         step->kind = STEP_RX;
-        step->status = nic_rx_step(device, &step->told);
+        step->status = nic_rx_step(device, &step->outcome);
         break;
     case BY_TX:
         step->kind = STEP_TX;
-        step->status = nic_tx_step(device, actor->of, &step->told);
+        step->status = nic_tx_step(device, actor->of, &step->outcome);
         break;
     case BY_RX_ENABLE:
         step->kind = STEP_RX_ENABLE;
-        step->status = nic_queue_step(device, false, actor->of, &step->told);
+        step->status = nic_queue_step(device, false, actor->of, &step->outcome);
         break;
     case BY_TX_ENABLE:
         step->kind = STEP_TX_ENABLE;
-        step->status = nic_queue_step(device, true, actor->of, &step->told);
+        step->status = nic_queue_step(device, true, actor->of, &step->outcome);
         break;
     case BY_INT: message(actor, step); break;
     case BY_EEPROM:
         step->kind = STEP_EEPROM;
-        step->status = nic_eeprom_step(device, &step->told);
+        step->status = nic_eeprom_step(device, &step->outcome);
         break;
     case BY_WIRE: arrive(step); return true;
     case BY_STORE: nicxi_land(actor, step); return true;

@@ -24,7 +24,7 @@ static void stand_at(enum local local, bool releases, bool acquires)
         nicxi_acquired(self);
     if (self->next.length)
         self->is_void = false;
-    nicxi_told(&self->next);
+    nicxi_announce(&self->next);
 }
 
 void nicx_wmb(void)

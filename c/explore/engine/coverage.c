@@ -57,7 +57,7 @@ static void cover_arrival(const struct step *step)
 {
     uint16_t *frame = &nicxi.coverage->frames[step->of];
     if (step->status == NIC_DROPPED) {
-        *frame |= (uint16_t)(1u << step->told.why);
+        *frame |= (uint16_t)(1u << step->outcome.why);
         return;
     }
     *frame |= (uint16_t)LET_IN;
@@ -68,11 +68,11 @@ static void cover_receive(const struct step *step)
 {
     bool is_written = step->status == NIC_WROTE;
     if (is_written)
-        nicxi.coverage->acted[RECEIVE][step->told.queue] = true;
-    if ((is_written && !step->told.end) || inside.oldest == inside.let_in)
+        nicxi.coverage->acted[RECEIVE][step->outcome.queue] = true;
+    if ((is_written && !step->outcome.end) || inside.oldest == inside.let_in)
         return;
     uint16_t *frame = &nicxi.coverage->frames[inside.frames[inside.oldest++]];
-    *frame |= (uint16_t)(is_written ? DELIVERED : step->status == NIC_DROPPED ? 1u << step->told.why : FAULTED);
+    *frame |= (uint16_t)(is_written ? DELIVERED : step->status == NIC_DROPPED ? 1u << step->outcome.why : FAULTED);
 }
 
 static void cover_fault(const struct step *step)
@@ -93,7 +93,7 @@ void nicxi_cover_step(const struct step *step)
     case STEP_TX: it->acted[TRANSMIT][step->of] |= step->status != NIC_FAULT; break;
     case STEP_RX_ENABLE: look_at_queue(RECEIVE, step->of); break;
     case STEP_TX_ENABLE: look_at_queue(TRANSMIT, step->of); break;
-    case STEP_INT: it->messages[step->of] |= (uint16_t)(1u << step->told.vector % 16); break;
+    case STEP_INT: it->messages[step->of] |= (uint16_t)(1u << step->outcome.vector % 16); break;
     case STEP_ARRIVE: cover_arrival(step); break;
     case STEP_LINK: it->links[step->of] |= step->status == NIC_DONE; break;
     default: break;
@@ -129,7 +129,7 @@ struct telling {
     char line[MOST_LINE];
 };
 
-static void told(struct telling *it)
+static void report_line(struct telling *it)
 {
     it->tell(it->argument, it->line);
     it->count++;
@@ -180,7 +180,7 @@ static void tell_threads(struct telling *it)
                      group_name(thread->group, room), thread->vector);
             add_other_messages(it);
         }
-        told(it);
+        report_line(it);
     }
 }
 
@@ -220,7 +220,7 @@ static void tell_frames(struct telling *it)
         snprintf(it->line, MOST_LINE,
                  "%" PRIu32 " frames of %u were never written to memory, the first frame %" PRIu32 "%s", lost,
                  nicxi.frame_count, first, why_lost(seen));
-    told(it);
+    report_line(it);
 }
 
 static void tell_links(struct telling *it)
@@ -229,7 +229,7 @@ static void tell_links(struct telling *it)
         if (it->coverage->links[k])
             continue;
         snprintf(it->line, MOST_LINE, "link change %" PRIu32 " (%s) had no effect", k, nicxi.links[k] ? "up" : "down");
-        told(it);
+        report_line(it);
     }
 }
 
@@ -247,7 +247,7 @@ static void tell_queues(struct telling *it, int side)
     else
         snprintf(it->line, MOST_LINE, "%" PRIu32 " queues were on but %s nothing, the first of them queue %" PRIu32,
                  count, verb, first);
-    told(it);
+    report_line(it);
 }
 
 /* If no queue received anything, the lines about frames already say so. */

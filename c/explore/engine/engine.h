@@ -48,7 +48,7 @@ struct step {
     uint64_t value;      /* LOCAL_ATOMIC: the value found, or the one stored */
     uint64_t other;      /* LOCAL_ATOMIC: the value afterwards, or the one expected */
     uint64_t touched[2]; /* own memory read [0] and written [1]: a set of addresses, hashed to 64 bits */
-    nic_told told;
+    nic_outcome outcome;
     const char *call; /* LOCAL_CALL: the name of the call on the object at `bus` */
 };
 
@@ -292,7 +292,7 @@ void nicxi_next(struct thread *self);
 /* Notes that a chosen thread continues. */
 void nicxi_went_on(struct thread *self);
 /* Records a step that was taken, and passes it to the observer and the listeners. */
-void nicxi_told(const struct step *step);
+void nicxi_announce(const struct step *step);
 void nicxi_observed(uint16_t actor, const struct step *step);
 
 /* The first index from `from` on that isn't left out, or `count`. */

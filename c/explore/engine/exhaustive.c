@@ -136,7 +136,7 @@ static uint32_t cost(const struct node *node, uint32_t k)
     return node->is_current && k != 0;
 }
 
-static uint32_t left_behind(const struct exhaustive *it, const struct node *node, uint32_t k)
+static uint32_t left_after(const struct exhaustive *it, const struct node *node, uint32_t k)
 {
     return it->preemptions == UNBOUNDED ? UNBOUNDED : node->left - cost(node, k);
 }
@@ -175,7 +175,7 @@ static void go_to(struct exhaustive *it, struct node *node, uint32_t k)
 static bool inherit(struct exhaustive *it, const struct node *above, struct node *node)
 {
     const struct step *made = &nicxi.steps[above - it->nodes];
-    uint32_t left = left_behind(it, above, above->at);
+    uint32_t left = left_after(it, above, above->at);
     for (uint32_t k = 0; it->sleeps && k < above->asleep_count; k++) {
         struct asleep z = it->asleep[above->asleep + k];
         bool is_new = k >= above->inherited;
@@ -224,7 +224,7 @@ static struct node *add_node(struct exhaustive *it, const uint16_t *can, uint32_
     memset(node, 0, sizeof *node);
     node->can = it->can_count;
     node->count = count;
-    node->left = above ? left_behind(it, above, above->at) : it->preemptions;
+    node->left = above ? left_after(it, above, above->at) : it->preemptions;
     node->is_current = above && nicxi_goes_on(can);
     node->asleep = it->asleep_count;
     if (!add_can(it, can, count) || (above && !inherit(it, above, node)))
@@ -391,7 +391,7 @@ static bool put_to_sleep(struct exhaustive *it, struct node *node)
     uint32_t depth = (uint32_t)(node - it->nodes);
     struct asleep z;
     z.actor = actor_at(it, node, node->at);
-    z.left = left_behind(it, node, node->at);
+    z.left = left_after(it, node, node->at);
     z.goes_on = node[1].is_current;
     z.step = nicxi.steps[depth];
     it->asleep_count = node->asleep + node->asleep_count;

@@ -26,8 +26,8 @@ uint16_t nicxi_actor_of(const char *words);
 
 struct schedule_file {
     uint16_t *list;
-    uint32_t *lines; /* the line of each point, from 1 */
-    char **told;     /* the comment of each point, or null */
+    uint32_t *lines;    /* the line of each point, from 1 */
+    char **description; /* the comment of each point, or null */
     uint32_t length;
     uint32_t last;  /* the number of the last line */
     uint32_t cycle; /* how many points at the end repeat; 0: none */

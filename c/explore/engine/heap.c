@@ -111,7 +111,7 @@ struct taken {
 static size_t nothing;
 
 /* A size of 0 allocates as much as the alignment, which is at most 16 in this library. */
-static struct taken told(void *piece)
+static struct taken as_taken(void *piece)
 {
     struct taken taken = {piece != NULL, piece ? piece : &nothing};
     return taken;
@@ -124,7 +124,7 @@ void nic82599_dealloc(void *piece);
 struct taken nic82599_alloc(size_t size, size_t align)
 {
     size_t wanted = size ? size : align;
-    return told(is_searcher() ? piece_take(memory, wanted) : malloc(wanted));
+    return as_taken(is_searcher() ? piece_take(memory, wanted) : malloc(wanted));
 }
 
 /* Returns a block to its allocator. If another thread frees a block of the search's piece, nothing happens: it is
@@ -141,11 +141,11 @@ struct taken nic82599_realloc(void *piece, size_t old, size_t size, size_t align
 {
     size_t wanted = size ? size : align;
     if (!nicxi_heap_has(piece))
-        return told(realloc(piece, wanted));
+        return as_taken(realloc(piece, wanted));
     void *moved = is_searcher() ? piece_take(memory, wanted) : malloc(wanted);
     if (moved) {
         memcpy(moved, piece, old < wanted ? old : wanted);
         nic82599_dealloc(piece);
     }
-    return told(moved);
+    return as_taken(moved);
 }

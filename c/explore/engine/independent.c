@@ -65,7 +65,7 @@ static uint32_t address_of(const struct step *step)
 int nicxi_side_of_step(const struct step *step)
 {
     switch (step->kind) {
-    case STEP_RX: return step->status == NIC_WROTE || step->status == NIC_FAULT ? 2 * step->told.queue : NO_SIDE;
+    case STEP_RX: return step->status == NIC_WROTE || step->status == NIC_FAULT ? 2 * step->outcome.queue : NO_SIDE;
     case STEP_TX: return 2 * step->of + 1;
     case STEP_RX_ENABLE: return 2 * step->of;
     case STEP_TX_ENABLE: return 2 * step->of + 1;
@@ -140,11 +140,11 @@ static bool is_of_a_function(const struct step *a, const struct step *b)
    head. */
 static bool writes_elsewhere(const struct step *a, const struct step *b)
 {
-    const nic_told *told = &b->told;
+    const nic_outcome *outcome = &b->outcome;
     if (b->status == NIC_WROTE)
-        return !nicxi_overlap(a->bus, a->length, told->desc, NIC_DESC_BYTES) &&
-               !nicxi_overlap(a->bus, a->length, told->at, told->len);
-    return !told->back || !nicxi_overlap(a->bus, a->length, told->at, NIC_DESC_BYTES);
+        return !nicxi_overlap(a->bus, a->length, outcome->desc, NIC_DESC_BYTES) &&
+               !nicxi_overlap(a->bus, a->length, outcome->at, outcome->len);
+    return !outcome->back || !nicxi_overlap(a->bus, a->length, outcome->at, NIC_DESC_BYTES);
 }
 
 /* A receive step that wrote a frame also read only its descriptor. */
@@ -266,7 +266,8 @@ static const struct row {
     {FUNCTIONS_OWN, BY(INT), is_of_other_group, "function's access of its interrupts, int of another group",
      "dev: vf_stays_in_its_pool (changes), message_leaves_the_rest (groups)"},
     /* two steps of the device */
-    {BY(INT), BY(INT), are_other_groups, "int of two groups", "dev: message_leaves_the_rest (groups), due_bit_is_told"},
+    {BY(INT), BY(INT), are_other_groups, "int of two groups",
+     "dev: message_leaves_the_rest (groups), due_bit_is_reported"},
     {BY(INT), ENABLES | BY(EEPROM), NULL, "int, qstep or eestep",
      "dev: message_leaves_the_rest (queues), switching_leaves_the_rest (groups), eeprom_step_gives_the_word (rest)"},
     {BY(INT), FROM_LINK, is_of_a_function, "int of a function, arrive or link",

@@ -69,9 +69,9 @@ static int search(const struct options *options, const char *program)
         show(options, &failure, program, &paths);
     bool has_distinct = options->strategy != EXHAUSTIVE;
     int status = failure.is_there ? FAILURE : nicxi_tell_nothing(options, &totals, has_distinct) ? VACUOUS : NOTHING;
-    const struct junit_failure told = {&failure.result, paths.schedule};
-    const struct junit junit = {options, &totals,         has_distinct, nicxi_strategy_name(options->strategy),
-                                &told,   failure.is_there};
+    const struct junit_failure reported = {&failure.result, paths.schedule};
+    const struct junit junit = {options,   &totals,         has_distinct, nicxi_strategy_name(options->strategy),
+                                &reported, failure.is_there};
     if (!write_junit(&junit) || !write_result(options, &totals, &failure))
         status = REFUSED;
     free(failure.schedule);
@@ -121,23 +121,23 @@ static int show_merged(const struct options *options, struct merged *merged, con
 {
     const char *fault = NULL;
     struct paths *paths = calloc(merged->cause_count + 1, sizeof *paths);
-    struct junit_failure *told = calloc(merged->cause_count + 1, sizeof *told);
-    for (uint32_t k = 0; paths && told && k < merged->cause_count; k++) {
+    struct junit_failure *reported = calloc(merged->cause_count + 1, sizeof *reported);
+    for (uint32_t k = 0; paths && reported && k < merged->cause_count; k++) {
         show_cause(options, &merged->causes[k], k, program, &paths[k]);
-        told[k].result = &merged->causes[k].failure.result;
-        told[k].schedule = paths[k].schedule;
+        reported[k].result = &merged->causes[k].failure.result;
+        reported[k].schedule = paths[k].schedule;
     }
     int status = merged->cause_count                                                              ? FAILURE
                  : nicxi_tell_nothing(options, &merged->sum.totals, merged->sum.distinct != NULL) ? VACUOUS
                                                                                                   : NOTHING;
-    const struct junit junit = {options, &merged->sum.totals, merged->sum.distinct != NULL, "merged",
-                                told,    merged->cause_count};
-    if (!paths || !told)
+    const struct junit junit = {options,  &merged->sum.totals, merged->sum.distinct != NULL, "merged",
+                                reported, merged->cause_count};
+    if (!paths || !reported)
         fault = "there is no memory";
     if (fault || !write_junit(&junit))
         status = fault ? refuse(nicxi.scenario, fault) : REFUSED;
     free(paths);
-    free(told);
+    free(reported);
     return status;
 }
 

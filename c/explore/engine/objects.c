@@ -28,8 +28,8 @@ static void add_memory(struct objects *objects, uint64_t bus, uint32_t length)
     bool is_in_ring = false;
     for (uint32_t k = 0; k < 2u * nicxi.scenario->queues; k++) {
         struct nicl_ring ring = nicl_ring_of(&nicxi.device, k & 1, k / 2);
-        uint64_t behind = ring.base + (uint64_t)NIC_DESC_BYTES * ring.slots;
-        uint64_t end = bus + length < behind ? bus + length : behind;
+        uint64_t ring_end = ring.base + (uint64_t)NIC_DESC_BYTES * ring.slots;
+        uint64_t end = bus + length < ring_end ? bus + length : ring_end;
         uint64_t at = bus > ring.base ? bus : ring.base;
         for (uint32_t slots = 0; at < end && slots < MOST_SLOTS; slots++) {
             uint64_t slot = (at - ring.base) / NIC_DESC_BYTES;
@@ -94,15 +94,15 @@ static void add_interrupts(struct objects *objects, unsigned group)
 
 static void add_received(struct objects *objects, const struct step *step)
 {
-    int frame = nicxi_frame_in_hand(step->status != NIC_WROTE || step->told.end);
+    int frame = nicxi_frame_in_hand(step->status != NIC_WROTE || step->outcome.end);
     if (frame >= 0)
         add(objects, "frame %d", frame);
     if (step->status == NIC_WROTE) {
-        add(objects, "rx %u slot %u", step->told.queue, step->told.slot);
-        add(objects, "block %llu", (unsigned long long)(step->told.at / NIC_BLOCK_BYTES));
+        add(objects, "rx %u slot %u", step->outcome.queue, step->outcome.slot);
+        add(objects, "block %llu", (unsigned long long)(step->outcome.at / NIC_BLOCK_BYTES));
     }
     if (step->status == NIC_WROTE || step->status == NIC_FAULT)
-        add(objects, "rx %u", step->told.queue);
+        add(objects, "rx %u", step->outcome.queue);
 }
 
 /* After a transmit step the head is at the next slot, unless the step failed with a fault. */

@@ -39,7 +39,7 @@ void nicxi_observed(uint16_t actor, const struct step *step)
         .word = step->word,
         .bus = step->bus,
         .length = step->length,
-        .told = step->told,
+        .outcome = step->outcome,
     };
     nicxi.observer->see(&seen);
 }

@@ -11,7 +11,7 @@
 enum { ROOM = 65536 };
 
 static struct sigaction before[2];
-static volatile struct overflow *told;
+static volatile struct overflow *reported;
 
 static int place_of(int number)
 {
@@ -42,7 +42,7 @@ static void handle(int number, siginfo_t *info, void *context)
     char words[160];
     volatile struct overflow here;
     const struct thread *thread = owner_of(info->si_addr);
-    volatile struct overflow *overflow = told ? told : &here;
+    volatile struct overflow *overflow = reported ? reported : &here;
     (void)context;
     sigaction(number, &before[place_of(number)], NULL);
     if (info->si_code <= 0)
@@ -51,7 +51,7 @@ static void handle(int number, siginfo_t *info, void *context)
         return;
     overflow->thread = (uint16_t)(thread - nicxi.threads);
     overflow->size = thread->fiber.size;
-    if (told)
+    if (reported)
         return;
     nicxi_overflow_words(overflow, words, sizeof words - 1);
     strcat(words, "\n");
@@ -66,7 +66,7 @@ void nicxi_catch_overflows(volatile struct overflow *where)
     const int numbers[] = {SIGSEGV, SIGBUS};
     stack_t stack = {.ss_sp = room, .ss_size = sizeof room};
     struct sigaction action;
-    told = where;
+    reported = where;
     memset(&action, 0, sizeof action);
     action.sa_sigaction = handle;
     action.sa_flags = SA_SIGINFO | SA_ONSTACK;

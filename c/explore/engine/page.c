@@ -87,7 +87,7 @@ static void put_place(FILE *file, const struct place *place)
 
 void nicxi_page_step(FILE *file, uint16_t actor, const struct step *step)
 {
-    char name[96], words[MOST_TOLD], about[MOST_TOLD];
+    char name[96], words[MOST_DESCRIPTION], about[MOST_DESCRIPTION];
     struct place place;
     struct objects objects;
     nicxi_place(actor, step, &place);

@@ -194,10 +194,10 @@ const char *nicxi_place_words(const struct place *place, char room[MOST_PLACE])
     return room;
 }
 
-const char *nicxi_line_of_call(const void *behind, char room[MOST_PLACE])
+const char *nicxi_line_of_call(const void *return_address, char room[MOST_PLACE])
 {
     struct source_line lines[MOST_CALLS];
-    unsigned count = behind ? nicxi_lines((const char *)behind - 1, lines, MOST_CALLS) : 0;
+    unsigned count = return_address ? nicxi_lines((const char *)return_address - 1, lines, MOST_CALLS) : 0;
     room[0] = 0;
     for (unsigned k = 0; k < count && !*room; k++)
         if (!is_of_library(lines[k].file) && !is_of_card(lines[k].file))
@@ -309,20 +309,21 @@ static void object_words(const struct step *step, const struct place *place, cha
         lock_words(thread, "nicx_unlock(", place, room);
 }
 
-void nicxi_step_words(const struct step *step, const struct place *place, char room[MOST_TOLD], char about[MOST_TOLD])
+void nicxi_step_words(const struct step *step, const struct place *place, char room[MOST_DESCRIPTION],
+                      char about[MOST_DESCRIPTION])
 {
     char words[MOST_WORDS], object[MOST_OBJECT];
     object_words(step, place, object);
-    snprintf(about, MOST_TOLD, "%s", object + (*object == ' '));
-    snprintf(room, MOST_TOLD, "%s%s", nicxi_words(step, words), object);
-    nicxi_plain(room, room, MOST_TOLD);
-    nicxi_plain(about, about, MOST_TOLD);
+    snprintf(about, MOST_DESCRIPTION, "%s", object + (*object == ' '));
+    snprintf(room, MOST_DESCRIPTION, "%s%s", nicxi_words(step, words), object);
+    nicxi_plain(room, room, MOST_DESCRIPTION);
+    nicxi_plain(about, about, MOST_DESCRIPTION);
 }
 
 void nicxi_tell_step(uint16_t actor, const struct step *step, char *room, size_t size)
 {
     struct place place;
-    char words[MOST_TOLD], about[MOST_TOLD], where[MOST_PLACE];
+    char words[MOST_DESCRIPTION], about[MOST_DESCRIPTION], where[MOST_PLACE];
     nicxi_place(actor, step, &place);
     nicxi_step_words(step, &place, words, about);
     nicxi_place_words(&place, where);

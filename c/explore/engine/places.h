@@ -5,7 +5,7 @@
 #include "engine.h"
 #include "symbols.h"
 
-enum { MOST_CALLS = 8, MOST_PLACE = NICXO_PLACE, MOST_TEXT = 200, MOST_TOLD = 512 };
+enum { MOST_CALLS = 8, MOST_PLACE = NICXO_PLACE, MOST_TEXT = 200, MOST_DESCRIPTION = 512 };
 
 struct place {
     struct source_line calls[MOST_CALLS]; /* calls from the innermost to the task's own function */
@@ -32,10 +32,11 @@ const char *nicxi_place_words(const struct place *place, char room[MOST_PLACE]);
 const char *nicxi_place_here(char room[MOST_PLACE]);
 
 /* Describes a step, as in "locks driver.lock", and names what it locks or waits for in `about`, or "". */
-void nicxi_step_words(const struct step *step, const struct place *place, char room[MOST_TOLD], char about[MOST_TOLD]);
+void nicxi_step_words(const struct step *step, const struct place *place, char room[MOST_DESCRIPTION],
+                      char about[MOST_DESCRIPTION]);
 
 /* The driver's line of a call, given its return address: "poll.c:17", or "" if unknown. */
-const char *nicxi_line_of_call(const void *behind, char room[MOST_PLACE]);
+const char *nicxi_line_of_call(const void *return_address, char room[MOST_PLACE]);
 
 /* The driver's line at which a thread waits. */
 const char *nicxi_line_of_wait(const struct thread *thread, char room[MOST_PLACE]);

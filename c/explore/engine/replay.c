@@ -23,7 +23,7 @@ struct replay {
     uint32_t asked;  /* the last point at which an actor was chosen, plus 1 */
     uint32_t now;    /* the file's point being replayed; `length` if none */
     bool has_parted; /* printed after the next step */
-    bool is_told;
+    bool is_described;
     char reason[192]; /* why the file's point can't be replayed */
 };
 
@@ -35,10 +35,10 @@ static void print_file_point(const struct replay *it, uint32_t point)
     if (point == it->file.length)
         fprintf(it->to, "the end");
     else if (it->file.list[point] == NOBODY)
-        fprintf(it->to, "%s", it->file.told[point]);
+        fprintf(it->to, "%s", it->file.description[point]);
     else
-        fprintf(it->to, "%s%s%s", nicx_actor_name(it->file.list[point], name), it->file.told[point] ? ", " : "",
-                it->file.told[point] ? it->file.told[point] : "");
+        fprintf(it->to, "%s%s%s", nicx_actor_name(it->file.list[point], name), it->file.description[point] ? ", " : "",
+                it->file.description[point] ? it->file.description[point] : "");
 }
 
 static void part(struct replay *it, uint32_t point, const char *reason)
@@ -53,9 +53,9 @@ static void part(struct replay *it, uint32_t point, const char *reason)
 static void tell_parting(struct replay *it, const char *now)
 {
     const char *name = nicxi.scenario->name;
-    if (!it->has_parted || it->is_told)
+    if (!it->has_parted || it->is_described)
         return;
-    it->is_told = true;
+    it->is_described = true;
     fprintf(it->to, "%s: the run departs from the schedule here, at %s:%u%s\n%s:   it was: ", name, it->path,
             (unsigned)(it->now < it->file.length ? it->file.lines[it->now] : it->file.last), it->reason, name);
     print_file_point(it, it->now);
@@ -64,7 +64,7 @@ static void tell_parting(struct replay *it, const char *now)
 
 /* Whether the file's comment agrees with what is printed now. Lines may differ, and one of the two may lack the
    place. */
-static bool is_as_told(const char *before, const char *now)
+static bool is_as_described(const char *before, const char *now)
 {
     size_t length = strlen(now);
     const char *at = NULL;
@@ -77,13 +77,14 @@ static bool is_as_told(const char *before, const char *now)
 
 static void compare(struct replay *it, uint16_t actor, const struct step *step)
 {
-    char told[MOST_TOLD], name[96], line[MOST_TOLD + 100];
-    nicxi_tell_step(actor, step, told, sizeof told);
-    snprintf(line, sizeof line, "%s, %s", nicx_actor_name(actor, name), told);
-    char *at = strstr(told, " at ");
+    char description[MOST_DESCRIPTION], name[96], line[MOST_DESCRIPTION + 100];
+    nicxi_tell_step(actor, step, description, sizeof description);
+    snprintf(line, sizeof line, "%s, %s", nicx_actor_name(actor, name), description);
+    char *at = strstr(description, " at ");
     if (at && !nicxi_is_device_step(step->kind))
         *at = 0;
-    if (it->now == it->file.length || (it->file.told[it->now] && !is_as_told(it->file.told[it->now], told)))
+    if (it->now == it->file.length ||
+        (it->file.description[it->now] && !is_as_described(it->file.description[it->now], description)))
         part(it, it->now, "");
     tell_parting(it, line);
 }

@@ -434,8 +434,8 @@ static void read_all(struct form *it, struct result *result)
 {
     all(it, result);
     uint64_t sum = it->sum;
-    const char *told = field(it, "sum");
-    if (!*it->fault && (strlen(told) != 16 || hexadecimal(it, "sum", told, 16) != sum))
+    const char *given = field(it, "sum");
+    if (!*it->fault && (strlen(given) != 16 || hexadecimal(it, "sum", given, 16) != sum))
         wrong(it, "sum: doesn't match the lines before it");
     if (!*it->fault && fgetc(it->file) != EOF)
         wrong(it, "the file continues after its last line");

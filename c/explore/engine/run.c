@@ -122,7 +122,7 @@ bool nicxi_may_act(void)
 
 /* --- after a step --- */
 
-void nicxi_told(const struct step *step)
+void nicxi_announce(const struct step *step)
 {
     uint32_t point = *nicxi.points - 1;
     bool is_point = nicxi.phase == RUNNING || (nicxi.phase == BEGINNING && step->kind == STEP_VALUE);
@@ -366,7 +366,7 @@ static bool device_acts(uint16_t number)
     nicxi_wake(&step);
     nicxi_cover_step(&step);
     nicxi_forget_stored(&step);
-    nicxi_told(&step);
+    nicxi_announce(&step);
     nicxi_name_giver(&step);
     look();
     return true;
@@ -470,7 +470,7 @@ static void start_handler(const struct actor *actor)
         nicxi_acquired(handler);
     if (!nicxi_thread_prepare(handler))
         nicxi_failed(NICX_MISUSE, "out of memory for a stack");
-    nicxi_told(&handler->next);
+    nicxi_announce(&handler->next);
 }
 
 static bool is_wait(const struct step *step)
@@ -496,7 +496,7 @@ void nicxi_next(struct thread *self)
         if (actor->kind == BY_START)
             start_handler(actor);
         else if (thread->stack == PARKED)
-            nicxi_told(&thread->next);
+            nicxi_announce(&thread->next);
         if (thread->stack != PARKED ? !is_wait(&thread->next) : actor->kind == BY_START)
             nicxi_cover_thread(actor->of);
         if (!nicxi.result.outcome) {

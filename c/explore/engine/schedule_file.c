@@ -41,9 +41,9 @@ void nicxi_write_head(FILE *file, const struct origin *origin)
 
 void nicxi_write_point(FILE *file, uint16_t actor, const struct step *step)
 {
-    char name[96], told[MOST_TOLD];
-    nicxi_tell_step(actor, step, told, sizeof told);
-    fprintf(file, "%-24s # %s\n", nicx_actor_name(actor, name), told);
+    char name[96], description[MOST_DESCRIPTION];
+    nicxi_tell_step(actor, step, description, sizeof description);
+    fprintf(file, "%-24s # %s\n", nicx_actor_name(actor, name), description);
 }
 
 /* Removes blanks at both ends, and reduces each run of them to one. */
@@ -86,13 +86,13 @@ static bool has_room(struct schedule_file *file)
     uint32_t *lines = realloc(file->lines, room * sizeof *lines);
     if (lines)
         file->lines = lines;
-    char **told = realloc(file->told, room * sizeof *told);
-    if (told)
-        file->told = told;
-    return list && lines && told;
+    char **description = realloc(file->description, room * sizeof *description);
+    if (description)
+        file->description = description;
+    return list && lines && description;
 }
 
-static const char *add(struct schedule_file *file, uint16_t actor, const char *told)
+static const char *add(struct schedule_file *file, uint16_t actor, const char *description)
 {
     if (file->length == MOST_POINTS)
         return "a schedule has at most 1,000,000 points";
@@ -100,13 +100,13 @@ static const char *add(struct schedule_file *file, uint16_t actor, const char *t
         return "there is no memory";
     file->list[file->length] = actor;
     file->lines[file->length] = file->last;
-    file->told[file->length] = NULL;
-    if (told && *told) {
-        size_t size = strlen(told) + 1;
-        file->told[file->length] = malloc(size);
-        if (!file->told[file->length])
+    file->description[file->length] = NULL;
+    if (description && *description) {
+        size_t size = strlen(description) + 1;
+        file->description[file->length] = malloc(size);
+        if (!file->description[file->length])
             return "there is no memory";
-        memcpy(file->told[file->length], told, size);
+        memcpy(file->description[file->length], description, size);
     }
     file->length++;
     return NULL;
@@ -180,7 +180,7 @@ static const char *take_points(const struct schedule_file *file, const char *wor
 }
 
 /* Returns null, or what is wrong with a line. */
-static const char *take(struct schedule_file *file, const char *words, const char *told, bool is_lenient)
+static const char *take(struct schedule_file *file, const char *words, const char *description, bool is_lenient)
 {
     if (!file->length && (!strcmp(words, "memory weak") || !strcmp(words, "memory tso"))) {
         file->is_weak = true;
@@ -202,8 +202,8 @@ static const char *take(struct schedule_file *file, const char *words, const cha
     if (actor == NOBODY && !is_lenient)
         return nicxi_why("the scenario has no \"%s\"", words);
     if (actor == NOBODY)
-        told = nicxi_why("\"%s\" (not in the scenario)", words);
-    return add(file, actor, told);
+        description = nicxi_why("\"%s\" (not in the scenario)", words);
+    return add(file, actor, description);
 }
 
 /* Whether a line is text: no zero byte ends it early, and all its bytes are text. */
@@ -276,9 +276,9 @@ const char *nicxi_read_schedule(const char *path, bool is_lenient, struct schedu
 void nicxi_free_schedule(struct schedule_file *file)
 {
     for (uint32_t k = 0; k < file->length; k++)
-        free(file->told[k]);
+        free(file->description[k]);
     free(file->list);
     free(file->lines);
-    free(file->told);
+    free(file->description);
     memset(file, 0, sizeof *file);
 }

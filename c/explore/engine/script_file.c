@@ -177,11 +177,11 @@ static void device_step(struct script *script, uint16_t actor, const struct step
 /* A step of the driver's own doesn't involve the device, and is written as a comment. */
 static void own_step(struct script *script, uint16_t actor, const struct step *step)
 {
-    char name[96], told[MOST_TOLD];
+    char name[96], description[MOST_DESCRIPTION];
     if (script->unfit)
         return;
-    nicxi_tell_step(actor, step, told, sizeof told);
-    fprintf(script->file, "%-28s # %s: %s\n", "", nicx_actor_name(actor, name), told);
+    nicxi_tell_step(actor, step, description, sizeof description);
+    fprintf(script->file, "%-28s # %s: %s\n", "", nicx_actor_name(actor, name), description);
 }
 
 void nicxi_script_step(struct script *script, uint16_t actor, const struct step *step)

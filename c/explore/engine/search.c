@@ -23,7 +23,7 @@ enum {
     BOUNDS = SLOWLY + 1,
     RUNS_OF_BOUND = 1 << 24,
     PARTS = 1 << 16, /* parts from the last one on are counted together */
-    ANEW = 1024
+    RECOUNT = 1024
 };
 
 /* Shared by all processes of a search. */
@@ -217,7 +217,7 @@ static bool is_spent(const struct job *job, const struct post *post)
     static uint64_t before, part = UINT64_MAX, counted;
     if (!job->options->runs)
         return false;
-    if (part != post->run || post->runs - counted >= ANEW) {
+    if (part != post->run || post->runs - counted >= RECOUNT) {
         before = made_before(job->common, post->run);
         part = post->run;
         counted = post->runs;
@@ -320,7 +320,7 @@ struct search {
     struct common *common;
     struct post *posts;
     uint32_t living;
-    double began, told;
+    double began, reported;
 };
 
 static void sum(struct search *search)
@@ -353,9 +353,9 @@ static void sum_notes(struct search *search)
 static void tell(struct search *search)
 {
     double seconds = nicxi_now() - search->began;
-    if (search->options->is_quiet || seconds < search->told + 2)
+    if (search->options->is_quiet || seconds < search->reported + 2)
         return;
-    search->told = seconds;
+    search->reported = seconds;
     sum(search);
     fprintf(stderr, "%s: %" PRIu64 " schedule%s, %.0f s\n", nicxi.scenario->name, search->totals->runs,
             nicxi_s(search->totals->runs), seconds);

@@ -70,9 +70,9 @@ static void forget(uint64_t bus)
 void nicxi_forget_stored(const struct step *step)
 {
     if (step->kind == STEP_RX && step->status == NIC_WROTE)
-        forget(step->told.desc);
-    else if (step->kind == STEP_TX && step->told.back)
-        forget(step->told.at);
+        forget(step->outcome.desc);
+    else if (step->kind == STEP_TX && step->outcome.back)
+        forget(step->outcome.at);
 }
 
 static const char *at_words(const struct stored *it, char room[MOST_PLACE])
@@ -113,13 +113,13 @@ static void add_register(uint32_t address)
 
 void nicxi_name_giver(const struct step *step)
 {
-    if (step->status != NIC_FAULT || step->told.why != NIC_FAULT_NOT_LENT || nicxi.result.outcome != NICX_FAULT)
+    if (step->status != NIC_FAULT || step->outcome.why != NIC_FAULT_NOT_LENT || nicxi.result.outcome != NICX_FAULT)
         return;
     bool sends = step->kind == STEP_TX;
-    unsigned queue = step->told.queue;
+    unsigned queue = step->outcome.queue;
     struct nicl_ring ring = nicl_ring_of(&nicxi.device, sends, queue);
     const struct stored *descriptor = known(ring.base / UNIT + ring.head);
-    if (step->told.bus - ring.base < (uint64_t)NIC_DESC_BYTES * ring.slots)
+    if (step->outcome.bus - ring.base < (uint64_t)NIC_DESC_BYTES * ring.slots)
         add_register(sends ? NIC_TDBAL(queue) : NIC_RDBAL(queue));
     else if (descriptor)
         add_words(descriptor, "wrote that descriptor");

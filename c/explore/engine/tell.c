@@ -6,7 +6,7 @@
 #include "parts.h"
 #include "words.h"
 
-enum { MOST_TOLD_UNPOINTED = 1024 };
+enum { MOST_UNPOINTED_LIST = 1024 };
 
 const char *nicxi_form_options = "nic82599_threads.opts";
 const char *nicxi_to_be_seen;
@@ -69,7 +69,7 @@ static void tell_unseen(void)
 
 static void tell_unpointed(const struct unpointed_list *found)
 {
-    char words[MOST_TOLD_UNPOINTED];
+    char words[MOST_UNPOINTED_LIST];
     for (uint32_t k = 0; k < found->count; k++) {
         nicxi_unpointed_words(&found->list[k], words, sizeof words);
         printf("%s: note: %s: call nicx_point() in between, or compile with -fsanitize=thread and link with "

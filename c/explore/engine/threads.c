@@ -115,7 +115,7 @@ static bool stand_at(enum thread_state state, enum local local, const void *obje
     nicxi_went_on(self);
     if (state == LOCKED || local == LOCAL_UNLOCK)
         self->is_void = false;
-    nicxi_told(&self->next);
+    nicxi_announce(&self->next);
     return true;
 }
 

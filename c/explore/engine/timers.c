@@ -46,7 +46,7 @@ static struct thread *timer_of(int number, enum local local)
     nicxi_went_on(self);
     self->is_void = false;
     self->next.of = (uint16_t)number;
-    nicxi_told(&self->next);
+    nicxi_announce(&self->next);
     return &nicxi.threads[number];
 }
 

@@ -70,9 +70,9 @@ static void count_fine(const struct options *options, struct post *post, const s
     for (*tried = 0; post->fine < wanted && going.first < beginning->tries && !nicxi_is_over(&limit);) {
         going.left = nicxi_left(&limit);
         post->run = going.first;
-        bool is_told = nicxi_do(post, options->hang, go_on, &going);
+        bool is_done = nicxi_do(post, options->hang, go_on, &going);
         *tried = (uint32_t)post->run + 1;
-        if (!is_told)
+        if (!is_done)
             return;
         going.first = (uint32_t)post->run + 1;
     }

@@ -27,7 +27,7 @@ static void note(uint32_t value, uint32_t bound)
     step.length = bound;
     nicxi.schedule[*nicxi.points] = (uint16_t)(VALUES + value);
     *nicxi.points += 1;
-    nicxi_told(&step);
+    nicxi_announce(&step);
 }
 
 /* Returns 0 while a scenario is being opened, when there is no chooser. */

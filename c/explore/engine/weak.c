@@ -13,10 +13,10 @@ struct store {
     uint64_t bus; /* own memory: its address in the process */
     uint32_t length, room;
     uint8_t *bytes;
-    bool is_own;     /* to the driver's own memory */
-    bool releases;   /* all earlier stores must come before it */
-    uint8_t slot;    /* own memory: its number among the processor's pending stores */
-    uint32_t behind; /* stores made before this many barriers come before it */
+    bool is_own;       /* to the driver's own memory */
+    bool releases;     /* all earlier stores must come before it */
+    uint8_t slot;      /* own memory: its number among the processor's pending stores */
+    uint32_t barriers; /* stores made before this many barriers come before it */
 };
 
 /* What a processor has seen of a location: its loads there return nothing from before this time. */
@@ -205,11 +205,11 @@ void nicxi_memory_changed(const struct step *step)
     if (step->kind == STEP_POKE || step->kind == STEP_STORE) {
         changed(step->bus, step->length);
     } else if (step->kind == STEP_RX && step->status == NIC_WROTE) {
-        changed(step->told.at, step->told.len);
-        changed(step->told.desc, NIC_DESC_BYTES);
-    } else if (step->kind == STEP_TX && step->told.back) {
-        uint64_t left = NIC_BLOCK_BYTES - step->told.at % NIC_BLOCK_BYTES; /* a head is shorter than a descriptor */
-        changed(step->told.at, left < NIC_DESC_BYTES ? left : NIC_DESC_BYTES);
+        changed(step->outcome.at, step->outcome.len);
+        changed(step->outcome.desc, NIC_DESC_BYTES);
+    } else if (step->kind == STEP_TX && step->outcome.back) {
+        uint64_t left = NIC_BLOCK_BYTES - step->outcome.at % NIC_BLOCK_BYTES; /* a head is shorter than a descriptor */
+        changed(step->outcome.at, left < NIC_DESC_BYTES ? left : NIC_DESC_BYTES);
     }
 }
 
@@ -374,7 +374,7 @@ static void land_oldest(struct processor *it)
     struct step step = {0};
     step.is_beside = true;
     land(it, 0, &step);
-    nicxi_told(&step);
+    nicxi_announce(&step);
 }
 
 /* Flushes the `count` oldest stores. */
@@ -410,7 +410,7 @@ static bool keep_store(struct processor *it, struct store store, const void *byt
     }
     store.bytes = last->bytes;
     store.room = last->room;
-    store.behind = it->barriers;
+    store.barriers = it->barriers;
     *last = store;
     it->count++;
     return true;
@@ -502,7 +502,7 @@ void nicxi_land_everywhere(uint64_t at, uint64_t length)
    first, and a releasing store comes after all earlier ones. */
 static bool comes_first(const struct store *old, const struct store *new)
 {
-    return new->releases || old->behind < new->behind || touches(old, new->is_own, new->bus, new->length);
+    return new->releases || old->barriers < new->barriers || touches(old, new->is_own, new->bus, new->length);
 }
 
 bool nicxi_can_land(const struct actor *actor)

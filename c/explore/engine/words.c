@@ -27,7 +27,7 @@ const char *nicxi_why(const char *form, ...)
 
 const char *nicxi_reply(const struct step *step, char room[MOST_WORDS])
 {
-    nicl_reply(room, MOST_WORDS, step->status, &step->told);
+    nicl_reply(room, MOST_WORDS, step->status, &step->outcome);
     return room;
 }
 

@@ -251,13 +251,13 @@ static void *act(void *unused)
     nic_settling where = {1, 0};
     (void)unused;
     while (!atomic_load(&is_over)) {
-        nic_told told;
+        nic_outcome outcome;
         pthread_mutex_lock(&card_lock);
-        uint8_t status = nic_next_step(&card, &where, &told);
+        uint8_t status = nic_next_step(&card, &where, &outcome);
         pthread_mutex_unlock(&card_lock);
         if (status == NIC_DONE)
             sched_yield();
-        else if (told.status == NIC_MESSAGE)
+        else if (outcome.status == NIC_MESSAGE)
             raise_interrupt();
     }
     return NULL;
@@ -265,7 +265,7 @@ static void *act(void *unused)
 
 static void bring_up(void)
 {
-    nic_told told[16];
+    nic_outcome outcomes[16];
     size_t count;
     nic_lend_all(&card);
     nic_write32(&card, NIC_RXCTRL, NIC_RXCTRL_RXEN);
@@ -278,7 +278,7 @@ static void bring_up(void)
     nic_write32(&card, NIC_TDLEN(0), NIC_DESC_BYTES * SLOTS);
     nic_write32(&card, NIC_RXDCTL(0), NIC_RXDCTL_ENABLE);
     nic_write32(&card, NIC_TXDCTL(0), NIC_TXDCTL_ENABLE);
-    nic_settle(&card, 1, told, 16, &count);
+    nic_settle(&card, 1, outcomes, 16, &count);
     for (unsigned slot = 0; slot + 1 < SLOTS; slot++)
         nic_put_desc(&card, RX_RING, slot, nic_rx_desc(rx_buffer(slot)));
     nic_write32(&card, NIC_RDT(0), SLOTS - 1);
@@ -291,10 +291,10 @@ static void frames_come(unsigned count)
 {
     uint8_t frame[LENGTH] = {2, 0, 0, 0, 0, 1, 2, 0, 0, 0, 0, 2, 0x88, 0xB5};
     for (unsigned k = 0; k < count; k++) {
-        nic_told told;
+        nic_outcome outcome;
         frame[LENGTH - 1] = (uint8_t)k;
         pthread_mutex_lock(&card_lock);
-        nic_arrive(&card, frame, LENGTH, &told);
+        nic_arrive(&card, frame, LENGTH, &outcome);
         pthread_mutex_unlock(&card_lock);
     }
 }
@@ -305,8 +305,8 @@ static unsigned collected(void)
     uint8_t frame[LENGTH];
     bool seen[256] = {false};
     unsigned count = 0;
-    nic_told told;
-    while (nic_collect(&card, frame, LENGTH, &told) == NIC_FRAME) {
+    nic_outcome outcome;
+    while (nic_collect(&card, frame, LENGTH, &outcome) == NIC_FRAME) {
         count += !seen[frame[LENGTH - 1]];
         seen[frame[LENGTH - 1]] = true;
     }

@@ -104,13 +104,13 @@ static bool is_answered(void)
 
 static void function(void *unused)
 {
-    bool told = false;
+    bool answered = false;
     function_asks(GET_QUEUES);
-    for (unsigned k = 0; k < PATIENCE && !told; k++) {
+    for (unsigned k = 0; k < PATIENCE && !answered; k++) {
         nicx_pause();
-        told = is_answered();
+        answered = is_answered();
     }
-    if (told) {
+    if (answered) {
         driver.queues = nicx_vf_read32(VF, NIC_VFMBMEM(0));
     } else {
         driver.queues = 1;

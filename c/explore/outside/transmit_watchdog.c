@@ -170,12 +170,12 @@ static const char *end(void)
 {
     uint8_t frame[FRAME], whole[FRAME];
     uint32_t head = 0;
-    nic_told told;
+    nic_outcome outcome;
     for (unsigned k = 0; k < FRAMES; k++) {
         make_frame(whole, k);
-        if (nic_collect(nicx_device(), frame, FRAME, &told) != NIC_FRAME)
+        if (nic_collect(nicx_device(), frame, FRAME, &outcome) != NIC_FRAME)
             return "a frame was never transmitted";
-        if (told.len != FRAME || memcmp(frame, whole, FRAME))
+        if (outcome.len != FRAME || memcmp(frame, whole, FRAME))
             return "the frames on the wire aren't the ones sent, each once";
     }
     if (nic_next_out(nicx_device()))

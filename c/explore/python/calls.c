@@ -5,12 +5,12 @@
 #include "../engine/places.h"
 #include "python.h"
 
-enum { MOST_TOLD_WORDS = 256 };
+enum { MOST_FAILURE_WORDS = 256 };
 
 static struct nicp_python python;
 static uint32_t condition_function;
 static void (*refuse_foreign)(void);
-static char words[MOST_TOLD_WORDS];
+static char words[MOST_FAILURE_WORDS];
 /* How many functions in Python are running on this thread. */
 static __thread unsigned depth;
 
@@ -29,9 +29,9 @@ void nicp_open(const struct nicp_python *given, uint32_t condition, void (*forei
     nicp_open_stacks(python.begin_thread);
 }
 
-void nicp_told(const char *told)
+void nicp_set_words(const char *answer)
 {
-    snprintf(words, sizeof words, "%s", told);
+    snprintf(words, sizeof words, "%s", answer);
 }
 
 const char *nicp_words(void)
@@ -42,11 +42,11 @@ const char *nicp_words(void)
 int64_t nicp_ask(uint32_t function, uint64_t a, uint64_t b, uint64_t c)
 {
     depth++;
-    int64_t told = python.call(function, a, b, c);
+    int64_t answer = python.call(function, a, b, c);
     depth--;
-    if (told == NICP_OVER || nicp_is_left())
+    if (answer == NICP_OVER || nicp_is_left())
         nicp_leave();
-    return told;
+    return answer;
 }
 
 bool nicp_may_call(void)
@@ -64,10 +64,10 @@ bool nicp_may_call(void)
    continues. */
 static bool holds(void *number)
 {
-    int64_t told = nicp_ask(condition_function, (uintptr_t)number, 0, 0);
-    if (told == NICP_RAISED)
+    int64_t answer = nicp_ask(condition_function, (uintptr_t)number, 0, 0);
+    if (answer == NICP_RAISED)
         nicxi_failed(NICX_CHECK, "%s", words);
-    return told > 0;
+    return answer > 0;
 }
 
 NICP_CALL(nicp_read32, (uint32_t address), nicx_read32(address))

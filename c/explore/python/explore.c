@@ -223,13 +223,13 @@ int nicp_timer(const char *called, uint64_t number, uint32_t within)
 
 /* --- calls only for scenarios --- */
 
-void nicp_failed(uint8_t outcome, const char *told);
+void nicp_failed(uint8_t outcome, const char *text);
 bool nicp_is_in_thread(void);
 
 /* Fails the schedule; the caller continues for now. */
-void nicp_failed(uint8_t outcome, const char *told)
+void nicp_failed(uint8_t outcome, const char *text)
 {
-    nicxi_failed(outcome, "%s", told);
+    nicxi_failed(outcome, "%s", text);
 }
 
 bool nicp_is_in_thread(void)
@@ -237,7 +237,7 @@ bool nicp_is_in_thread(void)
     return nicxi_is_in_thread();
 }
 
-NICP_CALL(nicp_fail, (uint8_t outcome, const char *told), (nicp_failed(outcome, told), nicxi_leave(), 0))
+NICP_CALL(nicp_fail, (uint8_t outcome, const char *text), (nicp_failed(outcome, text), nicxi_leave(), 0))
 NICP_CALL(nicp_lend, (uint32_t block), nicx_lend(block))
 NICP_CALL(nicp_take, (uint32_t block), nicx_take(block))
 NICP_CALL(nicp_settle, (void), (nicx_settle(), 0))
@@ -249,8 +249,8 @@ NICP_CALL(nicp_disarm, (int timer), nicx_disarm(timer))
 static uint32_t choose(void *argument, const uint16_t *can, uint32_t count)
 {
     (void)argument;
-    int64_t told = nicp_ask(ASK_CHOOSE, (uintptr_t)can, count, 0);
-    return told < 0 ? count : (uint32_t)told;
+    int64_t answer = nicp_ask(ASK_CHOOSE, (uintptr_t)can, count, 0);
+    return answer < 0 ? count : (uint32_t)answer;
 }
 
 static void write_point(void *to, uint16_t actor, const struct step *step)

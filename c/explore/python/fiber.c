@@ -27,7 +27,7 @@ struct host {
     pid_t process; /* process that its thread belongs to; 0: it has none */
     pthread_t thread;
     sem_t turn;
-    bool is_amid, is_left, is_ended, is_stuck;
+    bool is_inside, is_left, is_ended, is_stuck;
     unsigned calls_on; /* calls it made although it should leave */
     struct nicp_way *way;
 };
@@ -171,11 +171,11 @@ void nicp_live(void *given)
         host->way = &way;
         if (setjmp(way.place) == 0) {
             wait_for_turn(host);
-            host->is_amid = true;
+            host->is_inside = true;
             host->fiber->function(host->fiber->argument);
             abort();
         }
-        host->is_left = host->is_amid = false;
+        host->is_left = host->is_inside = false;
         if (!host->is_ended) /* otherwise it is joined */
             give_turn(NULL);
     }
@@ -194,7 +194,7 @@ static bool start(struct host *host)
     pthread_attr_t how;
     renew();
     fatal(sem_init(&host->turn, 0, 0) != 0);
-    host->is_amid = host->is_left = host->is_ended = host->is_stuck = false;
+    host->is_inside = host->is_left = host->is_ended = host->is_stuck = false;
     host->calls_on = 0;
     sigfillset(&all);
     pthread_attr_init(&how);
@@ -280,7 +280,7 @@ void nicxi_fiber_close(struct fiber *fiber)
 void nicxi_fiber_begin(struct fiber *fiber, void (*function)(void *), void *argument)
 {
     struct host *host = host_of(fiber);
-    fatal(host->process == getpid() && host->is_amid);
+    fatal(host->process == getpid() && host->is_inside);
     fiber->function = function;
     fiber->argument = argument;
     if (host->process != getpid() && !start(host))
@@ -303,7 +303,7 @@ static void unwind_all(void)
     for (int k = 0; k < MOST_THREADS; k++) {
         struct thread *thread = &nicxi.threads[k];
         struct host *host = host_of(&thread->fiber);
-        if (!host || thread->stack != BUSY || host->process != getpid() || !host->is_amid)
+        if (!host || thread->stack != BUSY || host->process != getpid() || !host->is_inside)
             continue;
         unwind(host);
         if (host->is_stuck)

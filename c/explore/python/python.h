@@ -14,7 +14,7 @@ struct source_line;
 
 /* Special results of a function in Python, and of a driver's call. */
 enum {
-    NICP_RAISED = -1, /* the function raised an exception; its text was passed to nicp_told */
+    NICP_RAISED = -1, /* the function raised an exception; its text was passed to nicp_set_words */
     NICP_OVER = -2    /* the schedule is over: the thread must leave it */
 };
 
@@ -33,7 +33,7 @@ void nicp_open(const struct nicp_python *given, uint32_t condition, void (*forei
 int64_t nicp_ask(uint32_t function, uint64_t a, uint64_t b, uint64_t c);
 /* The text of an exception or a fault. */
 const char *nicp_words(void);
-void nicp_told(const char *told);
+void nicp_set_words(const char *text);
 
 /* Where a thread jumps to when it leaves its schedule: to its innermost call, from which an exception ends the frames
    of Python; or else to its beginning. */

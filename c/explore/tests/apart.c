@@ -52,9 +52,9 @@ static void begin(void)
 static const char *end(void)
 {
     uint8_t frame[FRAME];
-    nic_told told;
+    nic_outcome outcome;
     for (unsigned k = 0; k < QUEUES; k++)
-        if (nic_collect(nicx_device(), frame, sizeof frame, &told) != NIC_FRAME)
+        if (nic_collect(nicx_device(), frame, sizeof frame, &outcome) != NIC_FRAME)
             return "a frame was never transmitted";
     return count == QUEUES ? NULL : "a count is lost";
 }

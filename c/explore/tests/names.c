@@ -7,11 +7,11 @@
 #include "../engine/names.h"
 #include "nic82599.h"
 
-static unsigned told;
+static unsigned reported;
 
 static void expect(const char *got, const char *want)
 {
-    told++;
+    reported++;
     if (!strcmp(got, want))
         return;
     printf("%s, and not %s\n", got, want);
@@ -84,6 +84,6 @@ int main(void)
     expect(nicxi_offset(NIC_VFRDT(7), got), "VFRDT[7]");
     expect(nicxi_offset(NIC_VFRDT(8), got), "0x1218");
     expect(nicxi_offset(NIC_VFGPTC_OFFSET, got), "VFGPTC");
-    printf("%u names\n", told);
+    printf("%u names\n", reported);
     return 0;
 }

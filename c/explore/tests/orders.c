@@ -49,7 +49,7 @@ static uint64_t ring_of(unsigned queue, unsigned side)
 
 static void bring_up_queue(unsigned queue)
 {
-    nic_told told;
+    nic_outcome outcome;
     nic_write32(&n, NIC_RDBAL(queue), (uint32_t)ring_of(queue, 0));
     nic_write32(&n, NIC_RDLEN(queue), RING);
     nic_write32(&n, NIC_SRRCTL(queue), 0x02000002 | (below(4) ? 0 : 1u << 28));
@@ -60,9 +60,9 @@ static void bring_up_queue(unsigned queue)
     nic_write32(&n, NIC_RXDCTL(queue), below(5) ? 1u << 25 : 0);
     nic_write32(&n, NIC_TXDCTL(queue), below(5) ? 1u << 25 : 0);
     if (below(5))
-        nic_queue_step(&n, false, (uint16_t)queue, &told);
+        nic_queue_step(&n, false, (uint16_t)queue, &outcome);
     if (below(5))
-        nic_queue_step(&n, true, (uint16_t)queue, &told);
+        nic_queue_step(&n, true, (uint16_t)queue, &outcome);
 }
 
 static void fill_rings(unsigned queue)
@@ -136,16 +136,16 @@ static void some_steps(void)
 {
     uint8_t frame[400];
     size_t length;
-    nic_told told;
+    nic_outcome outcome;
     for (unsigned k = below(24); k > 0; k--)
         switch (below(8)) {
-        case 0: nic_rx_step(&n, &told); break;
-        case 1: nic_tx_step(&n, (uint16_t)below(QUEUES), &told); break;
-        case 2: nic_int_step(&n, (uint8_t)below(VFS + 1), &told); break;
+        case 0: nic_rx_step(&n, &outcome); break;
+        case 1: nic_tx_step(&n, (uint16_t)below(QUEUES), &outcome); break;
+        case 2: nic_int_step(&n, (uint8_t)below(VFS + 1), &outcome); break;
         case 3:
             nic_write32(&n, addresses[below(ADDRESSES - 1) + 1], (uint32_t)chance_next(&chance) & ~(1u << 26));
             break;
-        default: some_frame(frame, &length); nic_arrive(&n, frame, length, &told);
+        default: some_frame(frame, &length); nic_arrive(&n, frame, length, &outcome);
         }
 }
 
@@ -258,7 +258,7 @@ static uint32_t physical_now(const struct step *step)
 static void make(struct pick *it)
 {
     struct step *step = &it->step;
-    memset(&step->told, 0, sizeof step->told);
+    memset(&step->outcome, 0, sizeof step->outcome);
     switch (step->kind) {
     case STEP_READ: step->status = nic_read32(&n, step->address, &step->word); break;
     case STEP_WRITE: step->status = nic_write32(&n, step->address, step->word); break;
@@ -272,13 +272,13 @@ static void make(struct pick *it)
         break;
     case STEP_PEEK: step->status = nic_dma_read(&n, step->bus, it->bytes, step->length); break;
     case STEP_POKE: step->status = nic_dma_write(&n, step->bus, it->bytes, step->length); break;
-    case STEP_RX: step->status = nic_rx_step(&n, &step->told); break;
-    case STEP_TX: step->status = nic_tx_step(&n, step->of, &step->told); break;
-    case STEP_RX_ENABLE: step->status = nic_queue_step(&n, false, step->of, &step->told); break;
-    case STEP_TX_ENABLE: step->status = nic_queue_step(&n, true, step->of, &step->told); break;
-    case STEP_INT: step->status = nic_int_step(&n, (uint8_t)step->of, &step->told); break;
-    case STEP_EEPROM: step->status = nic_eeprom_step(&n, &step->told); break;
-    case STEP_ARRIVE: step->status = nic_arrive(&n, it->bytes, it->length, &step->told); break;
+    case STEP_RX: step->status = nic_rx_step(&n, &step->outcome); break;
+    case STEP_TX: step->status = nic_tx_step(&n, step->of, &step->outcome); break;
+    case STEP_RX_ENABLE: step->status = nic_queue_step(&n, false, step->of, &step->outcome); break;
+    case STEP_TX_ENABLE: step->status = nic_queue_step(&n, true, step->of, &step->outcome); break;
+    case STEP_INT: step->status = nic_int_step(&n, (uint8_t)step->of, &step->outcome); break;
+    case STEP_EEPROM: step->status = nic_eeprom_step(&n, &step->outcome); break;
+    case STEP_ARRIVE: step->status = nic_arrive(&n, it->bytes, it->length, &step->outcome); break;
     case STEP_LINK: step->status = nic_link(&n, step->word != 0); break;
     default: break;
     }
@@ -296,9 +296,9 @@ static uint64_t sum_of_bytes(uint64_t sum, const uint8_t *bytes, size_t length)
 static uint64_t sum_of_frames_out(uint64_t sum)
 {
     static uint8_t frame[20000];
-    nic_told told;
-    while (nic_collect(&n, frame, sizeof frame, &told) == NIC_FRAME)
-        sum = sum_of_bytes(chance_mixed(sum, told.queue), frame, (size_t)told.len);
+    nic_outcome outcome;
+    while (nic_collect(&n, frame, sizeof frame, &outcome) == NIC_FRAME)
+        sum = sum_of_bytes(chance_mixed(sum, outcome.queue), frame, (size_t)outcome.len);
     return sum;
 }
 
@@ -306,14 +306,14 @@ static uint64_t sum_of_frames_out(uint64_t sum)
    the device continues: so all its steps are run, and compared. */
 static uint64_t sum_of_going_on(uint64_t sum)
 {
-    static nic_told told[MOST_OUT];
+    static nic_outcome outcome[MOST_OUT];
     size_t count = 0;
-    nic_settle(&n, QUEUES, told, MOST_OUT, &count);
+    nic_settle(&n, QUEUES, outcome, MOST_OUT, &count);
     for (size_t k = 0; k < count; k++) {
-        sum = chance_mixed(sum, (uint64_t)told[k].status << 40 | (uint64_t)told[k].step << 32 | told[k].queue << 16 |
-                                    told[k].slot);
-        sum =
-            chance_mixed(sum, told[k].at ^ told[k].desc << 20 ^ told[k].len << 40 ^ told[k].why ^ told[k].vector << 8);
+        sum = chance_mixed(sum, (uint64_t)outcome[k].status << 40 | (uint64_t)outcome[k].step << 32 |
+                                    outcome[k].queue << 16 | outcome[k].slot);
+        sum = chance_mixed(sum, outcome[k].at ^ outcome[k].desc << 20 ^ outcome[k].len << 40 ^ outcome[k].why ^
+                                    outcome[k].vector << 8);
     }
     return sum;
 }
@@ -349,7 +349,8 @@ static uint64_t sum_of_all(void)
 static bool are_same(const struct pick *a, const struct pick *b)
 {
     return a->step.status == b->step.status && a->step.word == b->step.word &&
-           !memcmp(&a->step.told, &b->step.told, sizeof a->step.told) && !memcmp(a->bytes, b->bytes, sizeof a->bytes);
+           !memcmp(&a->step.outcome, &b->step.outcome, sizeof a->step.outcome) &&
+           !memcmp(a->bytes, b->bytes, sizeof a->bytes);
 }
 
 static void in_order(struct pick *first, struct pick *second)

@@ -316,11 +316,11 @@ static void *leave(void *unused)
 
 static void *wait_a_while(void *unused)
 {
-    struct timespec time = {1, 0}, before, behind;
+    struct timespec time = {1, 0}, before, after;
     clock_gettime(CLOCK_MONOTONIC, &before);
     nanosleep(&time, NULL);
-    clock_gettime(CLOCK_MONOTONIC, &behind);
-    nicx_check(behind.tv_sec > before.tv_sec, "no time went by");
+    clock_gettime(CLOCK_MONOTONIC, &after);
+    nicx_check(after.tv_sec > before.tv_sec, "no time went by");
     usleep(1);
     sched_yield();
     return unused;

@@ -15,7 +15,7 @@ struct {
     std::mutex lock;
     std::condition_variable changed;
     bool is_set;
-    std::atomic<bool> is_told;
+    std::atomic<bool> is_reported;
     int value;
 } driver;
 
@@ -26,14 +26,14 @@ struct {
 void tell()
 {
     driver.value = 1;
-    driver.is_told.store(true, BY_ORDER(ORDER));
+    driver.is_reported.store(true, BY_ORDER(ORDER));
 }
 
 void run(void *)
 {
-    driver.is_told = false;
+    driver.is_reported = false;
     std::thread other(tell);
-    while (!driver.is_told.load(BY_ORDER(ORDER)))
+    while (!driver.is_reported.load(BY_ORDER(ORDER)))
         std::this_thread::yield();
     if (driver.value != 1)
         nicx_fail("what was told isn't there");

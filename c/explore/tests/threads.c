@@ -26,7 +26,7 @@ static void expect(bool holds, const char *what)
 static void use(nic *n, unsigned number)
 {
     static const uint8_t bytes[FRAME] = {2, 0, 0, 0, 0, 1, 2, 0, 0, 0, 0, 2, 0x88, 0xB5};
-    nic_told told;
+    nic_outcome outcome;
     uint64_t second = 0;
     nic_write32(n, NIC_RXCTRL, NIC_RXCTRL_RXEN);
     nic_write32(n, NIC_FCTRL, NIC_FCTRL_UPE);
@@ -34,13 +34,13 @@ static void use(nic *n, unsigned number)
     nic_write32(n, NIC_SRRCTL(0), NIC_SRRCTL_DESCTYPE_IS(1) | NIC_SRRCTL_BSIZEPACKET_IS(2));
     nic_write32(n, NIC_RETA(0), number);
     nic_write32(n, NIC_RXDCTL(0), ENABLE);
-    nic_queue_step(n, false, 0, &told);
+    nic_queue_step(n, false, 0, &outcome);
     uint32_t slot = nic_get(n, NIC_RDH(0));
     nic_put64(n, 16 * slot, NIC_BLOCK_BYTES);
     nic_put64(n, 16 * slot + 8, 0);
     nic_write32(n, NIC_RDT(0), (slot + 1) % SLOTS);
-    expect(nic_arrive(n, bytes, sizeof bytes, &told) == NIC_DONE, "no frame arrives");
-    expect(nic_rx_step(n, &told) == NIC_WROTE, "no frame is written");
+    expect(nic_arrive(n, bytes, sizeof bytes, &outcome) == NIC_DONE, "no frame arrives");
+    expect(nic_rx_step(n, &outcome) == NIC_WROTE, "no frame is written");
     expect(nic_get64(n, 16 * slot + 8, &second) == NIC_DONE && (second & DD), "no descriptor is done");
     expect(nic_get(n, NIC_RETA(0)) == number, "a register is another's");
 }

@@ -176,7 +176,7 @@ static void load_mb_store(void)
     r[1] = get(X);
 }
 
-static void flag_behind_x(void)
+static void flag_after_x(void)
 {
     put(X, 1);
     flag = true;
@@ -269,7 +269,7 @@ static const struct litmus {
     {"own store and another's", own_x, x_of_other, 0, GIVES(1, 0) | GIVES(2, 0), GIVES(1, 0) | GIVES(2, 0)},
     {"store and load", store_load, load_store, 0, ALL_OF_TWO & ~GIVES(0, 0), ALL_OF_TWO},
     {"store, mb and load", store_mb_load, load_mb_store, 0, ALL_OF_TWO & ~GIVES(0, 0), ALL_OF_TWO & ~GIVES(0, 0)},
-    {"flag", flag_behind_x, until_flag, 0, GIVES(1, 1), GIVES(1, 0) | GIVES(1, 1)},
+    {"flag", flag_after_x, until_flag, 0, GIVES(1, 1), GIVES(1, 0) | GIVES(1, 1)},
     {"flag, wmb", flag_wmb_x, until_flag, 0, GIVES(1, 1), GIVES(1, 1)},
     {"one store", both, halves, 0, GIVES(0, 0) | GIVES(1, 1), GIVES(0, 0) | GIVES(1, 1)},
     {"take", takes, until_flag, 0, GIVES(1, 1), GIVES(1, 1)},

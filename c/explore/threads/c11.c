@@ -26,7 +26,7 @@ static int as_c11(int status)
     }
 }
 
-#define C11(name, parameters, arguments, call) TURNED(int, name, parameters, arguments, as_c11(call))
+#define C11(name, parameters, arguments, call) INTERCEPT(int, name, parameters, arguments, as_c11(call))
 #define MUTEX ((pthread_mutex_t *)(void *)mutex)
 #define COND ((pthread_cond_t *)(void *)cond)
 
@@ -70,7 +70,7 @@ void __wrap_tss_delete(tss_t key)
         __real_tss_delete(key);
 }
 
-TURNED(void *, tss_get, (tss_t key), (key), __wrap_pthread_getspecific(key))
+INTERCEPT(void *, tss_get, (tss_t key), (key), __wrap_pthread_getspecific(key))
 
 void __real_call_once(once_flag *flag, void (*function)(void));
 void __wrap_call_once(once_flag *flag, void (*function)(void))
@@ -114,12 +114,12 @@ int __wrap_thrd_create(thrd_t *thread, thrd_start_t function, void *argument)
 int __real_thrd_join(thrd_t thread, int *result);
 int __wrap_thrd_join(thrd_t thread, int *result)
 {
-    void *told = NULL;
+    void *returned = NULL;
     if (!nicxi_is_ours())
         return __real_thrd_join(thread, result);
-    int status = nicxi_join(thread, &told, "thrd_join", HERE);
+    int status = nicxi_join(thread, &returned, "thrd_join", HERE);
     if (!status && result)
-        *result = (int)(intptr_t)told;
+        *result = (int)(intptr_t)returned;
     return as_c11(status);
 }
 

@@ -34,7 +34,7 @@ uint8_t __wrap_nic_vf_read32(nic *n, uint8_t vf, uint32_t offset, uint32_t *word
 }
 
 #define CALL(name, parameters, arguments, ours)                                                                        \
-    TURNED_WHERE(is_the_device(n), uint8_t, name, parameters, arguments, ours)
+    INTERCEPT_IF(is_the_device(n), uint8_t, name, parameters, arguments, ours)
 
 CALL(nic_write32, (nic * n, uint32_t address, uint32_t word), (n, address, word),
      (nicxi_note_call(HERE), nicx_write32(address, word)))
@@ -61,9 +61,9 @@ static bool may_ask(const char *call, const void *at)
 }
 
 /* Records a step that the driver requested, and its result. */
-static uint8_t asked(uint8_t kind, uint16_t of, uint8_t status, const nic_told *told)
+static uint8_t asked(uint8_t kind, uint16_t of, uint8_t status, const nic_outcome *outcome)
 {
-    struct step step = {.kind = kind, .of = of, .status = status, .told = *told};
+    struct step step = {.kind = kind, .of = of, .status = status, .outcome = *outcome};
     nicxi_asked(&step);
     return status;
 }
@@ -77,72 +77,72 @@ static uint8_t asked(uint8_t kind, uint16_t of, uint8_t status, const nic_told *
         if (!may_ask("nic_" #name, HERE))                                                                              \
             return NIC_IDLE;                                                                                           \
         nicxi_asks("nic_" #name);                                                                                      \
-        return asked(kind, of, __real_nic_##name arguments, told);                                                     \
+        return asked(kind, of, __real_nic_##name arguments, outcome);                                                  \
     }
 
-STEP(rx_step, STEP_RX, 0, (nic * n, nic_told *told), (n, told))
-STEP(tx_step, STEP_TX, queue, (nic * n, uint16_t queue, nic_told *told), (n, queue, told))
+STEP(rx_step, STEP_RX, 0, (nic * n, nic_outcome *outcome), (n, outcome))
+STEP(tx_step, STEP_TX, queue, (nic * n, uint16_t queue, nic_outcome *outcome), (n, queue, outcome))
 STEP(queue_step, transmit ? STEP_TX_ENABLE : STEP_RX_ENABLE, queue,
-     (nic * n, bool transmit, uint16_t queue, nic_told *told), (n, transmit, queue, told))
-STEP(eeprom_step, STEP_EEPROM, 0, (nic * n, nic_told *told), (n, told))
-STEP(int_step, STEP_INT, group, (nic * n, uint8_t group, nic_told *told), (n, group, told))
+     (nic * n, bool transmit, uint16_t queue, nic_outcome *outcome), (n, transmit, queue, outcome))
+STEP(eeprom_step, STEP_EEPROM, 0, (nic * n, nic_outcome *outcome), (n, outcome))
+STEP(int_step, STEP_INT, group, (nic * n, uint8_t group, nic_outcome *outcome), (n, group, outcome))
 
 /* The engine's kind for a step of nic_settle. */
-static uint8_t kind_of(const nic_told *told)
+static uint8_t kind_of(const nic_outcome *outcome)
 {
     static const uint8_t kinds[] = {STEP_RX_ENABLE, STEP_TX_ENABLE, STEP_EEPROM, STEP_TX, STEP_RX, STEP_INT};
-    return kinds[told->step % (sizeof kinds / sizeof *kinds)];
+    return kinds[outcome->step % (sizeof kinds / sizeof *kinds)];
 }
 
-uint8_t __real_nic_next_step(nic *n, nic_settling *where, nic_told *told);
+uint8_t __real_nic_next_step(nic *n, nic_settling *where, nic_outcome *outcome);
 
-static uint8_t next_step(nic *n, nic_settling *where, nic_told *told)
+static uint8_t next_step(nic *n, nic_settling *where, nic_outcome *outcome)
 {
     nicxi_asks("nic_next_step");
-    uint8_t status = __real_nic_next_step(n, where, told);
+    uint8_t status = __real_nic_next_step(n, where, outcome);
     if (status == NIC_MORE)
-        asked(kind_of(told), told->of, told->status, told);
+        asked(kind_of(outcome), outcome->of, outcome->status, outcome);
     else
         nicxi_asked_in_vain();
     return status;
 }
 
-uint8_t __wrap_nic_next_step(nic *n, nic_settling *where, nic_told *told)
+uint8_t __wrap_nic_next_step(nic *n, nic_settling *where, nic_outcome *outcome)
 {
     if (!is_the_device(n))
-        return __real_nic_next_step(n, where, told);
-    return may_ask("nic_next_step", HERE) ? next_step(n, where, told) : (uint8_t)NIC_DONE;
+        return __real_nic_next_step(n, where, outcome);
+    return may_ask("nic_next_step", HERE) ? next_step(n, where, outcome) : (uint8_t)NIC_DONE;
 }
 
 /* Each step of nic_settle is a separate point. */
-uint8_t __real_nic_settle(nic *n, uint16_t queues, nic_told *told, size_t length, size_t *count);
-uint8_t __wrap_nic_settle(nic *n, uint16_t queues, nic_told *told, size_t length, size_t *count)
+uint8_t __real_nic_settle(nic *n, uint16_t queues, nic_outcome *outcome, size_t length, size_t *count);
+uint8_t __wrap_nic_settle(nic *n, uint16_t queues, nic_outcome *outcome, size_t length, size_t *count)
 {
     nic_settling where = {queues, 0};
     uint8_t status = NIC_MORE;
     if (!is_the_device(n))
-        return __real_nic_settle(n, queues, told, length, count);
+        return __real_nic_settle(n, queues, outcome, length, count);
     *count = 0;
     if (!may_ask("nic_settle", HERE))
         return NIC_DONE;
     while (status == NIC_MORE && *count < length) {
-        status = next_step(n, &where, &told[*count]);
+        status = next_step(n, &where, &outcome[*count]);
         *count += status == NIC_MORE;
     }
     return status;
 }
 
-uint8_t __real_nic_arrive(nic *n, const uint8_t *frame, size_t length, nic_told *told);
-uint8_t __wrap_nic_arrive(nic *n, const uint8_t *frame, size_t length, nic_told *told)
+uint8_t __real_nic_arrive(nic *n, const uint8_t *frame, size_t length, nic_outcome *outcome);
+uint8_t __wrap_nic_arrive(nic *n, const uint8_t *frame, size_t length, nic_outcome *outcome)
 {
     if (!is_the_device(n) || nicxi.phase == ENDING)
-        return __real_nic_arrive(n, frame, length, told);
+        return __real_nic_arrive(n, frame, length, outcome);
     if (!may_ask("nic_arrive", HERE))
         return NIC_DROPPED;
     nicxi_asks("nic_arrive");
     if (!nicxi_add_frame(frame, length))
         nicxi_misuse("a program may receive at most %d frames of 16,384 bytes", NICX_FRAMES);
-    return asked(STEP_ARRIVE, nicxi.next_frame++, __real_nic_arrive(n, frame, length, told), told);
+    return asked(STEP_ARRIVE, nicxi.next_frame++, __real_nic_arrive(n, frame, length, outcome), outcome);
 }
 
 uint8_t __real_nic_link(nic *n, bool up);
@@ -158,15 +158,15 @@ uint8_t __wrap_nic_link(nic *n, bool up)
     return step.status;
 }
 
-uint8_t __real_nic_collect(nic *n, uint8_t *room, size_t length, nic_told *told);
-uint8_t __wrap_nic_collect(nic *n, uint8_t *room, size_t length, nic_told *told)
+uint8_t __real_nic_collect(nic *n, uint8_t *room, size_t length, nic_outcome *outcome);
+uint8_t __wrap_nic_collect(nic *n, uint8_t *room, size_t length, nic_outcome *outcome)
 {
     if (is_the_device(n)) {
         if (nicxi_caller())
             nicxi_call(READY, "nic_collect", NULL);
         nicxi.is_changed = true;
     }
-    return __real_nic_collect(n, room, length, told);
+    return __real_nic_collect(n, room, length, outcome);
 }
 
 /* --- a whole program's controller: opened with the program's numbers, and kept for the next schedule --- */

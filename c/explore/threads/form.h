@@ -47,14 +47,14 @@ static inline bool nicxi_is_ours(void)
 }
 
 /* Intercepts a library call: evaluates `ours` if `holds`, and otherwise calls the original. */
-#define TURNED_WHERE(holds, type, name, parameters, arguments, ours)                                                   \
+#define INTERCEPT_IF(holds, type, name, parameters, arguments, ours)                                                   \
     type __real_##name parameters;                                                                                     \
     type __wrap_##name parameters                                                                                      \
     {                                                                                                                  \
         return (holds) ? (ours) : __real_##name arguments;                                                             \
     }
-#define TURNED(type, name, parameters, arguments, ours)                                                                \
-    TURNED_WHERE(nicxi_is_ours(), type, name, parameters, arguments, ours)
+#define INTERCEPT(type, name, parameters, arguments, ours)                                                             \
+    INTERCEPT_IF(nicxi_is_ours(), type, name, parameters, arguments, ours)
 
 static inline unsigned nicxi_number(const struct thread *thread)
 {

@@ -137,14 +137,14 @@ int nicxi_mutex_lock(pthread_mutex_t *mutex, enum how how, const char *call, con
     return 0;
 }
 
-TURNED(int, pthread_mutex_lock, (pthread_mutex_t * mutex), (mutex),
-       nicxi_mutex_lock(mutex, BLOCKING, "pthread_mutex_lock", HERE))
-TURNED(int, pthread_mutex_trylock, (pthread_mutex_t * mutex), (mutex),
-       nicxi_mutex_lock(mutex, TRYING, "pthread_mutex_trylock", HERE))
-TURNED(int, pthread_mutex_timedlock, (pthread_mutex_t * mutex, const struct timespec *until), (mutex, until),
-       nicxi_mutex_lock(mutex, TIMED, "pthread_mutex_timedlock", HERE))
-TURNED(int, pthread_mutex_clocklock, (pthread_mutex_t * mutex, clockid_t clock, const struct timespec *until),
-       (mutex, clock, until), nicxi_mutex_lock(mutex, TIMED, "pthread_mutex_clocklock", HERE))
+INTERCEPT(int, pthread_mutex_lock, (pthread_mutex_t * mutex), (mutex),
+          nicxi_mutex_lock(mutex, BLOCKING, "pthread_mutex_lock", HERE))
+INTERCEPT(int, pthread_mutex_trylock, (pthread_mutex_t * mutex), (mutex),
+          nicxi_mutex_lock(mutex, TRYING, "pthread_mutex_trylock", HERE))
+INTERCEPT(int, pthread_mutex_timedlock, (pthread_mutex_t * mutex, const struct timespec *until), (mutex, until),
+          nicxi_mutex_lock(mutex, TIMED, "pthread_mutex_timedlock", HERE))
+INTERCEPT(int, pthread_mutex_clocklock, (pthread_mutex_t * mutex, clockid_t clock, const struct timespec *until),
+          (mutex, clock, until), nicxi_mutex_lock(mutex, TIMED, "pthread_mutex_clocklock", HERE))
 
 int nicxi_mutex_unlock(pthread_mutex_t *mutex, const char *call, const void *at)
 {
@@ -162,8 +162,8 @@ int nicxi_mutex_unlock(pthread_mutex_t *mutex, const char *call, const void *at)
     return 0;
 }
 
-TURNED(int, pthread_mutex_unlock, (pthread_mutex_t * mutex), (mutex),
-       nicxi_mutex_unlock(mutex, "pthread_mutex_unlock", HERE))
+INTERCEPT(int, pthread_mutex_unlock, (pthread_mutex_t * mutex), (mutex),
+          nicxi_mutex_unlock(mutex, "pthread_mutex_unlock", HERE))
 
 /* The C library's own call initializes a free mutex with its kind. */
 int __real_pthread_mutex_destroy(pthread_mutex_t *mutex);
@@ -210,8 +210,9 @@ int __wrap_pthread_spin_init(pthread_spinlock_t *lock, int is_shared)
     return 0;
 }
 
-TURNED(int, pthread_spin_lock, (pthread_spinlock_t * lock), (lock), spin(lock, BLOCKING, "pthread_spin_lock", HERE))
-TURNED(int, pthread_spin_trylock, (pthread_spinlock_t * lock), (lock), spin(lock, TRYING, "pthread_spin_trylock", HERE))
+INTERCEPT(int, pthread_spin_lock, (pthread_spinlock_t * lock), (lock), spin(lock, BLOCKING, "pthread_spin_lock", HERE))
+INTERCEPT(int, pthread_spin_trylock, (pthread_spinlock_t * lock), (lock),
+          spin(lock, TRYING, "pthread_spin_trylock", HERE))
 
 int __real_pthread_spin_unlock(pthread_spinlock_t *lock);
 int __wrap_pthread_spin_unlock(pthread_spinlock_t *lock)
@@ -284,7 +285,8 @@ static int share(pthread_rwlock_t *lock, bool writes, enum how how, const char *
 }
 
 #define SHARED(name, writes, how, parameters, arguments)                                                               \
-    TURNED(int, pthread_rwlock_##name, parameters, arguments, share(lock, writes, how, "pthread_rwlock_" #name, HERE))
+    INTERCEPT(int, pthread_rwlock_##name, parameters, arguments,                                                       \
+              share(lock, writes, how, "pthread_rwlock_" #name, HERE))
 
 SHARED(rdlock, false, BLOCKING, (pthread_rwlock_t * lock), (lock))
 SHARED(tryrdlock, false, TRYING, (pthread_rwlock_t * lock), (lock))

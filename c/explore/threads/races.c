@@ -135,7 +135,7 @@ static struct clock *clock_of(enum space space, uint64_t of)
    thread. */
 static bool is_looking;
 
-static bool is_told(void)
+static bool is_watching(void)
 {
     return is_open && nicxi_is_in_thread();
 }
@@ -162,7 +162,7 @@ void nicxi_race_release(const void *object)
 {
     if (nicxi_is_in_thread())
         nicxi_drain();
-    if (is_told())
+    if (is_watching())
         give(MEMORY, (uintptr_t)object);
 }
 
@@ -173,7 +173,7 @@ void nicxi_race_acquire(const void *object)
         if (nicxi.is_tso)
             nicxi_drain();
     }
-    if (is_told())
+    if (is_watching())
         take(MEMORY, (uintptr_t)object);
 }
 
@@ -203,7 +203,7 @@ void nicxi_race_load(uint64_t at, int order)
         take(MEMORY, at);
     if (nicxi_is_in_thread() && acquires(order))
         nicx_acquire();
-    if (!is_told())
+    if (!is_watching())
         return;
     if (acquires(order))
         take(MEMORY, at);
@@ -227,13 +227,13 @@ static void put(uint64_t at, int order, bool goes_on)
 
 void nicxi_race_store(uint64_t at, int order)
 {
-    if (is_told())
+    if (is_watching())
         put(at, order, false);
 }
 
 void nicxi_race_store_late(int slot, int order)
 {
-    if (!is_told())
+    if (!is_watching())
         return;
     unsigned self = self_number();
     struct clock *clock = &late[nicxi.self->on >= 0 ? (unsigned)nicxi.self->on : self][slot];
@@ -249,7 +249,7 @@ static void landed(unsigned processor, unsigned slot, uint64_t at)
 
 void nicxi_race_exchange(uint64_t at, int order)
 {
-    if (!is_told())
+    if (!is_watching())
         return;
     nicxi_race_load(at, order);
     put(at, order, true);
@@ -257,7 +257,7 @@ void nicxi_race_exchange(uint64_t at, int order)
 
 void nicxi_race_fence(int order)
 {
-    if (!is_told())
+    if (!is_watching())
         return;
     unsigned self = self_number();
     if (acquires(order))
@@ -514,7 +514,7 @@ void nicxi_race_access(uint64_t at, size_t length, unsigned how, const void *cal
     at = place_of_access(at);
     if (is_looking)
         take_from_writers(at, length, WRITES);
-    else if (!is_told() || nicxi_state_is_local(at))
+    else if (!is_watching() || nicxi_state_is_local(at))
         return;
     if (at & BUS_SPACE && how & WRITES)
         nicxi_note_stored(at & ~BUS_SPACE, length, call);
@@ -544,7 +544,7 @@ void nicxi_race_free(const void *at, size_t length, const void *call)
 {
     if (nicxi.is_weak && nicxi.phase == RUNNING)
         nicxi_land_everywhere((uintptr_t)at, length);
-    if (!is_told())
+    if (!is_watching())
         return;
     for (uint64_t key = (uintptr_t)at >> 3; key <= ((uintptr_t)at + length - 1) >> 3; key++)
         if (known(key) && known(key)->count)
@@ -595,8 +595,8 @@ static void device_writes(uint64_t bus, uint64_t length, unsigned how)
 /* A head that is written back has four bytes, a descriptor sixteen. */
 static void device_writes_back(const struct step *step)
 {
-    bool is_head = nicxi_peek(NIC_TDWBAL(step->told.queue)) & NIC_TDWBAL_HEAD_WB_EN;
-    device_writes(step->told.at, is_head ? 4 : 16, WRITES | WRITTEN_BACK);
+    bool is_head = nicxi_peek(NIC_TDWBAL(step->outcome.queue)) & NIC_TDWBAL_HEAD_WB_EN;
+    device_writes(step->outcome.at, is_head ? 4 : 16, WRITES | WRITTEN_BACK);
 }
 
 /* A step of the device comes after the register writes for its side, a message after all register writes. */
@@ -613,13 +613,13 @@ static void device_acted(const struct step *step)
         join(clock, clock_of(SIDE, (uint64_t)side));
     if (step->kind == STEP_INT && step->status == NIC_MESSAGE) {
         join(clock, clock_of(SIDE, ALL_OF_IT));
-        join(clock_of(SIDE, MESSAGES + 16u * step->told.group + step->told.vector), clock);
+        join(clock_of(SIDE, MESSAGES + 16u * step->outcome.group + step->outcome.vector), clock);
     }
     if (step->kind == STEP_RX && step->status == NIC_WROTE) {
-        device_writes(step->told.at, step->told.len, WRITES);
-        device_writes(step->told.desc, 16, WRITES | WRITTEN_BACK);
+        device_writes(step->outcome.at, step->outcome.len, WRITES);
+        device_writes(step->outcome.desc, 16, WRITES | WRITTEN_BACK);
     }
-    if (step->kind == STEP_TX && step->told.back)
+    if (step->kind == STEP_TX && step->outcome.back)
         device_writes_back(step);
     if (nicxi_is_in_thread() && nicxi.is_program)
         join(&now[self_number()], clock); /* the thread that requested the step knows of it */
@@ -647,7 +647,7 @@ static void handler_starts(void)
         sat[task] |= 1u << (number - NICX_TASKS);
 }
 
-static void goes_on_behind_handlers(unsigned self)
+static void goes_on_after_handlers(unsigned self)
 {
     for (unsigned k = 0; sat[self] && k < NICX_HANDLERS; k++)
         if (sat[self] >> k & 1) {
@@ -679,12 +679,12 @@ static void accessed_itself(const struct step *step)
         nicxi_judge_object((const void *)(uintptr_t)step->bus, step->call, NULL);
 }
 
-static void told(const struct step *step)
+static void observe(const struct step *step)
 {
     if (nicxi.phase != RUNNING)
         return;
     if (nicxi_is_in_thread())
-        goes_on_behind_handlers(self_number());
+        goes_on_after_handlers(self_number());
     if (nicxi_is_device_step(step->kind))
         device_acted(step);
     else if (step->kind == STEP_START)
@@ -701,13 +701,13 @@ static void told(const struct step *step)
 
 static void gives(const void *object)
 {
-    if (is_told())
+    if (is_watching())
         give(MEMORY, (uintptr_t)object);
 }
 
 static void takes(const void *object)
 {
-    if (is_told())
+    if (is_watching())
         take(MEMORY, (uintptr_t)object);
 }
 
@@ -723,7 +723,7 @@ static void begin(void)
 
 void nicxi_race_open(void)
 {
-    static const struct nicxi_races races = {begin, told, landed, gives, takes};
+    static const struct nicxi_races races = {begin, observe, landed, gives, takes};
     nicxi_races = &races;
     is_open = true;
 }

@@ -425,7 +425,7 @@ int __wrap_posix_memalign(void **at, size_t alignment, size_t size)
     return *at ? 0 : ENOMEM;
 }
 
-TURNED_WHERE(is_here(), void *, aligned_alloc, (size_t alignment, size_t size), (alignment, size),
+INTERCEPT_IF(is_here(), void *, aligned_alloc, (size_t alignment, size_t size), (alignment, size),
              aligned(alignment, size, HERE))
 
 /* --- lifetime --- */

@@ -40,8 +40,8 @@ int nicxi_make_key(pthread_key_t *key, void (*destructor)(void *))
     return EAGAIN;
 }
 
-TURNED(int, pthread_key_create, (pthread_key_t * key, void (*destructor)(void *)), (key, destructor),
-       nicxi_make_key(key, destructor))
+INTERCEPT(int, pthread_key_create, (pthread_key_t * key, void (*destructor)(void *)), (key, destructor),
+          nicxi_make_key(key, destructor))
 
 int __real_pthread_key_delete(pthread_key_t key);
 int __wrap_pthread_key_delete(pthread_key_t key)
@@ -101,7 +101,7 @@ static void run(void *argument)
     nicxi_call(READY, "return", posix->function);
 }
 
-int nicxi_create(pthread_t *told, const struct creation *creation, const char *call, const void *at)
+int nicxi_create(pthread_t *handle, const struct creation *creation, const char *call, const void *at)
 {
     char where[MOST_NAMED];
     nicxi_program_begins();
@@ -126,24 +126,24 @@ int nicxi_create(pthread_t *told, const struct creation *creation, const char *c
     posix->is_detached = creation->is_detached;
     nicxi_race_release(&posix->begins);
     nicxi_changed_memory();
-    *told = nicxi_number(made) + 1;
+    *handle = nicxi_number(made) + 1;
     return 0;
 }
 
-int __real_pthread_create(pthread_t *told, const pthread_attr_t *how, void *(*function)(void *), void *argument);
-int __wrap_pthread_create(pthread_t *told, const pthread_attr_t *how, void *(*function)(void *), void *argument)
+int __real_pthread_create(pthread_t *handle, const pthread_attr_t *how, void *(*function)(void *), void *argument);
+int __wrap_pthread_create(pthread_t *handle, const pthread_attr_t *how, void *(*function)(void *), void *argument)
 {
     size_t room = 0;
     int state = PTHREAD_CREATE_JOINABLE;
     if (!nicxi_is_ours())
-        return __real_pthread_create(told, how, function, argument);
+        return __real_pthread_create(handle, how, function, argument);
     if (how) {
         pthread_attr_getdetachstate(how, &state);
         nicxi_stack_of(how, &room);
     }
     const struct creation creation = {function, argument, (const void *)(uintptr_t)function, room,
                                       state == PTHREAD_CREATE_DETACHED};
-    return nicxi_create(told, &creation, "pthread_create", HERE);
+    return nicxi_create(handle, &creation, "pthread_create", HERE);
 }
 
 /* A thread that the driver created, or null: a scenario's task can't be joined. */
@@ -190,12 +190,12 @@ int nicxi_join(pthread_t number, void **result, const char *call, const void *at
     return join(number, result, false, false, call, at);
 }
 
-TURNED(int, pthread_join, (pthread_t number, void **result), (number, result),
-       join(number, result, false, false, "pthread_join", HERE))
-TURNED(int, pthread_tryjoin_np, (pthread_t number, void **result), (number, result),
-       join(number, result, true, false, "pthread_tryjoin_np", HERE))
-TURNED(int, pthread_timedjoin_np, (pthread_t number, void **result, const struct timespec *until),
-       (number, result, until), join(number, result, false, true, "pthread_timedjoin_np", HERE))
+INTERCEPT(int, pthread_join, (pthread_t number, void **result), (number, result),
+          join(number, result, false, false, "pthread_join", HERE))
+INTERCEPT(int, pthread_tryjoin_np, (pthread_t number, void **result), (number, result),
+          join(number, result, true, false, "pthread_tryjoin_np", HERE))
+INTERCEPT(int, pthread_timedjoin_np, (pthread_t number, void **result, const struct timespec *until),
+          (number, result, until), join(number, result, false, true, "pthread_timedjoin_np", HERE))
 
 int nicxi_detach(pthread_t number, const char *call)
 {
@@ -210,7 +210,7 @@ int nicxi_detach(pthread_t number, const char *call)
     return 0;
 }
 
-TURNED(int, pthread_detach, (pthread_t number), (number), nicxi_detach(number, "pthread_detach"))
+INTERCEPT(int, pthread_detach, (pthread_t number), (number), nicxi_detach(number, "pthread_detach"))
 
 pthread_t __real_pthread_self(void);
 pthread_t __wrap_pthread_self(void)
@@ -247,11 +247,11 @@ void __wrap_pthread_exit(void *result)
 
 /* --- no-ops, since time and processors aren't modelled --- */
 
-TURNED(int, pthread_setname_np, (pthread_t number, const char *name), (number, name), 0)
-TURNED(int, pthread_setschedparam, (pthread_t number, int policy, const struct sched_param *how), (number, policy, how),
-       0)
-TURNED(int, pthread_setschedprio, (pthread_t number, int priority), (number, priority), 0)
-TURNED(int, pthread_setaffinity_np, (pthread_t number, size_t size, const cpu_set_t *set), (number, size, set), 0)
+INTERCEPT(int, pthread_setname_np, (pthread_t number, const char *name), (number, name), 0)
+INTERCEPT(int, pthread_setschedparam, (pthread_t number, int policy, const struct sched_param *how),
+          (number, policy, how), 0)
+INTERCEPT(int, pthread_setschedprio, (pthread_t number, int priority), (number, priority), 0)
+INTERCEPT(int, pthread_setaffinity_np, (pthread_t number, size_t size, const cpu_set_t *set), (number, size, set), 0)
 
 void nicxi_stack_of(const pthread_attr_t *how, size_t *room)
 {

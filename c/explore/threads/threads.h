@@ -21,7 +21,7 @@ struct creation {
     bool is_detached;
 };
 
-int nicxi_create(pthread_t *told, const struct creation *creation, const char *call, const void *at);
+int nicxi_create(pthread_t *handle, const struct creation *creation, const char *call, const void *at);
 int nicxi_join(pthread_t number, void **result, const char *call, const void *at);
 void nicxi_exit_thread(void *result, const char *call, const void *at) __attribute__((noreturn));
 

@@ -41,10 +41,10 @@ static uint64_t of(const struct timespec *time)
     return (uint64_t)time->tv_sec * SECOND + (uint64_t)time->tv_nsec;
 }
 
-TURNED_WHERE(pause_for("sched_yield", 0), int, sched_yield, (void), (), 0)
-TURNED_WHERE(pause_for("usleep", (uint64_t)time * 1000), int, usleep, (useconds_t time), (time), 0)
-TURNED_WHERE(pause_for("sleep", (uint64_t)seconds *SECOND), unsigned, sleep, (unsigned seconds), (seconds), 0)
-TURNED_WHERE(pause_for("nanosleep", of(time)), int, nanosleep, (const struct timespec *time, struct timespec *left),
+INTERCEPT_IF(pause_for("sched_yield", 0), int, sched_yield, (void), (), 0)
+INTERCEPT_IF(pause_for("usleep", (uint64_t)time * 1000), int, usleep, (useconds_t time), (time), 0)
+INTERCEPT_IF(pause_for("sleep", (uint64_t)seconds *SECOND), unsigned, sleep, (unsigned seconds), (seconds), 0)
+INTERCEPT_IF(pause_for("nanosleep", of(time)), int, nanosleep, (const struct timespec *time, struct timespec *left),
              (time, left), 0)
 
 int __real_clock_nanosleep(clockid_t clock, int flags, const struct timespec *time, struct timespec *left);
@@ -64,7 +64,7 @@ void __wrap_thrd_yield(void)
         __real_thrd_yield();
 }
 
-TURNED_WHERE(pause_for("thrd_sleep", of(time)), int, thrd_sleep, (const struct timespec *time, struct timespec *left),
+INTERCEPT_IF(pause_for("thrd_sleep", of(time)), int, thrd_sleep, (const struct timespec *time, struct timespec *left),
              (time, left), 0)
 
 /* --- clocks --- */
@@ -94,13 +94,13 @@ int __wrap_gettimeofday(struct timeval *time, void *zone)
     return 0;
 }
 
-time_t __real_time(time_t *told);
-time_t __wrap_time(time_t *told)
+time_t __real_time(time_t *out);
+time_t __wrap_time(time_t *out)
 {
     if (!is_of_schedule())
-        return __real_time(told);
+        return __real_time(out);
     time_t seconds = (time_t)(now() / SECOND);
-    if (told)
-        *told = seconds;
+    if (out)
+        *out = seconds;
     return seconds;
 }

@@ -101,13 +101,13 @@ int nicxi_cond_wait(pthread_cond_t *cond, pthread_mutex_t *mutex, bool is_timed,
     return is_woken ? 0 : ETIMEDOUT;
 }
 
-TURNED(int, pthread_cond_wait, (pthread_cond_t * cond, pthread_mutex_t *mutex), (cond, mutex),
-       nicxi_cond_wait(cond, mutex, false, "pthread_cond_wait", HERE))
-TURNED(int, pthread_cond_timedwait, (pthread_cond_t * cond, pthread_mutex_t *mutex, const struct timespec *until),
-       (cond, mutex, until), nicxi_cond_wait(cond, mutex, true, "pthread_cond_timedwait", HERE))
-TURNED(int, pthread_cond_clockwait,
-       (pthread_cond_t * cond, pthread_mutex_t *mutex, clockid_t clock, const struct timespec *until),
-       (cond, mutex, clock, until), nicxi_cond_wait(cond, mutex, true, "pthread_cond_clockwait", HERE))
+INTERCEPT(int, pthread_cond_wait, (pthread_cond_t * cond, pthread_mutex_t *mutex), (cond, mutex),
+          nicxi_cond_wait(cond, mutex, false, "pthread_cond_wait", HERE))
+INTERCEPT(int, pthread_cond_timedwait, (pthread_cond_t * cond, pthread_mutex_t *mutex, const struct timespec *until),
+          (cond, mutex, until), nicxi_cond_wait(cond, mutex, true, "pthread_cond_timedwait", HERE))
+INTERCEPT(int, pthread_cond_clockwait,
+          (pthread_cond_t * cond, pthread_mutex_t *mutex, clockid_t clock, const struct timespec *until),
+          (cond, mutex, clock, until), nicxi_cond_wait(cond, mutex, true, "pthread_cond_clockwait", HERE))
 
 static unsigned waiting_at(const void *cond)
 {
@@ -155,10 +155,10 @@ int nicxi_cond_signal(pthread_cond_t *cond, bool is_all, const char *call, const
     return 0;
 }
 
-TURNED(int, pthread_cond_signal, (pthread_cond_t * cond), (cond),
-       nicxi_cond_signal(cond, false, "pthread_cond_signal", HERE))
-TURNED(int, pthread_cond_broadcast, (pthread_cond_t * cond), (cond),
-       nicxi_cond_signal(cond, true, "pthread_cond_broadcast", HERE))
+INTERCEPT(int, pthread_cond_signal, (pthread_cond_t * cond), (cond),
+          nicxi_cond_signal(cond, false, "pthread_cond_signal", HERE))
+INTERCEPT(int, pthread_cond_broadcast, (pthread_cond_t * cond), (cond),
+          nicxi_cond_signal(cond, true, "pthread_cond_broadcast", HERE))
 
 int __real_pthread_cond_init(pthread_cond_t *cond, const pthread_condattr_t *how);
 int __wrap_pthread_cond_init(pthread_cond_t *cond, const pthread_condattr_t *how)
@@ -169,7 +169,7 @@ int __wrap_pthread_cond_init(pthread_cond_t *cond, const pthread_condattr_t *how
     return 0;
 }
 
-TURNED(int, pthread_cond_destroy, (pthread_cond_t * cond), (cond), 0)
+INTERCEPT(int, pthread_cond_destroy, (pthread_cond_t * cond), (cond), 0)
 
 /* --- semaphores --- */
 
@@ -193,7 +193,7 @@ int __wrap_sem_init(sem_t *semaphore, int is_shared, unsigned value)
     return 0;
 }
 
-TURNED(int, sem_destroy, (sem_t * semaphore), (semaphore), 0)
+INTERCEPT(int, sem_destroy, (sem_t * semaphore), (semaphore), 0)
 
 int __real_sem_getvalue(sem_t *semaphore, int *value);
 int __wrap_sem_getvalue(sem_t *semaphore, int *value)
@@ -261,10 +261,10 @@ static int wait_for_a_time(sem_t *semaphore, const char *call, const void *at)
     return taken(semaphore, ETIMEDOUT);
 }
 
-TURNED(int, sem_timedwait, (sem_t * semaphore, const struct timespec *until), (semaphore, until),
-       wait_for_a_time(semaphore, "sem_timedwait", HERE))
-TURNED(int, sem_clockwait, (sem_t * semaphore, clockid_t clock, const struct timespec *until),
-       (semaphore, clock, until), wait_for_a_time(semaphore, "sem_clockwait", HERE))
+INTERCEPT(int, sem_timedwait, (sem_t * semaphore, const struct timespec *until), (semaphore, until),
+          wait_for_a_time(semaphore, "sem_timedwait", HERE))
+INTERCEPT(int, sem_clockwait, (sem_t * semaphore, clockid_t clock, const struct timespec *until),
+          (semaphore, clock, until), wait_for_a_time(semaphore, "sem_clockwait", HERE))
 
 /* --- barriers --- */
 
@@ -300,7 +300,7 @@ int __wrap_pthread_barrier_init(pthread_barrier_t *barrier, const pthread_barrie
     return 0;
 }
 
-TURNED(int, pthread_barrier_destroy, (pthread_barrier_t * barrier), (barrier), 0)
+INTERCEPT(int, pthread_barrier_destroy, (pthread_barrier_t * barrier), (barrier), 0)
 
 int __real_pthread_barrier_wait(pthread_barrier_t *barrier);
 int __wrap_pthread_barrier_wait(pthread_barrier_t *barrier)
@@ -354,5 +354,5 @@ int nicxi_once(pthread_once_t *once, void (*function)(void), const char *call, c
     return 0;
 }
 
-TURNED(int, pthread_once, (pthread_once_t * once, void (*function)(void)), (once, function),
-       nicxi_once(once, function, "pthread_once", HERE))
+INTERCEPT(int, pthread_once, (pthread_once_t * once, void (*function)(void)), (once, function),
+          nicxi_once(once, function, "pthread_once", HERE))

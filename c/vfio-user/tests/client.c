@@ -207,7 +207,7 @@ static void make_arp(uint8_t *frame)
 /* An ARP request in two buffers is sent, the reply arrives, and its interrupt. */
 static void pass_one(struct peer *it, uint32_t slot, int event)
 {
-    uint64_t told;
+    uint64_t count;
     struct pollfd poll_for = {event, POLLIN, 0};
     make_arp(ram + FRAME);
     put64(TX_RING + 32 * slot, RAM + FRAME);
@@ -223,7 +223,7 @@ static void pass_one(struct peer *it, uint32_t slot, int event)
     CHECK(status & NIC_RXWB_EOP && (status & NIC_RXWB_PKT_LEN) >> NIC_RXWB_PKT_LEN_SHIFT == ARP_BYTES);
     CHECK(memcmp(frame, ram + FRAME + 6, 6) == 0 && frame[21] == 2 && memcmp(frame + 28, ram + FRAME + 38, 4) == 0);
     until(it, NIC_RDH(0), UINT32_MAX, slot + 1);
-    CHECK(poll(&poll_for, 1, ANSWER_MS) == 1 && read(event, &told, sizeof told) == sizeof told && told >= 1);
+    CHECK(poll(&poll_for, 1, ANSWER_MS) == 1 && read(event, &count, sizeof count) == sizeof count && count >= 1);
     peer_read(it, NIC_EICR);
     peer_write(it, NIC_EIMS, 1);
 }

@@ -315,9 +315,9 @@ static void wire_sends(void)
 {
     static uint8_t bytes[4 + 65536 + 8];
     uint32_t count = (uint32_t)(one_in(30) ? chance() % 65540 : chance() % 1600);
-    uint32_t told = one_in(200) ? (uint32_t)number() : count;
+    uint32_t claimed = one_in(200) ? (uint32_t)number() : count;
     for (unsigned int i = 0; i < 4; i++)
-        bytes[i] = (uint8_t)(told >> 8 * (3 - i));
+        bytes[i] = (uint8_t)(claimed >> 8 * (3 - i));
     memset(bytes + 4, one_in(2) ? 0xFF : 0x02, 12);
     for (unsigned int i = 0; i < 16; i++)
         bytes[16 + chance() % 200] = (uint8_t)chance();
@@ -430,7 +430,7 @@ static void reopen(struct peer *it, const char *path)
 
 /* Makes new connections for a client, a wire and a control socket, because the server may hang up late on random
    messages. It answers after it has accepted the three, the wire if the link is up. */
-static void connect_anew(void)
+static void reconnect(void)
 {
     struct peer *peer = &clients[0].peer;
     reopen(&wire, wire_path);
@@ -481,7 +481,7 @@ int main(int count, char **words)
     unsigned long most = count > 2 ? strtoul(words[2], NULL, 10) : 20000;
     chance_state = count > 1 ? strtoul(words[1], NULL, 10) + 1 : 1;
     begin(count > 3 ? words[3] : "/tmp");
-    connect_anew();
+    reconnect();
     read_open_files(&first);
     peer_close(&clients[0].peer);
     while (sent < most)
@@ -489,7 +489,7 @@ int main(int count, char **words)
     for (unsigned int i = 0; i < CLIENTS; i++)
         if (clients[i].is_open)
             leave(&clients[i]);
-    connect_anew();
+    reconnect();
     check_open_files(&first);
     peer_close(&clients[0].peer);
     server_stop();

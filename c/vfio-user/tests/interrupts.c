@@ -70,7 +70,7 @@ static void raise(struct guest *by, uint32_t vector)
 }
 
 /* Returns how often a client was signalled for a vector since the last call. */
-static uint64_t told(const struct guest *it, uint32_t vector)
+static uint64_t raised(const struct guest *it, uint32_t vector)
 {
     uint64_t count = 0;
     return read(it->events[vector], &count, sizeof count) == (ssize_t)sizeof count ? count : 0;
@@ -96,7 +96,7 @@ static void each_has_its_own(void)
         struct guest *by = i & 1 ? &own : &shadow;
         uint32_t vector = i >> 1 & 1;
         raise(by, vector);
-        CHECK(told(&own, vector) == (vector == 0) && told(&shadow, vector) == (vector == 1));
+        CHECK(raised(&own, vector) == (vector == 0) && raised(&shadow, vector) == (vector == 1));
     }
     CHECK(pending(&own) == 0 && pending(&shadow) == 0);
 }
@@ -106,10 +106,10 @@ static void both_have_it(void)
 {
     set_up(&shadow, 0);
     raise(&shadow, 0);
-    CHECK(told(&own, 0) == 1 && told(&shadow, 0) == 0);
+    CHECK(raised(&own, 0) == 1 && raised(&shadow, 0) == 0);
     take_away(&own, 0);
     raise(&own, 0);
-    CHECK(told(&own, 0) == 0 && told(&shadow, 0) == 1 && pending(&own) == 0);
+    CHECK(raised(&own, 0) == 0 && raised(&shadow, 0) == 1 && pending(&own) == 0);
     take_away(&shadow, 0);
 }
 
@@ -119,9 +119,9 @@ static void nobody_has_it(void)
     raise(&shadow, 2);
     CHECK(pending(&own) == 4 && pending(&shadow) == 0);
     set_up(&shadow, 2);
-    CHECK(told(&shadow, 2) == 0);
+    CHECK(raised(&shadow, 2) == 0);
     set_up(&own, 2);
-    CHECK(told(&own, 2) == 1 && told(&shadow, 2) == 0 && pending(&own) == 0);
+    CHECK(raised(&own, 2) == 1 && raised(&shadow, 2) == 0 && pending(&own) == 0);
 }
 
 /* A client that leaves, or turns its MSI-X off, leaves the messages to the other. */
@@ -129,14 +129,14 @@ static void one_goes(void)
 {
     peer_set_config(&own.peer, MSIX_CONTROL, 2, 0);
     raise(&own, 2);
-    CHECK(told(&own, 2) == 0 && told(&shadow, 2) == 1);
+    CHECK(raised(&own, 2) == 0 && raised(&shadow, 2) == 1);
     peer_set_config(&own.peer, MSIX_CONTROL, 2, MSIX_ON);
     raise(&shadow, 2);
-    CHECK(told(&own, 2) == 1 && told(&shadow, 2) == 0);
+    CHECK(raised(&own, 2) == 1 && raised(&shadow, 2) == 0);
     leave(&own);
     come(&own, paths[0]); /* the last client has gone by now */
     raise(&own, 2);
-    CHECK(told(&own, 2) == 0 && told(&shadow, 2) == 1);
+    CHECK(raised(&own, 2) == 0 && raised(&shadow, 2) == 1);
 }
 
 /* The host's interrupts go only to the host. */
@@ -148,14 +148,14 @@ static void host_is_apart(void)
     CHECK(peer_vectors(&host, 2, 1, &event, 1) == 0);
     set_up(&own, 2);
     raise(&own, 2);
-    CHECK(told(&own, 2) == 1 && told(&shadow, 2) == 0 && read(event, &count, sizeof count) < 0);
+    CHECK(raised(&own, 2) == 1 && raised(&shadow, 2) == 0 && read(event, &count, sizeof count) < 0);
     peer_write(&host, NIC_IVAR_MISC, 0x8200);
     peer_write(&host, NIC_EIMS, NIC_EIMS_LSC);
     peer_write(&host, NIC_EICS, NIC_EICS_LSC);
     peer_read(&host, NIC_STATUS);
     peer_read(&host, NIC_STATUS);
     CHECK(read(event, &count, sizeof count) == (ssize_t)sizeof count && count == 1);
-    CHECK(told(&own, 2) == 0 && told(&shadow, 2) == 0);
+    CHECK(raised(&own, 2) == 0 && raised(&shadow, 2) == 0);
     close(event);
 }
 

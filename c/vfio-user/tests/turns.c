@@ -140,7 +140,7 @@ static bool never(void *function)
     return false;
 }
 
-static uint64_t told(int event)
+static uint64_t raised(int event)
 {
     uint64_t count = 0;
     return read(event, &count, sizeof count) == (ssize_t)sizeof count ? count : 0;
@@ -152,7 +152,7 @@ static uint64_t interrupts(int event)
     uint64_t all = 0, now;
     do {
         CHECK(session_serve(&session));
-        now = told(event);
+        now = raised(event);
         CHECK(now <= 1);
         all += now;
     } while (session_is_paused(&session));

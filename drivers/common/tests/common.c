@@ -310,11 +310,11 @@ static unsigned int unlike(unsigned int slots)
     return count;
 }
 
-static void frames_come_in(uint64_t turned)
+static void frames_come_in(uint64_t flipped)
 {
     static struct frame frame;
     open_bus((struct bus_options){.calls = {.filled = on_filled, .writing = on_writing, .written = on_written},
-                                  .turn_in = turned});
+                                  .turn_in = flipped});
     CHECK(memory_lend(&run_memory, bus_of(0), host_memory, BYTES));
     bus_write(run_bus, BUS_PHYSICAL, NIC_RXCTRL, NIC_RXCTRL_RXEN);
     bus_write(run_bus, BUS_PHYSICAL, NIC_FCTRL, NIC_FCTRL_UPE);
@@ -333,7 +333,7 @@ static void frames_come_in(uint64_t turned)
     CHECK(rss_queue(&rss, &frame, 16) == QUEUE && rss_queue(&rss, &frame, 4) == 0);
     CHECK(bus_arrive(run_bus, frame.bytes, frame.length) && bus_receive(run_bus) == 1 && filled == 1 && given == 1 &&
           tails == 1);
-    CHECK(frame_is(&frame, host_memory + LATE, frame.length) == (turned == 0));
+    CHECK(frame_is(&frame, host_memory + LATE, frame.length) == (flipped == 0));
     CHECK((get64(RING + 8) & 3) == 3 && (get64(RING + 8) >> 32 & 0xFFFF) == frame.length);
     CHECK(unlike(SLOTS - 1) == 0 && bus_is_settled(run_bus, BUS_QUEUES));
     CHECK(!bus_arrive(run_bus, frame.bytes, 59) && bus_counts(run_bus)->arrive_whys[NIC_WHY_SHORT] == 1 &&
@@ -352,10 +352,10 @@ static void put_slots(const struct frame *frame, uint32_t from, uint32_t to)
     memcpy(host_memory + BUFFER, frame->bytes, frame->length);
 }
 
-static void frames_go_out(uint64_t turned)
+static void frames_go_out(uint64_t flipped)
 {
     static struct frame frame, next;
-    open_bus((struct bus_options){.turn_out = turned});
+    open_bus((struct bus_options){.turn_out = flipped});
     CHECK(memory_lend(&run_memory, bus_of(0), host_memory, BYTES));
     bus_send_to(run_bus, on_sent, NULL);
     bus_write(run_bus, BUS_PHYSICAL, NIC_DMATXCTL, 1);
@@ -369,7 +369,7 @@ static void frames_go_out(uint64_t turned)
     put_slots(&next, 0, 1);
     bus_write(run_bus, BUS_PHYSICAL, NIC_TDT(QUEUE), 1); /* past the ring's end */
     CHECK(frames_sent == 9 && bus_counts(run_bus)->faults == 0);
-    CHECK(frame_is(&next, sent.bytes, sent.length) == (turned == 0));
+    CHECK(frame_is(&next, sent.bytes, sent.length) == (flipped == 0));
     put_slots(&next, 1, 2);
     put64(RING + BUS_SLOT + 8, get64(RING + BUS_SLOT + 8) | CHECKSUM);
     bus_write(run_bus, BUS_PHYSICAL, NIC_TDT(QUEUE), 2);
@@ -383,7 +383,7 @@ static void frames_go_out(uint64_t turned)
 }
 
 /* A reset moves heads and tails to 0 without a write to them. */
-static void a_reset_begins_rings_anew(void)
+static void a_reset_starts_rings_again(void)
 {
     open_bus((struct bus_options){0});
     CHECK(memory_lend(&run_memory, bus_of(0), host_memory, BYTES));
@@ -669,7 +669,7 @@ int main(void)
     frames_come_in(1);
     frames_go_out(0);
     frames_go_out(9);
-    a_reset_begins_rings_anew();
+    a_reset_starts_rings_again();
     messages_and_the_line();
     a_held_bus_makes_no_step();
     answers_are_given_where_they_are_asked_for(false);

@@ -197,10 +197,10 @@ class Card:
         return self.process.returncode, said
 
 
-def expect(what: str, is_so: bool, told: object = "") -> None:
+def expect(what: str, is_so: bool, detail: object = "") -> None:
     """Ends the test if the condition is false."""
     if not is_so:
-        print(f"drivers/linux/tests/card.py: {what} {told}", file=sys.stderr)
+        print(f"drivers/linux/tests/card.py: {what} {detail}", file=sys.stderr)
         sys.exit(1)
     print(f"  {what}")
 
@@ -244,8 +244,8 @@ def try_interrupts(program: str) -> None:
     expect("no message of a masked vector", host.used(1) == 0)
     host.write(MEMORY_WRITE, 16 * 3 + 12, 0, bar=TABLE_BAR)
     expect("the message, once it may", host.used(1) == 1)
-    told = struct.unpack_from("<BBHIQI", host.memory, INTERRUPT)
-    expect("with the table's address and data", told == (7, 0, 0, 4, 0xFEE00000, 77), told)
+    message = struct.unpack_from("<BBHIQI", host.memory, INTERRUPT)
+    expect("with the table's address and data", message == (7, 0, 0, 4, 0xFEE00000, 77), message)
     expect("and the guest is called", struct.unpack("<IIIII", host.calls.recv(20))[3] == 1)
     host.verdict(0, 1)
     status, said = card.end()

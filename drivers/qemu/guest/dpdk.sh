@@ -10,12 +10,12 @@ echo uio_pci_generic >/sys/bus/pci/devices/$D/driver_override
 echo $D >/sys/bus/pci/drivers/uio_pci_generic/bind
 dpdk-testpmd -l 0,1 --iova-mode=pa --in-memory -d $PMD/librte_mempool_ring.so.23 -d $PMD/librte_net_ixgbe.so.23 -a $D \
     -- --forward-mode=macswap --port-topology=loop --total-num-mbufs=8192 --rxd=512 --txd=4096 --stats-period=1 \
-    </dev/null >/tmp/told 2>&1 &
+    </dev/null >/tmp/output 2>&1 &
 
 # says TEXT: waits for this text from testpmd, at most about a minute.
 says() {
     n=0
-    while ! grep -q "$1" /tmp/told && [ $n -lt 600 ]; do
+    while ! grep -q "$1" /tmp/output && [ $n -lt 600 ]; do
         usleep 100000
         n=$((n + 1))
     done
@@ -30,7 +30,7 @@ echo "@control came"
 usleep 300000
 kill -INT $!
 wait
-head -30 /tmp/told
+head -30 /tmp/output
 echo "guest: and at last"
-tail -20 /tmp/told
+tail -20 /tmp/output
 counts

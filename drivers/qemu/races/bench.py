@@ -56,7 +56,7 @@ class Asked(Server):
         except OSError:
             answer = []
         if self.process.poll() is not None:
-            raise Wrong(f"the server has ended with status {self.process.poll()}: {self.told.read_text()[-500:]}")
+            raise Wrong(f"the server has ended with status {self.process.poll()}: {self.output.read_text()[-500:]}")
         return answer
 
 
@@ -109,7 +109,7 @@ class Outcome:
     rounds: int
     seconds: float
     lines: list[str] = field(default_factory=list, repr=False)
-    told: str = field(default="", repr=False)
+    output: str = field(default="", repr=False)
     why: str = field(default="", repr=False)
     record: Path | None = None
     again: Outcome | None = None  # its result alone, in a fresh guest; None if that wasn't tried
@@ -293,7 +293,7 @@ class Bench:
                           time.time() - began, lines)
         if outcome.fails:
             outcome.why = "\n".join(self.server.ask("why") or ["the device waits for nothing"])
-            outcome.told = "\n".join([self.server.told.read_text(), *self.server.ask("counts"), ""])
+            outcome.output = "\n".join([self.server.output.read_text(), *self.server.ask("counts"), ""])
         self.server.ask("seed off")
         return outcome
 

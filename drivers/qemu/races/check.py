@@ -20,7 +20,7 @@ from main import Search, plan_of  # noqa: E402
 from modules import Unreadable, unpack_modules  # noqa: E402
 from report import junit, line, table  # noqa: E402
 from verdict import Finding, checked, counted, numbers, scripted, spoken, went_on, worst_first  # noqa: E402
-from windows import told, windows  # noqa: E402
+from windows import rows_of, windows  # noqa: E402
 from words import needs, read_words  # noqa: E402
 from workload import Plan, script  # noqa: E402
 
@@ -174,7 +174,7 @@ def archives(folder: Path) -> None:
 def recordings() -> None:
     found = list(windows(RECORD))
     assert len(found) == 1 and [it.name for it in found[0].tails] == ["TDT[1]"], found
-    text = "\n".join(told(found[0]))
+    text = "\n".join(rows_of(found[0]))
     assert "8 r LINKS" not in text and "TDT[1] 00000001  <- a frame" in text and "<- a reset" in text, text
     assert text.index("going down") < text.index("TDT[1]") < text.rindex("the card receives"), text
 

@@ -20,7 +20,7 @@ from windows import Window, text_of, with_tails
 ROOT = Path(__file__).resolve().parents[3]
 EVENTS = 3000  # events on the page of a recording
 EVENTS_DOWN = 12_000  # the most events on the page of one time that the card was down
-BEHIND = 60  # lines of the recording that follow that time
+AFTER = 60  # lines of the recording that follow that time
 TELL_SECONDS = 10  # between two progress lines
 
 
@@ -111,11 +111,11 @@ def draw(record: Path, events: int = EVENTS) -> Path | None:
 
 def draw_down(record: Path, window: Window) -> None:
     """Draws the page down.html of one time the card was down, from the recording until then."""
-    last = window.accesses[-1].line + BEHIND
+    last = window.accesses[-1].line + AFTER
     cut = record.with_name("down.nic")
     with open(record, encoding="latin-1") as lines, open(cut, "w", encoding="latin-1") as to:
         to.writelines(itertools.islice(lines, last))
-    draw(cut, min(EVENTS_DOWN, last - window.accesses[0].line + 2 * BEHIND))
+    draw(cut, min(EVENTS_DOWN, last - window.accesses[0].line + 2 * AFTER))
     cut.unlink()
 
 
@@ -156,7 +156,7 @@ def keep_failure(it: Outcome, workload: str, out: Path) -> Path:
     folder.mkdir(parents=True)
     (folder / "verdict.txt").write_text(line(it) + "\n")
     (folder / "console.txt").write_text("\n".join(it.lines) + "\n")
-    (folder / "server.txt").write_text(it.told)
+    (folder / "server.txt").write_text(it.output)
     (folder / "why.txt").write_text(it.why + "\n")
     (folder / "workload.sh").write_text(workload)
     if it.record and it.record.exists():

@@ -95,7 +95,7 @@ def windows(lines: Iterable[str]) -> Iterator[Window]:
         yield window
 
 
-def told(window: Window) -> Iterator[str]:
+def rows_of(window: Window) -> Iterator[str]:
     """The lines for a window: one for each access that matters, and one for all accesses between two of these."""
     run: list[Access] = []
     for it in [*window.before, *window.accesses]:
@@ -131,5 +131,5 @@ def text_of(found: list[Window], most: int = 3) -> str:
     """The last windows as text."""
     text = f"{len(found)} times the card was down and a frame was given to it\n"
     for window in found[-most:]:
-        text += "\n" + "\n".join(told(window)) + "\n"
+        text += "\n" + "\n".join(rows_of(window)) + "\n"
     return text

@@ -71,12 +71,12 @@ fn same(one: &mut Queue<usize>, other: &mut VecDeque<usize>) {
 fn a_queue_compares_its_elements() {
     let of = |items: &[u8]| Queue::from_vec(Items::from_slice(Global, items).unwrap());
     assert!(of(&[1, 2]) == of(&[1, 2]) && of(&[1, 2]) != of(&[1, 3]) && of(&[1]) != of(&[1, 2]));
-    let mut turned = of(&[2, 1]);
-    let last = turned.pop_back().unwrap();
-    turned.push_front(last).unwrap();
-    assert_eq!((turned == of(&[1, 2]), format!("{turned:?}")), (true, "[1, 2]".into()));
-    turned[1] = 7;
-    assert_eq!(turned.into_iter().collect::<Vec<_>>(), [1, 7]);
+    let mut rotated = of(&[2, 1]);
+    let last = rotated.pop_back().unwrap();
+    rotated.push_front(last).unwrap();
+    assert_eq!((rotated == of(&[1, 2]), format!("{rotated:?}")), (true, "[1, 2]".into()));
+    rotated[1] = 7;
+    assert_eq!(rotated.into_iter().collect::<Vec<_>>(), [1, 7]);
     assert!(panics(|| drop(of(&[1])[1])) && panics(|| of(&[1])[1] = 2));
     Queue::<u8>::new(Global).destroy_empty();
 }

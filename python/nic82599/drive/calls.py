@@ -95,36 +95,36 @@ class _Driver(ctypes.Structure):
 # --- results of a driver's functions ---
 
 
-def _bool(name: str, told: object) -> int:
-    if told is True or told is False:
-        return int(told)
-    raise TypeError(f"{name} returned {type(told).__name__}, not True or False")
+def _bool(name: str, answer: object) -> int:
+    if answer is True or answer is False:
+        return int(answer)
+    raise TypeError(f"{name} returned {type(answer).__name__}, not True or False")
 
 
-def _number(name: str, told: object) -> int:
-    if isinstance(told, int) and not isinstance(told, bool) and 0 <= told < ANY_WORD:
-        return told
-    shown = told if isinstance(told, int) else type(told).__name__
+def _number(name: str, answer: object) -> int:
+    if isinstance(answer, int) and not isinstance(answer, bool) and 0 <= answer < ANY_WORD:
+        return answer
+    shown = answer if isinstance(answer, int) else type(answer).__name__
     raise TypeError(f"{name} returned {shown}, not a number from 0 to 4,294,967,295")
 
 
-def _count(told: object) -> int:
-    if isinstance(told, int) and not isinstance(told, bool) and 0 <= told < ANY_WORD**2:
-        return told
-    raise TypeError(f"stats returned {told!r:.40}, not four counts of 64 bits")
+def _count(answer: object) -> int:
+    if isinstance(answer, int) and not isinstance(answer, bool) and 0 <= answer < ANY_WORD**2:
+        return answer
+    raise TypeError(f"stats returned {answer!r:.40}, not four counts of 64 bits")
 
 
-def _nothing(_name: str, _told: object) -> int:
+def _nothing(_name: str, _answer: object) -> int:
     return 0
 
 
-def _put_frame(told: object, place: int) -> int:
+def _put_frame(answer: object, place: int) -> int:
     """Writes a frame to the card's buffer. If it is too long, writes its length and as many bytes as fit."""
-    if told is None:
+    if answer is None:
         return 0
-    data, number = told if isinstance(told, tuple) and len(told) == 2 else (told, 0)
+    data, number = answer if isinstance(answer, tuple) and len(answer) == 2 else (answer, 0)
     if not isinstance(data, (bytes, bytearray, memoryview)):
-        raise TypeError(f"receive returned {type(told).__name__}, not bytes, bytes with a hash, or None")
+        raise TypeError(f"receive returned {type(answer).__name__}, not bytes, bytes with a hash, or None")
     data = bytes(data)
     frame = _Frame.from_address(place)
     frame.length, frame.hash = len(data), _number("receive", number)
@@ -132,21 +132,21 @@ def _put_frame(told: object, place: int) -> int:
     return 1
 
 
-def _put_words(told: object, place: int) -> int:
-    if told is None:
+def _put_words(answer: object, place: int) -> int:
+    if answer is None:
         return 0
-    if not isinstance(told, (list, tuple)) or len(told) != MAILBOX_WORDS:
-        raise TypeError(f"mailbox_receive returned {type(told).__name__}, not 16 words or None")
+    if not isinstance(answer, (list, tuple)) or len(answer) != MAILBOX_WORDS:
+        raise TypeError(f"mailbox_receive returned {type(answer).__name__}, not 16 words or None")
     room = (_U32 * MAILBOX_WORDS).from_address(place)
-    room[:] = [_number("mailbox_receive", word) for word in told]
+    room[:] = [_number("mailbox_receive", word) for word in answer]
     return 1
 
 
-def _put_stats(told: object, place: int) -> int:
-    if not isinstance(told, tuple) or len(told) != 4:
-        raise TypeError(f"stats returned {type(told).__name__}, not Stats")
+def _put_stats(answer: object, place: int) -> int:
+    if not isinstance(answer, tuple) or len(answer) != 4:
+        raise TypeError(f"stats returned {type(answer).__name__}, not Stats")
     room = (_U64 * 4).from_address(place)
-    room[:] = [_count(count) for count in told]
+    room[:] = [_count(count) for count in answer]
     return 1
 
 
@@ -169,11 +169,11 @@ _PLAIN: dict[str, tuple[int, Callable[[str, object], int]]] = {
 
 def _words_of(fault: BaseException) -> str:
     """Returns an exception's message and place in one line."""
-    told = printable(" ".join(str(fault).split()))
-    told = told if isinstance(fault, Failed) else f"{type(fault).__name__}{': ' * bool(told)}{told}"
+    text = printable(" ".join(str(fault).split()))
+    text = text if isinstance(fault, Failed) else f"{type(fault).__name__}{': ' * bool(text)}{text}"
     lines = list(_source.lines_of(fault))
     where = places_of(reversed(lines[-MOST_LINES:]))
-    return told[:MOST_WORDS] + (f" ({where})" if where else "")
+    return text[:MOST_WORDS] + (f" ({where})" if where else "")
 
 
 # --- the card ---
@@ -213,10 +213,10 @@ class Card:
         self._leave_child()
         if call is None:
             raise RuntimeError(f"only a driver in a report card may call {name}: see python3 -m nic82599.drive --help")
-        told = call(*words)
-        if told == OVER:
+        answer = call(*words)
+        if answer == OVER:
             raise Over
-        return told
+        return answer
 
     def dma_read(self, bus: int, length: int) -> bytes:
         # The card has no more memory than this. If one byte isn't lent, none is read.
@@ -301,7 +301,7 @@ class Card:
     def _raised(self, fault: BaseException) -> None:
         """Reports an exception in one line, and stores its traceback for the parent process."""
         assert self._library and self._traceback
-        self._library.nicp_told(_words_of(fault).encode("ascii", "backslashreplace"))
+        self._library.nicp_set_words(_words_of(fault).encode("ascii", "backslashreplace"))
         lines = _source.traceback_of(fault).encode("utf-8", "replace")[-MOST_TRACEBACK + 1 :]
         self._traceback[: len(lines) + 1] = lines + b"\0"
 
@@ -335,7 +335,7 @@ class Card:
         status: int = self._library.nicp_main(len(words), argv, ctypes.byref(given))
         return status
 
-    def told(self) -> str:
+    def traceback(self) -> str:
         """Returns the traceback of the last exception, or "" if there was none."""
         return self._traceback[:].split(b"\0")[0].decode("utf-8", "replace") if self._traceback else ""
 

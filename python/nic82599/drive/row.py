@@ -40,18 +40,18 @@ def driver_of(module: ModuleType, name: str, path: Path) -> type[Driver]:
     if name:
         found = [one for one in own if one.__name__ == name]
     if len(found) != 1:
-        told = f"no class {name}" if name else f"{len(found)} classes"
+        what = f"no class {name}" if name else f"{len(found)} classes"
         names = ", ".join(one.__name__ for one in own)
-        raise Refused(f"{path}: it has {told} of Driver{f': {names}; FILE.py:CLASS names one' if own else ''}")
+        raise Refused(f"{path}: it has {what} of Driver{f': {names}; FILE.py:CLASS names one' if own else ''}")
     return found[0]
 
 
 def checked(driver: type[Driver], path: Path) -> type[Driver]:
     """Checks a driver's attributes and functions and returns it. Raises Refused. The card itself checks the ranges."""
     for name in ("queues", "slots", "frame", "threads"):
-        told = getattr(driver, name)
-        if not isinstance(told, int) or isinstance(told, bool) or not 0 <= told < 1 << 16:
-            raise Refused(f"{path}: {driver.__name__}.{name} is {told!r}, not an allowed number")
+        value = getattr(driver, name)
+        if not isinstance(value, int) or isinstance(value, bool) or not 0 <= value < 1 << 16:
+            raise Refused(f"{path}: {driver.__name__}.{name} is {value!r}, not an allowed number")
     if not isinstance(driver.name, str) or not isinstance(driver.can, Can):
         raise Refused(f"{path}: {driver.__name__}.name isn't a string, or its can isn't a value of Can")
     for name in ("open", "close", *(one for one in OPTIONAL if hasattr(driver, one))):
@@ -70,12 +70,12 @@ def traceback_file(words: list[str]) -> Path:
 
 def tell_traceback(words: list[str]) -> None:
     """Writes the last traceback to its file, or to standard error if a schedule is being replayed."""
-    told = CARD.told()
-    if "--replay" in words and told:
-        print(told.rstrip(), file=sys.stderr)
-    elif told:
+    traceback = CARD.traceback()
+    if "--replay" in words and traceback:
+        print(traceback.rstrip(), file=sys.stderr)
+    elif traceback:
         file = traceback_file(words)
-        file.write_text(told)
+        file.write_text(traceback)
         print(f"{file.stem}: the traceback is {file}")
 
 
@@ -95,8 +95,8 @@ def patient(words: list[str]) -> list[str]:
     if "--hang" not in words[:-1]:
         return words
     place = words.index("--hang") + 1
-    told = words[place]
-    return [*words[:place], str(max(int(told), LEAST_HANG)) if told.isdecimal() else told, *words[place + 1 :]]
+    seconds = words[place]
+    return [*words[:place], str(max(int(seconds), LEAST_HANG)) if seconds.isdecimal() else seconds, *words[place + 1 :]]
 
 
 def main(words: list[str]) -> int:
@@ -112,8 +112,8 @@ def main(words: list[str]) -> int:
 
 
 if __name__ == "__main__":
-    told = main([os.environ.get("NIC82599_PROGRAM", sys.argv[0]), *sys.argv[1:]])
+    status = main([os.environ.get("NIC82599_PROGRAM", sys.argv[0]), *sys.argv[1:]])
     sys.stdout.flush()
     ctypes.CDLL(None).fflush(None)  # flushes what the library has printed
     # The schedules' threads are still inside the library.
-    os._exit(told)
+    os._exit(status)

@@ -52,10 +52,10 @@ class Failure(AssertionError):
     """A schedule failed. The message includes its points, its file if there is one, and the traceback if a task
     raised."""
 
-    def __init__(self, result: Result, told: str, path: Path | None) -> None:
+    def __init__(self, result: Result, description: str, path: Path | None) -> None:
         shown = "".join(f"    {line}\n" for line in result.lines())
         where = f"the schedule, also in {path}" if path else "the schedule"
-        super().__init__(f"{result.outcome}: {result.words}\n{told}; {where}:\n{shown}{result.traceback}")
+        super().__init__(f"{result.outcome}: {result.words}\n{description}; {where}:\n{shown}{result.traceback}")
         self.result, self.path = result, path
 
 

@@ -20,7 +20,7 @@ ADDRESSES = bytes([2, 0, 0, 0, 0, 1, 2, 0, 0, 0, 0, 2])
 OWN_TYPE, IPV4 = b"\x88\xb5", b"\x08\x00"
 ETHERNET, IP = 14, 20
 HEADERS = {TCP: 20, UDP: 8}
-REQ, ACK, VFU, PFU, PFSTS, PFACK, TOLD = 1, 2, 4, 8, 16, 32, 0xF0
+REQ, ACK, VFU, PFU, PFSTS, PFACK, REPORTED = 1, 2, 4, 8, 16, 32, 0xF0
 
 
 def _filling(number: int, first: int, end: int) -> bytes:
@@ -140,7 +140,7 @@ class Mailbox:
 
     def _function_looks(self) -> int:
         word = self.scenario.vf_read32(self.vf, "VFMAILBOX")
-        self.seen |= word & TOLD
+        self.seen |= word & REPORTED
         return word
 
     def _function_takes(self) -> None:

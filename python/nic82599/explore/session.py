@@ -265,12 +265,12 @@ class Session:
 
     def call(self, name: str, *words: object) -> int:
         """Calls a library function for the driver. Raises Over if the schedule is over."""
-        told = self.calls[name](*words)
-        if told == OVER:
+        answer = self.calls[name](*words)
+        if answer == OVER:
             if threading.get_ident() in (self.maker, *self.running):
                 raise Over
             raise RuntimeError(f"{name} is called by a thread that isn't a task of scenario {self.scenario.name}")
-        return told
+        return answer
 
     # --- the engine's calls ---
 
@@ -334,7 +334,7 @@ class Session:
     def _judged(self, words: str | None) -> int:
         if not words:
             return 0
-        self.library.nicp_told(_bytes(str(words)))
+        self.library.nicp_set_words(_bytes(str(words)))
         return 1
 
     def _always(self, _a: int, _b: int) -> int:

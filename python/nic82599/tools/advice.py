@@ -185,12 +185,12 @@ class Advice:
         """Warns about written values with reserved bits or with bits that the register doesn't keep, and about
         writes of read-only registers."""
         for writes in self.writes.values():
-            told: dict[int, list[str]] = {}
+            texts_of: dict[int, list[str]] = {}
             for pc, word in zip(writes.pcs, writes.words):
-                if (texts := told.get(word)) is None:
+                if (texts := texts_of.get(word)) is None:
                     texts = list(_of_word(writes.register, word))
-                    if len(told) < MOST_WORDS:
-                        told[word] = texts
+                    if len(texts_of) < MOST_WORDS:
+                        texts_of[word] = texts
                 for text in texts:
                     yield self._at(pc, text)
 
@@ -296,7 +296,7 @@ class Advice:
         yield from self._without_vector(masks)
         for one, byte, entry in entries:
             if entry:
-                yield from self._untold(one, byte, entry, masked)
+                yield from self._unreported(one, byte, entry, masked)
         for one in masks:
             silent = one.word & 0xFFFF & ~raised
             if silent:
@@ -312,7 +312,7 @@ class Advice:
                 names = ", ".join(regs.bits("EIMS", lost))
                 yield self._at(one.pc, f"{names}: IVAR_MISC assigns no vector to these causes, so they send no message")
 
-    def _untold(self, one: Access, byte: int, entry: int, masked: int) -> Iterator[Warning]:
+    def _unreported(self, one: Access, byte: int, entry: int, masked: int) -> Iterator[Warning]:
         """Warns about an IVAR entry that is invalid, names no cause, or has a masked cause."""
         queue, side = 2 * one.register.index + byte // 2, "tx" if byte & 1 else "rx"
         named = one.register.index, byte, side, queue

@@ -25,9 +25,9 @@ class Again:
 
     def __init__(self, nic: Nic) -> None:
         self.nic, self.handle = nic, nic._handle
-        self.told, self.word, self.unit = nic82599._Told(), ctypes.c_uint32(), ctypes.create_string_buffer(16)
+        self.outcome, self.word, self.unit = nic82599._Outcome(), ctypes.c_uint32(), ctypes.create_string_buffer(16)
         self.room = ctypes.create_string_buffer(ROOM)
-        self.at_told, self.at_word = ctypes.byref(self.told), ctypes.byref(self.word)
+        self.at_outcome, self.at_word = ctypes.byref(self.outcome), ctypes.byref(self.word)
         library = nic._library
         self.reads, self.writes = library.nic_read32, library.nic_write32
         self.peeks, self.pokes = library.nic_dma_read, library.nic_dma_write
@@ -54,8 +54,8 @@ class Again:
         """Delivers a frame to the controller and returns the reply."""
         if len(frame) > ROOM:
             return arrived(self.nic, frame)
-        status = self.arrives(self.handle, frame, len(frame), self.at_told)
-        return "done" if status == statuses.DONE else self._told(status, "tx")
+        status = self.arrives(self.handle, frame, len(frame), self.at_outcome)
+        return "done" if status == statuses.DONE else self._reply(status, "tx")
 
     def _refused(self, status: int) -> str:
         refusal = nic82599._refused(status, "an event that is made again")
@@ -63,21 +63,21 @@ class Again:
             raise refusal
         return REFUSALS[type(refusal)]
 
-    def _told(self, status: int, step: str) -> str:
+    def _reply(self, status: int, step: str) -> str:
         """Formats the reply from what the call reported, for most events without building an object."""
-        told = self.told
+        outcome = self.outcome
         if status == statuses.IDLE:
             return "idle"
         if status == statuses.WROTE:
-            return f"wrote queue {told.queue} slot {told.slot} {'end' if told.end else 'more'}"
+            return f"wrote queue {outcome.queue} slot {outcome.slot} {'end' if outcome.end else 'more'}"
         if status == statuses.SENT:
-            return f"sent queue {told.queue} len {told.len}"
+            return f"sent queue {outcome.queue} len {outcome.len}"
         if status == statuses.ADVANCED:
-            return f"advanced queue {told.queue} slot {told.slot}"
+            return f"advanced queue {outcome.queue} slot {outcome.slot}"
         if status not in nic82599._TELLERS:
             return self._refused(status)
-        told.step = statuses.STEPS.index(step)
-        return printed(nic82599._TELLERS[status](told))
+        outcome.step = statuses.STEPS.index(step)
+        return printed(nic82599._TELLERS[status](outcome))
 
     def _read(self, one: Instruction) -> str:
         if one.a > MOST_BUS:
@@ -102,17 +102,17 @@ class Again:
         return f"bytes {self.unit.raw.hex()}" if status == statuses.DONE else self._refused(status)
 
     def _rx(self, _one: Instruction) -> str:
-        return self._told(self.receives(self.handle, self.at_told), "rx")
+        return self._reply(self.receives(self.handle, self.at_outcome), "rx")
 
     def _tx(self, one: Instruction) -> str:
         if one.x > MOST_QUEUE:
             return played(self.nic, one, ())
-        return self._told(self.transmits(self.handle, one.x, self.at_told), "tx")
+        return self._reply(self.transmits(self.handle, one.x, self.at_outcome), "tx")
 
     def _collect(self, one: Instruction) -> str:
         if self.next_out(self.handle) > ROOM:
             return played(self.nic, one, ())
-        status = self.collects(self.handle, self.room, ROOM, self.at_told)
+        status = self.collects(self.handle, self.room, ROOM, self.at_outcome)
         if status != statuses.FRAME:
             return "idle" if status == statuses.IDLE else self._refused(status)
-        return f"frame queue {self.told.queue} {ctypes.string_at(self.room, self.told.len).hex()}"
+        return f"frame queue {self.outcome.queue} {ctypes.string_at(self.room, self.outcome.len).hex()}"

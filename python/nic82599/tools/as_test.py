@@ -199,7 +199,7 @@ class InC(Lines):
         if one.op in (Op.PEEK, Op.COLLECT):
             self.used.add("static uint8_t bytes[16384];")
         if one.op in (Op.ARRIVE, Op.RX, Op.TX, Op.INT, Op.QSTEP, Op.EESTEP, Op.COLLECT):
-            self.used.add("nic_told event;")
+            self.used.add("nic_outcome event;")
         side = "true" if one.sub else "false"
         return {
             Op.WRITE: f"nic_write32(&n, {c_address(one.a)}, 0x{one.b:08x})",

@@ -50,8 +50,8 @@ def connected(path: str) -> Iterator[socket.socket]:
 def recording_of(path: str) -> str:
     """Returns the recording that the server at a control socket writes, according to its command line."""
     with connected(path) as it:
-        told = it.getsockopt(socket.SOL_SOCKET, getattr(socket, "SO_PEERCRED", 17), struct.calcsize("3i"))
-    process = Path(f"/proc/{struct.unpack('3i', told)[0]}")
+        credentials = it.getsockopt(socket.SOL_SOCKET, getattr(socket, "SO_PEERCRED", 17), struct.calcsize("3i"))
+    process = Path(f"/proc/{struct.unpack('3i', credentials)[0]}")
     try:
         words = (process / "cmdline").read_bytes().split(b"\0")
         names = [os.fsdecode(word[9:]) for word in words if word.startswith(b"--record=")]

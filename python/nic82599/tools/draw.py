@@ -46,7 +46,7 @@ class Slots:
         shown = self.look(ring, slot)
         return UNREAD_MARKS[shown] if self.is_unread(ring, slot) else MARKS[shown]
 
-    def told(self, ring: Ring, slot: int) -> str:
+    def describe(self, ring: Ring, slot: int) -> str:
         """Describes a slot in words; "" if there is nothing to say."""
         said = self.said(ring, slot)
         is_silent = said.form == "empty" or not said.fields and ring.owner(slot) != "device"
@@ -105,19 +105,19 @@ def ring_lines(ring: Ring, state: Slots) -> list[str]:
         lines += [f"  {over}".rstrip()] if over.strip() else []
         lines.append(f"  {strip}" + (_outside(ring) if slots.stop == ring.slots else ""))
     lines += [f" {_outside(ring)}"] if ring.slots > 8 * LONG and ring.is_outside() else []
-    told = ((slot, state.told(ring, slot)) for slot in range(ring.slots))
-    return lines + _runs([(slot, words) for slot, words in told if words])
+    described = ((slot, state.describe(ring, slot)) for slot in range(ring.slots))
+    return lines + _runs([(slot, words) for slot, words in described if words])
 
 
-def _runs(told: list[tuple[int, str]]) -> list[str]:
+def _runs(slots: list[tuple[int, str]]) -> list[str]:
     """Returns a line for each slot, or one for several consecutive slots that aren't read."""
     lines, at = [], 0
-    while at < len(told):
+    while at < len(slots):
         end = at + 1
-        while end < len(told) and told[at][1] in UNKNOWN and told[end] == (told[end - 1][0] + 1, told[at][1]):
+        while end < len(slots) and slots[at][1] in UNKNOWN and slots[end] == (slots[end - 1][0] + 1, slots[at][1]):
             end += 1
-        first, last = told[at][0], told[end - 1][0]
-        lines.append(f"  {first:4}{f' to {last}' if last > first else ''} {told[at][1]}")
+        first, last = slots[at][0], slots[end - 1][0]
+        lines.append(f"  {first:4}{f' to {last}' if last > first else ''} {slots[at][1]}")
         at = end
     return lines
 
@@ -151,8 +151,8 @@ def text(run: Run) -> Iterator[str]:
         for reason in why:
             yield f"        {'*' if reason.held else ' '} {reason.text}"
         for address, old, new in step.changes:
-            told = regs.told(REGISTERS[address].row, new)
-            yield f"      {regs.name_at(address)}  0x{old:08x} -> 0x{new:08x}  {told}".rstrip()
+            fields = regs.fields_text(REGISTERS[address].row, new)
+            yield f"      {regs.name_at(address)}  0x{old:08x} -> 0x{new:08x}  {fields}".rstrip()
         yield from _frame_lines(run, step)
         for ring in state.rings():
             lines = ring_lines(ring, state)
@@ -314,10 +314,10 @@ def _beside(ring: Ring, state: State, top: float) -> list[str]:
     parts, y, left = [], top, 350
     lines = [(f"base 0x{ring.base:x}, {ring.slots} slots, head {ring.head}, tail {ring.tail}", "mono")]
     for slot in range(ring.slots):
-        told = state.told(ring, slot)
-        if told and len(lines) < 8:
+        described = state.describe(ring, slot)
+        if described and len(lines) < 8:
             whose = WHOSE[state.look(ring, slot)]
-            for n, line in enumerate(_wrapped(f"slot {slot} ({whose}), {told}", 54)):
+            for n, line in enumerate(_wrapped(f"slot {slot} ({whose}), {described}", 54)):
                 lines.append((line if n == 0 else "    " + line, ""))
     for frame, word, kind in _frames_of(ring, state):
         lines += [(line, kind) for line in _wrapped(f"{word}: {summary(frame.data or b'')}", 54)]

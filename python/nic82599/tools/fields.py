@@ -24,7 +24,7 @@ class Field:
         """Returns the field's value in a register's value."""
         return (word & self.mask) >> self.low
 
-    def told(self, word: int) -> str:
+    def shown(self, word: int) -> str:
         """Returns the field's value as it is shown."""
         value = self.of(word)
         if self.form == "bits":

@@ -53,7 +53,7 @@ MOST = {
 }
 MOST_DIGITS, TOO_LARGE = 20, 1 << 128
 # The most characters of an explanation.
-MOST_TOLD = 300
+MOST_DESCRIPTION = 300
 NUMBER = re.compile(r"0x[0-9a-fA-F]+|[0-9]+")
 NAME = re.compile(r"[A-Za-z_][A-Za-z0-9_]*")
 TARGET = re.compile(r"([A-Za-z_][A-Za-z0-9_]*)(?:\[([^\]]*)\])?")
@@ -111,7 +111,7 @@ class Looker:
 
     def _at(self, word: int, text: str, close: list[str] | None = None) -> Place:
         column, shown = self.words[word] if word < len(self.words) else (len(self.line.split("#")[0].rstrip()), " ")
-        return Place(self.refused.line, column, len(shown), shortened(text, MOST_TOLD), close or [])
+        return Place(self.refused.line, column, len(shown), shortened(text, MOST_DESCRIPTION), close or [])
 
     def _kinds(self) -> list[str]:
         """Returns the kinds of the words after the operation."""

@@ -18,7 +18,7 @@ from .trace import Step, Trace, not_as_reset, number_after, word_of
 RUNS = 16
 # Rings with more slots than this are read in part: around the head, and the slots that were written.
 WHOLE_RING = 64
-BEHIND, AHEAD = 8, 32
+BEFORE, AHEAD = 8, 32
 UNTOUCHED = ("idle", "no queue", "no group", "not lent", "misaligned", "no block")
 
 
@@ -47,8 +47,8 @@ class Ring:
         """Returns who owns a slot: the device from the head up to but excluding the tail, otherwise the driver."""
         if self.is_outside():
             return "nobody"
-        behind = (slot - self.head) % self.slots
-        return "device" if behind < (self.tail - self.head) % self.slots else "driver"
+        distance = (slot - self.head) % self.slots
+        return "device" if distance < (self.tail - self.head) % self.slots else "driver"
 
 
 def ring_of(words: dict[int, int], side: str, queue: int) -> Ring:
@@ -135,9 +135,9 @@ class Replay:
         self.data = "".join(f"data d{n} {one.hex()}\n" for n, one in data)
 
     def run(
-        self, steps: list[Step], between: dict[int, list[str]], behind: list[str], limit: int = 0
+        self, steps: list[Step], between: dict[int, list[str]], after: list[str], limit: int = 0
     ) -> list[list[str]]:
-        """Runs steps with further lines `between`, after the step with that number, and `behind`, after all steps.
+        """Runs steps with further lines `between`, after the step with that number, and `after`, after all steps.
         Returns the replies to the further lines after each step, in order of the steps, and last those to the lines
         after all steps."""
         lines, marks = [], []
@@ -148,7 +148,7 @@ class Replay:
                 lines.append(more)
                 marks.append(step.number)
         count = len(lines)
-        printed = self.trace.bench.run(self.data + "\n".join(lines + behind) + "\n", limit or len(lines) + len(behind))
+        printed = self.trace.bench.run(self.data + "\n".join(lines + after) + "\n", limit or len(lines) + len(after))
         answers = [line.partition(" ")[2] for line in printed[:-1]]
         replies, own = iter(steps), []
         asked: dict[int, list[str]] = {}
@@ -165,7 +165,7 @@ class Replay:
             return []
         return [*asked.values(), answers[count:]]
 
-    def behind(self, count: int, lines: list[str], more: int) -> list[str]:
+    def after(self, count: int, lines: list[str], more: int) -> list[str]:
         """Returns the replies to lines after `count` steps. The lines may run up to `more` instructions."""
         steps = self.up_to(count, len(lines))
         return [] if steps is None else (self.run(steps, {}, lines, len(steps) + more) or [[]])[-1]
@@ -289,7 +289,7 @@ def _slots_read(ring: Ring) -> list[int]:
     """Returns the slots to read when a ring is set up and when its head moves."""
     if ring.slots <= WHOLE_RING:
         return list(range(ring.slots))
-    return [(ring.head + k) % ring.slots for k in range(-BEHIND, AHEAD)]
+    return [(ring.head + k) % ring.slots for k in range(-BEFORE, AHEAD)]
 
 
 def look(trace: Trace) -> Seen:
@@ -338,14 +338,14 @@ def _ask_memory(trace: Trace, replay: Replay, asked: list[tuple[int, list[int]]]
             for number, units in asked[at:]:
                 trace.steps[number].memory = [(unit, None) for unit in units]
             return
-        steps, behind = replay.up_to(asked[end - 1][0] + 1, room) or [], []
+        steps, after = replay.up_to(asked[end - 1][0] + 1, room) or [], []
         if end == len(asked) and (every := replay.up_to(1 << 62, room + len(sent))) is not None:
-            steps, behind = every, replay.collects(every, sent)
+            steps, after = every, replay.collects(every, sent)
         numbers = {step.number for step in steps}
         between: dict[int, list[str]] = {}
         for number, units in asked[at:end]:
             between.setdefault(_last(numbers, number), []).extend(f"peek 0x{unit:x} 0" for unit in units)
-        *peeked, collected = replay.run(steps, between, behind) or [[]]
+        *peeked, collected = replay.run(steps, between, after) or [[]]
         answers = iter(one for some in peeked for one in some)
         for number, units in asked[at:end]:
             trace.steps[number].memory = [(unit, _bytes(next(answers, ""))) for unit in units]
@@ -559,11 +559,11 @@ def _waiting_queues(trace: Trace, replay: Replay, count: int, frames: int) -> li
     if replay.asked > 2 * RUNS:
         return []
     lines = [f"w 0x{first('CTRL'):x} 0", *_armed(list(range(128))), "again:", "rx", "jmp again"]
-    answers = replay.behind(count, lines, 128 * 3 + 1 + 2 * frames)
+    answers = replay.after(count, lines, 128 * 3 + 1 + 2 * frames)
     named = _named(answers)
     if "dropped queue off" in answers:
         lines = [f"w 0x{first('CTRL'):x} 0", "again:", *_armed(named), "rx", "jmp again"]
-        answers = replay.behind(count, lines, 1 + (3 * len(named) + 2) * frames)
+        answers = replay.after(count, lines, 1 + (3 * len(named) + 2) * frames)
         named = _named(answers)
     return named
 

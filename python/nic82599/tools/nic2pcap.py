@@ -65,8 +65,8 @@ def packets_of(run: Trace, queue: int | None) -> tuple[list[Packet], int]:
             continue
         where = frame.slots or ([f"queue {frame.queue}"] if frame.queue is not None else [])
         line = run.script.before + run.script.line_of[run.steps[frame.step].pc]
-        told = ", ".join([way, *where, f"step {frame.step}", f"line {line}"])
-        packets.append(Packet(frame.step, frame.data, is_inbound, told))
+        comment = ", ".join([way, *where, f"step {frame.step}", f"line {line}"])
+        packets.append(Packet(frame.step, frame.data, is_inbound, comment))
     return packets, sum(frame.data is None for frame in seen.sent)
 
 

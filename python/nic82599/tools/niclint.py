@@ -18,7 +18,7 @@ from collections import Counter
 from collections.abc import Callable
 
 from .advice import Advice, Warning
-from .forms import MOST_TOLD, Place, explained
+from .forms import MOST_DESCRIPTION, Place, explained
 from .lines import Source
 from .printable import shortened
 from .recording import is_recording, of_recording, read, refuse_sizes
@@ -45,7 +45,7 @@ def refusal(path: str, text: str, refused: Refused, place: Place) -> None:
     """Prints a refusal, with the line and the word in it."""
     where = f"{path}:{place.line}:{place.column + 1}" if place.line else path
     close = f"; near: {', '.join(place.near)}" if place.near else ""
-    print(f"{where}: refused {refused.name}: {place.text}{shortened(close, MOST_TOLD)}")
+    print(f"{where}: refused {refused.name}: {place.text}{shortened(close, MOST_DESCRIPTION)}")
     if place.line:
         line = text.split("\n")[place.line - 1].rstrip("\r").replace("\t", " ")
         begin = max(0, min(place.column - 60, len(line) - 100))
@@ -77,12 +77,12 @@ def lint(path: str, script: Script, run: Callable[[], Run] | None) -> int:
 
 
 def tell_warnings(path: str, warnings: list[Warning]) -> None:
-    told: Counter[str] = Counter()
+    counts: Counter[str] = Counter()
     for one in warnings:
-        told[one.text] += 1
-        if told[one.text] <= SHOWN:
+        counts[one.text] += 1
+        if counts[one.text] <= SHOWN:
             print(f"{path}:{one.line}: warning: {one.text}")
-    for warning, count in told.items():
+    for warning, count in counts.items():
         if count > SHOWN:
             print(f"{path}: warning: at {count - SHOWN} more lines: {warning}")
 

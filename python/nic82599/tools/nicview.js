@@ -123,8 +123,8 @@ const change = (...parts) => make("div", { className: "change" }, ...parts);
 function registerChange(n, [address, word]) {
   const [name, kind] = registers.get(address), old = wordAfter(address, n - 1);
   const words = span("words", make("code", { className: "old" }, hex(old)), " → ", litDigits(old, word));
-  const told = span("fields", ...litFields(fields(kind, old), fields(kind, word)));
-  return change(make("b", { className: "mono", title: run.meanings[kind] || "" }, name), words, told);
+  const changes = span("fields", ...litFields(fields(kind, old), fields(kind, word)));
+  return change(make("b", { className: "mono", title: run.meanings[kind] || "" }, name), words, changes);
 }
 function memoryChange(n, state, [unit, content]) {
   const ring = ringAt(state, unit, run.steps[n - 1][4].g), old = contentAfter(unit, n - 1);
@@ -174,7 +174,7 @@ function showNow(n, state) {
   const words = { "w+": "Waits", "w-": "No longer waits", "o+": "Out", "o-": "Collected" }, moved = [];
   for (const [key, all, way] of [["w", run.arrived, "came"], ["o", run.sent, "sent"]])
     for (const [sign, frames] of more[key] || [])
-      moved.push(...frames.map((frame) => told(all[frame], way, words[key + sign] + ": ")));
+      moved.push(...frames.map((frame) => frameDetails(all[frame], way, words[key + sign] + ": ")));
   element("moved").replaceChildren(...some(moved, 3, "frames"));
   showChanges(n, state, changes, more);
 }
@@ -190,8 +190,8 @@ function showInterrupts(state, before) {
     for (let bit = 0; bit < 32; bit++) {
       if (!(((any | old.reduce((all, word) => all | word, 0)) >>> bit) & 1)) continue;
       const vector = group.name !== "pf" || bit < 16 ? bit : state.vectors[bit === 30 ? 1 : 0];
-      const told = vector === null ? span("bad", "none") : `${vector}`;
-      rows.push(row([group.bits[bit], ...kept.map((word, k) => dot(word, bit, k)), told]));
+      const number = vector === null ? span("bad", "none") : `${vector}`;
+      rows.push(row([group.bits[bit], ...kept.map((word, k) => dot(word, bit, k)), number]));
     }
     const own = group.name === "pf" ? "" : "PVT";
     const shown = [["pending", "EICR"], ["enabled", "EIMS"], ["auto-clear", "EIAC"], ["auto-mask", "EIAM"]];
@@ -219,7 +219,7 @@ function mailboxesOf({ steps, vfs }) {
   return found;
 }
 function showMailboxes(state, before) {
-  const told = (kind, address) => {
+  const shown = (kind, address) => {
     if (address === undefined) return ["nothing"];
     const [now, old] = [state, before].map(({ words }) => fields(kind, words.get(address) ?? 0));
     return now.length || old.length ? litFields(old, now) : ["nothing"];
@@ -229,8 +229,8 @@ function showMailboxes(state, before) {
     return now || old ? [`${x}: `, span(now === old ? "" : "lit", hex(now)), " "] : [];
   };
   const rows = [...boxes].sort(([a], [b]) => a - b).map(([v, box]) => {
-    const held = box.words.flatMap(word), cells = [`${v}`, told("PFMAILBOX", box.PFMAILBOX)];
-    cells.push(told("PVFMAILBOX", box.PVFMAILBOX), held.length ? held : ["all 0"]);
+    const held = box.words.flatMap(word), cells = [`${v}`, shown("PFMAILBOX", box.PFMAILBOX)];
+    cells.push(shown("PVFMAILBOX", box.PVFMAILBOX), held.length ? held : ["all 0"]);
     return make("tr", {}, ...cells.map((parts, k) => make("td", { className: k % 3 ? "" : "mono" }, ...parts)));
   });
   const titles = row(["Function", "PFMAILBOX", "VFMAILBOX", "Words"], "th");
@@ -238,7 +238,7 @@ function showMailboxes(state, before) {
   element("mailboxes").replaceChildren(make("div", { className: "scroll" }, make("table", {}, titles, ...rows)));
 }
 // Returns a frame as one line that expands to its headers.
-function told([step, queue, slots, packet, rss], way, title = "") {
+function frameDetails([step, queue, slots, packet, rss], way, title = "") {
   const whose = queue !== null ? `queue ${queue}` : "queue not known";
   const where = `${whose}, ${way} at step ${step}` + (slots.length ? `, in ${slots.join(", ")}` : "");
   const named = title && make("b", {}, title);
@@ -256,7 +256,7 @@ function showFrames(state, before) {
   const counted = (n, one, more) => (n === 0 ? `No frame ${one}` : n === 1 ? `1 frame ${one}` : `${n} frames ${more}`);
   const list = (title, frames, all, way) => [
     make("p", { className: frames.length ? "strong" : "" }, title),
-    ...some(frames.map((one) => told(all[one], way)), 20, "frames"),
+    ...some(frames.map((one) => frameDetails(all[one], way)), 20, "frames"),
   ];
   const old = before.waiting.length, waited = old === state.waiting.length ? "" : `; before this step ${old || "none"}`;
   const waiting = counted(state.waiting.length, "waits to be received", "wait to be received");
@@ -352,8 +352,8 @@ function showHits() {
     found.push(button);
     old = word;
   }));
-  const told = fields(kind, now).map((field) => field.join(" ")).join(", ");
-  const place = `${name} at 0x${address.toString(16).padStart(5, "0")}, now ${hex(now)}  ${told}`;
+  const described = fields(kind, now).map((field) => field.join(" ")).join(", ");
+  const place = `${name} at 0x${address.toString(16).padStart(5, "0")}, now ${hex(now)}  ${described}`;
   const more = found.length > 200 ? `and ${found.length - 200} more` : found.length ? "" : "No step changed it.";
   hits.replaceChildren(make("p", { className: "mono" }, place), ...found.slice(0, 200), faint(more));
 }

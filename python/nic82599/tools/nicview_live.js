@@ -41,7 +41,7 @@ const LOOKS = `#live, #guest { margin: 0 0 4px; } #past { flex: 1 1 80px; min-wi
 
 function showLive() {
   const first = live.until ? live.before + 1 : 0;
-  const behind = live.total - live.until, more = behind > 0 && !isFollowing() ? `, ${counted(behind)} more since` : "";
+  const newer = live.total - live.until, more = newer > 0 && !isFollowing() ? `, ${counted(newer)} more since` : "";
   element("events").textContent = `events ${counted(first)} to ${counted(live.until)} of ${counted(live.total)}${more}`;
   element("pause").textContent = isFollowing() ? "Pause" : "Follow";
   element("past").max = live.total;

@@ -38,8 +38,8 @@ function ringAt(state, address, wanted) {
 function slotOf(state, ring, slot) {
   const address = ring.base + 16 * slot, content = state.memory.get(address);
   const said = typeof content === "string" ? run.descriptors[ring.side + content] : null;
-  const behind = (from) => (from - ring.head + ring.slots) % ring.slots;
-  const owner = ring.outside ? "nobody" : behind(slot) < behind(ring.tail) ? "device" : "driver";
+  const distance = (from) => (from - ring.head + ring.slots) % ring.slots;
+  const owner = ring.outside ? "nobody" : distance(slot) < distance(ring.tail) ? "device" : "driver";
   const form = said ? said[0] : unknown(state, address);
   const isUnread = form === "not read" && !ring.outside;
   const look = owner === "driver" && said && said[1] ? "done" : isUnread ? `unread ${owner}` : owner;
@@ -154,19 +154,19 @@ function held(state, ring) {
 // Shows the slots of interest: the device's, and those with a descriptor. If there are many, shows those nearest to the
 // head.
 function slots(state, ring, written) {
-  const most = 32, behind = (slot) => (slot - ring.head + ring.slots) % ring.slots;
-  const numbers = new Set(held(state, ring)), ahead = ring.outside ? 0 : behind(ring.tail);
+  const most = 32, distance = (slot) => (slot - ring.head + ring.slots) % ring.slots;
+  const numbers = new Set(held(state, ring)), ahead = ring.outside ? 0 : distance(ring.tail);
   for (let k = 0; k < Math.min(ahead, most); k++) numbers.add((ring.head + k) % ring.slots);
   const says = (one) => one.owner === "device" || (one.said && one.said[0] !== "empty") || isPicked(ring, one.slot);
   const all = [...numbers].map((slot) => slotOf(state, ring, slot)).filter(says);
-  all.sort((a, b) => ((behind(a.slot) + 8) % ring.slots) - ((behind(b.slot) + 8) % ring.slots));
+  all.sort((a, b) => ((distance(a.slot) + 8) % ring.slots) - ((distance(b.slot) + 8) % ring.slots));
   const some = all.slice(0, most).sort((a, b) => a.slot - b.slot);
   const ends = [ring.base, ring.base + 16 * (ring.slots - 1)], areLent = ends.every((at) => isLent(state.lent, blockOf(at)));
   const none = areLent ? "The device owns no slot, and no slot holds a descriptor." : "Its memory isn't lent.";
   if (!some.length) return faint(none);
   const rows = some.map((one) => {
-    const told = one.said ? one.said[2].map(([name, value]) => `${name} ${value}`).join(", ") : "";
-    const said = make("td", {}, make("b", {}, one.form), told && ": " + told);
+    const fields = one.said ? one.said[2].map(([name, value]) => `${name} ${value}`).join(", ") : "";
+    const said = make("td", {}, make("b", {}, one.form), fields && ": " + fields);
     const marks = [isPicked(ring, one.slot) ? "picked" : "", written.has(one.slot) ? "written" : ""];
     return make("tr", { className: marks.join(" ").trim() },
       cell(`${one.slot}`, "mono"), cell(WHOSE[one.look], "whose"), said);
@@ -201,8 +201,8 @@ function front(state, ring, n) {
     facts.append(`; head written back to 0x${ring.back.toString(16)}: ${writtenHead(state, ring.back)}`);
   const isLong = ring.slots > CIRCLE;
   const picture = ring.slots < 1 ? null : isLong ? strip(state, ring, written) : circle(state, ring, written);
-  const told = make("div", { className: "slots" }, facts, ring.slots ? slots(state, ring, written) : null);
-  return make("div", { className: isLong ? "ring long" : "ring" }, picture, told);
+  const details = make("div", { className: "slots" }, facts, ring.slots ? slots(state, ring, written) : null);
+  return make("div", { className: isLong ? "ring long" : "ring" }, picture, details);
 }
 function line(state, ring, n, inFront) {
   const isIt = ring.number === inFront.number, title = factsOf(state, ring);

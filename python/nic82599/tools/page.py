@@ -36,7 +36,7 @@ class Table:
 
 def routes(run: Run, words: dict[int, int], sides: list[tuple[str, int]]) -> list[str]:
     """Returns the cause that each side in use raises."""
-    told = []
+    found = []
     k = queues_of_pool(word_of(words, "GCR_EXT"))
     for side, queue in sides:
         v = queue // k if k else 128
@@ -50,10 +50,10 @@ def routes(run: Run, words: dict[int, int], sides: list[tuple[str, int]]) -> lis
             state = (
                 "" if entry & 0x80 and entry & 63 <= most else ", not valid" if not entry & 0x80 else ", no such cause"
             )
-            told.append(
+            found.append(
                 f"{side} {queue} raises cause {entry & 63} of {group} ({row}[{index}] INT_Alloc[{byte}]{state})"
             )
-    return told
+    return found
 
 
 def vectors(words: dict[int, int]) -> list[int | None]:
@@ -134,7 +134,7 @@ class Data:
     def _tell(self, address: int, word: int) -> None:
         """Notes the fields of a register's value, once per value."""
         row = REGISTERS[address].row
-        self.fields.setdefault(f"{row.name}:{word}", regs.told_fields(row, word))
+        self.fields.setdefault(f"{row.name}:{word}", regs.named_fields(row, word))
 
     def _step(self, step: Step, reasons: list[Reason]) -> list[Any]:
         """Returns a step as its pc, reply number, acc, changes, and a dict of what only some steps have: `k` kind, `m`
@@ -160,8 +160,8 @@ class Data:
 
     def _routes(self) -> list[Any]:
         """Returns the cause that each side raises, and the vectors, according to the current registers."""
-        told = routes(self.run, self.words, self.run.seen.sides)
-        return [[self.texts.number(text) for text in told], vectors(self.words)]
+        found = routes(self.run, self.words, self.run.seen.sides)
+        return [[self.texts.number(text) for text in found], vectors(self.words)]
 
     def whole(self) -> dict[str, Any]:
         """Returns all data of the page."""

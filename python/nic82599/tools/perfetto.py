@@ -40,22 +40,22 @@ def actor_of(run: Run, step: Step, is_explored: bool) -> str:
     return PARTS.get(word, "driver")
 
 
-def _told(run: Run, step: Step) -> Event:
+def _args(run: Run, step: Step) -> Event:
     """Returns the details that Perfetto shows for a selected step."""
     changes = {}
     for address, old, new in step.changes:
-        fields = regs.told(REGISTERS[address].row, new)
+        fields = regs.fields_text(REGISTERS[address].row, new)
         changes[regs.name_at(address)] = f"0x{old:08x} -> 0x{new:08x}  {fields}".rstrip()
     reasons = [reason.text for reason in run.reasons[step.number] if reason.held]
-    told = {"step": step.number, "line": run.line(step.pc), "answer": step.answer, "changes": changes, "why": reasons}
-    told["niclint"] = run.warnings.get(step.pc, [])
-    told["note"] = run.comment(step.pc) if run.is_recorded else ""
-    return {key: value for key, value in told.items() if value not in ("", {}, [])}
+    args = {"step": step.number, "line": run.line(step.pc), "answer": step.answer, "changes": changes, "why": reasons}
+    args["niclint"] = run.warnings.get(step.pc, [])
+    args["note"] = run.comment(step.pc) if run.is_recorded else ""
+    return {key: value for key, value in args.items() if value not in ("", {}, [])}
 
 
-def _slice(step: Step, track: int, name: str, told: Event) -> Event:
+def _slice(step: Step, track: int, name: str, args: Event) -> Event:
     kind = step.kind or "step"
-    return {"ph": "X", "pid": 1, "tid": track, "ts": step.number, "dur": 1, "name": name, "cat": kind, "args": told}
+    return {"ph": "X", "pid": 1, "tid": track, "ts": step.number, "dur": 1, "name": name, "cat": kind, "args": args}
 
 
 def _track(track: int, name: str) -> Iterator[Event]:
@@ -77,8 +77,8 @@ def _spans(run: Run, way: str) -> Iterator[Event]:
         queue = f"queue {frame.queue}" if frame.queue is not None else "queue not known"
         end = ends.get(number)
         head = {"pid": 1, "cat": f"frames {way}", "id": f"{way} {number}", "name": f"frame {way}, {queue}"}
-        told = {"bytes": size, "slots": ", ".join(frame.slots), "taken": end.answer if end else "never"}
-        yield {**head, "ph": "b", "ts": frame.step, "args": told}
+        args = {"bytes": size, "slots": ", ".join(frame.slots), "taken": end.answer if end else "never"}
+        yield {**head, "ph": "b", "ts": frame.step, "args": args}
         yield {**head, "ph": "e", "ts": end.number + 1 if end else len(run.steps)}
 
 
@@ -101,16 +101,16 @@ def events(run: Run) -> Iterator[Event]:
     for track, name in NAMES.items():
         yield from _track(track, name)
     for step in run.steps:
-        name, told, actor = run.shown(step.pc), _told(run, step), actor_of(run, step, is_explored)
+        name, args, actor = run.shown(step.pc), _args(run, step), actor_of(run, step, is_explored)
         if actor not in tracks:
             tracks[actor] = len(NAMES) + len(tracks) + 1
             yield from _track(tracks[actor], actor)
-        yield _slice(step, STEPS, name, told)
-        yield _slice(step, tracks[actor], name, told)
+        yield _slice(step, STEPS, name, args)
+        yield _slice(step, tracks[actor], name, args)
         if step.kind == "message":
-            yield _slice(step, MESSAGES, step.reply.removeprefix("message "), told)
+            yield _slice(step, MESSAGES, step.reply.removeprefix("message "), args)
         elif step.kind:
-            yield _slice(step, TROUBLE, f"{name}: {step.answer}", told)
+            yield _slice(step, TROUBLE, f"{name}: {step.answer}", args)
     yield from _spans(run, "in")
     yield from _spans(run, "out")
     yield from _counts(run)

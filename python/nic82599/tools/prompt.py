@@ -116,7 +116,7 @@ def line_at(session: Session, pc: int) -> str:
     return f"{session.script.before + number:5}  {session.script.lines[number - 1].strip()[:100]}"
 
 
-def told_view(session: Session) -> str:
+def view_line(session: Session) -> str:
     """Describes the machine's place and what comes next."""
     status = session.view.split()[-1]
     return (
@@ -164,12 +164,12 @@ def count_of(words: list[str], default: int) -> int:
     return value
 
 
-def told_word(address: int, answer: str) -> str:
+def word_line(address: int, answer: str) -> str:
     """Formats the debugger's answer to `show`, with the register's name and fields."""
     register, word = regs.register_at(address), answer.split()[1]
     if register is None or word == "stray":
         return answer
-    fields = regs.told(register.row, int(word, 16))
+    fields = regs.fields_text(register.row, int(word, 16))
     return f"{register.name}  {answer}" + (f"  {fields}" if fields else "")
 
 
@@ -182,7 +182,7 @@ def moved(session: Session, before: int) -> list[str]:
         for step in steps[-SHOWN:]:
             lines.append(f"{line_at(session, step.pc)}    -> {step.answer or 'no event'}")
     lines += watched(session)
-    return lines + [told_view(session)]
+    return lines + [view_line(session)]
 
 
 def watched(session: Session) -> list[str]:
@@ -191,8 +191,8 @@ def watched(session: Session) -> list[str]:
     words = _words(session, [], list(session.watched))
     for (address, old), new in zip(list(session.watched.items()), words):
         if old != new:
-            told = regs.told(regs.REGISTERS[address].row, new)
-            lines.append(f"watch {regs.name_at(address)}: 0x{old:08x} -> 0x{new:08x}  {told}".rstrip())
+            fields = regs.fields_text(regs.REGISTERS[address].row, new)
+            lines.append(f"watch {regs.name_at(address)}: 0x{old:08x} -> 0x{new:08x}  {fields}".rstrip())
             session.watched[address] = new
     return lines
 
@@ -214,7 +214,7 @@ def do_back(session: Session, words: list[str]) -> list[str]:
         session.take(f"back {count_of(words, 1)}")
     except Wrong as wrong:
         raise Wrong(f"{wrong}: only {session.at} steps were taken") from None
-    return watched(session) + [told_view(session)]
+    return watched(session) + [view_line(session)]
 
 
 def do_continue(session: Session, words: list[str]) -> list[str]:
@@ -277,7 +277,7 @@ def do_show(session: Session, words: list[str]) -> list[str]:
         raise Wrong("show needs a register or an address")
     addresses = [target(word) for word in words]
     shown = session.ask([f"show 0x{address:x}" for address in addresses], len(addresses))
-    return [told_word(address, answer) for address, answer in zip(addresses, shown)]
+    return [word_line(address, answer) for address, answer in zip(addresses, shown)]
 
 
 def do_showvf(session: Session, words: list[str]) -> list[str]:
@@ -367,11 +367,11 @@ def do_why(session: Session, words: list[str]) -> list[str]:
 def do_restart(session: Session, words: list[str]) -> list[str]:
     session.commands = [f"break {pc}" for pc in sorted(session.breaks)]
     session.at, session.view = 0, session.ask(["back 0"])[0]
-    return watched(session) + [told_view(session)]
+    return watched(session) + [view_line(session)]
 
 
 def do_where(session: Session, words: list[str]) -> list[str]:
-    return [told_view(session)]
+    return [view_line(session)]
 
 
 def do_help(session: Session, words: list[str]) -> list[str]:
@@ -423,7 +423,7 @@ def prompt(session: Session) -> None:
     print(f"{session.script.path}: {len(session.script.instructions)} instructions; help lists the commands")
     for note in session.trace.notes:
         print(f"note: {note}")
-    print(told_view(session))
+    print(view_line(session))
     again = ""
     while True:
         try:

@@ -45,7 +45,7 @@ class Row:
     name: str
     words: list[str]
     only: str
-    told: str = ""
+    statement: str = ""
     condition: str = ""
     why: str = ""
     otherwise: str = ""
@@ -54,7 +54,7 @@ class Row:
     @property
     def texts(self) -> set[str]:
         """The names of the text parameters."""
-        parts = (self.told, self.why, self.otherwise)
+        parts = (self.statement, self.why, self.otherwise)
         return {place[:-2] for part in parts for place in PLACE.findall(part) if place.endswith(":s")}
 
 
@@ -89,8 +89,8 @@ def read(section: str, lines: list[str]) -> Row:
             row.condition, _, row.why = (it.strip() for it in line[3:].partition(":"))
         elif line.startswith("else: "):
             row.otherwise = line.removeprefix("else: ")
-        elif not row.told and not row.value:
-            row.told = line
+        elif not row.statement and not row.value:
+            row.statement = line
         else:
             raise Bad(f"{row.name}: what is this: {line}")
     return row
@@ -219,8 +219,8 @@ class Asked:
             return str(self.given[text])
         node = parsed(text)
         value, it = self.number(node), named(node)
-        told = in_form(value, form, it)
-        return f"{self.shown(it)} {told}" if it else told
+        shown = in_form(value, form, it)
+        return f"{self.shown(it)} {shown}" if it else shown
 
     def text(self, text: str) -> str:
         """Returns a text with its places replaced."""
@@ -265,5 +265,5 @@ def reason(name: str, words: Words, *given: int | str) -> Reason:
     row = rows()[name]
     it = asked(row, words, given)
     held = bool(it.number(parsed(row.condition))) if row.condition else True
-    told, more = row.told, row.why if held else row.otherwise
-    return Reason(held, it.text(f"{told}: {more}" if more else told))
+    statement, more = row.statement, row.why if held else row.otherwise
+    return Reason(held, it.text(f"{statement}: {more}" if more else statement))

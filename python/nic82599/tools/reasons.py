@@ -117,13 +117,13 @@ class Reasons:
         frame, words, disabled = self._front(), self.words, self._why("disabled")
         earlier = self.seen.earlier[step.number] if self.seen.earlier else 0
         if earlier:
-            told = self._why("waiting_since_before", earlier + len(self.waiting))
-            return [disabled, Reason(not disabled.held, told.text)]
+            reason = self._why("waiting_since_before", earlier + len(self.waiting))
+            return [disabled, Reason(not disabled.held, reason.text)]
         if frame is None:
             return [disabled, self._why("none_waits")]
         if frame.queue is None:
-            told = self._why("waiting_somewhere", len(self.waiting))
-            return [disabled, Reason(False, told.text), self._why("rx_frame_without_queue")]
+            reason = self._why("waiting_somewhere", len(self.waiting))
+            return [disabled, Reason(False, reason.text), self._why("rx_frame_without_queue")]
         queue = frame.queue
         waiting = Reason(False, self._why("waiting", len(self.waiting), queue).text)
         reasons = [disabled, waiting, self._queue_off(step, "rx", queue)]
@@ -188,7 +188,7 @@ class Reasons:
         lost = number("without_vector", words, due) if group == "pf" else 0
         reasons += [one for one in (self._why(f"{group}_hidden", *of), self._why("no_vector", lost)) if one.held]
         if due & ~lost:
-            reasons.append(self._why(f"{group}_told", due & ~lost))
+            reasons.append(self._why(f"{group}_reported", due & ~lost))
         return reasons
 
     def _group(self, function: int) -> list[Reason]:

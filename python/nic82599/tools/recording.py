@@ -213,7 +213,7 @@ class Recording:
     before: int = 0  # events before those that are shown
     until: int | None = None  # events up to the end of what is shown; None for all
     notes: list[str] = field(default_factory=list)
-    told: list[tuple[int, str]] = field(default_factory=list)  # the program's notes, with their line numbers
+    remarks: list[tuple[int, str]] = field(default_factory=list)  # the program's notes, with their line numbers
     rings: list[tuple[int, str]] = field(default_factory=list)  # those about a guest's rings
     names: Names = field(default_factory=Names)
     known: dict[str, int] = field(default_factory=dict)
@@ -324,9 +324,9 @@ def _take_line(made: Recording, names: Names, known: dict[str, int], number: int
         if line.startswith("#: "):
             made.directives.append((number, line[3:].split()))
         elif line.startswith(NOTE):
-            made.told.append((number, line.removeprefix(NOTE)))
+            made.remarks.append((number, line.removeprefix(NOTE)))
             if RING.search(line):
-                made.rings.append(made.told[-1])
+                made.rings.append(made.remarks[-1])
         return
     words = text.split()
     if text.startswith("data "):
@@ -520,19 +520,19 @@ class Player:
 # --- the steps that are shown ---
 
 
-def _line(told: tuple[int, str]) -> int:
-    return told[0]
+def _line(remark: tuple[int, str]) -> int:
+    return remark[0]
 
 
 def _notes(recording: Recording) -> dict[int, str]:
     """Returns the program's notes about each event that is shown, by its number from 0: those between it and the event
     before."""
-    told: dict[int, list[str]] = {}
+    notes: dict[int, list[str]] = {}
     end, before = recording.ends[1], recording.before
-    begin = bisect_right(recording.told, recording.line_of[before - 1], key=_line) if before else 0
-    for number, text in recording.told[begin : bisect_right(recording.told, end, key=_line)]:
-        told.setdefault(bisect_right(recording.line_of, number), []).append(text)
-    return {event: "; ".join(texts) for event, texts in told.items()}
+    begin = bisect_right(recording.remarks, recording.line_of[before - 1], key=_line) if before else 0
+    for number, text in recording.remarks[begin : bisect_right(recording.remarks, end, key=_line)]:
+        notes.setdefault(bisect_right(recording.line_of, number), []).append(text)
+    return {event: "; ".join(texts) for event, texts in notes.items()}
 
 
 def _rings_before(recording: Recording) -> list[str]:
@@ -540,8 +540,8 @@ def _rings_before(recording: Recording) -> list[str]:
     if not recording.before:
         return []
     first_lines = bisect_left(recording.rings, recording.line_of[recording.before - 1], key=_line)
-    told = (RING.finditer(text) for _, text in recording.rings[:first_lines])
-    return list({one[1]: one[0] for found in told for one in found}.values())
+    matches = (RING.finditer(text) for _, text in recording.rings[:first_lines])
+    return list({one[1]: one[0] for found in matches for one in found}.values())
 
 
 def _shown(recording: Recording) -> tuple[Script, list[str]]:

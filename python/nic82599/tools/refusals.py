@@ -26,16 +26,16 @@ def most_of(text: str) -> int:
 def refusals(bench: Bench, text: str, first: Refused) -> Iterator[tuple[Refused, str]]:
     """Yields each refusal with the refused text; line numbers match the original. The lines come in the order in which
     the bench finds them. A refusal without a line is the last."""
-    refused, lines, told, most = first, text.split("\n"), 0, most_of(text)
+    refused, lines, count, most = first, text.split("\n"), 0, most_of(text)
     while True:
         shown = "\n".join(lines)
         yield refused, shown
-        told += 1
+        count += 1
         number = refused.line or explained(shown, refused).line
-        if not number or told == most:
+        if not number or count == most:
             return
         if _is_too_many(lines, number, refused):
-            lines = _behind(lines, number)
+            lines = _after(lines, number)
         else:
             lines[number - 1] = _mended(lines, number)
         try:
@@ -60,7 +60,7 @@ def _is_too_many(lines: list[str], number: int, refused: Refused) -> bool:
     return refused.name == "TooLong" and sum(map(_is_instruction, lines[:number])) > INSTRUCTIONS
 
 
-def _behind(lines: list[str], number: int) -> list[str]:
+def _after(lines: list[str], number: int) -> list[str]:
     """Removes the instructions up to this line, so that those after it are checked."""
     return ["" if _is_instruction(line) else line for line in lines[: number - 1]] + ["", *lines[number:]]
 

@@ -66,17 +66,17 @@ def reserved(row: Row, word: int) -> int:
     return word & ~known & 0xFFFF_FFFF
 
 
-def told_fields(row: Row, word: int, everything: bool = False) -> list[tuple[str, str]]:
+def named_fields(row: Row, word: int, everything: bool = False) -> list[tuple[str, str]]:
     """Returns the fields of a value. Fields that are 0 are included only with `everything`."""
     fields = FIELDS.get(row.name, [])
-    shown = [(field.name, field.told(word)) for field in fields if everything or field.of(word)]
+    shown = [(field.name, field.shown(word)) for field in fields if everything or field.of(word)]
     rest = reserved(row, word)
     return shown + ([("reserved", f"0x{rest:08x}")] if rest else [])
 
 
-def told(row: Row, word: int, everything: bool = False) -> str:
+def fields_text(row: Row, word: int, everything: bool = False) -> str:
     """Returns the fields of a value in one line."""
-    return ", ".join(f"{name} {value}" for name, value in told_fields(row, word, everything))
+    return ", ".join(f"{name} {value}" for name, value in named_fields(row, word, everything))
 
 
 def bits(row: str, word: int) -> list[str]:

@@ -122,26 +122,26 @@ def finding_of(run: Trace) -> Finding | None:
     failed. An `expect` isn't a step of that run."""
     found, cut = None, ""
     for number, line in enumerate(run.script.lines, 1):
-        if told := CUT.fullmatch(line):
-            cut = told[1]
-        if told := FAILED.fullmatch(line):
-            found = number, told
+        if match := CUT.fullmatch(line):
+            cut = match[1]
+        if match := FAILED.fullmatch(line):
+            found = number, match
     if found is None:
         return None
-    number, told = found
+    number, match = found
     script = run.script
     before = [
         step.number
         for step in run.steps
         if script.line_of[step.pc] < number and not script.instructions[step.pc].is_local
     ]
-    return Finding(told[1], told[2].strip(), before[-1] if before else None, cut)
+    return Finding(match[1], match[2].strip(), before[-1] if before else None, cut)
 
 
 def sizes_of(lines: list[str]) -> tuple[int, int] | None:
     """Returns the device's sizes in the second line of a script from the explorer."""
-    told = SIZES.fullmatch(lines[1]) if len(lines) > 1 and lines[0].startswith("#") else None
-    return (int(told[1]), int(told[2])) if told else None
+    match = SIZES.fullmatch(lines[1]) if len(lines) > 1 and lines[0].startswith("#") else None
+    return (int(match[1]), int(match[2])) if match else None
 
 
 def bench_of(bench: Bench, text: str) -> Bench:
@@ -157,10 +157,10 @@ def of_trace(run: Trace) -> Run:
     give_rings(run, seen)
     reasons = Reasons(run, seen).all()
     name = Path(script.path).name if script.path != "-" else "standard input"
-    told = warnings_of(run)
+    warnings = warnings_of(run)
     return Run(
         name, script.lines, script.line_of, run.steps, run.start, seen, reasons, run.last, run.notes,
-        bench.vfs, bench.fifo, bench.options, finding_of(run), script.before, run.warnings is not None, told,
+        bench.vfs, bench.fifo, bench.options, finding_of(run), script.before, run.warnings is not None, warnings,
     )  # fmt: skip
 
 
@@ -172,15 +172,15 @@ def warnings_of(run: Trace) -> dict[int, list[str]]:
     if found is None:
         found = [(one.line, one.text) for one in Advice(script).all()]
     at = {script.before + line: pc for pc, line in enumerate(script.line_of)}
-    told: dict[int, list[str]] = {}
+    warnings: dict[int, list[str]] = {}
     for line, text in found:
         if line in at:
-            told.setdefault(at[line], []).append(text)
+            warnings.setdefault(at[line], []).append(text)
     before = sum(line not in at for line, _ in found)
     if before:
         lines = "a line" if before == 1 else f"{before} lines"
         run.notes.append(f"niclint warns about {lines} before the first step shown")
-    return told
+    return warnings
 
 
 def of_script(bench: Bench, path: str, limit: int = 4_096, raw: bytes | None = None) -> Run:

@@ -305,8 +305,8 @@ def _registers(
     parts = parts or [(0, 0)]
     jobs = []
     for begin, end in parts:
-        before, behind = seen if begin == 0 else [], list(REGISTERS) if end == len(steps) else []
-        jobs.append(pool.submit(_part, bench, script, steps[begin:end], asked[begin:end], before, behind))
+        before, after = seen if begin == 0 else [], list(REGISTERS) if end == len(steps) else []
+        jobs.append(pool.submit(_part, bench, script, steps[begin:end], asked[begin:end], before, after))
     start: dict[int, int] = {}
     every: dict[int, int] = {}
     for job in jobs:
@@ -324,7 +324,7 @@ Shown = list[tuple[int, int]]
 
 
 def _part(
-    bench: Bench, script: Script, steps: list[Step], asked: list[list[int]], before: list[int], behind: list[int]
+    bench: Bench, script: Script, steps: list[Step], asked: list[list[int]], before: list[int], after: list[int]
 ) -> tuple[Shown, list[Shown], Shown]:
     """Returns the registers after each of some consecutive steps, and those shown before and after all of them. Steps
     run together with the next one if nothing is shown after them."""
@@ -340,7 +340,7 @@ def _part(
             commands += [f"step {together}", *show(addresses)]
             views.append(step.number)
             together = 0
-    lines = iter(bench.debug(script.text(), commands + show(behind))[skipped:] if commands or behind else [])
+    lines = iter(bench.debug(script.text(), commands + show(after))[skipped:] if commands or after else [])
 
     def answers(addresses: list[int]) -> Shown:
         return [(address, int(next(lines).split()[1], 16)) for address in addresses]
@@ -351,4 +351,4 @@ def _part(
             view = next(lines).split()
             step.acc, step.status = int(view[5], 16), view[6]
         shown.append(answers(addresses))
-    return first_shown, shown, answers(behind)
+    return first_shown, shown, answers(after)

@@ -2,7 +2,7 @@
 
 use crate::error::{Error, ImageFault, TextFault};
 use crate::event::{Event, Fault, Side, Why};
-use crate::ffi::Told;
+use crate::ffi::Outcome;
 use crate::status;
 
 impl Error {
@@ -50,31 +50,35 @@ impl Error {
 
 impl Event {
     /// Returns an event that `nic_settle` reported.
-    pub(crate) fn of_settle(told: &Told) -> Event {
-        match told.step {
-            status::RX_ENABLE if told.status == status::DONE => Event::Switched { side: Side::Rx, queue: told.of },
-            status::TX_ENABLE if told.status == status::DONE => Event::Switched { side: Side::Tx, queue: told.of },
+    pub(crate) fn of_settle(outcome: &Outcome) -> Event {
+        match outcome.step {
+            status::RX_ENABLE if outcome.status == status::DONE => {
+                Event::Switched { side: Side::Rx, queue: outcome.of }
+            }
+            status::TX_ENABLE if outcome.status == status::DONE => {
+                Event::Switched { side: Side::Tx, queue: outcome.of }
+            }
             status::EEPROM => Event::EepromAnswered,
-            status::RECEIVE => Event::of_step(Side::Rx, told),
-            _ => Event::of_step(Side::Tx, told),
+            status::RECEIVE => Event::of_step(Side::Rx, outcome),
+            _ => Event::of_step(Side::Tx, outcome),
         }
     }
 
     /// Returns the event of a step that was neither idle nor refused. A fault is reported for this side of its queue.
-    pub(crate) fn of_step(side: Side, told: &Told) -> Event {
-        let (queue, slot) = (told.queue, told.slot);
-        let back = if told.back == 1 { Some(told.at) } else { None };
-        match told.status {
-            status::DROPPED => Event::Dropped(Why::of(told.why)),
+    pub(crate) fn of_step(side: Side, outcome: &Outcome) -> Event {
+        let (queue, slot) = (outcome.queue, outcome.slot);
+        let back = if outcome.back == 1 { Some(outcome.at) } else { None };
+        match outcome.status {
+            status::DROPPED => Event::Dropped(Why::of(outcome.why)),
             status::WROTE => {
-                let (descriptor, at, length) = (told.desc, told.at, told.len);
-                Event::Wrote { queue, slot, end: told.end == 1, descriptor, at, length }
+                let (descriptor, at, length) = (outcome.desc, outcome.at, outcome.len);
+                Event::Wrote { queue, slot, end: outcome.end == 1, descriptor, at, length }
             }
             status::ADVANCED => Event::Advanced { queue, slot, back },
-            status::SENT => Event::Sent { queue, length: told.len, back },
-            status::FAULT => Event::Fault { side, queue, why: Fault::of(told) },
+            status::SENT => Event::Sent { queue, length: outcome.len, back },
+            status::FAULT => Event::Fault { side, queue, why: Fault::of(outcome) },
             status::MESSAGE => {
-                Event::Message { function: told.group.checked_sub(1).map(|v| v as u8), vector: told.vector }
+                Event::Message { function: outcome.group.checked_sub(1).map(|v| v as u8), vector: outcome.vector }
             }
             other => unreachable!("the library returned status {other} for a step"),
         }
@@ -100,10 +104,10 @@ impl Why {
 }
 
 impl Fault {
-    fn of(told: &Told) -> Fault {
-        match told.why {
+    fn of(outcome: &Outcome) -> Fault {
+        match outcome.why {
             status::FAULT_OUTSIDE => Fault::Outside,
-            status::FAULT_NOT_LENT => Fault::NotLent(told.bus),
+            status::FAULT_NOT_LENT => Fault::NotLent(outcome.bus),
             status::FAULT_TYPE => Fault::Type,
             status::FAULT_NO_BUFFER_SIZE => Fault::NoBufferSize,
             status::FAULT_OFFLOAD => Fault::Offload,

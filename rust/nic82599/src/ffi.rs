@@ -27,10 +27,10 @@ struct RawKept {
     kept: *mut c_void,
 }
 
-/// `struct nic_told`.
+/// `struct nic_outcome`.
 #[repr(C)]
 #[derive(Clone, Copy, Default)]
-pub(crate) struct Told {
+pub(crate) struct Outcome {
     pub(crate) desc: u64,
     pub(crate) at: u64,
     pub(crate) len: u64,
@@ -69,10 +69,10 @@ extern "C" {
     fn nic_dma_read(n: *mut RawNic, bus: u64, bytes: *mut u8, length: usize) -> u8;
     fn nic_dma_write(n: *mut RawNic, bus: u64, bytes: *const u8, length: usize) -> u8;
     fn nic_next_out(n: *mut RawNic) -> usize;
-    fn nic_arrive(n: *mut RawNic, frame: *const u8, length: usize, told: *mut Told) -> u8;
-    fn nic_collect(n: *mut RawNic, room: *mut u8, length: usize, told: *mut Told) -> u8;
-    fn nic_settle(n: *mut RawNic, queues: u16, told: *mut Told, length: usize, count: *mut usize) -> u8;
-    fn nic_next_step(n: *mut RawNic, place: *mut Settling, told: *mut Told) -> u8;
+    fn nic_arrive(n: *mut RawNic, frame: *const u8, length: usize, outcome: *mut Outcome) -> u8;
+    fn nic_collect(n: *mut RawNic, room: *mut u8, length: usize, outcome: *mut Outcome) -> u8;
+    fn nic_settle(n: *mut RawNic, queues: u16, outcome: *mut Outcome, length: usize, count: *mut usize) -> u8;
+    fn nic_next_step(n: *mut RawNic, place: *mut Settling, outcome: *mut Outcome) -> u8;
     fn nic_why(n: *mut RawNic, text: *mut u8, size: usize) -> usize;
     fn nic_note(n: *mut RawNic, text: *const c_char) -> u8;
     fn nic_install_image(n: *mut RawNic, bytes: *const u8, length: usize) -> u8;
@@ -133,11 +133,11 @@ plain_calls! {
         nic_peek32 as peek32(address: u32) -> u32;
         nic_vf_read32 as vf_read32(vf: u8, offset: u32) -> u32;
         nic_vf_peek32 as vf_peek32(vf: u8, offset: u32) -> u32;
-        nic_rx_step as rx_step() -> Told;
-        nic_tx_step as tx_step(queue: u16) -> Told;
-        nic_int_step as int_step(group: u8) -> Told;
-        nic_queue_step as queue_step(transmit: bool, queue: u16) -> Told;
-        nic_eeprom_step as eeprom_step() -> Told;
+        nic_rx_step as rx_step() -> Outcome;
+        nic_tx_step as tx_step(queue: u16) -> Outcome;
+        nic_int_step as int_step(group: u8) -> Outcome;
+        nic_queue_step as queue_step(transmit: bool, queue: u16) -> Outcome;
+        nic_eeprom_step as eeprom_step() -> Outcome;
     }
 }
 
@@ -340,21 +340,21 @@ impl Handle {
         unbroken(unsafe { nic_dma_write(self.n().raw, bus, bytes.as_ptr(), bytes.len()) })
     }
 
-    pub(crate) fn arrive(&self, frame: &[u8]) -> (u8, Told) {
-        let mut told = Told::default();
-        // SAFETY: the controller is open; the frame has as many bytes as its length; `told` has room for an event.
-        (unsafe { nic_arrive(self.n().raw, frame.as_ptr(), frame.len(), &mut told) }, told)
+    pub(crate) fn arrive(&self, frame: &[u8]) -> (u8, Outcome) {
+        let mut outcome = Outcome::default();
+        // SAFETY: the controller is open; the frame has as many bytes as its length; `outcome` has room for an event.
+        (unsafe { nic_arrive(self.n().raw, frame.as_ptr(), frame.len(), &mut outcome) }, outcome)
     }
 
-    pub(crate) fn collect(&self, room: &mut [u8]) -> (u8, Told) {
-        let mut told = Told::default();
-        // SAFETY: the controller is open; the room has as many bytes as its length; `told` has room for an event.
-        (unsafe { nic_collect(self.n().raw, room.as_mut_ptr(), room.len(), &mut told) }, told)
+    pub(crate) fn collect(&self, room: &mut [u8]) -> (u8, Outcome) {
+        let mut outcome = Outcome::default();
+        // SAFETY: the controller is open; the room has as many bytes as its length; `outcome` has room for an event.
+        (unsafe { nic_collect(self.n().raw, room.as_mut_ptr(), room.len(), &mut outcome) }, outcome)
     }
 
     /// Runs steps until none has anything to do or `room` is full. Returns the status and the number of events in
     /// `room`.
-    pub(crate) fn settle(&self, queues: u16, room: &mut [Told]) -> (u8, usize) {
+    pub(crate) fn settle(&self, queues: u16, room: &mut [Outcome]) -> (u8, usize) {
         let mut count = 0;
         // SAFETY: the controller is open; the room has as many events as its length; `count` has room for a number.
         let status = unsafe { nic_settle(self.n().raw, queues, room.as_mut_ptr(), room.len(), &mut count) };
@@ -362,10 +362,10 @@ impl Handle {
     }
 
     /// Runs the next step that has something to do, starting at a place in the round.
-    pub(crate) fn next_step(&self, place: &mut Settling) -> (u8, Told) {
-        let mut told = Told::default();
-        // SAFETY: the controller is open; `place` and `told` have room for values of their types.
-        (unsafe { nic_next_step(self.n().raw, place, &mut told) }, told)
+    pub(crate) fn next_step(&self, place: &mut Settling) -> (u8, Outcome) {
+        let mut outcome = Outcome::default();
+        // SAFETY: the controller is open; `place` and `outcome` have room for values of their types.
+        (unsafe { nic_next_step(self.n().raw, place, &mut outcome) }, outcome)
     }
 
     /// Writes what keeps pending work from proceeding to `room`, and returns the length of the whole text.

@@ -2,7 +2,7 @@
 
 use crate::error::Error;
 use crate::event::{Event, Side, Why};
-use crate::ffi::{self, Settling, Told};
+use crate::ffi::{self, Outcome, Settling};
 use crate::nic::{Arrival, Sizes};
 use crate::status;
 
@@ -135,7 +135,7 @@ impl Handle {
     pub(crate) fn arrive(&self, frame: &[u8]) -> Result<Arrival, Error> {
         match self.calls.arrive(frame) {
             (status::DONE, _) => Ok(Arrival::Waits),
-            (status::DROPPED, told) => Ok(Arrival::Dropped(Why::of(told.why))),
+            (status::DROPPED, outcome) => Ok(Arrival::Dropped(Why::of(outcome.why))),
             (status, _) => Err(Error::of(status)),
         }
     }
@@ -149,7 +149,7 @@ impl Handle {
         data.clear();
         data.resize(self.next_out(), 0);
         match self.calls.collect(data) {
-            (status::FRAME, told) => Some(told.queue),
+            (status::FRAME, outcome) => Some(outcome.queue),
             _ => None,
         }
     }
@@ -163,14 +163,14 @@ impl Handle {
     pub(crate) fn rx_step(&self) -> Option<Event> {
         match self.calls.rx_step() {
             (status::IDLE, _) => None,
-            (_, told) => Some(Event::of_step(Side::Rx, &told)),
+            (_, outcome) => Some(Event::of_step(Side::Rx, &outcome)),
         }
     }
 
     pub(crate) fn tx_step(&self, queue: u16) -> Result<Option<Event>, Error> {
         match self.calls.tx_step(queue) {
             (status::IDLE, _) => Ok(None),
-            (status::ADVANCED..=status::FAULT, told) => Ok(Some(Event::of_step(Side::Tx, &told))),
+            (status::ADVANCED..=status::FAULT, outcome) => Ok(Some(Event::of_step(Side::Tx, &outcome))),
             (status, _) => Err(Error::of(status)),
         }
     }
@@ -191,7 +191,7 @@ impl Handle {
     pub(crate) fn int_step(&self, group: u8) -> Result<Option<Event>, Error> {
         match self.calls.int_step(group) {
             (status::IDLE, _) => Ok(None),
-            (status::MESSAGE, told) => Ok(Some(Event::of_step(Side::Rx, &told))),
+            (status::MESSAGE, outcome) => Ok(Some(Event::of_step(Side::Rx, &outcome))),
             (status, _) => Err(Error::of(status)),
         }
     }
@@ -199,7 +199,7 @@ impl Handle {
     /// Runs steps until none has anything to do. A new round begins after every 256 events.
     pub(crate) fn settle(&self, queues: u16) -> Result<Vec<Event>, Error> {
         let mut events = Vec::new();
-        let mut room = [Told::default(); ROOM];
+        let mut room = [Outcome::default(); ROOM];
         loop {
             let (status, count) = self.calls.settle(queues, &mut room);
             events.extend(room[..count].iter().map(Event::of_settle));
@@ -215,7 +215,7 @@ impl Handle {
     /// do.
     pub(crate) fn next_step(&self, place: &mut Place) -> Result<Option<Event>, Error> {
         match self.calls.next_step(&mut place.0) {
-            (status::MORE, told) => Ok(Some(Event::of_settle(&told))),
+            (status::MORE, outcome) => Ok(Some(Event::of_settle(&outcome))),
             (status::DONE, _) => Ok(None),
             (refused, _) => Err(Error::of(refused)),
         }

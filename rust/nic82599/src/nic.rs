@@ -563,16 +563,16 @@ pub(crate) fn why_absent(number: u8, vfs: u8, gcr_ext: u32, is_some: bool) -> Ab
 }
 
 /// The value that a driver reads.
-fn word_of(told: Result<u32, u32>) -> u32 {
-    told.unwrap_or_else(|stray| stray)
+fn word_of(answer: Result<u32, u32>) -> u32 {
+    answer.unwrap_or_else(|stray| stray)
 }
 
-fn word_or_stray(told: Result<u32, u32>, at: u32, why: impl FnOnce() -> Absent) -> Result<u32, Error> {
-    told.map_err(|word| Error::Stray { at, word: Some(word), why: why() })
+fn word_or_stray(answer: Result<u32, u32>, at: u32, why: impl FnOnce() -> Absent) -> Result<u32, Error> {
+    answer.map_err(|word| Error::Stray { at, word: Some(word), why: why() })
 }
 
-fn word_or_absent(told: Option<u32>, at: u32, why: impl FnOnce() -> Absent) -> Result<u32, Error> {
-    told.ok_or_else(|| Error::Stray { at, word: None, why: why() })
+fn word_or_absent(answer: Option<u32>, at: u32, why: impl FnOnce() -> Absent) -> Result<u32, Error> {
+    answer.ok_or_else(|| Error::Stray { at, word: None, why: why() })
 }
 
 pub(crate) fn done_or_stray(is_done: bool, at: u32, why: impl FnOnce() -> Absent) -> Result<(), Error> {

@@ -144,8 +144,8 @@ impl VfRegisters {
 }
 
 macro_rules! field {
-    ($(#[$told:meta])* $name:ident, $word:ty) => {
-        $(#[$told])*
+    ($(#[$attribute:meta])* $name:ident, $word:ty) => {
+        $(#[$attribute])*
         #[derive(Clone, Copy, Debug, PartialEq, Eq, Hash)]
         pub struct $name {
             mask: $word,

@@ -92,9 +92,9 @@ impl Iterator for Steps<'_> {
         if self.is_over {
             return None;
         }
-        let told = self.nic.handle().next_step(&mut self.place).transpose();
-        self.is_over = !matches!(told, Some(Ok(_)));
-        told
+        let step = self.nic.handle().next_step(&mut self.place).transpose();
+        self.is_over = !matches!(step, Some(Ok(_)));
+        step
     }
 }
 

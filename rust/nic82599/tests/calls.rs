@@ -63,8 +63,8 @@ fn sizes() {
         assert_eq!(refused(64, 0, blocks), Some(Error::BadBlocks));
     }
     assert_eq!(refused(63, 4096, 65_536), None);
-    let told = format!("{:?}", nic(3));
-    assert_eq!(told, "Nic { vfs: 0, fifo: 64, blocks: 3, .. }");
+    let shown = format!("{:?}", nic(3));
+    assert_eq!(shown, "Nic { vfs: 0, fifo: 64, blocks: 3, .. }");
 }
 
 #[test]
@@ -518,8 +518,8 @@ fn images() {
 }
 
 #[test]
-fn errors_are_told() {
-    let told: Vec<String> = [
+fn errors_are_reported() {
+    let messages: Vec<String> = [
         Error::NotLent(0xC840),
         Error::Stray { at: 0xC, word: None, why: Absent::Register },
         Error::Stray { at: 0x108, word: Some(u32::MAX), why: Absent::Pool { number: 0, pools: 0 } },
@@ -528,12 +528,12 @@ fn errors_are_told() {
     ]
     .map(|it| Box::<dyn std::error::Error + Send + Sync>::from(it).to_string())
     .to_vec();
-    assert_eq!(told[0], "bus address 0x0c840: block 25 isn't lent");
-    assert_eq!(told[1], "no register is at 0x0000c");
+    assert_eq!(messages[0], "bus address 0x0c840: block 25 isn't lent");
+    assert_eq!(messages[1], "no register is at 0x0000c");
     let pool = "virtual function 0 has no pool: GCR_EXT bits 1:0 select no pools";
-    assert_eq!(told[2], format!("no register is at 0x00108, which reads as 0xffffffff: {pool}"));
-    assert_eq!(told[3], "invalid text of an EEPROM image: line 3 has a syntax error");
-    assert_eq!(told[4], "invalid EEPROM image: the checksum is wrong");
+    assert_eq!(messages[2], format!("no register is at 0x00108, which reads as 0xffffffff: {pool}"));
+    assert_eq!(messages[3], "invalid text of an EEPROM image: line 3 has a syntax error");
+    assert_eq!(messages[4], "invalid EEPROM image: the checksum is wrong");
 }
 
 /// The error names what is missing, in the Python module's words: the register, the function, its pool, or the pool's
@@ -552,8 +552,11 @@ fn why_a_register_is_absent() {
                 Absent::Pool { number, pools }
             } else {
                 let why = Absent::Queue { number, queues };
-                let told = function.write(vf::VFTDT.at(7), 1);
-                assert_eq!(told, if queues == 8 { Ok(()) } else { Err(Error::Stray { at: 0x21D8, word: None, why }) });
+                let result = function.write(vf::VFTDT.at(7), 1);
+                assert_eq!(
+                    result,
+                    if queues == 8 { Ok(()) } else { Err(Error::Stray { at: 0x21D8, word: None, why }) }
+                );
                 Absent::Register
             };
             assert_eq!(function.read32(4), Err(Error::Stray { at: 4, word: Some(word), why }));
@@ -561,17 +564,14 @@ fn why_a_register_is_absent() {
             assert_eq!(function.peek32(4), Err(Error::Stray { at: 4, word: None, why }));
         }
     }
-    for (why, told) in [
+    for (why, result) in [
         (Absent::Register, "no such register"),
         (Absent::Function { number: 0, vfs: 0 }, "no virtual function 0: the controller has none"),
-        (
-            Absent::Function { number: 1, vfs: 1 },
-            "no virtual function 1: the controller has 1, numbered from 0",
-        ),
+        (Absent::Function { number: 1, vfs: 1 }, "no virtual function 1: the controller has 1, numbered from 0"),
         (Absent::Pool { number: 16, pools: 16 }, "virtual function 16 has no pool: GCR_EXT bits 1:0 select 16 pools"),
         (Absent::Queue { number: 3, queues: 2 }, "the pool of virtual function 3 has 2 queues"),
     ] {
-        assert_eq!(why.to_string(), told);
+        assert_eq!(why.to_string(), result);
     }
 }
 

@@ -51,8 +51,8 @@ fn of_either_byte_order() {
 fn what_is_broken() {
     let file = written(&some());
     for cut in [0, 3, 23, 25, 39, 40, 60, file.len() - 1] {
-        let told = frames(&file[..cut]).map_err(|it| it.kind());
-        assert_eq!(told, Err(ErrorKind::UnexpectedEof), "{cut}");
+        let result = frames(&file[..cut]).map_err(|it| it.kind());
+        assert_eq!(result, Err(ErrorKind::UnexpectedEof), "{cut}");
     }
     let words = |file: &[u8]| frames(file).unwrap_err().to_string();
     assert_eq!((words(&[]), words(&file[..30])), (words(&file[..23]), words(&file[..60])));
@@ -62,11 +62,11 @@ fn what_is_broken() {
     for (at, byte) in [(0, 7), (20, 2), (32, 61), (35, 1)] {
         let mut bad = file.clone();
         bad[at] = byte;
-        let told = frames(&bad).map_err(|it| it.kind());
-        assert_eq!(told, Err(ErrorKind::InvalidData), "{at}");
+        let result = frames(&bad).map_err(|it| it.kind());
+        assert_eq!(result, Err(ErrorKind::InvalidData), "{at}");
     }
     let mut ends = Reader::new(&file[..30]).unwrap();
     assert!(ends.next().unwrap().is_err() && ends.next().is_none());
-    let told = Writer::new(Vec::new()).unwrap().put(0, &vec![0; 262_145]).map_err(|it| it.kind());
-    assert_eq!(told, Err(ErrorKind::InvalidInput));
+    let result = Writer::new(Vec::new()).unwrap().put(0, &vec![0; 262_145]).map_err(|it| it.kind());
+    assert_eq!(result, Err(ErrorKind::InvalidInput));
 }

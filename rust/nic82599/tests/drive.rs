@@ -22,7 +22,7 @@ const ALL_CAUSES: u32 = 0x7FFF_FFFF;
 const NOTHING: u8 = 0;
 const SLOT_WITHOUT_DD: u8 = 1;
 const STOP_THAT_DOES_NOT_WAIT: u8 = 2;
-const IDLE_TOLD_EARLY: u8 = 3;
+const IDLE_REPORTED_EARLY: u8 = 3;
 const LENGTH_BEFORE_DD: u8 = 4;
 const PANIC_IN_RECEIVE: u8 = 5;
 const PANIC_IN_OPEN: u8 = 6;
@@ -235,7 +235,7 @@ impl<const FAULT: u8> Both<FAULT> {
             self.tx.clean.set(self.tx.after(slot));
             self.tx.used.set(self.tx.used.get() - 1);
         }
-        match FAULT == IDLE_TOLD_EARLY && is_one_sent {
+        match FAULT == IDLE_REPORTED_EARLY && is_one_sent {
             true => 0,
             false => u32::from(self.tx.used.get()),
         }
@@ -401,8 +401,8 @@ fn program(name: &str) -> ExitCode {
 fn ran(driver: &str, words: &[&str]) -> (Option<i32>, String) {
     let program = env::current_exe().expect("the program has a path");
     let made = Command::new(program).args(words).env("NIC82599_DRIVER", driver).output().expect("it can be run");
-    let told = [made.stdout, made.stderr].concat();
-    (made.status.code(), String::from_utf8_lossy(&told).into_owned())
+    let output = [made.stdout, made.stderr].concat();
+    (made.status.code(), String::from_utf8_lossy(&output).into_owned())
 }
 
 fn row(folder: &Path, fault: u8, row: &str, runs: &str) -> (Option<i32>, String) {
@@ -422,27 +422,27 @@ fn a_right_driver_passes(folder: &Path) {
     let rows = lines_of(&list);
     assert!(rows.len() > 100, "{list}");
     for it in rows {
-        let (status, told) = row(folder, NOTHING, it[0], "60");
-        assert_eq!(status, Some(if it[2] == "-" { 0 } else { 4 }), "{told}");
+        let (status, output) = row(folder, NOTHING, it[0], "60");
+        assert_eq!(status, Some(if it[2] == "-" { 0 } else { 4 }), "{output}");
     }
 }
 
 /// A driver that lacks one function is reported to lack only that: the C struct has the pointer of each other function.
-fn what_is_left_out_is_told(_folder: &Path) {
+fn what_is_left_out_is_reported(_folder: &Path) {
     for (number, lack) in LACKS.iter().enumerate() {
         let (status, list) = ran(&format!("without-{number}"), &["--list"]);
         assert_eq!(status, Some(0), "{list}");
-        let mut told: Vec<&str> = lines_of(&list).into_iter().map(|it| it[2]).filter(|it| *it != "-").collect();
-        told.sort_unstable();
-        told.dedup();
-        told.retain(|it| *it != NO_RESET);
+        let mut lacks: Vec<&str> = lines_of(&list).into_iter().map(|it| it[2]).filter(|it| *it != "-").collect();
+        lacks.sort_unstable();
+        lacks.dedup();
+        lacks.retain(|it| *it != NO_RESET);
         let wanted: Vec<&str> = Some(*lack).filter(|it| !it.is_empty()).into_iter().collect();
-        assert_eq!(told, wanted, "without function {number}");
+        assert_eq!(lacks, wanted, "without function {number}");
     }
 }
 
 /// Rows that need what a driver never does by design aren't on its card.
-fn what_it_never_does_is_told(_folder: &Path) {
+fn what_it_never_does_is_reported(_folder: &Path) {
     let (status, list) = ran(&format!("without-{NEVER}"), &["--list"]);
     assert_eq!(status, Some(0), "{list}");
     for name in ["NO_MODERATION", "NO_HEADS", "ONE_VECTOR", "ONE_BUFFER", "NO_ADDRESS"] {
@@ -451,11 +451,11 @@ fn what_it_never_does_is_told(_folder: &Path) {
 }
 
 /// A faulty driver fails in the row that names its fault. A forbidden action is reported, and another row passes.
-fn what_is_wrong_is_told(folder: &Path) {
+fn what_is_wrong_is_reported(folder: &Path) {
     let faults = [
         (SLOT_WITHOUT_DD, "receive-empty", "check: receive returned true, but no frame came"),
-        (STOP_THAT_DOES_NOT_WAIT, "close-amid-frames", "queue 0 is on although the driver is closed"),
-        (IDLE_TOLD_EARLY, "send-wrap", "check: reclaim reports all of queue 0 as transmitted, but "),
+        (STOP_THAT_DOES_NOT_WAIT, "close-during-frames", "queue 0 is on although the driver is closed"),
+        (IDLE_REPORTED_EARLY, "send-wrap", "check: reclaim reports all of queue 0 as transmitted, but "),
         (LENGTH_BEFORE_DD, "receive-one", "check: a frame of 0 bytes is delivered from queue 0"),
         (PANIC_IN_RECEIVE, "receive-one", "check: the ring has no slot 8 (tests/drive.rs:"),
         (PANIC_IN_OPEN, "receive-one", "always: the EEPROM has no address (tests/drive.rs:"),
@@ -468,14 +468,14 @@ fn what_is_wrong_is_told(folder: &Path) {
         (GUARD_OVER_A_CALL, "both-ways", "already borrowed"),
     ];
     for (fault, name, words) in faults {
-        let (status, told) = row(folder, fault, name, "300");
-        let told = told.replace("already mutably borrowed", "already borrowed").replace("RefCell ", "");
-        assert!(status == Some(1) && told.contains(words), "fault {fault}: {name} tells: {told}");
+        let (status, output) = row(folder, fault, name, "300");
+        let output = output.replace("already mutably borrowed", "already borrowed").replace("RefCell ", "");
+        assert!(status == Some(1) && output.contains(words), "fault {fault}: {name} tells: {output}");
         let schedule = std::fs::read_to_string(folder.join(format!("{name}.schedule"))).unwrap_or_default();
         assert!(schedule.starts_with('#'), "fault {fault}: {name} writes no schedule");
         if fault != PANIC_IN_OPEN {
-            let (status, told) = row(folder, fault, "setup-ring-values", "60");
-            assert_eq!(status, Some(0), "fault {fault}: {told}");
+            let (status, output) = row(folder, fault, "setup-ring-values", "60");
+            assert_eq!(status, Some(0), "fault {fault}: {output}");
         }
     }
 }
@@ -486,8 +486,12 @@ fn main() -> ExitCode {
     }
     let folder: PathBuf = env::temp_dir().join(format!("nic82599-drive-{}", process::id()));
     std::fs::create_dir_all(&folder).expect("there is room");
-    let tests: [fn(&Path); 4] =
-        [a_right_driver_passes, what_is_left_out_is_told, what_it_never_does_is_told, what_is_wrong_is_told];
+    let tests: [fn(&Path); 4] = [
+        a_right_driver_passes,
+        what_is_left_out_is_reported,
+        what_it_never_does_is_reported,
+        what_is_wrong_is_reported,
+    ];
     for test in tests {
         test(&folder);
     }

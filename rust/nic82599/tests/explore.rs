@@ -208,8 +208,8 @@ fn handlers() {
             state.count.set(state.count.get() + 1);
         });
     };
-    let told = Simple { name: "handlers", tasks: 0, begin, ..SIMPLE };
-    assert_eq!(searched(told, &["--strategy", "exhaustive", "--preemptions", "any"]).0, Outcome::Nothing);
+    let scenario = Simple { name: "handlers", tasks: 0, begin, ..SIMPLE };
+    assert_eq!(searched(scenario, &["--strategy", "exhaustive", "--preemptions", "any"]).0, Outcome::Nothing);
 }
 
 #[test]
@@ -306,7 +306,7 @@ impl Drop for Counted {
 /// What schedules abandon doesn't accumulate: the closure of a service that never ends is dropped when the next
 /// schedule starts.
 #[test]
-fn what_is_left_behind_is_given_back() {
+fn what_is_left_is_given_back() {
     let begin = |begin: &Begin<State>| {
         let kept = Counted::new();
         begin.service("service", move |bus, state| loop {

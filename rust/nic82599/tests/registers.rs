@@ -127,14 +127,14 @@ fn fields_are_those_of_the_header() {
         for (module, name, mask, low) in &fields {
             let macro_name = format!("NIC_{module}_{name}");
             assert_eq!(number(&macros[&macro_name]), *mask, "{macro_name}");
-            let told = macros.get(&format!("{macro_name}_IS(v)"));
-            assert_eq!(told.is_some(), low.is_some(), "{macro_name}");
-            if let (Some(told), Some(low)) = (told, low) {
-                assert!(told.contains(&format!("<< {low} & ")), "{macro_name}");
+            let found = macros.get(&format!("{macro_name}_IS(v)"));
+            assert_eq!(found.is_some(), low.is_some(), "{macro_name}");
+            if let (Some(found), Some(low)) = (found, low) {
+                assert!(found.contains(&format!("<< {low} & ")), "{macro_name}");
             }
         }
-        let told = macros.keys().filter(|it| it.ends_with("_IS(v)")).count();
-        assert_eq!(fields.iter().filter(|it| it.3.is_some()).count(), told, "{file}");
+        let tests = macros.keys().filter(|it| it.ends_with("_IS(v)")).count();
+        assert_eq!(fields.iter().filter(|it| it.3.is_some()).count(), tests, "{file}");
     }
 }
 
@@ -186,13 +186,13 @@ fn a_function_has_as_many_as_its_mode_gives() {
     for (mode, queues) in [(1, 8), (2, 4), (3, 2)] {
         nic.write(GCR_EXT, mode);
         for queue in 0..vf::VFRDT.count() {
-            let told = nic.vf(1).peek(vf::VFRDT.at(queue));
+            let read = nic.vf(1).peek(vf::VFRDT.at(queue));
             let refused = Error::Stray {
                 at: vf::VFRDT.at(queue).offset(),
                 word: None,
                 why: Absent::Queue { number: 1, queues: queues as u8 },
             };
-            assert_eq!(told, if queue < queues { Ok(0) } else { Err(refused) }, "mode {mode}, queue {queue}");
+            assert_eq!(read, if queue < queues { Ok(0) } else { Err(refused) }, "mode {mode}, queue {queue}");
         }
         for vector in 0..vf::VTIVAR.count() {
             assert_eq!(nic.vf(1).peek(vf::VTIVAR.at(vector)).is_ok(), vector < queues / 2, "mode {mode}");

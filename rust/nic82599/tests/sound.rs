@@ -465,7 +465,7 @@ fn a_panic_with_a_value_whose_drop_panics_is_a_failure() {
 // --- refusals ---
 
 #[test]
-fn no_search_begins_in_one_or_amid_a_panic() {
+fn no_search_begins_in_one_or_during_a_panic() {
     passes(Tried {
         name: "within",
         begin: |begin| {

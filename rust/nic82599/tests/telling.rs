@@ -8,7 +8,7 @@ use nic82599::{regs, Nic, Sizes};
 
 const ASKED: &str = "NIC82599_TELL";
 const IS_PROGRAM: &str = "NIC82599_TELLING_PROGRAM";
-const TOLD: [&str; 4] = [
+const PRINTED: [&str; 4] = [
     "stray: r 0x10148: this is FWSM, which the bench doesn't model: don't wait: a reset is done when the write returns",
     "1 frame was dropped: FCTRL.UPE was 0, no RAL and RAH with AV 1 matched; the last one to 02:00:00:00:00:09",
     "rx: fault queue 0 outside: RDT[0] 9 of 8 slots (RDLEN[0] / 16)",
@@ -37,7 +37,7 @@ fn program() {
 }
 
 /// Returns the library's lines on the program's standard error, with this value of the variable.
-fn told(given: Option<&str>) -> Vec<String> {
+fn output_of(given: Option<&str>) -> Vec<String> {
     let mut call = Command::new(env::current_exe().unwrap());
     call.args(["telling", "--exact", "--nocapture"]).env_remove(ASKED).env(IS_PROGRAM, "1");
     if let Some(word) = given {
@@ -54,8 +54,8 @@ fn telling() {
     if env::var_os(IS_PROGRAM).is_some() {
         return program();
     }
-    assert_eq!(told(Some("1")), TOLD);
+    assert_eq!(output_of(Some("1")), PRINTED);
     for given in [None, Some(""), Some("0")] {
-        assert!(told(given).is_empty(), "{given:?}");
+        assert!(output_of(given).is_empty(), "{given:?}");
     }
 }

@@ -72,12 +72,12 @@ fn cases() {
     let mut count = 0;
     for part in parts {
         let (name, rest) = part.split_once('\n').unwrap();
-        let told: Vec<&str> = rest.lines().filter_map(|line| line.strip_prefix("> ")).collect();
+        let wanted: Vec<&str> = rest.lines().filter_map(|line| line.strip_prefix("> ")).collect();
         let lines: Vec<&str> =
             rest.lines().filter(|it| !it.starts_with('>')).map(bare).filter(|it| !it.is_empty()).collect();
         let nic = Nic::open(Sizes { vfs: 2, fifo: 8, blocks: 8 }).unwrap();
         set_up(&base, &lines).into_iter().for_each(|line| make(&nic, line));
-        assert_eq!(nic.why(), told.join("\n"), "{name}");
+        assert_eq!(nic.why(), wanted.join("\n"), "{name}");
         count += 1;
     }
     assert!(count > 45);
@@ -90,9 +90,9 @@ fn a_long_text() {
     for queue in 0..128 {
         nic.write(RDLEN.at(queue), 128);
     }
-    let told = nic.why();
-    assert_eq!(told.lines().filter(|line| line.ends_with("the queue is off")).count(), 128);
-    assert!(told.ends_with("rx 127: SRRCTL[127].DESCTYPE 0: the bench supports only 1"));
+    let reasons = nic.why();
+    assert_eq!(reasons.lines().filter(|line| line.ends_with("the queue is off")).count(), 128);
+    assert!(reasons.ends_with("rx 127: SRRCTL[127].DESCTYPE 0: the bench supports only 1"));
 }
 
 /// A controller with a frame for queue 3; `tail` is the tail that the driver writes.
@@ -123,7 +123,7 @@ fn an_assertion() -> Result<(), Error> {
     assert_eq!(nic.read(RDH.at(3)), 1, "{}", nic.why());
     let nic = received(0)?;
     let _ = nic.settle(4)?;
-    let told = nic.why();
-    assert!(told.contains("rx 3: RDH[3] 0, RDT[3] 0: head and tail meet, so the device owns no slot"), "{told}");
+    let reasons = nic.why();
+    assert!(reasons.contains("rx 3: RDH[3] 0, RDT[3] 0: head and tail meet, so the device owns no slot"), "{reasons}");
     Ok(())
 }

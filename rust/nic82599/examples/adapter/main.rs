@@ -29,14 +29,14 @@ struct Bench<'a> {
     memory: &'a [Cell<u8>],
     used: Cell<usize>,
     last: Cell<u32>,
-    was_told: Cell<bool>,
+    was_raised: Cell<bool>,
 }
 
 impl Bench<'_> {
     fn let_device_act(&self) {
         for event in self.nic.steps(1).into_iter().flatten().flatten() {
             match event {
-                Event::Message { .. } => self.was_told.set(true),
+                Event::Message { .. } => self.was_raised.set(true),
                 event if event.is_loss() => println!("{}: {event:#}", event.step()),
                 _ => {}
             }
@@ -105,7 +105,7 @@ fn run(frames: usize) -> Result<(), Box<dyn Error>> {
     let mut room = vec![0; BLOCKS * BLOCK];
     let memory = Cell::from_mut(&mut room[..]).as_slice_of_cells();
     let nic = Nic::open(Sizes { blocks: BLOCKS as u32, ..Sizes::default() })?.in_place();
-    let bench = Bench { nic, memory, used: Cell::new(BLOCK), last: Cell::new(u32::MAX), was_told: Cell::new(false) };
+    let bench = Bench { nic, memory, used: Cell::new(BLOCK), last: Cell::new(u32::MAX), was_raised: Cell::new(false) };
     let (driver, mut given, mut received, mut returned) = (Driver::default(), 0, 0, 0);
     if !driver.open(&bench, ADDRESS, 64, true) {
         return Err("out of memory for the driver".into());
@@ -118,7 +118,7 @@ fn run(frames: usize) -> Result<(), Box<dyn Error>> {
             given += 1;
         }
         bench.let_device_act();
-        while bench.was_told.take() {
+        while bench.was_raised.take() {
             poll(&driver, &bench, &mut received)?;
             bench.let_device_act();
         }

@@ -14,7 +14,7 @@ use std::slice;
 
 use super::{Driver, Filter, Frame, Platform, Rss, Setup, Stats, MAILBOX_WORDS, MOST_FRAME};
 use crate::explore::raw::{
-    arguments, at_point, caught, fail, plain_calls, text, told, unwinding, why_not, within, Driven,
+    arguments, at_point, c_words, caught, fail, plain_calls, text, unwinding, why_not, within, Driven,
 };
 use crate::explore::{self, hook_panics, Bus};
 use crate::nic::Sizes;
@@ -126,7 +126,7 @@ fn called<D: Driver, T>(failed: T, action: impl FnOnce(&D, &Platform) -> T) -> T
         })
     });
     done.unwrap_or_else(|words| {
-        let words = told(words);
+        let words = c_words(words);
         // SAFETY: both are strings, and `words` stays valid until the next message. In a task the call doesn't return,
         // and nothing here needs dropping; outside a task the schedule fails at its next step.
         unsafe { nicd_failed(b"%s\0".as_ptr().cast(), words) }
@@ -236,10 +236,10 @@ extern "C" fn mailbox_receive<D: Driver>(vf: u8, words: *mut u32) -> bool {
 
 /// Defines the functions that take only numbers.
 macro_rules! plain_functions {
-    ($($constant:ident as $name:ident($($word:ident: $kind:ty),*) -> $told:ty;)+) => {
+    ($($constant:ident as $name:ident($($word:ident: $kind:ty),*) -> $answer:ty;)+) => {
         $(
-            extern "C" fn $name<D: Driver>($($word: $kind),*) -> $told {
-                let failed = <$told>::default();
+            extern "C" fn $name<D: Driver>($($word: $kind),*) -> $answer {
+                let failed = <$answer>::default();
                 called::<D, _>(failed, |driver, platform| of(D::$constant)(driver, platform $(, $word)*))
             }
         )+

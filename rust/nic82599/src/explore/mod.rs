@@ -204,10 +204,10 @@ static HOOK: Once = Once::new();
 pub(crate) fn hook_panics() {
     HOOK.call_once(|| {
         let before = panic::take_hook();
-        panic::set_hook(Box::new(move |told| {
-            raw::panics_at(told.location());
+        panic::set_hook(Box::new(move |info| {
+            raw::panics_at(info.location());
             if !raw::is_quiet() {
-                before(told)
+                before(info)
             }
         }));
     });

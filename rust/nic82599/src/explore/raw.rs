@@ -74,21 +74,21 @@ pub(crate) fn at_point<T: Unmade>(call: impl FnOnce() -> T) -> T {
     if thread::panicking() {
         return T::UNMADE;
     }
-    let told = call();
+    let answer = call();
     if is_left() {
         panic::resume_unwind(Box::new(Left));
     }
-    told
+    answer
 }
 
 /// Declares calls that take no pointer, and defines a function for each.
 macro_rules! plain_calls {
-    ($($call:ident as $name:ident($($word:ident: $kind:ty),*) $(-> $told:ty)?;)+) => {
+    ($($call:ident as $name:ident($($word:ident: $kind:ty),*) $(-> $answer:ty)?;)+) => {
         extern "C" {
-            $(fn $call($($word: $kind),*) $(-> $told)?;)+
+            $(fn $call($($word: $kind),*) $(-> $answer)?;)+
         }
         $(
-            pub(super) fn $name($($word: $kind),*) $(-> $told)? {
+            pub(super) fn $name($($word: $kind),*) $(-> $answer)? {
                 // SAFETY: the call takes no pointer.
                 crate::explore::raw::at_point(|| unsafe { $call($($word),*) })
             }
@@ -317,8 +317,8 @@ fn running<T>(action: impl FnOnce(&Running) -> T) -> T {
 /// Calls the scenario. Its panic is reported as what is wrong.
 fn driven(action: impl FnOnce(&dyn Driven) -> Option<String>) -> *const c_char {
     // SAFETY: `within` borrows the scenario for as long as the search runs.
-    let told = running(|it| caught(|| action(unsafe { &*it.driven })));
-    match told {
+    let result = running(|it| caught(|| action(unsafe { &*it.driven })));
+    match result {
         Ok(None) => ptr::null(),
         Ok(Some(words)) | Err(words) => running(|it| it.tell(&words)),
     }
@@ -412,14 +412,14 @@ pub(crate) fn unwinding<T>(action: impl FnOnce() -> T) -> T {
 }
 
 /// Returns a message for the explorer, valid until the next one is returned.
-pub(crate) fn told(words: String) -> *const c_char {
+pub(crate) fn c_words(words: String) -> *const c_char {
     running(|it| it.tell(&words))
 }
 
 /// Fails the schedule with this message. In a task it doesn't return, so the caller must hold nothing that needs
 /// dropping.
 pub(crate) fn fail(words: String) {
-    let words = told(words);
+    let words = c_words(words);
     // SAFETY: the message is a string that stays valid until the next one. Nothing here needs dropping.
     unsafe { nicx_fail(words) }
 }

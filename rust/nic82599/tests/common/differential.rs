@@ -90,16 +90,16 @@ impl Run {
 
     // --- registers ---
 
-    fn answer_word(&mut self, told: Result<u32, Error>) {
-        match told {
+    fn answer_word(&mut self, result: Result<u32, Error>) {
+        match result {
             Ok(word) => self.answer(&format!("word 0x{word:08x}")),
             Err(Error::Stray { word: Some(word), .. }) => self.answer(&format!("stray 0x{word:08x}")),
             other => panic!("{other:?}"),
         }
     }
 
-    fn answer_write(&mut self, told: Result<(), Error>) {
-        match told {
+    fn answer_write(&mut self, result: Result<(), Error>) {
+        match result {
             Ok(()) => self.answer("done"),
             Err(Error::Stray { word: None, .. }) => self.answer("stray 0x00000000"),
             other => panic!("{other:?}"),
@@ -112,15 +112,15 @@ impl Run {
 
     fn write_at(&mut self, address: u32, word: u32) {
         self.say(&format!("w {address} {word}"));
-        let told = self.nic.write32(address, word);
-        self.answer_write(told);
+        let result = self.nic.write32(address, word);
+        self.answer_write(result);
     }
 
     fn read_at(&mut self, address: u32) {
-        let (look, told) = (self.nic.peek32(address), self.nic.read32(address));
-        assert_eq!(look.ok(), told.ok());
+        let (look, result) = (self.nic.peek32(address), self.nic.read32(address));
+        assert_eq!(look.ok(), result.ok());
         self.say(&format!("r {address}"));
-        self.answer_word(told);
+        self.answer_word(result);
     }
 
     fn some_word(&mut self) -> u32 {
@@ -163,23 +163,23 @@ impl Run {
         if self.chance.below(3) > 0 && (offset > 0 || self.chance.below(8) == 0) {
             let word = self.some_word();
             self.say(&format!("vw {number} {offset} {word}"));
-            let told = self.nic.vf(number).write32(offset, word);
-            self.answer_write(told);
+            let result = self.nic.vf(number).write32(offset, word);
+            self.answer_write(result);
         } else {
             let function = self.nic.vf(number);
-            let (look, told) = (function.peek32(offset), function.read32(offset));
-            assert_eq!(look.ok(), told.ok());
+            let (look, result) = (function.peek32(offset), function.read32(offset));
+            assert_eq!(look.ok(), result.ok());
             self.say(&format!("vr {number} {offset}"));
-            self.answer_word(told);
+            self.answer_word(result);
         }
     }
 
     // --- memory ---
 
     fn lend(&mut self, block: u32) {
-        let told = self.nic.lend(block);
+        let result = self.nic.lend(block);
         self.say(&format!("lend {block}"));
-        match told {
+        match result {
             Ok(()) => self.answer("done"),
             Err(error) => {
                 assert_eq!(error, Error::NoBlock);
@@ -189,9 +189,9 @@ impl Run {
     }
 
     fn take(&mut self, block: u32) {
-        let told = self.nic.take(block);
+        let result = self.nic.take(block);
         self.say(&format!("unlend {block}"));
-        match told {
+        match result {
             Ok(()) => self.answer(&format!("taken {block}")),
             Err(error) => {
                 assert_eq!(error, Error::NotLent(2048 * u64::from(block)));
@@ -202,9 +202,9 @@ impl Run {
 
     /// Returns sixteen bytes at a multiple of 16; `None` if they aren't lent.
     fn peek(&mut self, bus: u64) -> Option<Vec<u8>> {
-        let told = self.nic.memory().read(bus..bus + 16);
+        let result = self.nic.memory().read(bus..bus + 16);
         self.say(&format!("peek {bus} 0"));
-        match told {
+        match result {
             Ok(bytes) => {
                 self.answer(&format!("bytes {}", hex(&bytes)));
                 Some(bytes)
@@ -237,9 +237,9 @@ impl Run {
             }
         }
         let mut got = vec![0xA5; length];
-        let told = self.nic.memory().read_into(bus, &mut got);
+        let result = self.nic.memory().read_into(bus, &mut got);
         let refused = first_missing.map_or(Ok(()), |at| Err(Error::NotLent(at.max(bus))));
-        assert_eq!(told, if length == 0 { Ok(()) } else { refused });
+        assert_eq!(result, if length == 0 { Ok(()) } else { refused });
         let begin = (bus - first) as usize;
         let want = if lent { whole[begin.min(whole.len())..][..length].to_vec() } else { vec![0xA5; length] };
         assert_eq!(got, want);
@@ -251,8 +251,8 @@ impl Run {
         let (first, end) = (bus & !15, bus + bytes.len() as u64);
         let parts: Vec<_> = (first..end).step_by(16).map(|at| self.nic.memory().read(at..at + 16)).collect();
         let whole: Result<Vec<_>, _> = parts.into_iter().collect();
-        let told = self.nic.memory().write(bus, bytes);
-        assert_eq!(told.is_ok(), whole.is_ok() || bytes.is_empty());
+        let result = self.nic.memory().write(bus, bytes);
+        assert_eq!(result.is_ok(), whole.is_ok() || bytes.is_empty());
         let mut want = whole.map(|it| it.concat()).ok();
         if let Some(want) = want.as_mut().filter(|_| !bytes.is_empty()) {
             want[(bus - first) as usize..][..bytes.len()].copy_from_slice(bytes);
@@ -317,8 +317,8 @@ impl Run {
         }
     }
 
-    fn tell(&mut self, told: Option<Event>) {
-        match told {
+    fn tell(&mut self, event: Option<Event>) {
+        match event {
             Some(event) => {
                 self.check(&event);
                 self.answer(&event.to_string());
@@ -327,9 +327,9 @@ impl Run {
         }
     }
 
-    fn tell_or_refused(&mut self, told: Result<Option<Event>, Error>) {
-        match told {
-            Ok(told) => self.tell(told),
+    fn tell_or_refused(&mut self, result: Result<Option<Event>, Error>) {
+        match result {
+            Ok(event) => self.tell(event),
             Err(Error::NoQueue) => self.answer("no queue"),
             Err(Error::NoGroup) => self.answer("no group"),
             Err(other) => panic!("{other}"),
@@ -356,10 +356,10 @@ impl Run {
 
     fn arrive(&mut self) {
         let frame = self.some_frame();
-        let told = self.nic.arrive(&frame).unwrap();
+        let result = self.nic.arrive(&frame).unwrap();
         let name = self.data(&frame);
         self.say(&format!("arrive d{name}"));
-        match told {
+        match result {
             Arrival::Waits => self.answer("done"),
             Arrival::Dropped(why) => self.answer(&format!("dropped {why}")),
         }
@@ -401,21 +401,21 @@ impl Run {
         match self.chance.below(8) {
             0..=2 => {
                 self.say("rx");
-                let told = self.nic.rx_step();
-                self.tell(told);
+                let result = self.nic.rx_step();
+                self.tell(result);
             }
             3 | 6 => {
                 self.say(&format!("tx {queue}"));
-                let told = self.nic.tx_step(queue);
-                self.tell_or_refused(told);
+                let result = self.nic.tx_step(queue);
+                self.tell_or_refused(result);
             }
             4 => {
                 self.say(&Step::Int(group.checked_sub(1)).to_string());
-                let told = match group.checked_sub(1) {
+                let result = match group.checked_sub(1) {
                     None => Ok(self.nic.int_step()),
                     Some(function) => self.nic.vf(function).int_step(),
                 };
-                self.tell_or_refused(told);
+                self.tell_or_refused(result);
             }
             5 => {
                 if self.chance.below(2) > 0 {

@@ -28,8 +28,8 @@ pub fn some64(chance: &mut Chance) -> u64 {
 }
 
 /// Checks that an error is one of these kinds.
-pub fn may<T>(told: Result<T, Error>, errors: &[Error]) {
-    if let Err(error) = told {
+pub fn may<T>(result: Result<T, Error>, errors: &[Error]) {
+    if let Err(error) = result {
         let is_stray = matches!(error, Error::Stray { .. }) && errors.is_empty();
         let is_one = errors.iter().any(|it| discriminant(it) == discriminant(&error));
         assert!(is_stray || is_one, "{error}");

@@ -53,4 +53,4 @@ static const char *end(void)
     return driver.got == FRAMES ? NULL : "a frame is in the ring, but nothing will poll it";
 }
 
-DRIVER(.name = "eicr_cleared_behind_poll")
+DRIVER(.name = "eicr_cleared_after_poll")

@@ -57,4 +57,4 @@ static const char *end(void)
     return NULL;
 }
 
-DRIVER(.name = "rstd_told_once", .vfs = 1)
+DRIVER(.name = "rstd_seen_once", .vfs = 1)

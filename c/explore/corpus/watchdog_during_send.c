@@ -27,7 +27,7 @@ static void set_enable(uint32_t wanted)
 }
 
 /* Sent frames aren't sent again; the others move to the front of the ring. */
-static void start_anew(void)
+static void start_again(void)
 {
     set_enable(0);
     unsigned head = nicx_read32(NIC_TDH(0)), left = driver.tail - head;
@@ -48,7 +48,7 @@ static void watch(void *unused)
 #endif
     if (driver.tail && nicx_read32(NIC_TDH(0)) == 0) {
         driver.resets++;
-        start_anew();
+        start_again();
     }
 #ifdef FIXED
     nicx_unlock(&driver.lock);
@@ -81,4 +81,4 @@ static const char *end(void)
     return went_out(FRAMES);
 }
 
-DRIVER(.name = "watchdog_amid_send")
+DRIVER(.name = "watchdog_during_send")

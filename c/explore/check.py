@@ -38,10 +38,10 @@ def ran(words: list[object], wanted: int | None = 0, **how: object) -> str:
     return made.stdout
 
 
-def links(compiler: str, flags: list[str], folder: Path) -> bool:
-    """Whether a program with these flags links and runs here."""
+def links(compiler: str, flags: list[str], folder: Path, text: str = "int main(void) { return 0; }\n") -> bool:
+    """Whether a program with these flags links and runs here: an empty one, or this source."""
     source, program = folder / "empty.c", folder / "empty"
-    source.write_text("int main(void) { return 0; }\n")
+    source.write_text(text)
     try:
         ran([compiler, *flags, source, "-o", program])
         ran([program])
@@ -1075,18 +1075,31 @@ def check_program(kit: Kit, runs: int) -> str:
 # --- other threads of the process ---
 
 THREAD = ["-g", "-O1", "-fsanitize=thread"]
+# Maps what searches map, a room of a gigabyte each time. On arm64 the thread sanitizer ends a program whose memory lies
+# outside of its ranges, which QEMU's user emulation doesn't keep to after some gigabytes.
+ROOMS = """#include <stddef.h>
+#include <sys/mman.h>
+
+int main(void)
+{
+    void *room = NULL;
+    for (int k = 0; k < 8 && room != MAP_FAILED; k++)
+        room = mmap(NULL, (size_t)1 << 30, PROT_READ | PROT_WRITE, MAP_PRIVATE | MAP_ANONYMOUS | MAP_NORESERVE, -1, 0);
+    return room == MAP_FAILED;
+}
+"""
 
 
 def check_threads(kit: Kit, searches: int) -> str:
     """Searches run while another thread uses devices; without sanitizers also under the thread sanitizer."""
     kits, more = [kit], ""
     if "-fsanitize=address,undefined" not in kit.flags:
-        if links(kit.compiler, THREAD, kit.folder):
+        if links(kit.compiler, THREAD, kit.folder, ROOMS):
             folder = kit.out("thread")
             (explorer,) = sanitized_engine(folder, kit.compiler, THREAD, "explore")
             kits.append(replace(kit, folder=folder, flags=THREAD, explorer=explorer))
         else:
-            more = ", not under the thread sanitizer, which isn't here"
+            more = ", not under the thread sanitizer, which isn't here or has no place for what a search maps"
     for it in kits:
         threaded = replace(it, flags=[*it.flags, "-pthread"])
         said = ran([threaded.build(HERE / "tests/threads.c"), it.folder, searches], timeout=HANGS).splitlines()[-1]

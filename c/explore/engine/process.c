@@ -71,6 +71,10 @@ static bool is_locked_up(const void *context)
     const greg_t *registers = ((const ucontext_t *)context)->uc_mcontext.gregs;
     const unsigned char *at = (const unsigned char *)(uintptr_t)registers[REG_RIP];
     return registers[REG_RAX] == SYS_futex && at[0] == 0x0F && at[1] == 0x05;
+#elif defined(__linux__) && defined(__aarch64__)
+    const mcontext_t *registers = &((const ucontext_t *)context)->uc_mcontext;
+    const uint32_t *at = (const uint32_t *)(uintptr_t)registers->pc;
+    return registers->regs[8] == SYS_futex && *at == 0xD4000001; /* svc #0 */
 #else
     (void)context;
     return false;

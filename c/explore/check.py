@@ -709,7 +709,7 @@ FORM_FAULTS = {
     "poll": r"misuse: run calls poll at pthreads\.c:\d+, which the explorer can't schedule",
     "too_many": r"misuse: run calls pthread_create at pthreads\.c:\d+, but all 16 tasks are in use",
     "overflow": "crash: thread-1 overflows its stack of 65536 bytes",
-    "small_stack": "crash: thread-1 overflows its stack of 32768 bytes",
+    "small_stack": f"crash: thread-1 overflows its stack of {max(32768, os.sysconf('SC_THREAD_STACK_MIN'))} bytes",
 }
 
 # What is reported for these modes without the link form.

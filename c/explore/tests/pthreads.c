@@ -546,13 +546,20 @@ static void *recurse(void *depth)
     return depth == &count ? depth : (char *)recurse((char *)depth + 1) + room[0];
 }
 
+/* The least that this machine gives a thread, 128 KiB on arm64, or 32 KiB. */
+static size_t small_stack(void)
+{
+    long least = sysconf(_SC_THREAD_STACK_MIN);
+    return least > 32768 ? (size_t)least : 32768;
+}
+
 static void overflow(void)
 {
     pthread_t thread;
     pthread_attr_t how;
     pthread_attr_init(&how);
     if (is("small_stack"))
-        pthread_attr_setstacksize(&how, 32768);
+        pthread_attr_setstacksize(&how, small_stack());
     pthread_create(&thread, &how, recurse, NULL);
     joined(thread);
 }

@@ -177,9 +177,9 @@ static void *receive(void *unused)
 /* --- the senders --- */
 
 static struct {
-    pthread_mutex_t lock;
     unsigned tail;
-} transmit = {PTHREAD_MUTEX_INITIALIZER, 0};
+    pthread_mutex_t lock;
+} transmit = {0, PTHREAD_MUTEX_INITIALIZER};
 
 static struct {
     pthread_mutex_t lock;

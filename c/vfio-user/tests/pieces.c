@@ -148,7 +148,8 @@ static void open_for(void)
     close(file);
 }
 
-/* A client has a maximum number of windows. Windows without ranges make room for others. */
+/* A client has a maximum number of windows. Windows without ranges make room for others. They don't touch in the file:
+   a kernel that allocates memory upwards lists adjoining mappings as one. */
 static void windows_most(void)
 {
     const struct memory_limits before = *memory_map_limits();
@@ -158,12 +159,12 @@ static void windows_most(void)
     memory_map_limit(&few);
     memory_map_begin(&map, 0);
     for (uint64_t i = 0; i < 3; i++)
-        CHECK(add_piece(i * PAGE, PAGE, file, i * 16 * MEBIBYTE, true) == 0);
+        CHECK(add_piece(i * PAGE, PAGE, file, i * 32 * MEBIBYTE, true) == 0);
     CHECK(add_piece(3 * PAGE, PAGE, others[0], 0, true) == ENOBUFS && map.file_count == 1);
     CHECK(add_piece(3 * PAGE, PAGE, file, MEBIBYTE, true) == 0);
     CHECK(memory_map_remove(&map, PAGE, 2 * PAGE) == 0 && mappings() == 3);
     CHECK(add_piece(PAGE, PAGE, others[0], 0, true) == 0 && add_piece(2 * PAGE, PAGE, others[1], 0, true) == 0);
-    CHECK(add_piece(4 * PAGE, PAGE, file, 16 * MEBIBYTE, true) == ENOBUFS);
+    CHECK(add_piece(4 * PAGE, PAGE, file, 32 * MEBIBYTE, true) == ENOBUFS);
     few.windows = before.windows;
     few.bytes = 20 * MEBIBYTE; /* 40 MiB of windows: one wide, then as narrow as the range */
     memory_map_limit(&few);

@@ -15,6 +15,7 @@
 #include "notifier.h"
 #include "options.h"
 #include "server.h"
+#include "tests/peer/kernel.h"
 
 static void *read_all(void *given)
 {
@@ -51,7 +52,8 @@ static void start(const char *const *words, struct sockaddr_un *name, socklen_t 
     snprintf(word, sizeof word, "--fd=%d", listening(name, length));
     for (; *words; words++)
         all[count++] = (char *)(uintptr_t)*words;
-    MUST(ending_open() && notifier_open() && memory_map_guard() && closer_start());
+    MUST(notifier_open() || !kernel_has_reads());
+    MUST(ending_open() && memory_map_guard() && closer_start());
     MUST(options_read(&server.options, count, all) == OPTIONS_GO && server_open(&server));
     MUST(pthread_create(&thread, NULL, serve, &server) == 0);
 }

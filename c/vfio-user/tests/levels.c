@@ -6,6 +6,7 @@
 
 #include "../../tests/check.h"
 #include "nic82599.h"
+#include "peer/kernel.h"
 #include "peer/peer.h"
 
 enum { INTX, MSI, MSIX }; /* kinds of interrupts, as the protocol numbers them */
@@ -265,6 +266,7 @@ int main(void)
 {
     static const char *const words[] = {"--functions=1", "--quiet", NULL};
     const char *path = server_start(words);
+    bool has_reads = kernel_has_reads();
     struct peer function;
     char its[120];
     snprintf(its, sizeof its, "%s.vf0", path);
@@ -277,9 +279,11 @@ int main(void)
     level();
     kept_down();
     eventfd_comes_and_goes();
-    unmasked_by_an_eventfd();
-    unmask_comes_and_goes();
-    one_for_both();
+    if (has_reads) {
+        unmasked_by_an_eventfd();
+        unmask_comes_and_goes();
+        one_for_both();
+    }
     no_eventfd();
     messages();
     with_msix();
@@ -289,6 +293,7 @@ int main(void)
     server_stop();
     close(event);
     close(unmask);
-    printf("levels: passed\n");
+    printf("levels: passed%s\n",
+           has_reads ? "" : "; not tried, since this kernel has no asynchronous reads: an unmask by an eventfd");
     return 0;
 }

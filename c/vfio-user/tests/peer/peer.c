@@ -17,6 +17,7 @@
 #include "closer.h"
 #include "ending.h"
 #include "explain.h"
+#include "kernel.h"
 #include "log.h"
 #include "notifier.h"
 #include "options.h"
@@ -37,7 +38,8 @@ static int serve(const char *const *words)
     snprintf(path, sizeof path, "--socket-path=%s", server_path);
     for (; *words; words++)
         all[count++] = (char *)(uintptr_t)*words;
-    if (!ending_open() || !notifier_open() || !memory_map_guard() || !closer_start() || !explain_start() ||
+    bool has_notifier = notifier_open() || !kernel_has_reads();
+    if (!ending_open() || !has_notifier || !memory_map_guard() || !closer_start() || !explain_start() ||
         options_read(&it.options, count, all) != OPTIONS_GO || (it.options.record && !nic_record(it.options.record)) ||
         !server_open(&it))
         return 2;

@@ -1,0 +1,67 @@
+/* Whether a process forks while other threads of it make threads, and the child makes one, as a test in Rust does that
+   makes threads in a schedule's process: status 0, or 1 where such a child hangs. Under QEMU's user emulation it does: a
+   lock of the emulator's own stays taken in the child. */
+#define _DEFAULT_SOURCE
+#include <pthread.h>
+#include <signal.h>
+#include <stdbool.h>
+#include <stdio.h>
+#include <sys/wait.h>
+#include <time.h>
+#include <unistd.h>
+
+enum { FORKS = 100, MAKERS = 2, MOST_SECONDS = 30 };
+
+static void *nothing(void *unused)
+{
+    return unused;
+}
+
+static void make_a_thread(void)
+{
+    pthread_t thread;
+    if (pthread_create(&thread, NULL, nothing, NULL) == 0)
+        pthread_join(thread, NULL);
+}
+
+static void *make_threads(void *unused)
+{
+    for (;;)
+        make_a_thread();
+    return unused;
+}
+
+/* Whether a child ends in that time; one that doesn't is killed. */
+static bool ends(pid_t child)
+{
+    time_t began = time(NULL);
+    while (waitpid(child, NULL, WNOHANG) == 0) {
+        if (time(NULL) - began > MOST_SECONDS) {
+            kill(child, SIGKILL);
+            waitpid(child, NULL, 0);
+            return false;
+        }
+        usleep(1000);
+    }
+    return true;
+}
+
+int main(void)
+{
+    pthread_t makers[MAKERS];
+    for (int k = 0; k < MAKERS; k++)
+        if (pthread_create(&makers[k], NULL, make_threads, NULL) != 0)
+            return 2;
+    for (int k = 0; k < FORKS; k++) {
+        pid_t child = fork();
+        if (child < 0)
+            return 2;
+        if (child == 0) {
+            make_a_thread();
+            _exit(0);
+        }
+        if (!ends(child))
+            _exit(1);
+    }
+    _exit(0);
+}

@@ -1,6 +1,6 @@
 /* Whether a process forks while other threads of it make threads, and the child makes one, as a test in Rust does that
-   makes threads in a schedule's process: status 0, or 1 where such a child hangs. Under QEMU's user emulation it does: a
-   lock of the emulator's own stays taken in the child. */
+   makes threads in a schedule's process. Status 0, or 1 where such a child hangs: under QEMU's user emulation it does,
+   since a lock of the emulator's own stays taken in the child. */
 #define _DEFAULT_SOURCE
 #include <pthread.h>
 #include <signal.h>

@@ -160,12 +160,12 @@ module _ (r : Running) (p : Packet) where
       during_by x.fault (is_own r.arena) (outgoing_of p).blocks old new (halves_of r) (sent_may r p up goes)
       (outstanding_may r up) faults
 
-  pub sent_during : (up : IsUp r) (x : TxFault) (old new : List Call) → MayAnswer r p (Err x)
+  pub fault_during : (up : IsUp r) (x : TxFault) (old new : List Call) → MayAnswer r p (Err x)
       → FaultsBy x.fault (outgoing_of p).blocks old r.transmit new → IsDuring old new x.fault
-  sent_during up = during_way up (way r p up)
+  fault_during up = during_way up (way r p up)
 
   pub sent_during : (up : IsUp r) (x : Result TxAnswer TxFault) (old new : List Call) → MayAnswer r p x
       → IfErr x (λ failed. FaultsBy failed.fault (outgoing_of p).blocks old r.transmit new)
       → IfSome (failed_in x) (λ f. IsDuring old new f)
   sent_during up (Ok y) old new answer faults = tt
-  sent_during up (Err y) old new answer faults = sent_during up y old new answer faults
+  sent_during up (Err y) old new answer faults = fault_during up y old new answer faults

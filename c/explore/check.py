@@ -698,7 +698,7 @@ def check_kit(kit: Kit) -> str:
 FORM_FAULTS = {
     "orders": r"deadlock: (run|thread-1) waits for (first|second) at pthreads\.c:\d+, held by (run|thread-1) since "
     r"pthreads\.c:\d+; (run|thread-1) waits for (first|second) at pthreads\.c:\d+, held by",
-    "again": r"deadlock: run waits for first at pthreads\.c:\d+, and holds it itself since pthreads\.c:\d+",
+    "again": r"deadlock: run waits for first at pthreads\.c:\d+, but holds it itself since pthreads\.c:\d+",
     "held": r"misuse: thread-1 ends while it holds first, taken at pthreads\.c:\d+",
     "not_held": r"misuse: run unlocks first at pthreads\.c:\d+ without holding it",
     "destroyed": r"misuse: run uses first at pthreads\.c:\d+ after it was destroyed",

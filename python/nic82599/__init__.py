@@ -417,7 +417,8 @@ def record(path: str | os.PathLike[str] | None) -> bool:
     with a message on standard error, if the file can't be written. Until this is called, the environment variable
     NIC82599_RECORD supplies the path. `tools/nicview PATH` draws a recording.
 
-    >>> record(None) True
+    >>> record(None)
+    True
     """
     name = None if path is None else os.fsencode(path)
     if name and b"\0" in name:

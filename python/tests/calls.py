@@ -279,7 +279,7 @@ class Registers(unittest.TestCase):
                 call()
 
     def test_taken_block(self) -> None:
-        with self.assertRaisesRegex(nic82599.NoBlock, "can be lent: it is lent already, or there is none. .lend 0.$"):
+        with self.assertRaisesRegex(nic82599.NoBlock, "can't be lent: it is already lent or doesn't exist. .lend 0.$"):
             self.nic.lend(0, 0)
 
     def test_in(self) -> None:

@@ -75,7 +75,7 @@ USES = [
     (["nicview", "examples/fault.nic"], "", 2, "refused UnknownName 2"),
     (["nicview", "nowhere.nic"], "", 2, "can't be read"),
     (["nicview", "-", "--text"], "w RXCTRL 1\n", 0, "RXEN 1"),
-    (["nicview", "examples/first.nic", "--svg", "9"], "", 2, "there is no step 9"),
+    (["nicview", "examples/first.nic", "--svg", "9"], "", 2, "no step 9: the run has 2 steps"),
     (["nicview", "examples/first.nic", "--vfs", "64"], "", 3, "from 0 to 63"),
     (["nicview", "-", "--text"], "expect 1\n", 1, "failed 0"),
     (["nicview", "-"], "#" * 8_388_609, 2, "too long"),
@@ -99,31 +99,31 @@ USES = [
     (["niclint", "-"], "jmp on\nonn:\n", 2, "no label on; near: onn"),
     (["niclint", "-"], "w GPIE\nrx\nw RDTX 1\ndata x 0\narrive x\n", 2, "-:1:7: refused Syntax: w needs TARGET"),
     (["niclint", "-"], "w GPIE\nrx\nw RDTX 1\ndata x 0\narrive x\n", 2, "^\n-:3:3: refused UnknownName: no"),
-    (["niclint", "-"], "jmp on\nw RDTX 1\ndata x 0\narrive x\n", 2, "expected two digits a byte, but there are 1"),
+    (["niclint", "-"], "jmp on\nw RDTX 1\ndata x 0\narrive x\n", 2, "expected two digits per byte, but there are 1"),
     (["niclint", "-"], "data x 0\npoke 0 x\narrive y\n", 2, "^\n-:3:8: refused UnknownLabel: no data y; near: x"),
     (["niclint", "-"], "a: rx\njmp a\nb:\nb:\n", 2, "^\n-:4:1: refused TwoLabels"),
     (["niclint", "-"], "rx\n" * 4_097 + "w RDTX 1\n", 2, "^\n-:4098:3: refused UnknownName: no register RDTX"),
-    (["niclint", "-"], "nope\n" * 150, 2, "-: further lines may be refused; 100 are shown"),
+    (["niclint", "-"], "nope\n" * 150, 2, "-: further lines may be refused; the first 100 are shown"),
     (["niclint", "-"], "#: nic vfs 2 fifo 64 blocks 256\nw x\nrx\nrz\n", 2, "-:4: this line of a recording"),
-    (["niclint", "-"], "w 0x10140 1\n", 1, "0x10140 is SWSM, which the bench hasn't"),
+    (["niclint", "-"], "w 0x10140 1\n", 1, "0x10140 is SWSM, which the bench doesn't model"),
     (["niclint", "-"], "w RDT[1] 1\nw RXDCTL[1] 0x02000000\n", 1, "RDT[1] is written before RXDCTL[1].ENABLE reads 1"),
-    (["niclint", "-"], "w EIMS 0x100000\n", 1, "IVAR_MISC gives no vector"),
+    (["niclint", "-"], "w EIMS 0x100000\n", 1, "IVAR_MISC assigns no vector"),
     (["niclint", "-"], "#: nic vfs 2 fifo 64 blocks 256\nvr 1 0x0 # 0\n", 0, "1 instructions, no warnings"),
     (["niclint", "-", "--trace"], "#: nic vfs 2 fifo 1 blocks 256\nvr 2 0x0 # 0\n", 1, "stray"),
-    (["niclint", "-"], "w GPIE 0x10000\n", 1, "bits 0x00010000 of the word are reserved"),
-    (["niclint", "-"], "w EIMC 0x7fffffff\nw EIMC 0xffffffff\nw EICR 0x7fffffff\n", 0, "nothing to say"),
-    (["niclint", "-"], "w RDRXCTL 0x0000000a\n", 0, "nothing to say"),
+    (["niclint", "-"], "w GPIE 0x10000\n", 1, "bits 0x00010000 are reserved"),
+    (["niclint", "-"], "w EIMC 0x7fffffff\nw EIMC 0xffffffff\nw EICR 0x7fffffff\n", 0, "no warnings"),
+    (["niclint", "-"], "w RDRXCTL 0x0000000a\n", 0, "no warnings"),
     (["niclint", "-"], "w RDLEN[0] 0x40\n", 1, "RDLEN[0] doesn't keep bits 0x00000040"),
     (["niclint", "-", "--trace"], "vr 0 0x0108\n", 1, "step 0: vr 0 0x0108 (VTEIMS) -> stray 0xffffffff: "),
     (["nicview", "-", "--text"], "vr 0 0x1058 # mine\n", 0, "vr 0 0x1058    # VFRDT[1]; mine\n"),
-    (["niclint", "-"], "w EIMC 0x00800000\n", 1, "bits 0x00800000 of the word are reserved"),
-    (["niclint", "examples/first.nic"], "", 0, "nothing to say"),
+    (["niclint", "-"], "w EIMC 0x00800000\n", 1, "bits 0x00800000 are reserved"),
+    (["niclint", "examples/first.nic"], "", 0, "no warnings"),
     (["niclint", "-"], "w TXDCTL[0] 0x02000000\nw DMATXCTL 1\nqstep tx 0\n", 1, "before DMATXCTL.TE is 1"),
     (["niclint", "examples/tail.debug", "--trace"], "", 1, "head and tail meet"),
     (["niclint", "dev/views/loop.nic", "--trace"], "", 1, "step 36: expect 4 -> failed: acc is 0x00000003"),
     (["nicdebug", "examples/tail.debug"], "break 10\nc\ns\nwhy\nfoo\nshow GPRC\nquit\n", 0, "GPRC  0x04074 0x00000001"),
     (["nicdebug", "examples/tail.debug"], "s # one\n\nquit\n", 0, "(nic) s # one\n    4  lend 0    -> done\nat 1 pc 1"),
-    (["nicdebug", "examples/tail.debug"], "back\nq\n", 0, "(nic) back\nrefused AtStart: only 0 steps were made\n(nic)"),
+    (["nicdebug", "examples/tail.debug"], "back\nq\n", 0, "(nic) back\nrefused AtStart: only 0 steps were taken\n(nic)"),
     (["nicdebug", "examples/receive.nic"], "c\npeek 0\npeek 0x800\n", 0, "1001000000000000030000003c000000"),
     (["nicdebug", "dev/views/eight.nic"], "continue fault\n", 0, "-> dropped no slot\nat 146 pc 146 acc 0x00000001"),
     (["nicdebug", "dev/views/eight.nic"], "c fault\nc fault\n", 0, "-> fault queue 5 outside\nat 153 pc 153 acc"),
@@ -136,15 +136,15 @@ USES = [
 # tools/niclint's warnings in the examples, each announced by its example: an access to no register and a write of
 # reserved bits, to show their effects, and a forgotten tail.
 WARNED = {
-    "aliases.nic": ["0x0000c names no register"],
-    "masks.nic": ["RDT[127]: bits 0x12340000 of the word are reserved"],
+    "aliases.nic": ["0x0000c isn't a register"],
+    "masks.nic": ["RDT[127]: bits 0x12340000 are reserved"],
     "tail.debug": ["RDT[0] is never written"],
 }
 
 
 # A script with two warnings and a step that does nothing, and the steps that niclint warns about.
 WARNS = "w EIMC 0x7fffffff\nw RXDCTL[0] 0x02000000\nr STATUS\nrx\nw GPIE 0x10000\nr STATUS\n"
-WARNS_AT = {1: "no `qstep rx 0` follows", 4: "bits 0x00010000 of the word are reserved"}
+WARNS_AT = {1: "no `qstep rx 0` follows", 4: "bits 0x00010000 are reserved"}
 
 
 def sixteen_script() -> str:

@@ -158,7 +158,7 @@ def check_growing(folder: Path, expect: Expect) -> None:
         alike(part, file, sum(map(is_event, lines[:40])), expect, "written again")
         file.unlink()
         said = it.until(lambda it: "any longer" in it["said"])["said"]
-        expect("any longer" in said, f"live: a file that went: {said!r}")
+        expect("no longer exists" in said, f"live: a file that went: {said!r}")
         status, seconds, said = it.end()
         expect(status == 0 and seconds < 20, f"live: ctrl-C: status {status} after {seconds:.0f} s, {said!r}")
 
@@ -311,7 +311,7 @@ def check_guest(folder: Path, expect: Expect) -> None:
         asked = server.stdout.read().splitlines()
         expect(asked == ["hold", "due", "tx 3", "why", "link down", "rx"], f"live: the card was asked {asked}")
         made = json.loads(it.ask("ask", "POST", "hold")[1])
-        expect("no server is at" in made["wrong"], f"live: the card has gone: {made}")
+        expect("no server at" in made["wrong"], f"live: the card has gone: {made}")
     path.unlink()
     with card(path):
         try:

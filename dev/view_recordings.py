@@ -198,7 +198,7 @@ def check_refused(folder: Path, expect: Expect) -> None:
     ran = subprocess.run(words, capture_output=True, text=True, check=False)
     expect(ran.returncode == 0 and "ok 1" in ran.stdout, f"a recording whose last line is cut: {ran.stderr}")
     ran = subprocess.run([*words, "--vfs", "1"], capture_output=True, text=True, check=False)
-    expect(ran.returncode == 2 and "leave --vfs and --fifo out" in ran.stderr, f"--vfs of a recording: {ran.stderr}")
+    expect(ran.returncode == 2 and "omit --vfs and --fifo" in ran.stderr, f"--vfs of a recording: {ran.stderr}")
 
 
 def check_restored(folder: Path, expect: Expect) -> None:
@@ -243,10 +243,10 @@ def check_long(folder: Path, expect: Expect) -> None:
     lines = len(file.read_text().splitlines())
     check_tool(["niclint", file], "", 1, [f"{file}:{lines - 3}: warning: 0x10140 is SWSM"], expect)
     dropped = f"{file}:{lines}: step 3: rx -> dropped queue off: RXDCTL[0].ENABLE 0: the queue is off"
-    check_tool(["niclint", file, "--trace", "--limit", 3], "", 1, [dropped, "6,002 events came before", "ok 4"], expect)
-    check_tool(["niclint", file, "--vfs", "1"], "", 2, ["leave --vfs and --fifo out"], expect)
+    check_tool(["niclint", file, "--trace", "--limit", 3], "", 1, [dropped, "6,002 events precede the first step shown", "ok 4"], expect)
+    check_tool(["niclint", file, "--vfs", "1"], "", 2, ["omit --vfs and --fifo"], expect)
     lint = run_tool(["niclint", "-", "--trace"], file.read_text())[1]
-    expect("6,004" not in lint and "1,909 events came before" in lint, f"niclint of standard input: {lint[-300:]}")
+    expect("6,004" not in lint and "1,909 events precede the first step shown" in lint, f"niclint of standard input: {lint[-300:]}")
     for limit, count in ((None, "6005"), (5, "6")):
         words = ["nicdebug", file, *(["--limit", limit] if limit else [])]
         shown = [f"at {count} pc {count} acc 0x00000000 ended: ok {count}", "GPRC  0x04074 0x00000001"]
@@ -338,7 +338,7 @@ def check_no_bytes(folder: Path, expect: Expect) -> None:
     answers = [line.split(" ", 1)[1] for line in Bench().run(text, 100)]
     expect(answers[-3:] == ["dropped short", "dropped filter", "4"], f"a frame without bytes is answered {answers}")
     run = of_recording(str(file))
-    is_right = not run.notes and "the frame has 0 bytes, of 60 at least" in str(run.reasons)
+    is_right = not run.notes and "the frame has 0 bytes; the minimum is 60" in str(run.reasons)
     expect(is_right, f"a frame without bytes: {run.notes}, {run.reasons}")
     check_tool(["nicview", file, "--script"], "", 0, ["data d0 00  #: no bytes\n"], expect)
     check_tool(["nicdebug", file], "s 3\nwhy\n", 0, ["the frame has 0 bytes"], expect)
@@ -415,7 +415,7 @@ def check_history(folder: Path, expect: Expect) -> None:
     expect(is_it, f"a script of snapshots: status {status}, {out}")
     file.write_text(file.read_text() + "#: text 73697a652036340a\nr 0x10010 # word 0x00000300\n")
     check_tool(["nicview", file, "--script"], "", 1, ["can't install an EEPROM image"], expect)
-    check_tool(["nicview", ROOT / "examples/first.nic", "--script"], "", 2, ["is no recording"], expect)
+    check_tool(["nicview", ROOT / "examples/first.nic", "--script"], "", 2, ["isn't a recording"], expect)
 
 
 def in_place_recording(folder: Path) -> Path | None:

@@ -243,10 +243,12 @@ def check_long(folder: Path, expect: Expect) -> None:
     lines = len(file.read_text().splitlines())
     check_tool(["niclint", file], "", 1, [f"{file}:{lines - 3}: warning: 0x10140 is SWSM"], expect)
     dropped = f"{file}:{lines}: step 3: rx -> dropped queue off: RXDCTL[0].ENABLE 0: the queue is off"
-    check_tool(["niclint", file, "--trace", "--limit", 3], "", 1, [dropped, "6,002 events precede the first step shown", "ok 4"], expect)
+    parts = [dropped, "6,002 events precede the first step shown", "ok 4"]
+    check_tool(["niclint", file, "--trace", "--limit", 3], "", 1, parts, expect)
     check_tool(["niclint", file, "--vfs", "1"], "", 2, ["omit --vfs and --fifo"], expect)
     lint = run_tool(["niclint", "-", "--trace"], file.read_text())[1]
-    expect("6,004" not in lint and "1,909 events precede the first step shown" in lint, f"niclint of standard input: {lint[-300:]}")
+    is_said = "6,004" not in lint and "1,909 events precede the first step shown" in lint
+    expect(is_said, f"niclint of standard input: {lint[-300:]}")
     for limit, count in ((None, "6005"), (5, "6")):
         words = ["nicdebug", file, *(["--limit", limit] if limit else [])]
         shown = [f"at {count} pc {count} acc 0x00000000 ended: ok {count}", "GPRC  0x04074 0x00000001"]

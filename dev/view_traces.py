@@ -105,7 +105,8 @@ def check_capture(folder: Path, expect: Expect) -> None:
     check_tshark(made, got, expect)
     for words, says in (([made, file, "--queue", 2], "0 frames in, 2 out"), ([made, file, "--limit", 3], "0 in")):
         status, said = run_tool([ROOT / "tools/nic2pcap", *words])
-        expect(status == 0 and (says in said or "events precede the first step shown" in said), f"nic2pcap {words}: {said}")
+        is_said = says in said or "events precede the first step shown" in said
+        expect(status == 0 and is_said, f"nic2pcap {words}: {said}")
     status, said = run_tool([ROOT / "tools/nic2pcap", made, ROOT / "examples/fault.nic"])
     expect(status == 2 and "refused UnknownName 2" in said, f"nic2pcap of a refused script: status {status}, {said}")
     status, said = run_tool([ROOT / "tools/nic2pcap", made, ROOT / "dev/views/found.nic"])

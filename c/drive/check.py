@@ -436,7 +436,7 @@ ADAPTER_FOLDER = C / "examples/adapter"
 MISTAKES: list[tuple[str, str, list[str], str]] = [
     ("    os_write32(RXCTRL, 1);\n", "", [], r"RXCTRL\.RXEN 0: receiving is off"),
     ("    os_write32(RDT0, slot);\n", "", [], r"rx 0: RDH\[0\] 63, RDT\[0\] 63: head and tail meet"),
-    ("TX_DATA (3u << 20", "TX_DATA (2u << 20", [], r"tx 0: slot 6: the descriptor's DTYP is 2, a context"),
+    ("TX_DATA (3u << 20", "TX_DATA (2u << 20", [], r"tx 0: slot 6: the descriptor's DTYP is 2 .context. with EOP 1"),
     ("1u << 25 | 1u << 27)", "1u << 25)", [], r"tx 0: TDH\[0\] 63: no descriptor of the ring has RS"),
 ]
 # The function that wrote. The proved library has no unwind tables, so the stack may end at its first function.

@@ -38,7 +38,8 @@ LONG_NUMBERS: list[tuple[str, list[str], int, str]] = [
         "#: nic vfs 0 fifo 0 blocks 2\nrx # idle\n",
         ["nicview --text", "nicview --script"],
         2,
-        " can't be replayed: The number of frames that may wait must be 1 to 4,096. (0 virtual functions, 0 frames, 2 blocks)",
+        " can't be replayed: The number of frames that may wait must be 1 to 4,096. "
+        "(0 virtual functions, 0 frames, 2 blocks)",
     ),
     (f"w RDT[0] {DIGITS}\n", ["niclint"], 2, ":1:10: refused Range: VALUE is at most 4294967295, not 999"),
     (f"w RDT[{DIGITS}] 1\n", ["niclint"], 2, ":1:3: refused Range: RDT has 128 registers"),

@@ -117,7 +117,7 @@ def difference(words: list[str], data: bytes, one: Answer, other: Answer) -> str
 
 
 def compared(pair: Programs, batch: list[Input]) -> tuple[int, list[str], list[Input]]:
-    """Returns how many inputs were compared, where answers differ, and the inputs of those."""
+    """Returns the number of inputs compared, a text for each difference, and the inputs that caused them."""
     found, inputs = [], []
     for words, data in batch:
         one, other = (answer_of(it, words, data) for it in pair)

@@ -1,7 +1,6 @@
-/* The right to access one client's memory. A function grants it for what its client sets up: a ring holds it, and so
-   do the descriptors read from that ring and the buffers that they name. There is no other way to the memory. The
-   right ends with its client. The next client of the socket has another, so leftovers of the last one can't reach
-   anything. */
+/* A capability for one client's memory. A function grants it to the rings that its client sets up; descriptors read
+   from a ring, and the buffers that they name, inherit it. Nothing else can reach the memory. The capability dies with
+   its client: the next client on the socket gets a new one, so stale state of the last one can't reach anything. */
 #ifndef VFU_DMA_H
 #define VFU_DMA_H
 

@@ -315,8 +315,8 @@ bool function_is_busy(const struct function *it)
     return session_is_busy(&it->session);
 }
 
-/* The rest of the card continues, as if this client's machine was switched off. The next client finds the function
-   after a reset. */
+/* The rest of the card keeps running, as if this client's machine had been switched off. The next client finds the
+   function freshly reset. */
 static void gone(struct function *it)
 {
     log_client(it->socket, LOG_CLIENT, "%s: its client disconnected", it->path);

@@ -44,7 +44,7 @@ def nicview() -> list[str]:
 
 
 def programs() -> list[Path]:
-    """Returns the programs of which nicview needs one; in a clone, those that ./nicbench starts, proved or plain."""
+    """Returns the candidate programs; one is enough for nicview. In a clone: the proved and the plain nicbench."""
     root = clone()
     if not root:
         return [prefix() / "bin/nicbench"]

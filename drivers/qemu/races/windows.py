@@ -77,7 +77,7 @@ def accesses(lines: Iterable[str]) -> Iterator[Access]:
 
 
 def windows(lines: Iterable[str]) -> Iterator[Window]:
-    """Each time the card was down, and last the accesses after it."""
+    """Yields a window for each time the card was down; one still open at the end of the recording comes last."""
     before: list[Access] = []
     window: Window | None = None
     for it in accesses(lines):

@@ -19,7 +19,7 @@ from nic82599.tools.script import Bench, Refused, of_text, script_part
 ROOT = Path(__file__).resolve().parent.parent
 LIMIT = 4_096
 STRICT = ["-std=c99", "-Wall", "-Wextra", "-pedantic", "-Werror"]
-# A script with each reply that isn't in an example, and comments that would end those of C and Python.
+# A script with every reply that no example has, and with texts that would end a comment in C or Python.
 HOSTILE = """# */ int x; /* ??/ \\
 data frame 0011\t# a tab */ \\
 data small 00112233445566778899aabbccddeeff
@@ -118,7 +118,7 @@ def fails(kit: Kit, tests: tuple[str, str]) -> None:
 
 
 def check_as_tests(kit: Kit, names: Iterable[Path]) -> str:
-    """Checks the tests of these scripts, and of a script with all odd cases."""
+    """Checks the tests generated from these scripts and from HOSTILE, a script of odd cases."""
     count = 0
     for path in names:
         try:

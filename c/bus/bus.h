@@ -40,9 +40,9 @@ enum bus_answer {
     BUS_ALL = 255
 };
 
-/* The queue register that an access goes to. */
+/* The kind of queue register that an access addresses. */
 enum bus_part {
-    BUS_OTHER, /* none of the others */
+    BUS_OTHER, /* not a queue register listed below */
     BUS_BASE_LOW,
     BUS_BASE_HIGH,
     BUS_LENGTH,
@@ -171,7 +171,7 @@ unsigned int bus_pool_queues(const struct bus *it);
 typedef void bus_sink(void *of, uint16_t queue, const uint8_t *frame, size_t length);
 void bus_send_to(struct bus *it, bus_sink *sink, void *of);
 
-/* Puts a frame on the link. Returns whether the device let it in. */
+/* Puts a frame on the link. Returns whether the device accepted it. */
 bool bus_arrive(struct bus *it, const uint8_t *frame, size_t length);
 
 /* Runs receive steps until the device has nothing to do. Returns the number of descriptors filled. */
@@ -202,7 +202,7 @@ bool bus_line(const struct bus *it);
    none. */
 unsigned int bus_answers(const struct bus *it);
 unsigned int bus_answer_named(const char *name);
-/* Prints a line for each of these answers. */
+/* Prints a line for each answer in the set. */
 void bus_tell_answers(unsigned int answers);
 
 #endif

@@ -33,7 +33,7 @@ bool frame_is(const struct frame *frame, const void *bytes, size_t length);
    and returns its length in bytes, 0 if the frame isn't IP. */
 size_t frame_hashed(const struct frame *frame, size_t *at);
 
-/* A FIFO of frame numbers: those that a queue or a peer sends next. */
+/* A FIFO of the numbers of the frames that a queue or a peer sends next. */
 struct line_up {
     uint32_t *numbers;
     unsigned int room, put, taken;

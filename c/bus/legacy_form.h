@@ -12,13 +12,13 @@ struct legacy_sum {
     uint8_t start, at;
 };
 
-/* Returns whether a transmit descriptor is a legacy one, by its second half. */
+/* Returns whether a transmit descriptor with this second half is a legacy one. */
 bool legacy_is_transmit(uint64_t second);
 /* Converts that half to an advanced data descriptor's. If the descriptor requests a VLAN tag, VLE is set and *tag is
    its 16 bits. */
 uint64_t legacy_transmit(uint64_t second, struct legacy_sum *sum, uint16_t *tag);
-/* Converts the second half of an advanced write-back to that of a legacy receive descriptor. The first half remains the
-   buffer's address. */
+/* Converts the second half of an advanced write-back to the second half of a legacy receive descriptor. The first half
+   remains the buffer's address. */
 uint64_t legacy_written_back(uint64_t second);
 
 /* Return whether a queue's SRRCTL selects legacy descriptors, and the value that the device gets instead. */

@@ -14,7 +14,7 @@ static uint64_t print_of(const uint8_t *bytes, size_t length)
     return print;
 }
 
-/* Returns the place of a print: that of the number with this print, or a free one. */
+/* Returns the index in `places` of the frame with this print, or of a free place. */
 static uint32_t place_of(const struct numbered *it, uint64_t print)
 {
     uint32_t place = (uint32_t)(print >> 32) & (it->room - 1);

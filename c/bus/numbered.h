@@ -26,11 +26,11 @@ struct numbered {
     unsigned int early_count;
 };
 
-/* Makes the frames with these numbers in a single pass, FRAME_MIN to `most` bytes long. Returns false if memory runs
-   out. */
+/* Builds `count` frames in a single pass, FRAME_MIN to `most` bytes long. Returns false if memory runs out. */
 bool numbered_begin(struct numbered *it, unsigned int count, uint16_t most, const uint8_t to[6], const uint8_t from[6]);
-/* Makes the frames in pieces: numbered_start makes none, and each numbered_prepare makes the next ones, about this many
-   bytes. Frames may arrive meanwhile; more than NUMBERED_EARLY of them ahead of time count as wrong. */
+/* Build the frames in pieces: numbered_start builds none, and each numbered_prepare builds about `bytes` bytes of
+   further frames. Frames may arrive meanwhile. If more than NUMBERED_EARLY arrive before they are built, the excess
+   counts as wrong. */
 bool numbered_start(struct numbered *it, unsigned int count, uint16_t most, const uint8_t to[6], const uint8_t from[6]);
 void numbered_prepare(struct numbered *it, size_t bytes);
 /* Returns whether all frames are made. */

@@ -22,7 +22,7 @@ enum { NOTE_BYTES = 200, LINE = 64 };
 /* A handle that was never opened, or that nic_close ended. */
 #define IS_CLOSED(n) __builtin_expect(!(n)->device, 0)
 #define COLD static __attribute__((noinline, cold))
-/* Makes only the call if nothing is recorded or reported. Otherwise the code that follows makes it and writes its
+/* If nothing is recorded or reported, only makes the call. Otherwise the code after the macro makes it and writes its
    line. */
 #define UNLESS_WATCHED(n, call)                                                                                        \
     do {                                                                                                               \
@@ -742,7 +742,7 @@ static void name_step(uint16_t queues, uint16_t at, nic_outcome *outcome)
     }
 }
 
-/* Tries the steps in order until one did something, or none of a whole round did. */
+/* Tries the steps in order until one has work, or until a whole round had none. */
 static uint8_t next_step(nic *n, nic_settling *where, nic_outcome *outcome)
 {
     uint16_t places = (uint16_t)(3 * where->queues + 2 + GROUPS);

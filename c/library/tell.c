@@ -20,7 +20,7 @@ enum { MOST_KINDS = 64, NAME = 96, TEXT = 1024 };
 struct kind {
     struct kind *next;
     char name[NAME];
-    uint64_t count, printed; /* how many there were, and how many when the last line was printed */
+    uint64_t count, printed; /* number of events so far, and at the last printed line */
 };
 
 struct teller {

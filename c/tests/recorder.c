@@ -15,7 +15,7 @@ static const char *path_of(const char *name)
     return path;
 }
 
-/* Returns whether a text equals this one, with the library's edition for "%s". */
+/* Returns whether a text equals `form` with the library's edition in place of "%s". */
 static bool is_text(const char *text, const char *form)
 {
     char want[4096];
@@ -185,7 +185,7 @@ static void lent_to_pipe(void)
     CHECK(is_text(text, HEAD "lend 0                       # done\nlend 1                       # done\n"));
 }
 
-/* Consecutively lent blocks are in one line, whichever calls lend them. The file has it after each call. */
+/* Blocks lent one after another share one line, whichever calls lend them. The line is in the file after each call. */
 static void lent_ranges(void)
 {
     nic n;

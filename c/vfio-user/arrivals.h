@@ -1,6 +1,6 @@
-/* Frames that were let in and wait in front of the queues. The device doesn't report their number, so this counts them.
-   A frame is done when it is received or dropped, when it ends in a fault, or when the queue that it is being written
-   to is disabled. */
+/* Accepted frames that wait in front of the queues. The device doesn't report their number, so this counts them. A
+   frame is done when it is received or dropped, when it ends in a fault, or when the queue that it is being written to
+   is disabled. */
 #ifndef VFU_ARRIVALS_H
 #define VFU_ARRIVALS_H
 

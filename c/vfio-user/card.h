@@ -49,7 +49,8 @@ struct card_access {
 
 struct card {
     struct card_options options;
-    struct card_access accesses[CARD_ACCESSES]; /* the last ones; the next is stored at access_count modulo this */
+    /* the latest accesses; the next is stored at access_count modulo CARD_ACCESSES */
+    struct card_access accesses[CARD_ACCESSES];
     uint64_t access_count;
     struct bus *bus;
     struct offload *offload; /* null: none */
@@ -67,7 +68,7 @@ struct card {
     void *sink_to;
     struct arrivals arrivals;
     uint64_t lost_writes;   /* register writes while the card was being reset */
-    uint64_t long_by_tag;   /* frames let in although their tag made them longer than the device accepts */
+    uint64_t long_by_tag;   /* frames accepted although their tag made them longer than the device's limit */
     uint32_t reported_lost; /* bit per client socket: its first lost write was reported */
 };
 
@@ -95,7 +96,7 @@ bool card_may_serve(struct card *it, const struct function *function);
 /* Like card_may_serve after part of a message, but without a charge. */
 bool card_may_go_on(struct card *it, const struct function *function);
 
-/* Puts a frame on the link. Returns whether it was let in. */
+/* Puts a frame on the link. Returns whether the device accepted it. */
 bool card_arrive(struct card *it, const uint8_t *frame, size_t length);
 /* Return whether there is room for more frames in front of the queues, and whether one may come in this turn. */
 bool card_has_room(const struct card *it);
@@ -113,7 +114,7 @@ unsigned int card_messages(struct card *it);
 void card_transmit(struct card *it, uint16_t queue);
 /* Enables or disables a side of a queue as requested. Returns false if nothing was requested. */
 bool card_enable(struct card *it, bool is_transmit, uint16_t queue);
-/* Returns whether the last of these steps ended because the budget was spent, so that more is left for another
+/* Returns whether the last of these steps ended because the budget was spent. The remaining work needs another
    request. */
 bool card_has_left_some(const struct card *it);
 

@@ -1,6 +1,6 @@
 /* One client's socket. Bytes and files arrive in any pieces, and whole messages are taken out. Nothing in this file
    blocks: the caller polls for a client that sends in pieces. If a client doesn't read, its replies are kept, and it
-   isn't served while more than CHANNEL_KEPT bytes are. */
+   isn't served while they exceed CHANNEL_KEPT bytes. */
 #ifndef VFU_CHANNEL_H
 #define VFU_CHANNEL_H
 

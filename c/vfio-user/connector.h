@@ -13,7 +13,7 @@
 
 struct connector {
     struct helper helper;
-    bool is_asked;  /* an answer is pending */
+    bool is_asked;  /* a request is waiting for its answer */
     uint64_t asked; /* time of the last request, by budget_time */
 };
 
@@ -30,8 +30,8 @@ void connector_end(struct connector *it);
 void connector_ask(struct connector *it);
 /* Returns the file to poll for an answer; -1 if none is pending. */
 int connector_file(const struct connector *it);
-/* Returns the stream of an answer that has arrived, which the caller then owns; -1 if there is none, or nobody listens
-   there. */
+/* Returns the connected stream, which the caller then owns; -1 if the answer hasn't arrived, or the socket has no
+   listener. */
 int connector_take(struct connector *it);
 /* Like connector_take, but at the start: works for datagrams too, and waits up to a second. */
 int connector_wait(struct connector *it);

@@ -23,7 +23,7 @@ struct session_calls {
     void (*rearmed)(void *function);
     /* a message was served; returns false if others have their turn before the next one */
     bool (*may_serve)(void *function);
-    /* part of a message was served; returns false if others have their turn before the rest */
+    /* called after part of a message; returns false if others have their turn before the rest of it */
     bool (*may_go_on)(void *function);
 };
 
@@ -49,8 +49,7 @@ struct session {
     struct session_counts counts;
 };
 
-/* `has_line`: INTx and MSI in addition to the vectors of MSI-X. `owner`: a number for this session alone, for
-   closer.h. */
+/* `has_line`: INTx and MSI in addition to the vectors of MSI-X. `owner`: this session's unique number for closer.h. */
 void session_begin(struct session *it, const struct session_calls *calls, void *function, unsigned int vectors,
                    bool has_line, unsigned int owner);
 /* A client has connected. The session now owns its socket. */

@@ -18,7 +18,7 @@ struct traffic {
     unsigned int next, last; /* numbers of frames to the card */
     uint16_t most;
     struct numbered expected; /* frames that the card should send */
-    /* For tests: corrupt one byte of the frame with this number to the card, and of the one from it; 0: none */
+    /* For tests: numbers of the frames to and from the card in which one byte is corrupted; 0: none */
     unsigned int turn_in, turn_out, taken;
     struct frame frame;
 };

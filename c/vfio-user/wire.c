@@ -170,7 +170,7 @@ static void capture(struct wire *it, enum capture_direction direction, const uin
     output_end(&it->capture, 0);
 }
 
-/* Keeps what comes back for a frame of this sender. Returns whether it was kept. */
+/* Keeps a reply to a frame of this sender, or the frame's copy from the hairpin. Returns whether it was kept. */
 static bool comes_back(struct wire *it, unsigned int sender, const uint8_t *frame, size_t length)
 {
     return keep(it, &it->local[sender % WIRE_SENDERS], WIRE_COMING_BACK, frame, length);
@@ -317,7 +317,7 @@ size_t wire_next(struct wire *it, bool plays)
     it->others_turn = !it->others_turn;
     if (!length)
         return 0;
-    if (length < FRAME_LEAST) { /* the sender on a wire pads */
+    if (length < FRAME_LEAST) { /* on a real wire the sender pads short frames */
         memset(it->frame + length, 0, FRAME_LEAST - length);
         length = FRAME_LEAST;
     }

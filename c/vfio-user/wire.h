@@ -27,10 +27,10 @@ enum wire_kind { WIRE_NONE, WIRE_RESPOND, WIRE_STREAM, WIRE_LISTEN, WIRE_DGRAM }
 struct wire_options {
     enum wire_kind kind;
     uint32_t address;        /* the responder's IPv4 address, first byte in bits 31:24 */
-    const char *path, *peer; /* the socket; dgram: also the other end's */
-    bool has_hairpin;        /* what goes out comes back in, as from a switch between functions */
-    const char *capture;     /* file for all frames; null: none */
-    const char *play;        /* frames of this file go to the card; null: none */
+    const char *path, *peer; /* the socket; dgram: also the other end's socket */
+    bool has_hairpin;        /* sent frames also return to the card, as from a switch between its functions */
+    const char *capture;     /* file that captures all frames; null: none */
+    const char *play;        /* file of frames to send to the card; null: none */
     bool is_confined;        /* the process that connects gives up its rights */
 };
 
@@ -52,7 +52,7 @@ struct wire {
     struct buffer in;                  /* bytes received from a stream */
     struct buffer local[WIRE_SENDERS]; /* replies and hairpins for each sender, after their lengths */
     unsigned int next_local;           /* the sender with the next turn */
-    bool others_turn;                  /* the other end or the file has its turn before them */
+    bool others_turn;                  /* before `local`, the other end or the played file has its turn */
     struct output capture;
     FILE *played;
     struct capture_reader play;
@@ -73,15 +73,15 @@ bool wire_is_gone(const struct wire *it);
 /* Sends a frame of the card. `sender` is the owner of its ring. */
 void wire_send(struct wire *it, unsigned int sender, const uint8_t *frame, size_t length);
 /* Takes the next frame for the card, padded to 60 bytes, into it->frame. Returns its length; 0 if none is waiting. With
-   `plays`, this includes the file's frames. What comes back for each sender and what the other end sends take turns:
-   none starves the others. */
+   `plays`, this includes the file's frames. Replies and hairpins for each sender and frames from the other end take
+   turns, so none starves the others. */
 size_t wire_next(struct wire *it, bool plays);
 
 /* Fills in WIRE_POLLS entries to poll; unused ones have file -1. `takes`: the card has room for frames. */
 void wire_polls(const struct wire *it, struct pollfd *polls, bool takes);
 /* Handles the results. */
 void wire_serve(struct wire *it, const struct pollfd *polls);
-/* Returns whether frames wait that need no poll, with `plays` those of the file included. */
+/* Returns whether frames are waiting that need no poll. With `plays`, this includes the file's frames. */
 bool wire_has_more(const struct wire *it, bool plays);
 /* Returns the milliseconds until it has to be served without an event, to connect again; -1: never. */
 int wire_patience(const struct wire *it);

@@ -19,7 +19,7 @@ A row in which nothing failed passes if it reached what it tries, for example fr
 frames were in flight. Otherwise it is "not reached", with what is missing.
 
 A file of --require lists rows, one per line, each with its points (1 by default); a comment begins with '#'. Only these
-rows run, and those of --rows. The points are printed, and written to points.txt and, as JUnit, to points.xml. A row
+rows and the rows of --rows run. The points are printed, and written to points.txt and, as JUnit, to points.xml. A row
 that isn't applicable earns no points.
 
 Exit status: 0 each row that applies passed, with --require each row of its files; 1 one didn't, or with --compare one
@@ -95,7 +95,7 @@ def words() -> argparse.Namespace:
 
 
 def chosen(rows: list[Row], names: str | None) -> list[Row]:
-    """Returns the rows that --rows selects by name or family, or else by a prefix of their names."""
+    """Returns the rows that --rows selects by name or family; if there are none, by a prefix of their names."""
     if names is None:
         return rows
     wanted = set()
@@ -112,7 +112,7 @@ def chosen(rows: list[Row], names: str | None) -> list[Row]:
 
 
 def asked_for(rows: list[Row], given: argparse.Namespace, milestones: list[require.Milestone]) -> list[Row]:
-    """Returns the rows of --rows and those of --require, or all rows if neither is given."""
+    """Returns the rows that --rows and --require select, or all rows if neither is given."""
     require.check_names(milestones, rows)
     if given.rows is None and not milestones:
         return rows

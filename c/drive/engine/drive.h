@@ -10,10 +10,10 @@
 
 enum {
     BLOCKS = 256, /* blocks of packet memory, as many as a failure's script has */
-    OTHERS = 248, /* first block of those that belong to others, whose part the card plays */
+    OTHERS = 248, /* first of the blocks that belong to other drivers, which the card plays */
     FIFO = 256,   /* capacity of the device's receive list, in frames */
     MOST_PIECES = 128,
-    MOST_OUT = 160,   /* frames that one schedule can send through a queue */
+    MOST_OUT = 160,   /* maximum number of frames sent through a queue in one schedule */
     MOST_REACHES = 8, /* requirements per row */
     MOST_THREAD = 4,
     DEVICE_QUEUES = 128,
@@ -54,7 +54,7 @@ enum ways {
     FAULTY = 8,     /* the scenario causes queue faults and accesses to memory that isn't lent */
     NEIGHBOUR = 16, /* another driver owns a queue, and any access of the tested driver to it fails the schedule */
     UNPOLLED = 32,  /* the scenario itself calls `receive` */
-    LATE = 64,      /* handlers run only when nothing else can */
+    LATE = 64,      /* handlers run only when no other actor can */
     OFTEN = 128     /* handlers run a second time for each message, at one of the next points */
 };
 
@@ -111,8 +111,8 @@ enum reach {
     CAME_AFTER, /* a frame arrived after what the row tries, and was judged */
     MET_FAULT,
     NO_MEMORY,
-    MAIL_GIVEN, /* the other side received a message from the driver */
-    MAIL_TAKEN, /* the driver received a message from the other side; for a host, from function 0 */
+    MAIL_GIVEN, /* the driver's peer in the mailbox received a message from it */
+    MAIL_TAKEN, /* the driver received a message through the mailbox; for a host, from function 0 */
     MAIL_TAKEN_1,
     IS_READY,
     COUNTED, /* a thread of the row saw `stats` increase */
@@ -144,7 +144,7 @@ struct scenario {
     const char *name;
     const char *title;  /* what the row tries, in a few words */
     const char *rule;   /* the rule that it checks, as a sentence */
-    const char *source; /* where the rule comes from: a section of the datasheet, or a rule of the adapter */
+    const char *source; /* origin of the rule: a section of the datasheet, or a rule of the adapter */
     uint32_t needs, ways;
     nicd_setup setup; /* 0 in queues, slots or frame means 1, 8 or 1,514 */
     uint32_t points;
@@ -242,7 +242,7 @@ struct drive {
     uint16_t base;                 /* the device queue that is the port's queue 0 */
     bool is_open;                  /* from open's return to close's return */
     bool is_running;               /* whether frames may be received and sent */
-    bool is_ended;                 /* close has returned, and no later `open` was called */
+    bool is_ended;                 /* `close` has returned, and `open` hasn't been called since */
     bool was_ended;                /* close has returned at least once */
     bool is_asleep;                /* from suspend's return to resume's call */
     uint8_t doing;                 /* enum call: the call that `doer` is in */
@@ -307,11 +307,11 @@ void nicd_reach_of(enum reach reach, unsigned number);
 /* Returns the name of a call. */
 const char *nicd_call_name(enum call call);
 
-/* --- the order of calls that the adapter's contract guarantees: one returns before the other begins --- */
+/* --- the order of calls that the adapter's contract guarantees: calls that don't overlap --- */
 
 /* Called around each call of the driver. A queue's calls (receive, reclaim, send, rearm) come after `open` and after
-   calls that hold the flow. Calls that hold the flow come after those of queues. Calls of the mailbox never overlap,
-   nor do those of one vector. */
+   calls that hold the flow. Calls that hold the flow come after those of queues. Calls for the mailbox never overlap,
+   and calls for one vector never do. */
 enum contract { OF_QUEUE, OF_CONTROL, OF_MAILBOX, BESIDE_ALL };
 void nicd_calls(enum contract contract);
 void nicd_called(enum contract contract);

@@ -20,7 +20,7 @@ struct nicxi_form {
     /* called when the thread's function has returned */
     void (*ended)(struct thread *thread);
     const void *(*function_of)(const struct thread *thread); /* returns a created thread's function */
-    /* Names a barrier that the driver has as inline assembly: "mfence at driver.c:9". */
+    /* Names a barrier in the driver's inline assembly: "mfence at driver.c:9". */
     bool (*assembly)(char *room, size_t size);
     /* What reports add about a completed call: ", while nothing waited", or "". */
     const char *(*beside)(const struct step *step);
@@ -47,8 +47,8 @@ extern const char *nicxi_form_options;
 extern const char *nicxi_to_be_seen;
 extern const struct nicxi_form *nicxi_form;
 extern const struct nicxi_races *nicxi_races;
-/* Turns accesses of the driver's own memory into points: all of them, or those of a variable or function with this
-   name. Returns null, or why not. */
+/* Turns accesses of the driver's own memory into points: all accesses, or only those to a variable or in a function
+   with this name. Returns null, or why not. */
 extern const char *(*nicxi_ask_for_memory)(const char *name);
 /* Like nicxi_ask_for_memory, for the argument of --points or of a schedule's file: "memory" or "memory:NAME". It is
    kept for the files of failures. Returns null, or why not. */

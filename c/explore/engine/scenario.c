@@ -22,7 +22,7 @@ static bool is_name(const char *name)
 
 /* --- what `begin` names --- */
 
-/* Whether a task or handler already has this name, by which files refer to it. */
+/* Whether a task or handler already has this name. Schedule files refer to tasks and handlers by name. */
 static bool is_taken(const char *name, int number)
 {
     for (int k = 0; name && k < number; k++)

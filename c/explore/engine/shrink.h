@@ -13,7 +13,7 @@ struct shrinking {
     uint16_t *list;         /* the order that the attempt follows */
     uint32_t length;
     uint32_t tries;
-    uint32_t needed; /* how many schedules must be fine without what is left out; 0: unknown */
+    uint32_t needed; /* how many schedules of the reduced scenario must be fine; 0: unknown */
     struct limit limit;
 };
 
@@ -24,8 +24,8 @@ bool nicxi_attempt(struct shrinking *it);
 /* Like nicxi_attempt, for random schedules without `omitted`; shrinks the first one that fails the same way. */
 bool nicxi_attempt_by_chance(struct shrinking *it);
 
-/* Leaves out tasks, handlers, frames and link changes as long as the rest fails as before, and its schedules are fine
-   about as often. Returns whether anything was left out. */
+/* Leaves out tasks, handlers, frames and link changes as long as the reduced scenario fails as before, and its
+   schedules are fine about as often. Returns whether anything was left out. */
 bool nicxi_omit(struct shrinking *it);
 
 /* Whether two failures have the same cause. */
@@ -37,7 +37,7 @@ void nicxi_be_quiet(void);
 /* --- the cycle at the end of an endless schedule --- */
 
 struct cycle {
-    uint32_t from, length; /* the points at the end that repeat; length 0: none */
+    uint32_t from, length; /* the repeating points at the end; length 0 if none repeat */
 };
 
 struct cycle nicxi_find_cycle(const uint16_t *schedule, const struct step *steps, uint32_t points);
@@ -53,8 +53,8 @@ struct beginning {
 /* Runs schedules that start this way and continue at random, until `wanted` were fine. Returns how many were. */
 uint32_t nicxi_count_fine(const struct options *options, struct post *post, const struct beginning *beginning,
                           uint32_t wanted);
-/* Runs such schedules until one is fine; that one is then in the post. `tried` is how many ran: all, or as many as a
-   few seconds allow. */
+/* Runs schedules that start this way until one is fine, and leaves its result in the post. `tried` is how many ran:
+   all, or as many as a few seconds allow. */
 bool nicxi_can_be_fine(const struct options *options, struct post *post, const struct beginning *beginning,
                        uint32_t *tried);
 

@@ -29,7 +29,7 @@ struct processor {
     struct store stores[NICX_STORES]; /* pending stores, oldest first */
     uint32_t count;
     uint32_t barriers; /* barriers of stores, made while some were pending */
-    uint32_t floor;    /* no load returns what memory was before this time */
+    uint32_t floor;    /* no load returns a value older than this time */
     struct seen seen[SEEN];
     uint32_t seen_count, next;
 };
@@ -180,7 +180,7 @@ static bool has_room(size_t length)
     return true;
 }
 
-/* Notes that memory there may have changed. Writing the same value again isn't a change. */
+/* Notes that these bytes may have changed. Writing the same value again isn't a change. */
 static void changed(uint64_t bus, uint64_t length)
 {
     if (!length || bus >= weak.size || length > weak.size - bus)
@@ -368,7 +368,7 @@ static void land(struct processor *it, uint32_t place, struct step *step)
         reach_device(it, &store, step);
 }
 
-/* Flushes the oldest store, within another step. */
+/* Flushes the oldest store as part of another step. */
 static void land_oldest(struct processor *it)
 {
     struct step step = {0};

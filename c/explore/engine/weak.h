@@ -1,5 +1,5 @@
 /* Weak memory. A processor's stores to lent memory stay pending for a while, and reach memory in any order that keeps
-   stores to one location in order. Its loads may return what memory was before its last changes. A barrier flushes
+   stores to one location in order. Its loads may return values from before memory's last changes. A barrier flushes
    stores, or keeps later loads from being older than itself. Each task is a processor, and so is a handler beside; a
    handler on a task runs on the task's processor. Which store reaches memory when, and how old a load is, are choices
    of the schedule like any other.

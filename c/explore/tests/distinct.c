@@ -5,7 +5,7 @@
 
 #include "coverage.h"
 
-/* Counts schedules that differ in one point, each of them twice. */
+/* Counts schedules that differ in one point, each counted twice. */
 static uint64_t counted(uint32_t many, uint32_t points, bool *is_exact)
 {
     uint16_t schedule[64] = {0};

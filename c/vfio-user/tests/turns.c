@@ -109,7 +109,8 @@ static bool has_reply(const struct peer *peer)
     return recv(peer->file, &byte, 1, MSG_PEEK | MSG_DONTWAIT) == 1;
 }
 
-/* A turn makes a limited number of accesses. The reply follows the last of them, before that to the next message. */
+/* A turn makes a limited number of accesses. The reply follows the last access, and precedes the next message's
+   reply. */
 static void many_writes(bool is_wrong)
 {
     struct peer peer = begin();
@@ -185,7 +186,7 @@ static void many_interrupts(void)
     close(event);
 }
 
-/* Its client leaves halfway, and the next one begins with its own messages. */
+/* A client leaves halfway through its messages, and the next client is served from its own first message. */
 static void one_goes(void)
 {
     struct peer peer = begin();

@@ -181,7 +181,7 @@ def check_planted(kit: Kit, runs: int, count: int | None) -> str:
 
 
 def check_pages_driver(kit: Kit, runs: int) -> str:
-    """The other correct driver in C, in which faults are planted, fails no row."""
+    """corpus/pages.c, the second correct driver in C, fails no row. Faults are planted in it elsewhere."""
     rows = none_failed(kit.card(kit.build(HERE / "corpus/pages.c"), None, "--runs", runs, "--every", runs))
     return f"corpus/pages.c passes {sum(row['state'] == 'passed' for row in rows)} rows"
 
@@ -226,8 +226,8 @@ def changed(source: Path, changes: dict[str, str], to: Path) -> Path:
 
 
 def check_counts(folder: Path) -> None:
-    """Races are found on two plain words that one thread counts in and another reads, and on copies of both, without
-    any flag from the author, and with -Werror."""
+    """Races are found on two plain counters that one thread updates and another reads, and on copies of both. The
+    author needs no flag, and -Werror is allowed."""
     copied = changed(HERE / "corpus/driver.c", COPIED_COUNTS, folder / "copied_counts.c")
     how: list[object] = ["--rows", "stats-receive", "--runs", 200, "--no-pages", *PATIENT]
     for source, more, size in ((HERE / "corpus/driver.c", "", 8), (copied, f"-Werror -I{HERE}/corpus", 24)):
@@ -405,7 +405,7 @@ def check_seen_in_place(kit: Kit) -> None:
 
 def check_in_place(kit: Kit, runs: int, each: int = 1) -> str:
     """The correct driver also passes each applicable row with its memory in place. Bugs are found, and so are stores to
-    where there is no memory."""
+    addresses without memory."""
     driver, some = HERE / "corpus/driver.c", ("--runs", 2000)
     rows = none_failed(kit.card(kit.build(driver, "IN_PLACE"), None, "--runs", runs, "--every", runs))
     for bug in (bug for bug in BUGS if bug.name in BUGS_IN_PLACE[::each]):

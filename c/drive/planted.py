@@ -76,7 +76,7 @@ def faults() -> list[Fault]:
 
 
 def sample(count: int | None) -> list[Fault]:
-    """Returns `count` of the faults that a row finds, selected by the hash of HEAD; all of them if None."""
+    """Returns `count` of the faults that a row finds, selected by the hash of HEAD; all such faults if None."""
     words = ["git", "-C", HERE, "rev-parse", "HEAD"]
     head = subprocess.run(words, capture_output=True, text=True, check=False).stdout.strip()
     named = [fault for fault in faults() if fault.row]

@@ -462,7 +462,8 @@ LOWEST = {"values": ["value 2", "value 1"], "all": ["value 4", "value 2"], "inpu
 
 
 def check_choices(kit: Kit) -> str:
-    """Values and timers with each strategy: what is found, how it is shrunk, and that its schedule fails again."""
+    """Values and timers with each strategy: checks the failure found, how it is shrunk, and that its schedule fails
+    again."""
     program, out = kit.build(HERE / "tests/choices.c"), kit.out("chosen")
     for mode, (status, wanted) in CHOICES.items():
         # (each schedule tried while shrinking would hang this long)
@@ -656,8 +657,8 @@ def check_orders(kit: Kit, states: int) -> str:
     return ran([kit.build(HERE / "tests/orders.c"), states, 1], timeout=HANGS).strip().splitlines()[-1]
 
 
-# Modes of the test: a host's or a function's driver; tasks kept apart by the scenario's promise or by what they are
-# seen to touch.
+# Modes of the test: a host's or a function's driver; tasks kept apart by the scenario's promise or by the memory that
+# they are seen to access.
 SLEEPING = ("", "vf", "apart", "vf apart", "seen", "vf seen", "vf weak", "three", "four")
 
 

@@ -121,8 +121,9 @@ def check_places(kit: Kit, program: Path) -> str:
 
 
 def check_late_lines(kit: Kit, program: Path, name: str) -> None:
-    """A search waits for lines that come late, as on a busy machine. They are part of a failure's text. If only one
-    of two runs had them, the texts would differ, as if `begin` didn't initialize everything."""
+    """A search waits for source lines that are resolved late, as on a busy machine, because they are part of a
+    failure's text. If only one of two runs had them, the texts would differ, and the search would blame `begin`
+    for not initializing everything."""
     folder, out = kit.folder / "late", kit.folder / "late-out"
     for made in (folder, out):
         shutil.rmtree(made, ignore_errors=True)
@@ -208,7 +209,7 @@ def check_page(kit: Kit, program: Path) -> str:
 
 
 def check_lenient(kit: Kit, program: Path) -> str:
-    """A changed driver follows the schedule as far as possible, and the place where it departs is reported."""
+    """A changed driver follows the schedule as far as possible, and the point where it departs is reported."""
     found_by(kit, program, "reader")
     schedule = kit.folder / "reported-out/reported.schedule"
     for mode, parts in PARTS.items():

@@ -13,10 +13,10 @@ enum { NICL_BLOCK = NIC_BLOCK_BYTES, NICL_MOST_BLOCKS = 65536 };
 
 /* A block with the caller's memory. */
 struct nicl_block {
-    uint8_t *host;   /* the caller's memory; null: this block has the controller's own */
+    uint8_t *host;   /* the caller's memory; null: this block uses the controller's own memory */
     uint8_t *own;    /* the controller's own memory for it, kept while `host` is in use */
     uint8_t *shadow; /* if recorded: the bytes that a replay has there, or null */
-    uint32_t run;    /* in a run's first block, its number of blocks; else 0 */
+    uint32_t run;    /* in a run's first block, its number of blocks; otherwise 0 */
     uint32_t left, right;
 };
 

@@ -14,7 +14,7 @@ struct part {
 
 typedef void look(const struct part *part, nicl_poke *poke, void *argument);
 
-/* Calls `look` for each part of these bytes. A block's shadow begins as zeros, as nic_lend leaves the block in a
+/* Calls `look` for each block's part of the range. A block's shadow begins as zeros, as nic_lend leaves the block in a
    replay. */
 static void each_part(const nic *n, uint64_t bus, uint64_t length, look *look, nicl_poke *poke, void *argument)
 {

@@ -13,9 +13,9 @@ bool nicl_starts_reserve(size_t more);
    remains the caller's until the last one releases it. */
 void nicl_starts_add(uintptr_t start);
 void nicl_starts_remove(uintptr_t start);
-/* Returns whether an address is in one of these blocks. */
+/* Returns whether an address is in a block that was added. */
 bool nicl_starts_has(uintptr_t address);
-/* Returns whether there are none of these blocks. */
+/* Returns whether all blocks have been removed. */
 bool nicl_starts_is_empty(void);
 
 #endif

@@ -1,6 +1,6 @@
-/* Checks the effects of an internal fault of the library, with a library of the plain edition that has one planted
-   (dev/check_broken). The call and each call after it return BROKEN, another controller is unaffected, and the caller's
-   memory comes out again, even if the controller is only closed. Prints how many calls returned BROKEN. */
+/* Checks the effects of an internal fault of the library, with a library of the plain edition that contains a planted
+   fault (dev/check_broken). The call and each call after it return BROKEN, another controller is unaffected, and the
+   caller gets its memory back, even if it only closes the controller. Prints how many calls returned BROKEN. */
 #include "check.h"
 #include "nic82599.h"
 #include <stdlib.h>

@@ -1,8 +1,8 @@
 /* Makes random calls and writes the script of the same events: `differential SEED VFS SCRIPT ANSWERS` writes the
    script, and what `nicbench run` must print for it. With the same seed, the Rust crate's tests make the same calls
    (rust/nic82599/tests/common/differential.rs), so no expression draws two random numbers in an order that C leaves
-   unspecified. What a script doesn't show is checked here: the other fields of nic_outcome, ranges of memory that begin
-   and end anywhere, and looks without side effects. */
+   unspecified. This program itself checks what a script doesn't show: the fields of nic_outcome that it omits, ranges
+   of memory that begin and end anywhere, and looks without side effects. */
 #include <string.h>
 
 #include "../library/reply.h"

@@ -81,7 +81,7 @@ static void counts_queues(void)
         CHECK(nic_pool_queues(word) == queues[word % 4]);
 }
 
-/* Checks what the function reads where it has no register: all ones without a pool, else 0. */
+/* Checks the value that the function reads at an offset without a register: all ones without a pool, otherwise 0. */
 static void is_stray(nic *n, uint8_t function, uint32_t offset, uint8_t status)
 {
     uint32_t word = 1;

@@ -126,7 +126,7 @@ static void beside_a_list(void)
     CHECK(nicl_starts_is_empty());
 }
 
-/* --- growth --- */
+/* --- growing tables --- */
 
 enum order { UP, DOWN, APART };
 

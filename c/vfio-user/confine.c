@@ -77,7 +77,7 @@ static void lock_files(void)
 
 #define VALUES 6
 
-/* An allowed call: with any arguments, or only if one of them has one of these values, or none of these bits. */
+/* An allowed call: with any arguments, or only if one argument has one of these values or none of these bits. */
 struct rule {
     int call;
     enum { ANY, ONE_OF, NONE_OF } kind;

@@ -11,8 +11,8 @@
 struct function;
 
 struct dma {
-    const struct function *function; /* null: nobody's, which grants nothing */
-    uint64_t client;                 /* number of the client among those of the function's socket */
+    const struct function *function; /* null: no function, and no access to any memory */
+    uint64_t client;                 /* serial number of the client among the clients of the function's socket */
 };
 
 /* An address in a client's memory. */
@@ -24,11 +24,11 @@ struct dma_address {
 /* Returns the right of the function's current client. */
 struct dma dma_of(const struct function *function);
 bool dma_is(struct dma it, struct dma other);
-/* Returns whether its client is still there. */
+/* Returns whether its client is still connected. */
 bool dma_is_alive(struct dma it);
-/* Returns the number of its client's function on the bus; 0 for nobody. */
+/* Returns the number of its client's function on the bus; 0 without a client. */
 unsigned int dma_function(struct dma it);
-/* Returns the number of its client's socket in the server's order; DMA_NOBODY for nobody. */
+/* Returns the number of its client's socket in the server's order; DMA_NOBODY without a client. */
 #define DMA_NOBODY 15u
 unsigned int dma_socket(struct dma it);
 

@@ -14,7 +14,7 @@ bool explain_start(void);
 int explain_file(void);
 /* Returns whether the thread can take a question now. */
 bool explain_is_free(void);
-/* Asks about the card as it is now. Returns false if memory runs out. */
+/* Starts explaining the card's current state. Returns false if memory runs out. */
 bool explain_ask(struct card *card);
 /* Returns whether there is an answer. */
 bool explain_is_ready(void);
@@ -22,8 +22,8 @@ bool explain_is_ready(void);
 const char *explain_text(void);
 void explain_end(void);
 
-/* Answers immediately on this thread, when the other has no question. A recorded card isn't copied, because the copy
-   would be in the recording. */
+/* Answers immediately on this thread, while the explaining thread has no question. A recorded card isn't copied,
+   because the copy would be in the recording. */
 const char *explain_now(struct card *card);
 
 #endif

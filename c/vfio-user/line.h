@@ -35,9 +35,9 @@ int line_unmask_file(const struct line *it);
 bool line_take_unmask(struct line *it);
 /* Sets the line's level. Returns whether the client was notified. */
 bool line_level(struct line *it, bool level);
-/* Sets the pending causes. Returns whether one of them is new, so that MSI was sent. */
+/* Sets the pending causes. Returns whether a cause is new, so that MSI was sent. */
 bool line_causes(struct line *it, uint32_t causes);
-/* Sets the pending causes after an access: those that are gone count as new when they are raised again. */
+/* Sets the pending causes after an access. A cause that is no longer pending counts as new when it is raised again. */
 void line_after_access(struct line *it, uint32_t causes);
 /* A reset: no cause was seen, and no message waits. */
 void line_forget(struct line *it);

@@ -290,7 +290,7 @@ static void claim(struct rings *it, enum side side, uint16_t queue, struct dma c
     nic_write32(it->options.device, side == TRANSMIT ? NIC_TDBAL(queue) : NIC_RDBAL(queue), 0);
 }
 
-/* Returns false if the ring belongs to another client, and stops it. `what` is what the client did. */
+/* If the ring belongs to another client, stops the ring and returns false. `what` describes the client's access. */
 static bool check_owner(struct rings *it, enum side side, uint16_t queue, struct dma client, const char *what)
 {
     const struct ring *ring = &it->rings[side][queue];
@@ -493,7 +493,7 @@ static uint32_t slots_between(const struct ring *ring, uint32_t from, uint32_t t
     return to >= from ? to - from : ring->slots - from + to;
 }
 
-/* Discards old descriptors of slots that are handed over, and reads the first of these, as far as there is room. */
+/* Discards old descriptors of slots that are handed over, and reads the first new ones, as many as fit. */
 static void read_ahead(struct rings *it, struct ring *ring, uint32_t from, uint32_t to, bool fetches)
 {
     uint32_t given = slots_between(ring, from, to), reads = given < RINGS_AHEAD ? given : RINGS_AHEAD;

@@ -1,8 +1,8 @@
 /* Maps guests' memory of any size into the device's 128 MiB of bus addresses. To the guest, base registers and
    descriptors contain the guest's addresses; to the device, the device's. Each ring has a place of its length in the
    device's memory, and each queue has a place for its current buffer. The first descriptors that a tail hands over are
-   read immediately, as the card prefetches, the others when their turn comes. A buffer is read when the device acts on
-   it.
+   read immediately, as the card prefetches; later ones are read when the device reaches them. A buffer is read when the
+   device acts on it.
 
    A ring belongs to the client that set it up: its descriptors and buffers are in that client's memory. When another
    client writes the base or the length, everything about the ring is discarded. When another client writes the tail or
@@ -75,10 +75,10 @@ void rings_reset(struct rings *it, uint16_t queue);
 void rings_stop_all(struct rings *it, struct dma client);
 /* The client's ranges of memory changed: discards what was read ahead from rings that lost their memory. */
 void rings_remapped(struct rings *it, struct dma client);
-/* Returns the ring's owner; nobody if the ring was stopped or not set up. */
+/* Returns the ring's owner; dma_nobody if the ring was stopped or not set up. */
 struct dma rings_owner(const struct rings *it, bool is_transmit, uint16_t queue);
 
-/* Gives the device what its next step of this queue needs. Call it before each transmit step and after a receive step.
+/* Lends the device what its next step of this queue needs. Call it before each transmit step and after a receive step.
    Returns false if the transmit queue has nothing to send. */
 bool rings_step(struct rings *it, bool is_transmit, uint16_t queue);
 /* Like rings_step, for each receive queue that was touched. Call it before receive steps. */

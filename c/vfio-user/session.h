@@ -67,7 +67,7 @@ bool session_is_ready(const struct session *it);
 /* Returns whether received messages wait for the next turn, in which session_serve continues. */
 bool session_is_paused(const struct session *it);
 void session_close(struct session *it);
-/* Returns whether its client waits for work of the server. */
+/* Returns whether the client is waiting for work that the server does in pieces. */
 bool session_is_busy(const struct session *it);
 /* Unmaps a piece of the client's removed memory. Returns whether some is left. */
 bool session_give_back(struct session *it);

@@ -4,7 +4,7 @@
 
 #include "nic82599.h"
 
-/* Kinds of drops: those of enum nic_why, with the filter's drops split in three by the frame's destination. */
+/* Kinds of drops: the kinds of enum nic_why, with the filter's drops split in three by the frame's destination. */
 enum nicl_drop { NICL_TO_MANY = NIC_WHY_NO_SLOT + 1, NICL_TO_ALL, NICL_DROPS };
 
 struct nicl_drops {

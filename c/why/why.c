@@ -298,7 +298,7 @@ static uint32_t entry_of(struct nicl_why *it, uint16_t queue, int side)
     return (uint32_t)(word >> (16 * (queue % 2) + 8 * side)) & 0xff;
 }
 
-/* Return the causes of a group that queues can have, and those of them that entries select. */
+/* Return the causes of a group that queues can have, and the ones that vector entries select. */
 static uint32_t causes_of_queues(unsigned group)
 {
     return group ? 7 : 0xffff;

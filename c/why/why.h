@@ -32,7 +32,7 @@ struct nicl_why {
     char names[512];
 };
 
-/* Explain a slot's fault in lines like those of nic_why, and one kind of drops (drops.h) in a line. */
+/* Explain a slot's fault in lines in the style of nic_why, and one kind of drops (drops.h) in a line. */
 size_t nicl_why_fault(nic *n, const nic_outcome *outcome, bool transmit, char *text, size_t size);
 size_t nicl_why_drop(nic *n, unsigned kind, uint64_t count, char *text, size_t size);
 

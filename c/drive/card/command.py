@@ -159,7 +159,7 @@ def how_of(given: argparse.Namespace) -> Words:
 
 
 def list_all(given: argparse.Namespace) -> int:
-    """Lists the rows without a driver: those of the corpus's driver, which has all functions."""
+    """Lists the rows without a driver, by building the corpus's driver, which has all functions."""
     with tempfile.TemporaryDirectory() as folder:
         rows = listed(build([where.WHOLE], Path(folder), how_of(given)).program)
     for row in rows:

@@ -99,7 +99,8 @@ def _end_group(process: int) -> None:
 
 
 def _end_orphans() -> None:
-    """Kills what programs left: children in neither this process's group nor that of a running program."""
+    """Kills processes that ended programs left: children outside the process groups of this process and of running
+    programs."""
     with _lock, contextlib.suppress(ProcessLookupError, ChildProcessError, PermissionError):
         for process in list(_children()):
             if os.getpgid(process) not in {os.getpgrp(), *_running}:

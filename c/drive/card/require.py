@@ -1,4 +1,4 @@
-"""Lists of rows that a driver must pass, with points: reads those of --require and computes the results."""
+"""Lists of rows that a driver must pass, with points: reads the files of --require and computes the results."""
 
 from __future__ import annotations
 

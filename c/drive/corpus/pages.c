@@ -358,8 +358,7 @@ static void set_interrupts(void)
          {NIC_EIMS, own_causes});
 }
 
-/* The handler may run concurrently with a reset. The last reader of LINKS must also be the last to store what it
-   read. */
+/* The handler may run concurrently with a reset. The last reader of LINKS must also be the last to store the value. */
 static void look_at_link(void)
 {
     nicx_interrupts_off();

@@ -294,7 +294,7 @@ static void handle(void *given)
     nicd_interrupt((uint8_t)number_of(given));
 }
 
-/* --- vectors in use; all of them if the driver isn't open yet --- */
+/* --- vectors in use; all vectors if the driver isn't open yet --- */
 
 static bool is_vector(uint32_t byte, unsigned vector)
 {

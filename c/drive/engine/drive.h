@@ -9,7 +9,7 @@
 #include "nic82599_drive.h"
 
 enum {
-    BLOCKS = 256, /* blocks of packet memory, as many as a failure's script has */
+    BLOCKS = 256, /* blocks of packet memory; a failure's script declares the same number */
     OTHERS = 248, /* first of the blocks that belong to other drivers, which the card plays */
     FIFO = 256,   /* capacity of the device's receive list, in frames */
     MOST_PIECES = 128,
@@ -101,8 +101,8 @@ enum reach {
     OWN_VECTORS,
     KEPT_OUT,    /* the filter dropped a frame */
     TOO_LONG,    /* a frame was dropped because of its length */
-    DURING_IN,   /* a frame was on its way in during the row's call */
-    DURING_OUT,  /* a frame was on its way out during the row's call, if the driver has `send` */
+    DURING_IN,   /* an incoming frame was in flight during the row's call */
+    DURING_OUT,  /* an outgoing frame was in flight during the row's call, if the driver has `send` */
     DURING_LINK, /* the link changed during the row's call */
     ASLEEP_FRAME,
     ASLEEP_LINK,
@@ -203,7 +203,7 @@ struct frame_now {
     uint8_t state;
     uint8_t why;   /* why it was dropped; for a lost frame, enum lost */
     uint8_t queue; /* the device queue that it was written to */
-    uint16_t slot; /* the last slot that it was written to */
+    uint16_t slot; /* slot of its last part */
     uint32_t life; /* value of nicd.life when it arrived */
     uint8_t era, written_era;
 };
@@ -253,7 +253,7 @@ struct drive {
     uint32_t events;               /* device steps and other events after which a failed call may succeed */
     uint32_t calls;                /* calls of send and reclaim in progress */
     uint32_t sending[NICD_QUEUES]; /* calls of send in progress, by queue */
-    uint32_t cards;                /* bit k: task k is the card's, and doesn't act for the driver */
+    uint32_t cards;                /* bit k: task k belongs to the card, not to the driver */
     bool by_card;                  /* outside tasks: whether the card is acting */
     const struct reached *reached; /* what the row must reach */
     const char *fault;
@@ -307,7 +307,7 @@ void nicd_reach_of(enum reach reach, unsigned number);
 /* Returns the name of a call. */
 const char *nicd_call_name(enum call call);
 
-/* --- the order of calls that the adapter's contract guarantees: calls that don't overlap --- */
+/* --- which calls the adapter's contract keeps from overlapping --- */
 
 /* Called around each call of the driver. A queue's calls (receive, reclaim, send, rearm) come after `open` and after
    calls that hold the flow. Calls that hold the flow come after those of queues. Calls for the mailbox never overlap,

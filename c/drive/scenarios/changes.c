@@ -33,7 +33,7 @@ static bool is_begun(void *unused)
 static void reset_during_frame(void)
 {
     nicx_wait_until(is_begun, NULL);
-    nicx_pause(); /* lets the driver read it */
+    nicx_pause(); /* lets the driver read the frame */
     reset_once();
 }
 

@@ -58,7 +58,7 @@ static void open_with_frames(void)
 
 enum { ONCE_RECEPTION_IS_ON = 3 };
 
-/* Lets the first frames arrive as soon as reception is enabled, so that the rest of `open` runs during traffic. */
+/* Lets the first frames arrive as soon as reception is enabled, so that `open` finishes during traffic. */
 static void see_reception(const nicxo_step *step, bool is_drivers)
 {
     if (is_drivers && step->kind == STEP_WRITE && step->address == NIC_RXCTRL && step->word & NIC_RXCTRL_RXEN &&

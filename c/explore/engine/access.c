@@ -68,7 +68,7 @@ static bool let_others(struct thread *self)
     return true;
 }
 
-/* Notes a read. A value that one of the last reads already returned is nothing new. */
+/* Notes a read. A value counts as new unless one of the last reads returned it. */
 static void note_poll(const struct step *step)
 {
     enum { KEPT = sizeof nicxi.outside.seen / sizeof *nicxi.outside.seen };
@@ -165,7 +165,7 @@ static void note_beyond(const struct step *step)
             nicxi.notes->beyond = queue + 1;
 }
 
-/* After an access: wakes what it makes possible, and passes it to the listeners. */
+/* After an access: wakes the actors that it may give work, and passes it to the listeners. */
 static void after(const struct step *step)
 {
     nicxi_wake(step);

@@ -1,4 +1,4 @@
-/* What happened in any schedule of a search, and what never did. */
+/* Events that occurred in some schedule of a search, and events that never occurred. */
 #include "coverage.h"
 
 #include <inttypes.h>
@@ -119,7 +119,7 @@ void nicxi_cover_more(struct coverage *all, const struct coverage *one)
     all->faults += one->faults;
 }
 
-/* --- what never happened --- */
+/* --- events that never occurred --- */
 
 struct telling {
     const struct coverage *coverage;

@@ -115,7 +115,7 @@ struct thread {
     size_t room;     /* size of its stack in bytes; 0: the scenario's size */
     bool is_made;    /* begins when the driver creates it */
     bool is_timed;   /* its wait may end without its condition if no actor can run */
-    unsigned rested; /* number of such timeouts, and of pauses, since the last change */
+    unsigned rested; /* number of timeouts and pauses since the last change */
     uint64_t rested_at;
     uint64_t own;          /* the number of its own acts */
     uint64_t seen, looked; /* others' acts when it last returned from a wait; when from a wait or a pause */
@@ -176,7 +176,7 @@ enum phase { CLOSED, BRINGING_UP, BEGINNING, RUNNING, ENDING, LEAVING };
 /* Reported after a search: not failures themselves, but possibly the reason for one. */
 struct notes {
     uint32_t strays; /* accesses to addresses without a register */
-    char stray[160]; /* the first of them, and the thread that made it */
+    char stray[160]; /* the first stray access, and the thread that made it */
     uint32_t beyond; /* a queue not below `queues` for which an enable was requested, plus 1 */
     uint32_t leaves; /* the thread that unwinds its stack, plus 1 (left.h) */
 };
@@ -217,7 +217,7 @@ struct engine {
 
     /* The device (device.c). */
     nic device;
-    bool is_changed; /* since the device was restored; if false, there is nothing to restore */
+    bool is_changed; /* the device has changed since it was restored; if false, it needn't be restored */
     bool is_idle;    /* after bring-up no step is possible, so none is tried until something wakes it */
 
     /* The actors (actors.c), in this order: threads and outside events, the device's steps from `steps_from` on, stores
@@ -230,17 +230,17 @@ struct engine {
     uint16_t next_frame, next_link; /* index of the next frame, and of the next link change */
     uint32_t came;                  /* frames that arrived in this schedule */
 
-    /* What runs now (threads.c, run.c). */
+    /* The running thread (threads.c, run.c). */
     struct fiber main;
     struct thread *self; /* null for the engine itself, which runs on `main` */
-    const char *asker;   /* while it runs: the scenario's function that may only look */
+    const char *asker;   /* the running function of the scenario that may only look, or null */
 
     /* The bring-up's accesses, which no thread makes (access.c). */
     struct polls outside;
     uint32_t waits; /* waits in a row without a step that changed anything */
 
-    /* The schedule being run (run.c). The first *points entries of `schedule` are the actors, and those of `steps` what
-       they did. A step of the device that had nothing to do is removed again: it isn't a point. */
+    /* The schedule being run (run.c). The first *points entries of `schedule` are the actors, and the same entries of
+       `steps` are their steps. A step of the device that had nothing to do is removed again: it isn't a point. */
     const nicx_chooser *chooser;
     uint16_t can[MOST_ACTORS]; /* offered to the chooser; the actor that ran last comes first if it can continue */
     uint16_t *schedule;
@@ -347,7 +347,7 @@ bool nicxi_fires_at_rest(const struct actor *actor);
 void nicxi_touched(const void *place, size_t size, bool writes);
 /* Notes that this thread of the process runs the schedules; no other thread may make these calls. */
 void nicxi_is_made_here(void);
-/* The prefix of a driver's calls in reports: "nicx_", or that of another language. */
+/* The prefix of a driver's calls in reports: "nicx_", or another language's prefix. */
 extern const char *nicxi_calls;
 /* What reports call a condition. */
 extern const char *nicxi_condition;

@@ -30,7 +30,7 @@ struct node {
 struct exhaustive {
     uint32_t preemptions;
     bool sleeps, is_first, is_strange;
-    bool is_glance;  /* the schedule ends after the choice of another process's part */
+    bool is_glance;  /* the schedule ends after its first step in another process's part */
     bool was_glance; /* is_glance when the schedule started */
     struct parts *parts;
     uint64_t mine, seen;

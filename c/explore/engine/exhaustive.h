@@ -9,7 +9,7 @@
    choice at one point of the first schedule. */
 struct parts {
     uint64_t next;
-    volatile uint64_t most; /* highest-numbered part of which a schedule was run */
+    volatile uint64_t most; /* highest-numbered part with a schedule that was run */
     uint64_t base;          /* added to a part's number */
     uint32_t shard, shards; /* of every `shards` parts, number `shard` is searched; if `shards` is 0, all parts are */
 };

@@ -13,8 +13,8 @@
 #include <sanitizer/common_interface_defs.h>
 #endif
 
-/* The fiber that was left. The address sanitizer must know which stack comes next, and after the switch it returns the
-   bounds of the previous one. That is how the bounds of the process's own stack become known. */
+/* The fiber that the last switch left. The address sanitizer must know which stack comes next, and after the switch it
+   returns the bounds of the previous one. That is how the bounds of the process's own stack become known. */
 static struct fiber *left;
 
 static void before_switch(struct fiber *from, struct fiber *to)
@@ -83,8 +83,8 @@ void nicxi_fiber_exchange(void **from, void *to);
 void nicxi_fiber_entry(void);
 void nicxi_fiber_first(struct fiber *fiber);
 
-/* Saves the callee-saved registers on the stack being left, and loads those of the other. A new fiber finds itself in
-   r12. There is no return address above its first frame, which stops a debugger's backtrace. */
+/* Saves the callee-saved registers on the stack being left, and loads them from the stack being entered. A new fiber
+   finds itself in r12. There is no return address above its first frame, which stops a debugger's backtrace. */
 __asm__(".text\n"
         ".p2align 4\n"
         ".globl nicxi_fiber_exchange\n"

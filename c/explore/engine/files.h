@@ -9,7 +9,7 @@
 
 /* --- the schedule: one line per point --- */
 
-/* Where a failure comes from, for the comments at the top. */
+/* The origin of a failure, for the comments at the top of its files. */
 struct origin {
     const char *where;
     uint64_t seed;

@@ -28,7 +28,7 @@ bool nicxi_heap_keep(void);
 /* Restores the saved piece. */
 void nicxi_heap_back(void);
 
-/* The size of the saved copy, and whether the piece equals another copy byte for byte. Copies have `size` bytes. */
+/* Return the size of the saved copy, copy the piece, and compare it with a copy byte for byte. */
 size_t nicxi_heap_size(void);
 void nicxi_heap_copy(void *room);
 bool nicxi_heap_is(const void *copy, size_t size);

@@ -334,8 +334,8 @@ static bool is_of_library(const struct step *step)
     return step->kind == STEP_LOCAL && step->word >= LOCAL_CALL;
 }
 
-/* Whether two steps of the driver don't conflict in its own memory: by what each touched, or because the scenario says
-   that it is race-free. */
+/* Whether two steps of the driver don't conflict in its own memory: their accesses show it, or the scenario says that
+   it is race-free. */
 static bool are_apart(const struct step *a, const struct step *b)
 {
     if (is_of_library(a) || is_of_library(b))

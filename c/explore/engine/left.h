@@ -10,10 +10,10 @@
 bool nicxi_unwinds(bool it_does);
 /* Whether the schedule is over, and the thread runs only to unwind. */
 bool nicxi_is_left(void);
-/* The frames are unwound: gives up the stack. Doesn't return. */
+/* Leaves the stack for good, after its frames are unwound. Doesn't return. */
 void nicxi_unwound(void);
 
-/* After the schedule: lets each thread with frames unwind them, one after the other. */
+/* After the schedule: lets each thread with frames unwind them, one thread at a time. */
 void nicxi_unwind_all(void);
 
 #endif

@@ -20,7 +20,7 @@ static void add(struct objects *objects, const char *form, ...)
         memcpy(objects->names[objects->count++], name, sizeof name);
 }
 
-/* --- memory: slots of rings, or else a block --- */
+/* --- memory: slots of rings, otherwise a block --- */
 
 static void add_memory(struct objects *objects, uint64_t bus, uint32_t length)
 {

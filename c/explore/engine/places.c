@@ -215,7 +215,7 @@ const char *nicxi_line_of_wait(const struct thread *thread, char room[MOST_PLACE
     return nicxi_place_words(&place, room);
 }
 
-/* --- the object of a wait or a lock: its source text, or else its symbol, or else a number --- */
+/* --- the object of a wait or a lock: its source text if known, otherwise its symbol, otherwise a number --- */
 
 /* The arguments of a call in a line of source, up to its closing parenthesis. */
 static bool arguments_of(const char *text, const char *call, char *room, size_t size)

@@ -105,7 +105,7 @@ static uint32_t count_of(const bool *list, uint32_t length)
     return count;
 }
 
-/* ", without 1 task, 3 frames": what shrinking left out. */
+/* Prints what shrinking left out, such as ", without 1 task, 3 frames". */
 static void tell_omitted(const struct omitted *omitted)
 {
     const struct {

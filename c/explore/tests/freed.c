@@ -93,7 +93,7 @@ static void replace(void)
     free(old);
 }
 
-/* --- two paths free the same ring: the error path then clears the pointer, the other one doesn't --- */
+/* --- two paths free the same ring; only the error path then clears the pointer --- */
 
 static void give_back(bool forgets)
 {
@@ -258,7 +258,7 @@ static const struct mode modes[] = {
     {"before", before},  {"middle", middle},    {"kinds", kinds}, {"woken", wait_idle},
 };
 
-/* What the other task does in each mode. */
+/* The function that the second task runs in each mode. */
 static const struct mode stops[] = {
     {"poll", take_away}, {"lock", take_away},   {"copy", take_away}, {"reuse", take_away},
     {"rcu", replace},    {"twice", close_ring}, {"moves", grow},     {"woken", be_idle},

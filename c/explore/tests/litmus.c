@@ -30,7 +30,7 @@ static int *plain;
 #define ACQ_REL memory_order_acq_rel
 #define SC memory_order_seq_cst
 
-/* Defines a task of a test, by what it does. */
+/* Defines a task of a test, with these statements as its body. */
 #define TASK(name, ...)                                                                                                \
     static void name(void *unused)                                                                                     \
     {                                                                                                                  \

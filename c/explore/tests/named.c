@@ -178,7 +178,7 @@ static const struct mode modes[] = {
     {"given", give_buffer}, {"moved", move_tail}, {"based", move_ring},
 };
 
-/* What the other task does in each mode. */
+/* The function that the second task runs in each mode. */
 static const struct mode others[] = {
     {"helper", write_flag},
     {"locks", lock_the_other},

@@ -35,7 +35,7 @@ static void fail(int row, const char *what)
     exit(1);
 }
 
-/* --- a random state: mostly ready queues, and anything else --- */
+/* --- a random state, in which queues are mostly ready --- */
 
 static uint64_t some_bus(void)
 {

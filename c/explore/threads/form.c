@@ -62,7 +62,8 @@ static bool is_of_header(const char *file)
     return !strncmp(base_name(file), "nic82599", 8) || strstr(file, "/include/c++/");
 }
 
-/* An address has several lines if functions were inlined. Keeps those outside of these headers, or else the first. */
+/* An address has several lines if functions were inlined. Keeps the lines outside this library's and C++'s headers; if
+   there are none, the first line. */
 static unsigned lines_of(const void *at, struct source_line *lines, unsigned most)
 {
     unsigned count = nicxi_lines(at, lines, most), kept = 0;

@@ -77,7 +77,7 @@ void nicxi_misuse(const char *form, ...) __attribute__((format(printf, 1, 2)));
 /* Refuses a call that isn't intercepted: reported in a task, ignored elsewhere. */
 void nicxi_refuse(const char *call, const void *at);
 
-/* "driver.c:31" or the function, for an address; an object's name, or its kind. */
+/* Names an address: "driver.c:31" or its function; for an object, its name or kind. */
 const char *nicxi_line(const void *at, char room[MOST_NAMED]);
 /* Adds the line of the function's caller, if it isn't null: "regs.h:9 < driver.c:31". */
 const char *nicxi_line_by(const void *at, const void *caller, char room[MOST_NAMED]);

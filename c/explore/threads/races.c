@@ -481,7 +481,7 @@ static void access(uint64_t at, size_t length, unsigned how, const void *call)
         nicxi_leave();
 }
 
-/* Acquires from the last accesses of these bytes of the given kind. */
+/* Acquires from the last accesses of the given kind to these bytes. */
 static void take_from_writers(uint64_t at, size_t length, unsigned access)
 {
     for (uint64_t key = at >> 3; length && key <= (at + length - 1) >> 3; key++) {
@@ -599,7 +599,7 @@ static void device_writes_back(const struct step *step)
     device_writes(step->outcome.at, is_head ? 4 : 16, WRITES | WRITTEN_BACK);
 }
 
-/* A step of the device comes after the register writes for its side, a message after all register writes. */
+/* A step of the device is ordered after the register writes for its side, a message after all register writes. */
 static void device_acted(const struct step *step)
 {
     struct clock *clock = &now[DEVICE];

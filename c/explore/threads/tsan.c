@@ -147,8 +147,8 @@ static void atomic_done(const volatile void *at, uint64_t old, bool changed)
         nicxi_polled((uintptr_t)at, old);
 }
 
-/* With weak memory, a store to memory that others may see is pending, unless it is sequentially consistent: after such
-   a store none is pending. */
+/* With weak memory, a store to memory that others may see becomes pending. A sequentially consistent store doesn't, and
+   it flushes the pending ones. */
 static bool may_be_late(const volatile void *at, int order)
 {
     return is_weak_here() && order != ALL && nicxi_race_is_shared((uintptr_t)at);

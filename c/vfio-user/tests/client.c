@@ -120,8 +120,8 @@ static void bad_accesses(struct peer *it)
     CHECK(reply[16] == 0xFF && reply[17] == 0xFF);
 }
 
-/* This process keeps no end of the socket: the server closes what it was sent later, and until then wouldn't notice
-   that its client leaves. */
+/* This process keeps no end of the socket: the server closes received files later. Until then, an open end here would
+   hide that its client has left. */
 static void map_socket(struct peer *it)
 {
     int other = socket(AF_UNIX, SOCK_STREAM | SOCK_CLOEXEC, 0);
@@ -371,7 +371,7 @@ static void held(const char *path, const char *control_path)
     CHECK(says("why", "tx 0: TDH[0] 0, TDT[0] 1: nothing blocks it") && !says("why", "lent"));
     CHECK(says("tx 0", "1 descriptors"));
     CHECK(get64(TX_RING + 8) & NIC_TXWB_DD && says("peek 06010", "00000001"));
-    peer_read(&peer, NIC_STATUS); /* the reply to the request arrived before its own */
+    peer_read(&peer, NIC_STATUS); /* the reply to the control request precedes the reply to this read */
     CHECK(!(get64(RX_RING + 8) & NIC_RXWB_DD) && says("due", "rx: at most 1") && says("rx", "1 descriptors"));
     CHECK(get64(RX_RING + 8) & NIC_RXWB_DD && says("link down", "done") && peer_read(&peer, NIC_LINKS) == 0);
     peer_write(&peer, NIC_TXDCTL(1), NIC_TXDCTL_ENABLE);

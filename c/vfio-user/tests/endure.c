@@ -247,7 +247,8 @@ static void second_client_with_a_file(void)
     close(other);
 }
 
-/* The file is in the socket of a client that is disconnected before the server reads it. Others come and go freely. */
+/* The file is in the socket of a client that is disconnected before the server reads it. Meanwhile others connect and
+   leave freely. */
 static void file_that_nobody_took(void)
 {
     struct peer peer, hostile;
@@ -293,7 +294,7 @@ static void file_of_the_wire(void)
 
 /* ---- sockets ---- */
 
-/* A client doesn't read its replies and sends no more, while another one waits at the socket. */
+/* A client doesn't read its replies and stops sending, while another client waits at the socket. */
 static void half_closed(void)
 {
     struct peer peer, next;
@@ -363,7 +364,7 @@ static void too_few_files(void)
 
 /* ---- connections and outputs of the server ---- */
 
-/* A listener with a full queue that accepts nobody. */
+/* A listener with a full backlog that accepts no connection. */
 static void full_listener(void)
 {
     struct sockaddr_un name = {.sun_family = AF_UNIX};

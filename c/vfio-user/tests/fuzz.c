@@ -214,7 +214,7 @@ static bool drain(struct peer *it)
     return got < 0 && (errno == EAGAIN || errno == EWOULDBLOCK);
 }
 
-/* Sets up valid memory and a queue each way, so that the rest happens to a working card. */
+/* Sets up valid memory and a queue each way, so that the random messages reach a working card. */
 static void bring_up(struct peer *it)
 {
     CHECK(peer_unmap(it, 0, UINT64_C(1) << 40) == 0 && peer_map(it, 0, FILE_BYTES, 0, 3, memory_file) == 0);
@@ -267,7 +267,7 @@ static void come(struct client *it)
     came++;
 }
 
-/* The server still serves what was sent. */
+/* The server still serves the messages sent before. */
 static void leave(struct client *it)
 {
     shutdown(it->peer.file, SHUT_WR);
@@ -387,7 +387,7 @@ static void add_kind(struct open_files *it, const char *path)
 {
     char *kind = it->kinds[it->count];
     ssize_t length = readlink(path, kind, KIND_BYTES - 1);
-    if (length < 0) /* was closed in between */
+    if (length < 0) /* closed meanwhile */
         return;
     kind[length] = 0;
     if (kind[0] != '/' && strncmp(kind, "anon_inode:", 11) != 0)

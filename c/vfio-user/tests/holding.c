@@ -82,7 +82,7 @@ static void give_and_hold(int said)
     pause();
 }
 
-/* A client is answered while the other blocks; a minute is for slow machines. */
+/* One client is answered while another one blocks. The limit of a minute allows for slow machines. */
 static void is_answered(const char *name, uint32_t identity)
 {
     struct vfu_access access = {0, VFU_CONFIG_REGION, 4};
@@ -182,7 +182,7 @@ static void connection_that_waits(const char *wire)
 
 #define RINGS 32u /* the maximum length */
 #define SLOTS 32768u
-#define SNAPSHOT_KB 8192 /* limit for a snapshot; the rings have twice as much */
+#define SNAPSHOT_KB 8192 /* limit for a snapshot; the rings' memory is twice as large */
 #define MEANWHILE 20u    /* there are thousands if nothing blocks them */
 
 static bool has_answer(int control)
@@ -260,7 +260,7 @@ static void why_of_large_rings(void)
     CHECK(strstr(peer_request(first, "snapshot a"), "ok\n"));
     CHECK(program_number(server, "VmRSS", 10) - before < SNAPSHOT_KB);
     others_are_answered(first, second, &other);
-    peer_send_request(first, "why"); /* they take turns; one of them doesn't wait for it */
+    peer_send_request(first, "why"); /* three requests take turns; one client leaves without reading its answer */
     peer_send_request(second, "why");
     peer_send_request(third, "why");
     close(second);

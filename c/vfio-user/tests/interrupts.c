@@ -113,7 +113,7 @@ static void both_have_it(void)
     take_away(&shadow, 0);
 }
 
-/* If neither client set up a vector, its message waits at one of them, and the other never gets it. */
+/* If neither client set up a vector, its message waits at one client, and the other client never gets it. */
 static void nobody_has_it(void)
 {
     raise(&shadow, 2);

@@ -174,7 +174,7 @@ def advanced(chance: random.Random) -> tuple[list[str], list[bytes]]:
     second = CONTEXT | DEXT | says_ipv4 << 10 | TYPES[packet.protocol] << 11 | index << 36
     second |= len(packet.l4) << 40 | mss << 48 if is_large else 0
     lines = [f"context {first:x} {second:x}"]
-    if chance.random() < 0.5:  # adds the other context, which isn't for this packet
+    if chance.random() < 0.5:  # fills the other context slot, which this packet doesn't use
         other = CONTEXT | DEXT | (1 - index) << 36 | chance.getrandbits(36) & 0x3C00
         lines.append(f"context {chance.getrandbits(32):x} {other | chance.getrandbits(24) << 40:x}")
     common = DATA | DEXT | index << 36 | (VLE if tag is not None else 0) | (TSE if is_large else 0)

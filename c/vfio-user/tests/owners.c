@@ -20,9 +20,9 @@
 #define RINGS 0u       /* layout of a memory: rings, 1 KB each */
 #define RING 0x400u
 #define HEAD 0x2000u
-#define SENT 0x4000u /* bytes that its own descriptors send */
+#define SENT 0x4000u /* bytes that a client's own descriptors send */
 #define RECEIVED 0x10000u
-#define SECRET 0x20000u /* bytes that none of its own descriptors names */
+#define SECRET 0x20000u /* bytes that no descriptor of the client names */
 #define BYTES 0x40000u
 #define COMMON 0x80000000u /* second address of each client's memory */
 #define FROM_WIRE 0x77

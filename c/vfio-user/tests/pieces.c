@@ -66,7 +66,7 @@ static unsigned int mappings(void)
     return count;
 }
 
-/* A large range is unmapped in pieces of 16 MiB; those of many files in pieces of 64 windows. */
+/* A large range is unmapped in pieces of 16 MiB; ranges of many files are unmapped in pieces of 64 windows. */
 static void ranges(void)
 {
     size_t length = PAGE;

@@ -1,5 +1,5 @@
 /* Frames waiting in front of the queues: a virtual function's guest that doesn't want them, turns them into faults, or
-   gives up its queue halfway through one doesn't block anyone else's. */
+   disables its queue halfway through a frame doesn't block frames for others. */
 #define _GNU_SOURCE
 #include <poll.h>
 #include <string.h>

@@ -170,7 +170,8 @@ static void streams(void)
     wire_close(&wire);
 }
 
-/* For an end that doesn't read, a limited amount is kept and arrives whole; the rest is lost and counted. */
+/* For an end that doesn't read, a limited amount is kept and arrives whole; the remaining frames are lost and
+   counted. */
 static void a_full_end(void)
 {
     const struct wire_options listens = {.kind = WIRE_LISTEN, .path = first_path};
@@ -254,7 +255,7 @@ static void send_ten(int peer, uint8_t mark)
     CHECK(send(peer, bytes, sizeof bytes, 0) == sizeof bytes);
 }
 
-/* What comes back for one sender doesn't block what comes back for another, nor the other end's frames. */
+/* A full queue of hairpins for one sender blocks neither another sender's hairpins nor frames from the other end. */
 static void turns(void)
 {
     const struct wire_options listens = {.kind = WIRE_LISTEN, .path = first_path, .has_hairpin = true};

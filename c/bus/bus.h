@@ -189,7 +189,7 @@ bool bus_is_settled(struct bus *it, uint16_t queues);
 
 /* Takes and delivers the due messages of all functions. Returns how many there were. */
 unsigned int bus_messages(struct bus *it);
-/* Takes and delivers a function's message if one is due. Returns whether it was. */
+/* Takes and delivers a function's message if one is due. Returns whether it did. */
 bool bus_message(struct bus *it, unsigned int function);
 
 /* Returns whether the card's interrupt line is up for a cause that belongs to no queue: the cause is set in EICR and

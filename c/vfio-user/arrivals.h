@@ -22,7 +22,7 @@ void arrivals_begin(struct arrivals *it, const struct bus *bus);
 /* Restores the number of waiting frames from a snapshot. */
 void arrivals_restore(struct arrivals *it, const struct arrivals *kept);
 void arrivals_let_in(struct arrivals *it);
-/* The device wrote part of the first frame, or the rest of it. */
+/* The device wrote part of the first frame, or its last part. */
 void arrivals_written(struct arrivals *it, uint16_t queue);
 /* The first frame ended in a fault. */
 void arrivals_fault(struct arrivals *it);

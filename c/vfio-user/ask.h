@@ -2,8 +2,9 @@
 #ifndef VFU_ASK_H
 #define VFU_ASK_H
 
-/* Sends the server that listens at this path each word as a request, or without words each line of standard input, and
-   prints the answers. Returns 0 if all were answered, 1 if one was refused, 2 if nobody listens there. */
+/* Sends each word as a request to the server that listens at this path, and prints the answers. Without words, sends
+   each line of standard input. Returns 0 if all were answered, 1 if one was refused, 2 if no server listens at the
+   path. */
 int ask(const char *path, int count, char **requests);
 
 #endif

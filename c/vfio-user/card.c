@@ -140,9 +140,9 @@ static void sent(void *of, uint16_t queue, const uint8_t *frame, size_t length)
         one_out(it, frame, length);
 }
 
-/* Both sockets of a virtual function see its registers, but each client has its own vectors. The message goes to the
-   client that has set up its vector. If both have, it goes to the function's own guest, no matter which of them
-   accessed a register last. */
+/* Both sockets of a virtual function see its registers, but each client has its own vectors. The message is sent to the
+   client that has set up its vector. If both have, it is sent to the function's own guest, whichever client accessed a
+   register last. */
 static void on_message(void *of, unsigned int number, unsigned int vector)
 {
     const struct card *it = of;
@@ -334,7 +334,7 @@ static bool is_long_by_its_tag(const struct card *it, const uint8_t *frame, size
 }
 
 /* A card doesn't count the tag's bytes in a frame's length, but the bench's device does. So this raises the limit while
-   a tagged frame comes in, and then restores the driver's. */
+   a tagged frame arrives, and then restores the driver's limit. */
 static bool arrive_tagged(struct card *it, const uint8_t *frame, size_t length)
 {
     uint32_t control = bus_peek(it->bus, NIC_HLREG0), most = bus_peek(it->bus, NIC_MAXFRS);
@@ -404,7 +404,7 @@ static bool any_cause(const struct card *it)
     return false;
 }
 
-/* Sends due messages of a function, up to BUDGET_INTERRUPTS of them and for at most BUDGET_MICROSECONDS. */
+/* Sends due messages of a function: at most BUDGET_INTERRUPTS messages, for at most BUDGET_MICROSECONDS. */
 static unsigned int messages(struct card *it, unsigned int function)
 {
     if (function == BUS_PHYSICAL && function_has_line(it->sockets[function][0]))

@@ -16,7 +16,7 @@
 #define CHANNEL_FILES (2 * VFU_FILES_MOST)
 #define CHANNEL_FILES_AT_ONCE 253 /* the kernel's limit: with less room it would close the rest, which takes time */
 
-/* A message. The receiver closes or keeps its files, and sets those that it keeps to -1. */
+/* A message. The receiver either closes each file, or keeps it and sets its entry to -1. */
 struct message {
     struct vfu_header head;
     unsigned int length; /* bytes of the body */
@@ -59,7 +59,7 @@ bool channel_next(struct channel *it, struct message *message, enum channel_stat
 /* Closes the remaining files of a message. */
 void message_drop_files(struct message *message);
 
-/* Sends bytes, and keeps those that can't be sent now. */
+/* Sends bytes, and keeps the bytes that can't be sent now. */
 enum channel_state channel_send(struct channel *it, const void *bytes, size_t length);
 enum channel_state channel_flush(struct channel *it);
 /* Returns the number of bytes waiting to be sent. */

@@ -1,8 +1,8 @@
 /* Closes files received from clients, in separate threads. Closing the last file of a gigabyte of memory takes a while.
    Closing a foreign file (of a FUSE file system, a terminal, a network) can take as long as its owner likes. Each
    owner's foreign files have their own thread, so they wait for no other owner's, and files of kernel memory wait for
-   neither. Sockets count as foreign because their other end may have sent files that nobody received. So do eventfds,
-   because a process that watches one with epoll can hold what closing it waits for. */
+   neither. Sockets count as foreign because their other end may have sent files that were never received. So do
+   eventfds, because a process that watches one with epoll can hold what closing it waits for. */
 #ifndef VFU_CLOSER_H
 #define VFU_CLOSER_H
 

@@ -42,7 +42,7 @@ static bool is_dead(const struct sockaddr_un *name)
     return is_refused;
 }
 
-/* Frees the name if nobody uses it. Returns null, or why it can't. */
+/* Frees the name if no process uses it. Returns null, or why it can't. */
 static const char *make_free(const struct sockaddr_un *name)
 {
     struct stat about;
@@ -96,8 +96,8 @@ static const char *bind_free(int file, const struct sockaddr_un *name)
     return is_bound ? remember(name->sun_path) : strerror(errno);
 }
 
-/* Opens the folder of a name and locks it against other servers that try the same name. If it can't be locked, or
-   somebody keeps the lock, the name is checked without it. Returns -1 if the folder can't be opened. */
+/* Opens the folder of a name and locks it against other servers that try the same name. If the lock isn't available, or
+   another process keeps it, the name is checked without the lock. Returns -1 if the folder can't be opened. */
 static int lock_folder(const char *path)
 {
     char folder[LOCAL_PATH_MOST + 1] = ".";

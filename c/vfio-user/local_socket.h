@@ -1,5 +1,6 @@
-/* A UNIX socket with a name, accessible only to its user (mode 0600). It takes a name only if nothing is there, or a
-   dead socket of this user. In the end it removes the name only if it is still its own. */
+/* A UNIX socket with a name, accessible only to its user (mode 0600). It takes a name only if the name is free or
+   belongs to a dead socket of this user. At the end it removes the name only if the name still belongs to this
+   socket. */
 #ifndef VFU_LOCAL_SOCKET_H
 #define VFU_LOCAL_SOCKET_H
 
@@ -29,7 +30,7 @@ bool local_name(struct sockaddr_un *name, const char *path);
 const char *local_bind(int *file, int type, const char *path);
 /* Like local_bind for a stream; it also listens. */
 const char *local_listen(int *file, const char *path, int backlog);
-/* Connects to a stream without blocking. Returns -1 if nobody listens, or its backlog is full. */
+/* Connects to a stream without blocking. Returns -1 if no process listens, or the listener's backlog is full. */
 int local_connect(const char *path);
 /* Accepts a connection that waits at a listener, or returns -1. If the process has no file left for it, all listeners
    rest for LOCAL_REST_MS. */

@@ -22,7 +22,7 @@
 #define GRAIN_LEAST (UINT64_C(16) << 20) /* minimum size of a grain in bytes */
 #define WINDOWS_TO_BYTES 2u              /* limit for windows, as a multiple of the bytes that ranges may have */
 
-/* A file with windows. It stays open until the last of them is unmapped, so that the memory itself is freed by closing
+/* A file with windows. It stays open until its last window is unmapped, so that the memory itself is freed by closing
    the file, which the closer does. */
 struct memory_file {
     int file;
@@ -98,7 +98,7 @@ static bool is_page(uint64_t number)
 
 /* ---- files ---- */
 
-/* Finds the file among those of the client's ranges. */
+/* Finds the file among the files of the client's ranges. */
 static struct memory_file *known_file(const struct memory_map *it, const struct stat *about)
 {
     for (unsigned int i = 0; i < it->file_count; i++)
@@ -465,8 +465,8 @@ static struct memory_window *window_at(uintptr_t place)
     return NULL;
 }
 
-/* Replaces the rest of a window with zeros, from the first page that the file has lost. So a window is at most two
-   mappings, for which the limits have room. The zeros take no memory, because nothing accesses them afterwards. */
+/* Replaces a window with zeros from the first page that the file has lost. So a window has at most two mappings, which
+   the limits allow for. The zeros take no memory, because nothing accesses them afterwards. */
 static bool cut(struct memory_window *window, uintptr_t place)
 {
     uint64_t whole = (place - (uintptr_t)window->at) / window->file->page * window->file->page;
@@ -479,7 +479,7 @@ static bool cut(struct memory_window *window, uintptr_t place)
     return true;
 }
 
-/* The signal comes from a copy out of a window or into it, during which no window changes. Any other SIGBUS ends the
+/* The signal is raised by a copy out of a window or into it, during which no window changes. Any other SIGBUS ends the
    process. */
 static void on_bus_error(int number, siginfo_t *about, void *context)
 {

@@ -3,9 +3,9 @@
    afterwards, as the Intel 82599 10 GbE Controller Datasheet (331520) describes. This part of the server is tested;
    nothing in it is proved.
 
-   A large send goes to the device as one short frame, and is cut into segments when that is sent, as many at a time as
-   the budget allows. A request for IPsec, which isn't supported, stays in the descriptor, so that the device refuses
-   it. */
+   The device sends a large send as one short frame. When that is sent, the server cuts the large send into segments, as
+   many at a time as the budget allows. A request for IPsec, which isn't supported, stays in the descriptor, so that the
+   device refuses it. */
 #ifndef OFFLOAD_H
 #define OFFLOAD_H
 

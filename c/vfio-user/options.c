@@ -57,7 +57,7 @@ static const char help[] =
     "A second process, which can do nothing else, removes the sockets at the end; with --wire=stream or dgram a third\n"
     "one connects there. docs/guests.md says what that needs of the kernel.\n";
 
-/* Returns the text after NAME= in a word; null if the word is another. */
+/* Returns the text after NAME= in a word; null if the word has another name. */
 static const char *value_of(const char *word, const char *name)
 {
     size_t length = strlen(name);

@@ -20,8 +20,8 @@ struct output {
     int error;     /* error of errno.h after which nothing more is written; 0: none */
 };
 
-/* Creates the file with this name, or truncates it. Returns false with errno set if it can't (ENXIO: a FIFO that nobody
-   reads). */
+/* Creates the file with this name, or truncates it. Returns false with errno set if it can't (ENXIO: a FIFO without a
+   reader). */
 bool output_create(struct output *it, const char *name);
 /* Writes to a file of this process, such as standard error. Its flags, which are shared with other processes, don't
    change. */

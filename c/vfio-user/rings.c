@@ -538,7 +538,7 @@ void rings_tail(struct rings *it, struct dma client, bool is_transmit, uint16_t 
 /* A ring's next slot: head and tail meet; the device has it, or can't have it; or it is due. */
 enum next { NO_SLOT, SLOT_IS_GIVEN, SLOT_TO_GIVE };
 
-/* Finds the slot that the device takes next. */
+/* Finds the slot that the device processes next. */
 static enum next next_slot(const struct rings *it, enum side side, uint16_t queue, uint32_t *slot)
 {
     const struct ring *ring = &it->rings[side][queue];

@@ -75,7 +75,7 @@ void rings_reset(struct rings *it, uint16_t queue);
 void rings_stop_all(struct rings *it, struct dma client);
 /* The client's ranges of memory changed: discards what was read ahead from rings that lost their memory. */
 void rings_remapped(struct rings *it, struct dma client);
-/* Returns the ring's owner; dma_nobody if the ring was stopped or not set up. */
+/* Returns the ring's owner; without a function if the ring was stopped or not set up. */
 struct dma rings_owner(const struct rings *it, bool is_transmit, uint16_t queue);
 
 /* Lends the device what its next step of this queue needs. Call it before each transmit step and after a receive step.

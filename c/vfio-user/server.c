@@ -133,7 +133,8 @@ static bool plays(const struct server *it)
     return it->wire.played && bus_peek(it->card.bus, NIC_RXCTRL) & NIC_RXCTRL_RXEN && card_has_room(&it->card);
 }
 
-/* Passes frames from the wire to the card while it has room, and runs its steps. Returns whether it wants more soon. */
+/* Passes frames from the wire to the card while it has room, and runs the card's steps. Returns whether the card needs
+   another turn soon. */
 static bool pass_frames(struct server *it)
 {
     uint64_t began = budget_time();
@@ -257,8 +258,8 @@ static bool has_ended(const struct server *it)
     return physical->listener < 0 && !session_is_open(&physical->session);
 }
 
-/* Takes the link down when the wire's other end goes, like an unplugged cable, and up when it is back. Returns whether
-   the link changed, so that steps may be due. */
+/* Takes the link down when the wire's other end disconnects, like an unplugged cable, and up when it is back. Returns
+   whether the link changed, so that steps may be due. */
 static bool follow_wire(struct server *it)
 {
     bool is_gone = wire_is_gone(&it->wire);
@@ -280,7 +281,7 @@ void server_run(struct server *it)
     while (!ending_is_asked() && !has_ended(it)) {
         struct events events;
         bool gives_back = give_back(it);
-        int wait = patience(it, is_late); /* before the rest: a file closed after this wakes nobody */
+        int wait = patience(it, is_late); /* before the rest: a file closed after this doesn't wake the loop */
         fill(it, &events);
         wait_for(&events, gives_back || has_more(it) ? 0 : wait);
         card_begin_turn(&it->card);

@@ -20,7 +20,7 @@ struct work {
     uint64_t began; /* start of its turn, by budget_time */
 };
 
-#define GOES_ON (-1) /* instead of an error: the rest of the message waits for another turn */
+#define GOES_ON (-1) /* instead of an error: the remainder of the message waits for another turn */
 
 /* ---- common checks ---- */
 
@@ -61,8 +61,8 @@ static int version(struct work *it)
     return 0;
 }
 
-/* RAM that isn't shared isn't accessible to the server. Other memory without a file, such as a display's, is refused
-   too, and clients cope with that. */
+/* The server can't access RAM that isn't shared. Other memory without a file, such as a display's, is refused too,
+   which clients tolerate. */
 static void tell_of_memory(struct session *it, const struct vfu_dma_map *asked)
 {
     if (it->has_reported_memory)
@@ -223,7 +223,7 @@ static int set_files(struct work *it, struct vectors *to, uint32_t start, uint32
     return session->error;
 }
 
-/* Sends messages to all of these vectors, or to the named ones. */
+/* Sends messages to all vectors in the range, or only to the named ones. */
 static int raise_each(struct work *it, struct vectors *to, uint32_t start, uint32_t count, const uint8_t *named)
 {
     uint64_t *done = &it->session->done;
@@ -267,7 +267,7 @@ static int mask_line(struct work *it, const struct vfu_irq_set *asked, bool is_m
     return 0;
 }
 
-/* Sets or removes the files of these vectors, or raises them for the client. */
+/* Sets or removes the files of the vectors in the range, or raises the vectors for the client. */
 static int trigger(struct work *it, const struct vfu_irq_set *asked, struct vectors *vectors)
 {
     const uint8_t *each = (const uint8_t *)asked + sizeof *asked;
@@ -513,7 +513,7 @@ static bool end_unless_open(struct session *it, enum channel_state state)
     return false;
 }
 
-/* Messages that a client sent before it left are served too, except those that have to wait. */
+/* Messages that a client sent before it left are served too, unless they have to wait. */
 bool session_serve(struct session *it)
 {
     uint64_t began = budget_time();

@@ -26,7 +26,8 @@ struct traffic {
 void traffic_begin(struct traffic *it, const uint8_t card[6]);
 void traffic_end(struct traffic *it);
 /* Sends `count` frames of FRAME_MIN to `most` bytes to the card; or expects them from it, and returns false if memory
-   runs out. Expected frames are made in pieces: while traffic_is_busy, traffic_prepare makes about `bytes` of them. */
+   runs out. Expected frames are made in pieces: while traffic_is_busy, traffic_prepare makes about `bytes` bytes of
+   frames. */
 void traffic_send(struct traffic *it, unsigned int count, uint16_t most);
 bool traffic_expect(struct traffic *it, unsigned int count, uint16_t most, const uint8_t from[6]);
 void traffic_prepare(struct traffic *it, size_t bytes);

@@ -110,8 +110,8 @@ static void flush_stream(struct wire *it)
     }
 }
 
-/* A datagram is sent whole or not at all. Datagrams wait here while the other end's queue is full, and are lost if
-   nobody is there. The connector has resolved the other end's name, because a name may lead anywhere. */
+/* A datagram is sent whole or not at all. Datagrams wait here while the other end's queue is full, and are lost without
+   an other end. The connector has resolved the other end's name, because a name may lead anywhere. */
 static void flush_datagrams(struct wire *it)
 {
     while (buffer_waiting(&it->out)) {
@@ -394,7 +394,7 @@ int wire_patience(const struct wire *it)
 
 /* ---- opening and closing ---- */
 
-/* Returns null, or why it can't open the wire. If nobody listens for a stream yet, it connects later. */
+/* Returns null, or why it can't open the wire. If no process listens for a stream yet, it connects later. */
 static const char *open_socket(struct wire *it)
 {
     struct sockaddr_un name;

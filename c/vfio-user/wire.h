@@ -37,7 +37,7 @@ struct wire_options {
 struct wire_counts {
     uint64_t out, out_bytes, in, in_bytes; /* frames and bytes from the card, and to it */
     uint64_t replies, hairpins, played;    /* included in `in`, by origin */
-    /* frames lost: nobody was there; more than WIRE_KEPT bytes were waiting; not a frame */
+    /* frames lost: no other end; more than WIRE_KEPT bytes were waiting; not a frame */
     uint64_t lost_nobody, lost_full, too_long;
 };
 
@@ -45,8 +45,8 @@ struct wire {
     struct wire_options options;
     struct wire_counts counts;
     int file, listener; /* -1: none */
-    bool had_end;       /* a stream's other end was there before */
-    bool is_cut;        /* nobody may connect, because the card's link is down */
+    bool had_end;       /* a stream's other end was connected before */
+    bool is_cut;        /* connections are refused, because the card's link is down */
     struct connector connector;
     struct buffer out;                 /* for the other end; stream: bytes; dgram: frames after their lengths */
     struct buffer in;                  /* bytes received from a stream */
@@ -63,11 +63,11 @@ struct wire {
 bool wire_open(struct wire *it, const struct wire_options *options);
 void wire_close(struct wire *it);
 
-/* With `is_cut`, the card's link goes down: a stream's other end is disconnected, and nobody can connect until the link
-   is up again. Without it, the link goes up; if it is up already, the only effect is that an end that has gone counts
-   as never connected. */
+/* With `is_cut`, the card's link goes down: a stream's other end is disconnected, and can't connect until the link is
+   up again. Without it, the link goes up; if it is up already, the only effect is that an end that has gone counts as
+   never connected. */
 void wire_cut(struct wire *it, bool is_cut);
-/* Returns whether a stream's other end was there and has gone. */
+/* Returns whether a stream's other end was connected and has disconnected. */
 bool wire_is_gone(const struct wire *it);
 
 /* Sends a frame of the card. `sender` is the owner of its ring. */

@@ -21,7 +21,7 @@ struct setting {
     nicd_setup setup;
     void (*set)(void);
     void (*come)(void);                    /* declares the frames that arrive after the event */
-    const char *(*judge)(uint16_t number); /* judges one of them; null, or what is wrong */
+    const char *(*judge)(uint16_t number); /* judges one of these frames: null, or an error */
     void (*after)(void);                   /* more to do after the event, or null */
     uint8_t reach;
 };

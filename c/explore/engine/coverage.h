@@ -14,14 +14,14 @@ enum {
 };
 
 struct coverage {
-    bool ran[NICX_TASKS + NICX_HANDLERS]; /* a task got past its first wait; a handler started */
+    bool ran[NICX_TASKS + NICX_HANDLERS]; /* whether a task got past its first wait, or a handler started */
     uint16_t frames[NICX_FRAMES];
     bool links[NICX_FRAMES]; /* a link change that had an effect */
     bool is_on[2][128];      /* each queue's receive and transmit side */
     bool acted[2][128];
     uint16_t messages[64]; /* for each group, a bit for each vector */
     uint64_t faults;       /* faults that the scenario allows */
-    char fault[100];       /* the first of these faults */
+    char fault[100];       /* the first fault of this kind */
 };
 
 struct step;

@@ -18,9 +18,8 @@ bool nicxi_is_stepping;
 #include <signal.h>
 #include <ucontext.h>
 
-/* Single-steps at most MOST_STEPS instructions in SCHEDULES schedules, at most MOST_OF_STRETCH of them between two
-   points. The engine's instructions on the way back to the driver count too; with a sanitizer there are more than
-   100. */
+/* Single-steps at most MOST_STEPS instructions in SCHEDULES schedules, and at most MOST_OF_STRETCH between two points.
+   The engine's instructions on the way back to the driver count too; with a sanitizer there are more than 100. */
 enum { SCHEDULES = 8, MOST_STEPS = 2400, MOST_OF_STRETCH = 200, MOST_LOGGED = 1024, TRAP = 1 << 8 };
 
 struct access {
@@ -316,8 +315,8 @@ static void add(struct unpointed_list *found, const struct access *first, const 
         found->list[found->count++] = one;
 }
 
-/* Looks for two accesses between the same two points, or one that reads and writes. Two reads alone don't count, since
-   other threads don't notice them. */
+/* Looks for two accesses between the same two points, or a single access that reads and writes. Two reads alone don't
+   count, since other threads don't notice them. */
 static void judge(struct unpointed_list *found)
 {
     const struct access *before = NULL;

@@ -302,8 +302,8 @@ static uint64_t sum_of_frames_out(uint64_t sum)
     return sum;
 }
 
-/* Waiting frames show when they are received. State that no register shows, such as the bits already reported, shows as
-   the device continues: so all its steps are run, and compared. */
+/* Waiting frames show when they are received. State that no register shows, such as the bits already reported, affects
+   later steps, so all steps are run and compared. */
 static uint64_t sum_of_going_on(uint64_t sum)
 {
     static nic_outcome outcome[MOST_OUT];

@@ -1,5 +1,5 @@
-/* `reported MODE words..`: scenarios for c/explore/check_reported.py: what shrinking leaves out, what repeats, the
-   source line of each point, and a changed driver. */
+/* `reported MODE words..`: scenarios for c/explore/check_reported.py: parts left out by shrinking, repeating points,
+   the source line of each point, and a changed driver. */
 #include <stdlib.h>
 #include <string.h>
 
@@ -79,7 +79,7 @@ static void begin_much(void)
 
 /* --- an endless schedule --- */
 
-/* Each task sets its own flag and waits until the other's is clear. If both are set, neither stops waiting. */
+/* Each task sets its own flag and waits until the other task's flag is clear. If both are set, both wait forever. */
 static void polite(void *argument)
 {
     bool *mine = argument, *other = mine == wants ? wants + 1 : wants;

@@ -1,5 +1,5 @@
-/* The link follows the wire: the card's link goes down when a stream's other end goes, and up when it is back. `link
-   down` disconnects the other end, so that its link can follow too. */
+/* The link follows the wire: the card's link goes down when a stream's other end disconnects, and up when it is back.
+   `link down` disconnects the other end, so that the peer's link can follow too. */
 #define _GNU_SOURCE
 #include <poll.h>
 #include <string.h>
@@ -84,7 +84,7 @@ static void is_unplugged(int second, int control)
     arrives(third, control);
     close(third);
     wait_for_link(false);
-    /* the request holds even if nobody is connected */
+    /* the request takes effect even without a connection */
     CHECK(strncmp(peer_request(control, "link up"), "done", 4) == 0 && is_up());
 }
 

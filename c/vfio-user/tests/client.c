@@ -1,4 +1,4 @@
-/* A client that does what QEMU does, in its order: it inspects the device, maps memory, sets eventfds, resets the
+/* A client that makes QEMU's requests, in QEMU's order: it inspects the device, maps memory, sets eventfds, resets the
    device, and brings up a queue each way. And hostile clients. */
 #define _GNU_SOURCE
 #include <errno.h>
@@ -574,8 +574,8 @@ static void in_pieces(const char *path)
     peer_close(&peer);
 }
 
-/* Requests 40 MB and doesn't read: the server keeps the rest, serves another client, and continues when this one
-   reads. */
+/* Requests 40 MB and doesn't read: the server keeps the remaining replies, serves another client, and continues when
+   this one reads. */
 static void without_reading(const char *path, const char *other_path)
 {
     struct peer peer, other;

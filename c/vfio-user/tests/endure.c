@@ -270,7 +270,7 @@ static void file_that_nobody_took(void)
     close(other);
 }
 
-/* The file arrives over the wire, where the server wants none. */
+/* The file arrives over the wire, where the server expects none. */
 static void file_of_the_wire(void)
 {
     static const char *const kinds[] = {"--wire=listen:", "--wire=dgram:"};
@@ -386,7 +386,7 @@ static void full_listener(void)
     unlink(name.sun_path);
 }
 
-/* Endless faults, each worth a line. Standard error is a pipe that nobody reads before the end. */
+/* Endless faults, each worth a line. Standard error is a pipe that isn't read before the end. */
 static void unread_errors(void)
 {
     struct peer peer;
@@ -420,7 +420,7 @@ static void unread_errors(void)
     close(file);
 }
 
-/* A FIFO without a reader is refused by name; one with a reader that doesn't read loses lines. */
+/* A FIFO without a reader is refused by name. A FIFO whose reader doesn't read loses lines. */
 static void fifos(void)
 {
     static const char *const texts[] = {"--trace=", "--capture=", "--record=", "--strays="};

@@ -61,7 +61,7 @@ static void connected(void)
     CHECK(status_of(child) == 0);
 }
 
-/* A listening socket: clients come and go until SIGTERM. Its name stays, because somebody else made it. */
+/* A listening socket: clients come and go until SIGTERM. Its name stays, because another process made it. */
 static void listening(void)
 {
     static const char *const words[] = {"server", WORD, "--quiet", NULL};
@@ -81,7 +81,7 @@ static void listening(void)
     CHECK(status_of(child) == 0 && access(name.sun_path, F_OK) == 0 && unlink(name.sun_path) == 0);
 }
 
-/* Requests from the command line, to a server and to nobody. */
+/* Requests from the command line, with a server and without one. */
 static void asked(void)
 {
     char socket_word[64], control_word[128], ask_word[128];

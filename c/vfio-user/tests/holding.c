@@ -213,7 +213,7 @@ static void tells_all(const char *answer)
     CHECK(strcmp(answer + strlen(answer) - 3, "ok\n") == 0);
 }
 
-/* Until `why` is answered, another client is answered, and so are other requests. */
+/* While `why` is being answered, another client and other requests are answered too. */
 static void others_are_answered(int first, int second, struct peer *other)
 {
     unsigned int answers = 0;

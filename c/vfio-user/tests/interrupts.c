@@ -124,7 +124,7 @@ static void nobody_has_it(void)
     CHECK(raised(&own, 2) == 1 && raised(&shadow, 2) == 0 && pending(&own) == 0);
 }
 
-/* A client that leaves, or turns its MSI-X off, leaves the messages to the other. */
+/* A client that leaves, or turns its MSI-X off, leaves the messages to the other client. */
 static void one_goes(void)
 {
     peer_set_config(&own.peer, MSIX_CONTROL, 2, 0);

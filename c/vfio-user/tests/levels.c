@@ -76,7 +76,7 @@ static void set_causes(uint32_t causes)
     peer_write(&peer, NIC_EICS, causes);
 }
 
-/* Does what QEMU does before a reset and before it changes to other interrupts. */
+/* Makes the requests that QEMU makes before a reset and before it changes to other interrupts. */
 static void begin(void)
 {
     CHECK(set(INTX, NONE | TRIGGER, 0) == 0 && set(MSI, NONE | TRIGGER, 0) == 0);
@@ -130,7 +130,7 @@ static void kept_down(void)
     CHECK(informed() == 1);
 }
 
-/* If a client passes its eventfd late, it is notified then. Without an eventfd nobody is notified, and nothing
+/* If a client passes its eventfd late, it is notified then. Without an eventfd no client is notified, and nothing
    waits. */
 static void eventfd_comes_and_goes(void)
 {
@@ -144,7 +144,7 @@ static void eventfd_comes_and_goes(void)
 }
 
 /* A client has the line unmasked by an eventfd, as QEMU does with KVM. Each signal unmasks it once, and is read even if
-   the line isn't masked. Reading the eventfd would block (it isn't O_NONBLOCK), but nobody waits for it. */
+   the line isn't masked. Reading the eventfd would block (it isn't O_NONBLOCK), but the server doesn't wait for it. */
 static void unmasked_by_an_eventfd(void)
 {
     begin();
@@ -183,7 +183,7 @@ static void unmask_comes_and_goes(void)
     signal_unmask(1);
     CHECK(informed() == 0);
     uint64_t count = 0;
-    CHECK(read(unmask, &count, sizeof count) == (ssize_t)sizeof count && count == 1); /* nobody has read it */
+    CHECK(read(unmask, &count, sizeof count) == (ssize_t)sizeof count && count == 1); /* it hasn't been read */
 }
 
 /* A client that passes one eventfd for both is notified again and again, once in each turn, and is still answered. */
@@ -235,7 +235,7 @@ static void messages(void)
     peer_set_config(&peer, MSI_CONTROL, 2, 0);
 }
 
-/* With MSI-X on there is no line, and causes without a vector notify nobody. */
+/* With MSI-X on there is no line, and causes without a vector notify no client. */
 static void with_msix(void)
 {
     begin();

@@ -90,7 +90,7 @@ static void other_things(const struct way *way, bool is_long)
     CHECK(unlink(path) == 0);
 }
 
-/* A socket that a process has open is kept, even if nobody listens on it. A dead one is replaced. */
+/* A socket that a process has open is kept, even if no process listens on it. A dead one is replaced. */
 static void other_sockets(const struct way *way, bool is_long)
 {
     const int types[] = {way->type, SOCK_DGRAM, SOCK_SEQPACKET};

@@ -1,9 +1,10 @@
 /* Processes descriptors as the device and the server do: reads lines, and prints the frames that go on the wire.
 
-     context FIRST SECOND          a context descriptor, both halves in hex forget                        resets the
-     queue data SECOND LEGACY BYTES      a data descriptor: its second half as the driver wrote it, in the advanced form
-     or (LEGACY 1) in the legacy one; then its bytes After each descriptor with EOP the frames follow, a line of hex
-     each, then a line with a dot. */
+     context FIRST SECOND          a context descriptor, both halves in hex
+     forget                        resets the queue
+     data SECOND LEGACY BYTES      a data descriptor: its second half as the driver wrote it, in the advanced form or
+                                   (LEGACY 1) in the legacy one; then its bytes
+   After each descriptor with EOP, the frames follow, one line of hex each, then a line with a dot. */
 #include <inttypes.h>
 #include <stdio.h>
 #include <stdlib.h>

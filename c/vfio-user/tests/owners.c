@@ -83,7 +83,7 @@ static bool is_filled(const uint8_t *at, uint8_t byte, size_t length)
     return at[0] == byte && memcmp(at, at + 1, length - 1) == 0;
 }
 
-/* Nobody may write there, because no client uses these bytes of its memory. */
+/* These bytes must stay unchanged, because no client uses them in its memory. */
 static void check_memories(void)
 {
     for (unsigned int memory = 0; memory < MEMORIES; memory++) {

@@ -269,8 +269,8 @@ static unsigned int times(const char *text, const char *words)
     return count;
 }
 
-/* Lines of a kind are limited, without affecting others. The rest is counted. Control characters don't reach a
-   terminal. */
+/* Lines of a kind are limited, without affecting others. The remaining memory is counted. Control characters don't
+   reach a terminal. */
 static void lines(void)
 {
     static char said[1u << 16];

@@ -161,8 +161,8 @@ static uint64_t interrupts(int event)
     return all;
 }
 
-/* Covers interrupts that are sent, and those that waited for their file. The kernel notifies everything that watches an
-   eventfd, and a client has as many watchers as it likes. */
+/* Covers interrupts that are sent immediately, and interrupts that waited for their file. The kernel notifies
+   everything that watches an eventfd, and a client has as many watchers as it likes. */
 static void many_interrupts(void)
 {
     static const struct session_calls slowly = {.rearmed = nothing, .may_serve = always, .may_go_on = never};

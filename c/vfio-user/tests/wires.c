@@ -308,7 +308,7 @@ static void captures(void)
     wire_close(&wire);
 }
 
-/* Captures that are cut anywhere, or have any byte changed, end or are refused. Nothing else happens. */
+/* A capture that is cut anywhere, or has any byte changed, ends early or is refused, with no other effect. */
 static void spoilt_captures(void)
 {
     static uint8_t bytes[4096], frame[WIRE_FRAME_MOST];

@@ -151,7 +151,8 @@ const char *bus_phase_name(const struct bus *it, unsigned int phase);
 uint32_t bus_read(struct bus *it, unsigned int function, uint32_t offset);
 void bus_write(struct bus *it, unsigned int function, uint32_t offset, uint32_t word);
 void bus_wait(struct bus *it, unsigned int microseconds);
-/* While the bus is held, it runs no steps: its user requests enables, the EEPROM and sending as well. */
+/* While the bus is held, it runs no steps by itself: its user also requests the steps for enables, the EEPROM and
+   sending. */
 void bus_hold(struct bus *it, bool is_held);
 /* Sends everything in the queue, as a write of TDT does unless the bus is held. */
 void bus_transmit(struct bus *it, uint16_t queue);

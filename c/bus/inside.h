@@ -31,7 +31,7 @@ struct request {
 
 struct mailboxes {
     struct request requests[MAILBOX_REQUESTS];
-    int pending[BUS_FUNCTIONS]; /* by function: the request without an answer yet; 0 if there is none */
+    int pending[BUS_FUNCTIONS]; /* by function: the unanswered request; 0 if there is none */
     uint64_t own_messages;
 };
 

@@ -711,7 +711,7 @@ KEPT = {
     "rings": "by a ring of 128 bytes, but 16 slots were requested|never reached the caller",
 }
 
-# Prints what the command does about pages if a row failed, given a toolchain and the programs of ./nicbench that exist.
+# Prints how the command handles pages if a row failed, given a toolchain and the programs of ./nicbench that exist.
 PAGES = """import sys
 from pathlib import Path
 sys.path[:0] = [FOLDERS]

@@ -457,7 +457,7 @@ CHOICES = {
     "unknown": (1, "misuse: no such timer: 99"),
 }
 
-# The values in the shrunk schedule: the lowest ones that fail.
+# The values expected in the shrunk schedule: the lowest ones that fail.
 LOWEST = {"values": ["value 2", "value 1"], "all": ["value 4", "value 2"], "inputs": ["value 2"]}
 
 
@@ -930,9 +930,9 @@ console.log(new Function("data", part + "return namedObject();")(data) ?? "");
 
 
 def check_named(kit: Kit) -> str:
-    """A failure's report names the call that led to a helper, a ring's slot, what took memory back, and a signal
-    that woke nobody. Its schedule shows each atomic operation with its value, and its page traces what the report
-    is about."""
+    """A failure's report names the call that led to a helper, a ring's slot, the call that took memory back, and a
+    signal that woke no thread. Its schedule shows each atomic operation with its value, and its page traces what
+    the report is about."""
     source, out = HERE / "tests/named.c", kit.out("named")
     program = kit.build_form(source, of_memory=True)
     if list(dict.fromkeys(modes_of(source))) != list(NAMED):
@@ -1076,8 +1076,8 @@ def check_program(kit: Kit, runs: int) -> str:
 # --- other threads of the process ---
 
 THREAD = ["-g", "-O1", "-fsanitize=thread"]
-# Maps what searches map, a room of a gigabyte each time. On arm64 the thread sanitizer ends a program whose memory lies
-# outside of its ranges, which QEMU's user emulation doesn't keep to after some gigabytes.
+# Maps what searches map, a room of a gigabyte each time. On arm64 the thread sanitizer ends a program with memory
+# outside its ranges. QEMU's user emulation leaves these ranges after some gigabytes.
 ROOMS = """#include <stddef.h>
 #include <sys/mman.h>
 

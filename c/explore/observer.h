@@ -43,7 +43,7 @@ enum step_kind {
 
 typedef struct nicxo_step {
     uint8_t kind;       /* enum step_kind */
-    uint8_t status;     /* what the call of nic82599.h returned */
+    uint8_t status;     /* status returned by the call of nic82599.h */
     uint8_t vf;         /* the virtual function of an access */
     bool is_outside;    /* taken in bring_up or begin */
     bool is_by_pointer; /* a store that the driver made through a pointer (nicxo_write) */
@@ -90,7 +90,7 @@ const char *nicxo_place(const nicxo_step *step, char room[NICXO_PLACE]);
 void nicxo_fail(uint8_t outcome, const char *form, ...) __attribute__((format(printf, 2, 3)));
 /* The outcome so far. */
 uint8_t nicxo_outcome(void);
-/* Appends words to those of the failure, if there is one. */
+/* Appends words to the failure's text, if there is a failure. */
 void nicxo_add_words(const char *form, ...) __attribute__((format(printf, 1, 2)));
 
 /* --- what a driver may do beyond nic82599_explore.h --- */
@@ -111,15 +111,16 @@ uint8_t nicxo_write(uint64_t bus, nicxo_bytes_at *source, size_t length);
 /* Calls the observer's `publish`, as happens before each call of the driver. */
 void nicxo_publish(void);
 
-/* The running thread releases what it did so far to an object, or acquires from it. This states the order of calls that
-   the driver's caller promises. It isn't a barrier, and does nothing if accesses of own memory aren't seen. */
+/* The running thread releases everything that it did so far to an object, or acquires from the object. This states the
+   order of calls that the driver's caller promises. It isn't a barrier, and does nothing if accesses of own memory
+   aren't seen. */
 void nicxo_gives(const void *object);
 void nicxo_takes(const void *object);
 bool nicxo_sees_accesses(void);
 
 /* --- before nicx_main --- */
 
-/* What a report tells the driver's author to use, if that differs from what a scenario's author would use. Null: the
+/* What a report advises the driver's author to use, if a scenario's author would use something different. Null: the
    same as for a scenario. */
 typedef struct nicxo_words {
     const char *options;     /* file of linker options that make threads and accesses visible */

@@ -15,7 +15,7 @@
 #define SUM_TIMES UINT64_C(0x100000001B3)
 #define PATH_MOST 32
 
-/* --- a scenario with some of everything that a file names --- */
+/* --- a scenario with something of each kind that a file can name --- */
 
 static void act(void *unused)
 {

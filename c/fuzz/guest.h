@@ -18,7 +18,7 @@ struct guest {
     uint16_t id;
 };
 
-/* What the guest does, with the rest of the arguments. */
+/* The guest's function and its arguments. */
 typedef void guest_acts(struct guest *it, void *given);
 
 /* Runs a guest. The first one starts the server, with these additional null-terminated arguments. */

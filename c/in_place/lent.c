@@ -116,8 +116,8 @@ uint8_t nicl_lend_memory(nic *n, uint64_t bus, void *memory, size_t bytes)
     return status;
 }
 
-/* Puts the blocks' own memory back in place of the caller's. If a fault of the library keeps the caller's memory in one
-   of them, the table keeps them all, so that freeing the controller doesn't free that memory. */
+/* Puts the blocks' own memory back in place of the caller's. If a fault of the library keeps the caller's memory in a
+   block, the table keeps all blocks, so that freeing the controller doesn't free that memory. */
 static void end_in_place(nic *n, struct nicl_table *it, struct range range)
 {
     bool are_out = true;

@@ -66,7 +66,7 @@ typedef struct nicd_filter {
     uint8_t address[4][6]; /* unicast or multicast addresses, besides the port's own */
 } nicd_filter;
 
-/* What the driver has counted since `open`. */
+/* The driver's counts since `open`. */
 typedef struct nicd_stats {
     uint64_t rx_frames, rx_bytes; /* frames and bytes delivered to the driver's caller */
     uint64_t tx_frames, tx_bytes; /* frames and bytes that `send` accepted */

@@ -1,4 +1,4 @@
-/* Compares the fields and functions of nic82599_desc.h with what the device does, on a driver's rings. */
+/* Compares the fields and functions of nic82599_desc.h with the device's behavior, on a driver's rings. */
 #include <string.h>
 
 #include "check.h"

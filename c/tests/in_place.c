@@ -399,7 +399,7 @@ static void snapshots(uint8_t *host)
 
 /* --- two controllers, threads and forks --- */
 
-/* Two controllers with the same memory: each finds what the other writes. */
+/* Two controllers with the same memory: each finds the bytes that the other writes. */
 static void shared(uint8_t *host)
 {
     nic one, two;
@@ -419,7 +419,7 @@ static void shared(uint8_t *host)
 
 static int is_over;
 
-/* Lends and takes back memory endlessly, with a separate controller, and frees other memory in between. */
+/* Lends and takes back memory endlessly, with a separate controller, and frees other memory meanwhile. */
 static void *lends_on(void *unused)
 {
     nic n;

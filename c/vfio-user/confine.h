@@ -5,7 +5,7 @@
 
 #include <stdbool.h>
 
-/* What the process does from then on. */
+/* The process's task from then on. */
 enum confine_as {
     CONFINE_SERVER, /* serves what is open, and accepts */
     CONFINE_CALLER, /* connects UNIX sockets */

@@ -47,8 +47,8 @@ void control_serve(struct control *it, const struct pollfd *polls, struct server
 /* Returns whether received requests are waiting. */
 bool control_has_more(const struct control *it);
 
-/* Executes the request in a line and writes its answer to `to`; answers `why` immediately too. Returns whether the
-   client is to get a line when the device is held. */
+/* Executes the request in a line and writes its answer to `to`; even `why` is answered before it returns. Returns
+   whether the client is to get a line when the device is held. */
 bool control_obey(struct server *server, const char *line, FILE *to);
 
 #endif

@@ -10,7 +10,7 @@
 #include <sys/wait.h>
 #include <unistd.h>
 
-#define LINE (STDERR_FILENO + 1) /* number of the line in the new process; the file's is the next */
+#define LINE (STDERR_FILENO + 1) /* descriptor of the line in the new process; the file gets the next number */
 #define FILE_KEPT (LINE + 1)
 #define ABOVE (FILE_KEPT + 1)
 

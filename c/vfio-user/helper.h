@@ -1,5 +1,5 @@
-/* A process for work that this one may not do once it serves, or must not wait for. It starts as a copy of this one,
-   keeps its end of a line and at most one file, and should end when the line is closed. */
+/* A helper process, for work that this process may not do while it serves, or must not wait for. The helper starts as a
+   copy of this process, keeps its end of a line and at most one file, and should end when the line is closed. */
 #ifndef VFU_HELPER_H
 #define VFU_HELPER_H
 

@@ -487,7 +487,7 @@ static bool read_slot(const struct ring *ring, uint32_t slot, nic_desc *descript
     return true;
 }
 
-/* Returns the number of slots from one up to another, which isn't counted. */
+/* Returns the number of slots from `from` up to, but excluding, `to`. */
 static uint32_t slots_between(const struct ring *ring, uint32_t from, uint32_t to)
 {
     return to >= from ? to - from : ring->slots - from + to;

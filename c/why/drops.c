@@ -104,7 +104,7 @@ void nicl_note_drop(const nic *n, uint8_t why, const uint8_t *frame, size_t leng
 
 void nicl_forget_drops(const nic *n)
 {
-    if (!__atomic_load_n(&all_count, __ATOMIC_RELAXED)) /* usually there are none, so nobody waits for the lock */
+    if (!__atomic_load_n(&all_count, __ATOMIC_RELAXED)) /* usually there are none, so no call waits for the lock */
         return;
     nicl_drops_hold();
     struct dropped *it = of(n);

@@ -36,7 +36,7 @@ void nicd_called(enum contract contract)
         nicxo_gives(&mailbox);
 }
 
-/* Orders what the handler did before the poll that it requests. */
+/* Orders the handler's accesses before the poll that it requests. */
 static void schedule(unsigned queue)
 {
     if (nicd.pollers[queue].busy)

@@ -310,8 +310,8 @@ const char *nicd_call_name(enum call call);
 /* --- which calls the adapter's contract keeps from overlapping --- */
 
 /* Called around each call of the driver. A queue's calls (receive, reclaim, send, rearm) come after `open` and after
-   calls that hold the flow. Calls that hold the flow come after those of queues. Calls for the mailbox never overlap,
-   and calls for one vector never do. */
+   calls that hold the flow. Calls that hold the flow come after queues' calls. Calls for the mailbox never overlap, and
+   calls for one vector never do. */
 enum contract { OF_QUEUE, OF_CONTROL, OF_MAILBOX, BESIDE_ALL };
 void nicd_calls(enum contract contract);
 void nicd_called(enum contract contract);
@@ -342,7 +342,7 @@ void nicd_in_place_see(const nicxo_step *step);
    the driver. */
 bool nicd_in_place_has(uint64_t bus);
 void nicd_in_place_copy(uint64_t bus, uint64_t bytes);
-/* Writes what the driver has stored through pointers to the device's memory, each run of bytes at its own point. */
+/* Writes the driver's stores through pointers to the device's memory, each run of bytes at its own point. */
 void nicd_publish(void);
 
 void nicd_watch_begin(void);
@@ -372,7 +372,7 @@ void nicd_judge_begin(void);
    call. */
 void nicd_judge_reclaimed(unsigned queue, uint32_t accepted);
 const char *nicd_judge_end(void);
-/* Builds frame `number` of those that arrive, and returns its length. The second call builds a frame to send. */
+/* Builds arriving frame `number`, and returns its length. The second call builds a frame to send. */
 uint32_t nicd_make(const struct come *come, uint16_t number, uint8_t *bytes);
 void nicd_make_sent(uint16_t number, uint32_t length, uint8_t *bytes);
 

@@ -1,9 +1,8 @@
 /* DMA memory that the driver accesses through pointers. The device has its own copy of memory, as in every search: it
    is restored with the device, and a failure's script contains each store. The driver has a second copy, `here`, at the
-   same offsets. What the device writes is copied to `here` in the step that writes it. What the driver stored is found
-   before its next call by comparing `here` with `known`, and is written to the device's memory at points, as
-   nicx_dma_write does. So a store reaches the device by the driver's next call at the latest, and other actors can run
-   before each store. */
+   same offsets. Each device write is copied to `here` in its own step. Before the driver's next call, its stores are
+   found by comparing `here` with `known`, and written to the device's memory at points, as nicx_dma_write does. So a
+   store reaches the device by the driver's next call at the latest, and other actors can run before each store. */
 #include <string.h>
 
 #include "drive.h"
@@ -36,7 +35,7 @@ static uint64_t at_block(uint32_t block)
     return (uint64_t)block * NIC_BLOCK_BYTES;
 }
 
-/* Clears the block after the last piece too. Nobody owns it. */
+/* Clears the block after the last piece too. No piece owns it. */
 void nicd_in_place_begin(void)
 {
     uint64_t end = nicd.beyond ? at_block(nicd.beyond + 1) : 0;

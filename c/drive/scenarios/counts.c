@@ -10,7 +10,7 @@ static nicd_stats last[LOOKERS];
 
 struct direction {
     const char *name;
-    uint64_t frames, bytes, before; /* before: this thread's last value of frames */
+    uint64_t frames, bytes, before; /* before: the value of `frames` that this thread saw last */
 };
 
 /* All frames of these rows have the same length. */

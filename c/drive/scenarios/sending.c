@@ -1,7 +1,7 @@
 /* Fields of transmit descriptors that the bench doesn't read, and how a driver learns that a frame was sent. */
 #include "../engine/drive.h"
 
-/* --- descriptors, judged after the fetch, which preserves what the driver wrote --- */
+/* --- descriptors, judged after the fetch, which leaves the driver's values unchanged --- */
 
 static struct {
     bool is_partial;  /* the frame's first descriptor was fetched, its last wasn't */

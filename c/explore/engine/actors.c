@@ -161,7 +161,7 @@ enum {
     WAKES_ALL = WAKES_RECEIVE | WAKES_TRANSMIT | WAKES_INT | WAKES_EEPROM
 };
 
-/* The queue to wake, or each queue. With few queues each is woken: that costs little, and a seed keeps its
+/* The queue to wake, or EACH_QUEUE. With few queues, all are woken: that costs little, and a seed keeps its
    schedules. */
 enum { EACH_QUEUE = UINT16_MAX };
 

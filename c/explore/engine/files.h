@@ -47,7 +47,7 @@ void nicxi_free_schedule(struct schedule_file *file);
 struct script {
     FILE *file;
     uint32_t instructions, strings;
-    const char *unfit;      /* why it stops before the run does, or null */
+    const char *unfit;      /* why the script ends before the run does, or null */
     char where[MOST_PLACE]; /* the place of the step being written */
 };
 

@@ -345,7 +345,7 @@ static bool are_apart(const struct step *a, const struct step *b)
     return nicxi.scenario->race_free;
 }
 
-/* What the driver reads by pointers after its step may be what the device wrote. */
+/* After its step, the driver may read the device's writes through pointers. */
 static bool may_be_read(const struct step *a, const struct step *b)
 {
     return nicxi.bus_of && is_of_driver(a) && (b->kind == STEP_RX || b->kind == STEP_TX);

@@ -110,7 +110,7 @@ static void write_all(struct writing *it, const struct keeping *keeping)
     nicxi_free_posts(post, 1);
 }
 
-/* If the schedule's file can't be opened, the schedule goes to standard error, so that it isn't lost. */
+/* If the schedule's file can't be opened, the schedule is written to standard error, so that it isn't lost. */
 void nicxi_keep_failure(const struct keeping *keeping, struct paths *paths)
 {
     struct writing it = {NULL, NULL, {NULL, 0, 0, NULL, ""}, keeping->failure, keeping->turn};

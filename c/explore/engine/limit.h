@@ -10,7 +10,7 @@ struct limit {
 };
 
 struct limit nicxi_limit(double seconds);
-/* The most CPU seconds that are left. Another process may start a limit with them. */
+/* Upper bound on the remaining CPU seconds. Another process may start its limit with it. */
 double nicxi_left(const struct limit *limit);
 bool nicxi_is_over(const struct limit *limit);
 

@@ -1,6 +1,6 @@
 /* Leaves out what a failure doesn't need: tasks, handlers, frames, link changes. Many scenarios fail just because
    something is missing: `end` may count frames that never arrive, or a task may wait for another that doesn't exist. So
-   something is left out only if random schedules without it are fine at least half as often as those of the whole
+   something is left out only if random schedules without it are fine at least half as often as schedules of the whole
    scenario. Then the order still causes the failure. One fine schedule isn't enough: even without the driver's poll, a
    schedule that drops the frame is fine. */
 #include <string.h>

@@ -35,8 +35,8 @@ struct nicxi_races {
     void (*made)(const struct step *step); /* called for each step taken */
     /* A processor's pending store to own memory reached memory: its slot among the pending stores, and its address. */
     void (*landed)(unsigned processor, unsigned slot, uint64_t at);
-    /* The running thread releases what it did so far to an object, or acquires from it. This states an order that the
-       caller promises; it isn't a barrier. */
+    /* The running thread releases everything that it did so far to an object, or acquires from the object. This states
+       an order that the caller promises; it isn't a barrier. */
     void (*gives)(const void *object);
     void (*takes)(const void *object);
 };
@@ -65,7 +65,7 @@ bool nicxi_is_in_thread(void);
 
 /* Names the further tasks that a schedule may have. Each begins when the driver creates it. */
 void nicxi_name_made(void);
-/* Creates one of these tasks with a stack of `room` bytes; 0: of the scenario's size. Returns null if none is left. */
+/* Creates a further task with a stack of `room` bytes; 0: the scenario's size. Returns null if none is left. */
 struct thread *nicxi_make_thread(void (*function)(void *), void *argument, size_t room);
 /* Ends the running thread here, inside any call. */
 void nicxi_end_thread(void);
@@ -103,8 +103,8 @@ void nicxi_polled(uint64_t at, uint64_t value);
 /* Notes a change of memory that other threads look at. */
 void nicxi_changed_memory(void);
 
-/* A point before a step of the device that a thread itself requests by this call; then the step's result, or that there
-   was nothing to do. */
+/* Adds a point before a step of the device that a thread itself requests by this call. Afterwards, reports the step's
+   result, or that the step had nothing to do. */
 void nicxi_asks(const char *call);
 void nicxi_asked(struct step *step);
 void nicxi_asked_in_vain(void);

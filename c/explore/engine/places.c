@@ -37,7 +37,7 @@ static bool has_prefix(const char *name, const char *prefix)
     return !strncmp(name, prefix, strlen(prefix));
 }
 
-/* The calls of nic82599_explore.h, and those that link forms substitute for the driver's. */
+/* The calls of nic82599_explore.h, and the calls that link forms substitute for the driver's own. */
 static bool is_of_engine(const void *call)
 {
     char name[MOST_SYMBOL];

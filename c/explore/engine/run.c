@@ -139,7 +139,7 @@ void nicxi_announce(const struct step *step)
         nicxi_steps_begin();
 }
 
-/* Whether the thread can continue only because of what others did. */
+/* Whether the thread can continue only because of other actors' steps. */
 static bool is_waiting(const struct thread *thread)
 {
     return thread->state == WAITING || thread->state == PAUSED || (thread->state == UNTIL && thread->is_timed);
@@ -571,7 +571,7 @@ static void reset(void)
     nicxi_cover_begin();
 }
 
-/* Reports a thread waiting for an act that never comes. A nicx_wait is often meant as a delay, which nothing ends. */
+/* Reports a thread waiting for an act that never happens. A nicx_wait is often meant as a delay, which nothing ends. */
 static void judge_wait(const struct thread *thread)
 {
     char where[MOST_PLACE], by[MOST_PLACE], pause[MOST_PLACE] = "";

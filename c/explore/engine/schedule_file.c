@@ -46,7 +46,7 @@ void nicxi_write_point(FILE *file, uint16_t actor, const struct step *step)
     fprintf(file, "%-24s # %s\n", nicx_actor_name(actor, name), description);
 }
 
-/* Removes blanks at both ends, and reduces each run of them to one. */
+/* Removes blanks at both ends, and reduces each run of blanks to one. */
 static void trim(char *line)
 {
     char *to = line;

@@ -211,7 +211,7 @@ static uint64_t most_runs(const struct options *options)
 }
 
 /* Whether the limit on schedules excludes the rest of a part. The schedules before it are counted again now and then,
-   since other processes keep running more of them. */
+   since other processes keep running more. */
 static bool is_spent(const struct job *job, const struct post *post)
 {
     static uint64_t before, part = UINT64_MAX, counted;
@@ -254,7 +254,7 @@ static bool make_of_part(struct post *post, const struct job *job, struct exhaus
     return note(post, &result);
 }
 
-/* Runs all schedules within a bound. Runs of a lower bound come before those of a higher one. Returns false if the
+/* Runs all schedules within a bound. Runs with a lower bound come before runs with a higher one. Returns false if the
    search is over. */
 static bool search_within(struct post *post, const struct job *job, uint32_t preemptions, uint32_t number)
 {

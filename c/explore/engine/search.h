@@ -31,8 +31,8 @@ struct failure {
     uint64_t run;
     nicx_result result;
     uint16_t *schedule;
-    uint32_t cycle;         /* how many points at the end repeat; 0: none */
-    struct omitted omitted; /* what it leaves out */
+    uint32_t cycle;         /* number of repeating points at the end; 0: none */
+    struct omitted omitted; /* tasks, handlers and events that the schedule leaves out */
 };
 
 /* The monotonic clock, in seconds. */

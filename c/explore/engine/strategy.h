@@ -37,7 +37,7 @@ nicx_chooser nicxi_by_priority(struct by_priority *state, uint64_t seed, uint64_
 struct by_list {
     const uint16_t *list;
     uint32_t length, at;
-    uint32_t cycle;           /* how many points at the list's end repeat; 0: none */
+    uint32_t cycle;           /* number of repeating points at the list's end; 0: none */
     bool is_fair;             /* after the list's end the actor that acted longest ago runs, not the last one */
     uint32_t unfit;           /* if is_unfit: the point at which the actor can't run, or the list has ended */
     bool is_unfit, is_trying; /* the step chosen last is expected to have nothing to do */

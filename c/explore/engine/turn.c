@@ -1,5 +1,5 @@
-/* Finds the turning point of a failing schedule: before it some other schedule is fine, after it none of those
-   tried. */
+/* Finds the turning point of a failing schedule: before it, some other continuation is fine; after it, every
+   continuation tried fails. */
 #include "turn.h"
 
 #include <stdio.h>

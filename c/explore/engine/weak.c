@@ -19,7 +19,8 @@ struct store {
     uint32_t barriers; /* stores made before this many barriers come before it */
 };
 
-/* What a processor has seen of a location: its loads there return nothing from before this time. */
+/* The latest state of a location that a processor has seen: its loads of the location return nothing older than
+   `time`. */
 struct seen {
     uint64_t bus;
     uint32_t length, time;

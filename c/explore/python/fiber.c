@@ -315,7 +315,7 @@ static void unwind_all(void)
 void nicxi_fiber_switch(struct fiber *from, struct fiber *to)
 {
     struct host *self = host_of(from), *next = host_of(to);
-    if (next && next->process != getpid() && !start(next)) /* it was at its beginning in the previous process */
+    if (next && next->process != getpid() && !start(next)) /* a thread that hadn't begun in the previous process */
         abort();
     give_turn(next);
     if (self) {

@@ -37,7 +37,8 @@ static const char *ask_eeprom(void)
     return NULL;
 }
 
-/* If the reads of all schedules counted as one loop, it would wait, and the device would run that step. */
+/* If the reads of all schedules counted as one loop, this read would wait, and the device would run the EEPROM's
+   step. */
 static void begin_with_a_look(void)
 {
     look(NULL);

@@ -49,7 +49,7 @@ static void take_away(void)
 /* If the compiler knew the size, it would expand the copy; if it knew these pointers, it would warn. */
 static volatile size_t some_bytes = 32;
 static char *volatile somewhere;
-uint64_t copied[4]; /* (stores to a static that nobody reads would be removed) */
+uint64_t copied[4]; /* (stores to a static that is never read would be removed) */
 
 static void use(struct ring *it)
 {
@@ -75,7 +75,7 @@ static void poll(void)
     pthread_mutex_unlock(&lock);
 }
 
-/* --- a reader that nobody waits for --- */
+/* --- a reader that no thread waits for --- */
 
 static void read_count(void)
 {

@@ -1,4 +1,4 @@
-/* A test with several modes, chosen by its first argument, which precedes those of the search. */
+/* A test with several modes, chosen by its first argument, which precedes the search's arguments. */
 #ifndef TEST_MODES_H
 #define TEST_MODES_H
 

@@ -1,6 +1,6 @@
 /* `named MODE words..`, built with -fsanitize=thread: failures with words and pages that name what the driver's author
-   needs: the call that led to a helper, the slot of a ring, what took memory back, what gave the device an address, a
-   signal that woke nobody. */
+   needs: the call that led to a helper, the slot of a ring, the call that took memory back, the store of an address, a
+   signal that woke no thread. */
 #define _GNU_SOURCE
 #include <pthread.h>
 #include <stdatomic.h>
@@ -27,7 +27,7 @@ struct ring {
 
 static struct ring *ring;
 
-/* --- atomic operations, with what they do --- */
+/* --- atomic operations and their effects --- */
 
 static void atomics(void)
 {

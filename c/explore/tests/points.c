@@ -27,7 +27,7 @@ static pthread_t make(void *(*function)(void *))
     return thread;
 }
 
-/* --- a signal between a waiter's last check and its wait wakes nobody --- */
+/* --- a signal between a waiter's last check and its wait wakes no thread --- */
 
 static void *wake(void *unused)
 {

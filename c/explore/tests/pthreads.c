@@ -427,7 +427,7 @@ static void atomics(void)
     joined(other);
 }
 
-/* A service that polls forever comes to rest. */
+/* A service that polls forever counts as at rest. */
 static void *poll_for_ever(void *unused)
 {
     for (;;) {
@@ -506,7 +506,7 @@ static void without(void)
     pthread_cond_wait(&changed, &first);
 }
 
-/* The count is checked before the lock is taken, so the signal may come in between. */
+/* The count is checked before the lock is taken, so the signal may be sent between the two. */
 static void lost(void)
 {
     make(signal_once, NULL);

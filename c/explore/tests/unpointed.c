@@ -1,5 +1,6 @@
-/* Drivers that touch what another task touches without a point in between. For c/explore/check.py: no schedule breaks
-   them, but the search reports where the point is missing. With -DPOINTED it is there, and the bug is found. */
+/* Drivers that access shared memory twice without a point between the accesses. For c/explore/check.py: no schedule
+   breaks them, but the search reports where the point is missing. With -DPOINTED the point is there, and the bug is
+   found. */
 #include <string.h>
 
 #include "nic82599_explore.h"

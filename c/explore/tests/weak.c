@@ -28,7 +28,7 @@ static unsigned get(uint64_t bus)
     return value;
 }
 
-/* --- what the tasks do --- */
+/* --- the tasks' functions --- */
 
 static void nothing(void)
 {

@@ -18,7 +18,8 @@ static bool begins(const uint8_t *at, size_t left, const char *bytes, size_t len
 
 #define BEGINS(bytes) begins(at, left, bytes, sizeof(bytes) - 1)
 
-/* Whether an instruction, after its prefixes, is an exchange with memory. Nobody uses these without a lock prefix. */
+/* Whether an instruction, after its prefixes, is an exchange with memory. These instructions aren't used without a lock
+   prefix. */
 static bool exchanges(const uint8_t *at, size_t left)
 {
     bool has_rex = left && (at[0] & 0xF0) == 0x40;

@@ -1,5 +1,5 @@
 /* Searches a whole program: its `main` is the first task, which starts from the beginning in each schedule. Until it
-   creates a thread, or waits, no other thread exists, so what it does until then isn't a point. The program runs the
+   creates a thread, or waits, no other thread exists, so its operations until then aren't points. The program runs the
    device's steps itself, through its own calls, as it does without a search. Its arguments follow "--". */
 #define _GNU_SOURCE
 #include <fcntl.h>

@@ -52,7 +52,7 @@ static void join(struct clock *to, const struct clock *from)
             to->at[k] = from->at[k];
 }
 
-/* Starts a new time: what the thread does from here on isn't part of its last release. */
+/* Starts a new time: later accesses of the thread aren't part of its last release. */
 static void tick(unsigned who)
 {
     uint32_t time = now[who].at[who]++;
@@ -343,8 +343,8 @@ static bool is_before(const struct cell *cell, const struct clock *clock)
     return cell->time <= clock->at[cell->who];
 }
 
-/* Whether two accesses of the same bytes need an order. A driver may look at what the device writes back before it is
-   written. */
+/* Whether two accesses of the same bytes need an order. A driver may read a write-back's location before the device
+   writes it. */
 static bool conflict(const struct cell *old, const struct cell *new)
 {
     if (!(old->mask & new->mask) || old->who == new->who || !((old->access | new->access) & WRITES))
@@ -452,7 +452,7 @@ static void tell(const struct race *race)
 
 /* --- an access --- */
 
-/* Checks an access of these bytes. Returns false if it races, which is reported. */
+/* Checks an access to these bytes. Returns false if it races, which is reported. */
 static bool look_at(uint64_t at, size_t length, const struct cell *cell, const struct clock *clock)
 {
     for (uint64_t key = at >> 3; key <= (at + length - 1) >> 3; key++) {
@@ -674,7 +674,7 @@ static void accessed_itself(const struct step *step)
     else if (step->word == LOCAL_UNTIL)
         take_by_condition(nicxi.self);
     else if (step->word == LOCAL_ARM)
-        give(SIDE, TIMERS + step->of); /* the arming happens before what the timer does */
+        give(SIDE, TIMERS + step->of); /* the arming happens before the timer's handler runs */
     else if (step->word == LOCAL_CALL && !ends_wait(step))
         nicxi_judge_object((const void *)(uintptr_t)step->bus, step->call, NULL);
 }

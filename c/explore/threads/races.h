@@ -12,7 +12,7 @@
 /* Called if accesses are seen: the driver was built with -fsanitize=thread. */
 void nicxi_race_open(void);
 
-/* The running thread releases what it did so far to an object, or acquires from it. */
+/* The running thread releases everything that it did so far to an object, or acquires from the object. */
 void nicxi_race_release(const void *object);
 void nicxi_race_acquire(const void *object);
 
@@ -21,7 +21,7 @@ enum access { READS = 0, WRITES = 1, ATOMIC = 2 };
 /* The running thread accesses memory at this call. */
 void nicxi_race_access(uint64_t at, size_t length, unsigned access, const void *call);
 /* The call that led to the running function, or null for the task's first function, or if the caller isn't built with
-   -fsanitize=thread. A schedule starts without any. */
+   -fsanitize=thread. A schedule starts without a call. */
 const void *nicxi_called_from(void);
 void nicxi_forget_callers(void);
 /* Memory is allocated again, or freed. */

@@ -11,14 +11,14 @@
 #include "taken.h"
 #include "threads.h"
 
-/* --- variables: nic82599_threads.ld places those of the driver's objects next to each other --- */
+/* --- variables: nic82599_threads.ld groups the variables of the driver's objects --- */
 
 extern char nicxi_data_begin[], nicxi_data_end[], nicxi_bss_begin[], nicxi_bss_end[];
 
 static char *kept_data, *kept_bss;
 static struct keys kept_keys;
 
-/* Without instrumentation: between variables are redzones that the address sanitizer lets nobody touch. */
+/* Without instrumentation: between variables are redzones that the address sanitizer protects from all accesses. */
 #if defined(__clang__) || defined(__GNUC__)
 __attribute__((no_sanitize("address")))
 #endif

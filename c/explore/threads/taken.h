@@ -1,5 +1,5 @@
-/* What the driver allocates from malloc and frees. It all comes from one piece, so that it can be restored before each
-   schedule, and each access to it checked. */
+/* The driver's memory from malloc. All of it is in one piece, so that it can be restored before each schedule, and each
+   access to it can be checked. */
 #ifndef NICX_THREADS_TAKEN_H
 #define NICX_THREADS_TAKEN_H
 

@@ -24,7 +24,7 @@ static bool may_wait(const struct thread *self, const char *call, const void *at
     return self != NULL;
 }
 
-/* --- condition variables: a signal may wake any thread that is waiting when it comes --- */
+/* --- condition variables: a signal may wake any thread that is waiting when it is sent --- */
 
 struct cond {
     unsigned signals;        /* signals that haven't woken a thread yet */
@@ -78,7 +78,7 @@ int nicxi_cond_wait(pthread_cond_t *cond, pthread_mutex_t *mutex, bool is_timed,
         nicxi_misuse("%s calls %s at %s with %s, but doesn't hold it", self->name, call, nicxi_line(at, where),
                      nicxi_name(mutex, "a mutex", name));
     /* The mutex is held, but a signaller need not take it. Between the caller's last check and its wait, a signal may
-       come that wakes nobody. */
+       be sent that wakes no thread. */
     nicxi_call(READY, call, cond);
     struct posix_thread *posix = posix_of(self);
     posix->condition = cond;

@@ -1,5 +1,5 @@
 /* A client that makes QEMU's requests, in QEMU's order: it inspects the device, maps memory, sets eventfds, resets the
-   device, and brings up a queue each way. And hostile clients. */
+   device, and brings up a queue each way. Also tests hostile clients. */
 #define _GNU_SOURCE
 #include <errno.h>
 #include <fcntl.h>

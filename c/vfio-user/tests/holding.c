@@ -183,7 +183,7 @@ static void connection_that_waits(const char *wire)
 #define RINGS 32u /* the maximum length */
 #define SLOTS 32768u
 #define SNAPSHOT_KB 8192 /* limit for a snapshot; the rings' memory is twice as large */
-#define MEANWHILE 20u    /* there are thousands if nothing blocks them */
+#define MEANWHILE 20u    /* answers expected meanwhile; unblocked, there are thousands */
 
 static bool has_answer(int control)
 {

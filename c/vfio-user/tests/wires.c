@@ -148,7 +148,7 @@ static void streams(void)
     bad_lengths(peer);
     close(peer);
     wire_close(&wire);
-    /* the other way round, with nobody listening at first */
+    /* the other way round, at first without a listener */
     CHECK(wire_open(&wire, &connects) && wire.file < 0 && wire_patience(&wire) >= 0);
     int listener = socket(AF_UNIX, SOCK_STREAM, 0);
     name = name_of(second_path);

@@ -701,7 +701,7 @@ def check_reached(kit: Kit, each: int = 1) -> str:
     return f"{len(IDLE)} rows without traffic and {len(list(EDITS)[::each])} drivers that don't come to what is tried"
 
 
-# What is reported if a setting was lost.
+# The texts reported if a setting was lost.
 KEPT = {
     "filter": "was received, but the filter doesn't accept it \\(all frames were accepted, then no longer; then ",
     "list": "wasn't received, but the filter accepts it|was received, but the filter doesn't accept it",

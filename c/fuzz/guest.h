@@ -18,7 +18,7 @@ struct guest {
     uint16_t id;
 };
 
-/* The guest's function and its arguments. */
+/* A guest's actions. `given` is guest_run's argument. */
 typedef void guest_acts(struct guest *it, void *given);
 
 /* Runs a guest. The first one starts the server, with these additional null-terminated arguments. */

@@ -7,7 +7,7 @@
 
 /* Before a memory read by the caller, and before a snapshot. */
 void nicl_before_read(struct recording *it, nic *n, uint64_t bus, uint64_t length);
-/* Before a step that may enable a queue, or after a restore that may have. */
+/* Call it before a step that may enable a queue, or after a restore that may have enabled one. */
 void nicl_may_switch(struct recording *it);
 /* Before a receive step, a transmit step of a queue, and a nic_settle with this number of queues. */
 void nicl_before_receive(struct recording *it, nic *n);

@@ -47,7 +47,7 @@ static const char *named(const uint8_t *places, const struct run *list, uint32_t
     return room;
 }
 
-/* Returns the first address of the register if this is an alias of it, else this address. */
+/* Returns the register's first address if this address is an alias, otherwise this address. */
 static uint32_t first_of(uint32_t address)
 {
     for (const struct alias *alias = aliases; alias < aliases + COUNT(aliases); alias++) {

@@ -16,7 +16,7 @@ static bool is_same(const nic_outcome *a, const nic_outcome *b)
     return numbers && places && step && a->why == b->why && a->vector == b->vector;
 }
 
-/* Runs all steps of both, one in each way. */
+/* Runs all steps of both controllers, each in one of the two ways. */
 static size_t settle_both(nic n[2], uint16_t queues)
 {
     nic_settling where = {queues, 0};

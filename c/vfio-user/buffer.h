@@ -23,7 +23,7 @@ static inline const uint8_t *buffer_front(const struct buffer *it)
 
 /* Appends two pieces, or returns false and appends neither if memory runs out. */
 bool buffer_put(struct buffer *it, const void *head, size_t head_length, const void *bytes, size_t length);
-/* Removes this many bytes from the front. They must be there. */
+/* Removes this many bytes from the front. They must be in the buffer. */
 void buffer_take(struct buffer *it, size_t length);
 void buffer_clear(struct buffer *it);
 

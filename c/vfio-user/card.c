@@ -447,8 +447,8 @@ bool card_has_left_some(const struct card *it)
     return it->budget.left[BUDGET_CONTROL] == 0;
 }
 
-/* Sends what tails handed over, even if the queue or the link was off at that time. Returns whether something is left.
-   Each client pays for its queues, which begin where the last turn's budget ended. */
+/* Sends the descriptors that tails handed over, even if the queue or the link was off at that time. Returns whether
+   some are left. Each client pays for its queues, which begin where the last turn's budget ended. */
 static bool transmit_due(struct card *it)
 {
     struct stepper *stepper = &it->stepper;

@@ -5,7 +5,7 @@
 
 #include <stdbool.h>
 
-/* The process's task from then on. */
+/* The process's only task after it is confined. */
 enum confine_as {
     CONFINE_SERVER, /* serves what is open, and accepts */
     CONFINE_CALLER, /* connects UNIX sockets */

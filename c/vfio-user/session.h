@@ -19,7 +19,7 @@ struct session_calls {
     void (*reset)(void *function);
     /* the ranges of memory changed */
     void (*remapped)(void *function);
-    /* the client's way of receiving interrupts while MSI-X is off changed */
+    /* called after the client changed how it receives interrupts while MSI-X is off */
     void (*rearmed)(void *function);
     /* a message was served; returns false if others have their turn before the next one */
     bool (*may_serve)(void *function);

@@ -17,7 +17,7 @@ struct receive {
     uint16_t page_of[MOST_SLOTS];       /* the page in each slot */
     uint16_t spare[MOST_SLOTS + SPARE]; /* pages in no slot */
     uint32_t spares;
-    uint32_t taken, filled, posted; /* free-running: slots that came back, slots filled, and the tail */
+    uint32_t taken, filled, posted; /* free-running indexes: slots returned, slots filled, and the tail */
     nicd_frame partial;
 };
 

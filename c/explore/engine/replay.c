@@ -1,6 +1,6 @@
 /* Replays a schedule from a file in this process, so that you can attach a debugger. An exact replay must fit the file,
-   or it is refused. A lenient one follows the file as far as possible: where a changed driver departs from it, that is
-   printed, and the remaining points of the file are used as far as they fit, up to a verdict. */
+   or it is refused. A lenient one follows the file as far as possible: it prints where a changed driver departs from
+   the file, and uses the remaining points as far as they fit, up to a verdict. */
 #include "replay.h"
 
 #include <inttypes.h>

@@ -226,7 +226,7 @@ static int find_code(struct dl_phdr_info *info, size_t size, void *unused)
             code_begins = info->dlpi_addr + info->dlpi_phdr[k].p_vaddr;
             code_ends = code_begins + info->dlpi_phdr[k].p_memsz;
         }
-    return 1; /* the first one is the program */
+    return 1; /* the first entry is the program */
 }
 
 /* Whether the instruction calls one of the engine's points. Single-stepping from there to the point would waste

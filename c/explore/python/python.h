@@ -36,7 +36,7 @@ const char *nicp_words(void);
 void nicp_set_words(const char *text);
 
 /* Where a thread jumps to when it leaves its schedule: to its innermost call, from which an exception ends the frames
-   of Python; or else to its beginning. */
+   of Python; otherwise to its beginning. */
 struct nicp_way {
     jmp_buf place;
     struct nicp_way *outer;

@@ -22,7 +22,7 @@ struct posix_thread {
     const char *call;
     const void *at, *caller;
     bool is_lock;          /* the thread waits for a lock, which some thread holds */
-    bool may_wake;         /* the thread was waiting when a signal came */
+    bool may_wake;         /* the thread was waiting when a signal was sent */
     const void *condition; /* the condition variable that the thread waits for */
     struct held held[MOST_HELD];
     unsigned locks;
@@ -129,9 +129,9 @@ void nicxi_state_goes(const struct thread *from, const struct thread *to);
 
 /* In a searched whole program: from here on other actors may run, since the program creates a thread, or waits. */
 void nicxi_program_begins(void);
-/* The program opens a controller. Returns whether it is the search's. */
+/* Called when the program opens a controller. Returns whether the controller is the search's. */
 extern bool (*nicxi_program_opens)(uint8_t vfs, uint16_t fifo, uint32_t blocks, void **device);
-/* The program ends. Doesn't return if a schedule is running. */
+/* Called when the program ends. Doesn't return if a schedule is running. */
 extern void (*nicxi_program_ends)(int status);
 
 #endif

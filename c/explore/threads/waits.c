@@ -1,4 +1,5 @@
-/* Condition variables, semaphores, barriers and pthread_once. Each is a struct of ours inside the driver's object. */
+/* Condition variables, semaphores, barriers and pthread_once. Each is one of this file's structs inside the driver's
+   object. */
 #define _GNU_SOURCE
 #include <errno.h>
 #include <semaphore.h>

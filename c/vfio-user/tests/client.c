@@ -355,7 +355,7 @@ static void give_frame(struct peer *it, uint32_t slot)
     peer_write(it, NIC_TDT(0), slot + 1);
 }
 
-/* A frame waits before each of its steps until that is requested. */
+/* A frame waits before each of its steps until the step is requested. */
 static void held(const char *path, const char *control_path)
 {
     struct peer peer;

@@ -186,7 +186,8 @@ static void unmask_comes_and_goes(void)
     CHECK(read(unmask, &count, sizeof count) == (ssize_t)sizeof count && count == 1); /* it hasn't been read */
 }
 
-/* A client that passes one eventfd for both is notified again and again, once in each turn, and is still answered. */
+/* A client that passes one eventfd for the pin and for unmasking is notified again and again, once in each turn, and is
+   still answered. */
 static void one_for_both(void)
 {
     begin();

@@ -181,7 +181,7 @@ static void windows_most(void)
     close(others[1]);
 }
 
-/* From the page at which a file was truncated nothing is accessible; the part in front of it still is. */
+/* From the page at which a file was truncated on, nothing is accessible; the part before that page still is. */
 static void cut(void)
 {
     size_t length = PAGE;

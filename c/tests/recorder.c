@@ -166,7 +166,7 @@ static void no_bytes(void)
                                    "arrive d1                    # dropped off\n"));
 }
 
-/* The lines that a pipe gets for two lent blocks: a pipe's lines can't be taken back. */
+/* The lines written to a pipe for two lent blocks: a pipe's lines can't be removed. */
 static void lent_to_pipe(void)
 {
     nic n;

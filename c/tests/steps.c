@@ -16,7 +16,7 @@ static bool is_same(const nic_outcome *a, const nic_outcome *b)
     return numbers && places && step && a->why == b->why && a->vector == b->vector;
 }
 
-/* Runs all steps of both controllers, each in one of the two ways. */
+/* Runs all steps of both controllers: with nic_settle on the first, with nic_next_step on the second. */
 static size_t settle_both(nic n[2], uint16_t queues)
 {
     nic_settling where = {queues, 0};

@@ -18,7 +18,7 @@ union room {
     char bytes[CMSG_SPACE(sizeof(int))];
 };
 
-/* ---- in the process ---- */
+/* ---- in the connector's process ---- */
 
 /* Sends an answer: a file, or none (-1). */
 static void answer(int line, int file)

@@ -252,8 +252,8 @@ static void switch_off(struct rings *it, enum side side, uint16_t queue)
     nic_queue_step(it->options.device, side == TRANSMIT, queue, &seen);
 }
 
-/* Takes the ring from its owner, so that it accesses no memory. Its place remains as long as the device may use it:
-   until a reset, or until a client sets up another ring there. */
+/* Takes the ring from its owner, so that it accesses no memory. Its location is kept as long as the device may use it:
+   until a reset, or until a client sets up another ring for the queue. */
 static void stop(struct rings *it, enum side side, uint16_t queue)
 {
     struct ring *ring = &it->rings[side][queue];

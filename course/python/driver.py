@@ -157,7 +157,7 @@ class Course(Driver):
 
     def set_interrupts(self) -> None:
         # TODO 4: assign vector q to both sides of queue q. IVAR[q // 2] has a receive byte and a transmit byte for the
-        # even queue, then those of the odd one; set 0x80 in each valid byte. In GPIE set MULTIPLE_MSIX (bit 4), OCD
+        # even queue, then both for the odd one; set 0x80 in each valid byte. In GPIE set MULTIPLE_MSIX (bit 4), OCD
         # (5), EIAME (30) and PBA_SUPPORT (31). In EIAC and EIAM set the causes of the queues, bit q for queue q: a
         # message then clears its cause and masks it. Enable the causes in EIMS last.
         pass

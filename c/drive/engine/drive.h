@@ -22,7 +22,7 @@ enum {
 
 /* --- a scenario --- */
 
-/* What a scenario needs from a driver, besides `open` and `close`. */
+/* Functions that a scenario needs from a driver, besides `open` and `close`. */
 enum needs {
     RECEIVES = 1 << 0, /* `receive`, or threads that deliver */
     PULLS = 1 << 1,    /* `receive` */
@@ -281,7 +281,7 @@ struct drive {
     uint32_t accepted[NICD_QUEUES], went[NICD_QUEUES];         /* accepted by send; sent by the device */
     uint32_t accepted_now[NICD_QUEUES], went_now[NICD_QUEUES]; /* the same counts since the last interruption */
     struct went out_slots[NICD_QUEUES][MOST_OUT];
-    /* whether send returned false; whether a task waits until all frames are sent */
+    /* whether `send` returned false; whether a task waits until all frames are sent */
     bool is_refused[NICD_QUEUES], is_awaited[NICD_QUEUES];
     uint32_t out[NICD_QUEUES]; /* unsent frames: reclaim's last result plus frames accepted since */
     uint32_t numbers;
@@ -372,7 +372,7 @@ void nicd_judge_begin(void);
    call. */
 void nicd_judge_reclaimed(unsigned queue, uint32_t accepted);
 const char *nicd_judge_end(void);
-/* Builds arriving frame `number`, and returns its length. The second call builds a frame to send. */
+/* The first function builds an arriving frame and returns its length; the second builds a frame to send. */
 uint32_t nicd_make(const struct come *come, uint16_t number, uint8_t *bytes);
 void nicd_make_sent(uint16_t number, uint32_t length, uint8_t *bytes);
 

@@ -37,7 +37,7 @@ struct step {
     bool is_own;         /* set if the store that reached memory is to own memory */
     bool is_published;   /* a pointer store, which was an access when the driver made it (nicxo_write) */
     uint8_t older;       /* weak memory: a load reads the value before this many changes */
-    uint16_t of;         /* queue, group, frame or link change; for a value or a store, the thread */
+    uint16_t of;         /* number of the queue, group, frame or link change; for a value or a store, of the thread */
     uint32_t address;    /* register address, or offset of a virtual function's access; a block lent or taken */
     uint32_t physical;   /* virtual function's access: the physical function's address, or NO_ADDRESS */
     uint32_t word;       /* value read or written; wait, lock or start: enum local; nicx_choose: the value */

@@ -1,17 +1,17 @@
 /* Puts all memory of the proved library into one piece, so that a controller is restored by copying the piece, in a
    tenth of nic_restore's time. The library allocates through three functions of its toolchain. This archive defines
-   them too, and the linker takes these if the archive comes before libnic82599.a. If it doesn't, or if the library is
-   the shared one, the piece stays empty, and nic_snapshot and nic_restore are used. */
+   them too, and the linker uses them if the archive precedes libnic82599.a. If it doesn't, or if the library is the
+   shared one, the piece stays empty, and nic_snapshot and nic_restore are used. */
 #ifndef NICX_HEAP_H
 #define NICX_HEAP_H
 
 #include <stdbool.h>
 #include <stddef.h>
 
-/* From here on the library allocates from the piece on this thread. Returns false if the machine has no memory for it.
-   Other threads of the process still allocate from malloc. */
+/* After this call the library allocates from the piece on this thread. Returns false if the machine has no memory for
+   it. Other threads of the process still allocate from malloc. */
 bool nicxi_heap_open(void);
-/* From here on only this thread, which runs a schedule, allocates from the piece. */
+/* After this call only this thread, which runs a schedule, allocates from the piece. */
 void nicxi_heap_is_mine(void);
 /* On this thread the library allocates from malloc until nicxi_heap_is_mine. This is for a controller of the caller's
    own, which must survive when the search's is restored. Returns false and does nothing if that is already so. */

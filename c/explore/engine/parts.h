@@ -22,7 +22,7 @@ struct nicxi_form {
     const void *(*function_of)(const struct thread *thread); /* returns a created thread's function */
     /* Names a barrier in the driver's inline assembly: "mfence at driver.c:9". */
     bool (*assembly)(char *room, size_t size);
-    /* What reports add about a completed call: ", while nothing waited", or "". */
+    /* The text that reports add about a completed call: ", while nothing waited", or "". */
     const char *(*beside)(const struct step *step);
     /* Names an address in memory from malloc: "malloc(driver.c:9)+0x8". */
     bool (*name)(const void *object, char *room, size_t size);
@@ -67,7 +67,7 @@ bool nicxi_is_in_thread(void);
 void nicxi_name_made(void);
 /* Creates a further task with a stack of `room` bytes; 0: the scenario's size. Returns null if none is left. */
 struct thread *nicxi_make_thread(void (*function)(void *), void *argument, size_t room);
-/* Ends the running thread here, inside any call. */
+/* Ends the running thread, inside any call. */
 void nicxi_end_thread(void);
 
 /* A point of the running thread, for a call with this name about this object. */

@@ -185,7 +185,7 @@ static void tell_status(const struct post *post, int status, nicx_result *result
     }
 }
 
-/* Without a parent that watches, the process reports this itself. */
+/* Without a watching parent, the process reports this itself. */
 void nicxi_refuse_thread(void)
 {
     if (watched)

@@ -27,7 +27,7 @@
 #define BUFFERS 0x40000000u
 #define SLOTS_MOST 32768u
 #define MANY 5000u
-#define SAID_AT_ONCE 32768u /* bytes: some lines of each kind */
+#define SAID_AT_ONCE 32768u /* limit in bytes, enough for some lines of each kind */
 #define SAID_A_SECOND 2000u
 #define WAIT_MS 300000
 

@@ -88,8 +88,8 @@ static void send_to(const uint8_t mac[6])
     CHECK(peer_put_frame(wire, frame, sizeof frame));
 }
 
-/* The host receives frames as long as none blocks forever: all frames sent before this one have been received or
-   dropped by then. */
+/* The host receives frames as long as none blocks forever: all frames sent before this one have left the front of the
+   queues by then. */
 static void host_gets_one(void)
 {
     const uint32_t at = NIC_RDBAL(HOST_QUEUE);

@@ -274,7 +274,7 @@ impl Course {
 
     fn set_interrupts(&self, platform: &Platform) {
         // TODO 4: assign vector q to both sides of queue q. IVAR.at(q / 2) has a receive byte and a transmit byte for
-        // the even queue, then those of the odd one; set 0x80 in each valid byte. In GPIE set MULTIPLE_MSIX,
+        // the even queue, then both for the odd one; set 0x80 in each valid byte. In GPIE set MULTIPLE_MSIX,
         // PBA_SUPPORT, OCD and EIAME. In EIAC and EIAM set the causes of the queues, bit q for queue q: a message then
         // clears its cause and masks it. Enable the causes in EIMS last.
         let queues = self.setup().queues;

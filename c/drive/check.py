@@ -1,5 +1,5 @@
-"""Checks the report card: a correct driver passes each row; each bug of the corpus fails the row that finds it; what no
-driver may do is reported, and the other rows continue.
+"""Checks the report card: a correct driver passes each row; each bug of the corpus fails the row that finds it; a
+driver's forbidden access is reported, and the other rows continue.
 
 `c/test` calls these checks. `c/drive/table` imports the bugs from this file.
 """
@@ -302,7 +302,7 @@ def check_kept(kit: Kit, each: int = 1) -> str:
 
 
 def check_faults(kit: Kit, each: int = 1) -> str:
-    """What no driver may do is reported in its row, with the line if it is known, and the other rows continue."""
+    """A forbidden access is reported in its row, with the line if it is known, and the other rows continue."""
     with_lines = replace(kit, flags=[*kit.flags, "-g"])
     for mode in list(FAULTS)[::each]:
         name, cause = FAULTS[mode]
@@ -372,8 +372,8 @@ LATE = {
 
 
 def check_aliases(kit: Kit) -> str:
-    """A driver that writes registers through their aliases passes as before. A write that comes too late is reported by
-    the register's name, whatever the address."""
+    """A driver that writes registers through their aliases passes as before. A late write is reported by the register's
+    name, whichever of its addresses was used."""
     driver, words = HERE / "corpus/driver.c", ("--runs", 10, "--every", 10)
     states = [row["state"] for row in none_failed(kit.card(kit.build(driver, "ALIASES"), None, *words))]
     here = driver.read_text().replace('"bugs.h"', f'"{HERE}/corpus/bugs.h"')
@@ -484,8 +484,8 @@ def adapter(
 
 
 def check_address(kit: Kit) -> None:
-    """A driver that takes its address from RAL0 and RAH0 learns that it is missing. With port.md's EEPROM image it has
-    one."""
+    """If a driver reads its MAC address from RAL0 and RAH0, the report says that it is missing. With port.md's EEPROM
+    image it is there."""
     silent = "    (void)address;\n"
     if not (found := ADDRESS.search((ADAPTER_FOLDER / "driver.c").read_text())):
         raise Wrong("c/examples/adapter/driver.c writes no address")

@@ -65,7 +65,7 @@ static uint32_t *place_of(struct nicl_runs *it, uint32_t run)
     return place;
 }
 
-/* Splits a tree into the runs below a run, which become its left subtree, and those above it, its right subtree. */
+/* Splits a tree at a run: the runs below it become its left subtree, the runs above it its right subtree. */
 static void part(struct nicl_runs *it, uint32_t tree, uint32_t run)
 {
     uint32_t *below = &it->blocks[run].left, *above = &it->blocks[run].right;

@@ -7,7 +7,7 @@
 
 #include "starts.h"
 
-/* Held to change the tables, the starts of blocks and the bounds, and to read those of other threads. */
+/* Held to change the tables, the starts of blocks and the bounds, and to read entries of other threads. */
 static pthread_mutex_t lock = PTHREAD_MUTEX_INITIALIZER;
 static struct nicl_by_device tables;
 /* Number of tables. nicl_table_of reads it on every call. */

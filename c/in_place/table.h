@@ -18,7 +18,7 @@ struct nicl_table *nicl_table_of(const nic *n);
 /* Returns the table of a controller, made if there is none, after giving blocks first to end - 1 the caller's memory,
    in order. Returns null if memory runs out: then nothing changes. */
 struct nicl_table *nicl_table_with(const nic *n, uint32_t first, uint32_t end, uint8_t *host);
-/* Notes that those blocks no longer hold the caller's memory. */
+/* Notes that the blocks no longer hold the caller's memory. */
 void nicl_table_remove(struct nicl_table *it, uint32_t first, uint32_t end);
 /* Detaches the table of a controller that is ending. The caller's memory in it isn't freed until nicl_table_end. */
 void nicl_table_close(struct nicl_table *it);

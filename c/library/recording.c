@@ -364,7 +364,7 @@ static void note_line(struct recording *it)
         it->line = it->used;
 }
 
-/* If there is no memory for text, added text goes here. */
+/* Without memory for text, added text is discarded into this buffer. */
 static char nowhere[NICL_LINE];
 
 struct nicl_text nicl_text_of(struct recording *it)

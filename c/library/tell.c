@@ -65,7 +65,7 @@ static void say(const struct teller *it, const char *format, ...)
     va_start(list, format);
     vsnprintf(line + used, sizeof line - (size_t)used, format, list);
     va_end(list);
-    fprintf(stderr, "%s\n", line); /* (a single call, because lines of the program may come between two writes) */
+    fprintf(stderr, "%s\n", line); /* (a single call, because the program may write lines between two calls) */
 }
 
 static bool is_round(uint64_t count)

@@ -209,7 +209,7 @@ static void same_answers(uint8_t *host)
 }
 
 /* Makes calls for a recording, which contains only the memory that the steps read. A snapshot and reads of all memory
-   come last. */
+   follow at the end. */
 static void recorded(uint8_t *host, uint64_t seed)
 {
     enum { CALLS = 260 };

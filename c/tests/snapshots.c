@@ -228,7 +228,8 @@ static void lend_others(nic *n)
     ANSWERS(NIC_DONE, nic_put64(n, 0, 99));
 }
 
-/* Blocks 1 and 3 have their words again, the others are free again, and a newly lent one is filled with zeros. */
+/* Blocks 1 and 3 have their words again, the other blocks are free again, and a newly lent block is filled with
+   zeros. */
 static void has_two_blocks(nic *n)
 {
     uint64_t got = 0;

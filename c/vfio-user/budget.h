@@ -1,4 +1,4 @@
-/* Limits how much work the server does for one client before the others have their turn. Work is measured in bytes
+/* Limits how much work the server does for one client before other clients have their turn. Work is measured in bytes
    moved; other work that takes time counts as a number of bytes. Each client pays for its own messages and for what its
    rings do. In each turn of the server's loop each payer gets BUDGET_PIECE, and a client that has spent it waits for
    the next turn. A piece can be overdrawn by at most one step: a descriptor with its 65,535 bytes, a message of 4,096

@@ -98,7 +98,7 @@ bool card_may_go_on(struct card *it, const struct function *function);
 
 /* Puts a frame on the link. Returns whether the device accepted it. */
 bool card_arrive(struct card *it, const uint8_t *frame, size_t length);
-/* Return whether there is room for more frames in front of the queues, and whether one may come in this turn. */
+/* Return whether there is room for more frames in front of the queues, and whether a frame may arrive in this turn. */
 bool card_has_room(const struct card *it);
 bool card_takes_frame(const struct card *it);
 

@@ -141,7 +141,7 @@ size_t channel_waiting(const struct channel *it)
     return buffer_waiting(&it->out);
 }
 
-/* Returns the number of bytes sent, or -1 if the client is gone. */
+/* Returns the number of bytes sent, or -1 if the client has disconnected. */
 static ssize_t try_to_send(const struct channel *it, const uint8_t *bytes, size_t length)
 {
     for (;;) {

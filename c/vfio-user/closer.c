@@ -22,7 +22,7 @@ struct queue {
     pthread_cond_t changed;
     struct waiting *files;
     unsigned int count, room;
-    unsigned int of_owner[CLOSER_OWNERS]; /* including those being closed */
+    unsigned int of_owner[CLOSER_OWNERS]; /* including files being closed */
     bool is_closing;
     bool is_there; /* the queue's thread is running */
 };

@@ -1,5 +1,5 @@
-/* Gives up the rights that the process doesn't need for serving, so that taking it over with a message gains an
-   attacker little. */
+/* Gives up the rights that the process doesn't need for serving, so that an attacker who takes it over with a message
+   gains little. */
 #ifndef VFU_CONFINE_H
 #define VFU_CONFINE_H
 

@@ -327,7 +327,7 @@ static void gone(struct function *it)
     it->client++;
 }
 
-/* Whether the client has gone: it neither sends nor reads. */
+/* Whether the client has disconnected: it neither sends nor reads. */
 static bool is_gone(const struct function *it)
 {
     return it->is_leaving && channel_waiting(&it->session.channel) > CHANNEL_KEPT;

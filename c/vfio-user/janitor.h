@@ -9,11 +9,11 @@ struct local_given;
 
 /* Starts it, while this process is still small. Returns false with errno set if it can't. */
 bool janitor_start(bool is_confined);
-/* Adds a name for it to remove. No-op if it wasn't started. */
+/* Adds a name for the janitor to remove. No-op if the janitor wasn't started. */
 void janitor_adopt(const struct local_given *given);
-/* It accepts no more names, so that an attacker in this process can't make it remove other files. */
+/* Makes the janitor accept no more names, so that an attacker in this process can't make it remove other files. */
 void janitor_seal(void);
-/* Lets it do its work, and waits for it. */
+/* Starts the janitor's work, and waits until it is done. */
 void janitor_finish(void);
 
 #endif

@@ -16,7 +16,7 @@
 
 enum log_kind {
     LOG_SERVER,  /* events of the server itself */
-    LOG_CLIENT,  /* clients come and go */
+    LOG_CLIENT,  /* clients connecting and leaving */
     LOG_MESSAGE, /* refused requests of clients */
     LOG_ACCESS,  /* driver accesses that the card refuses */
     LOG_FAULT,   /* faults of the device */

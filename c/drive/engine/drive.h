@@ -149,8 +149,8 @@ struct scenario {
     nicd_setup setup; /* 0 in queues, slots or frame means 1, 8 or 1,514 */
     uint32_t points;
     /* What the scenario adds to the card's own handlers, in the order in which it is declared. A `sends` or `comes`
-       other than 0 counts frames beyond those that fill `rings` rings. The `late` frames arrive only after the flow
-       resumes. */
+       other than 0 counts frames in addition to the frames that fill `rings` rings. The `late` frames arrive only after
+       the flow resumes. */
     void (*control)(void); /* body of a thread that calls the driver, or null */
     void (*opened)(void);  /* what `control` reads after the driver opens, or null */
     void (*begin)(void);   /* declares more threads and frames, or null */

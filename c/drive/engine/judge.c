@@ -1,4 +1,5 @@
-/* Judges whether the driver delivered the frames that arrived, and whether the frames sent are those it accepted. */
+/* Judges whether the driver delivered the frames that arrived, and whether the frames sent are the ones that it
+   accepted. */
 #include <stdarg.h>
 #include <stdio.h>
 #include <string.h>

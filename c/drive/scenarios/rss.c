@@ -75,7 +75,7 @@ static const char *judge_queues(void)
     return NULL;
 }
 
-/* The old table applies to frames that arrived and were written before the change, the new table to those after it. */
+/* The old table applies to frames that arrived and were written before the change, the new table to frames after it. */
 static const char *judge_changed(void)
 {
     nicd_rss now = wanted;

@@ -1,4 +1,4 @@
-/* An endless schedule that repeats the same steps is reported with those steps once. */
+/* If an endless schedule repeats the same steps, they are reported once. */
 #include "shrink.h"
 
 enum { MOST_CYCLE = 5000, LEAST_TURNS = 3 };

@@ -164,7 +164,7 @@ struct frame {
 };
 
 /* Things that the scenario names and a schedule leaves out: shrinking leaves out what a failure doesn't need. Numbers
-   and names stay those of the whole scenario. */
+   and names remain as in the whole scenario. */
 struct omitted {
     bool threads[MOST_THREADS];
     bool frames[NICX_FRAMES], links[NICX_FRAMES];
@@ -194,8 +194,8 @@ typedef void nicxi_listener(void *argument, uint16_t actor, const struct step *s
    - One schedule. `reset` in run.c initializes these parts before any of the driver's code runs. A part that it missed
      would make a schedule depend on earlier ones, and a failure's file would no longer reproduce it.
 
-   A search runs schedules in child processes, and what those write here is lost when they exit. Only `schedule`,
-   `points`, `notes` and `coverage` point into memory shared with the search, which reads it after a crash. */
+   A search runs schedules in child processes, and their writes here are lost when they exit. Only `schedule`, `points`,
+   `notes` and `coverage` point into memory shared with the search, which reads it after a crash. */
 struct engine {
     /* What can run: set by nicx_open, and by `begin` for each schedule (scenario.c). Numbers and names stay the same in
        all schedules; otherwise a schedule's file would mean a different schedule. */
@@ -222,8 +222,8 @@ struct engine {
 
     /* The actors (actors.c), in this order: threads and outside events, the device's steps from `steps_from` on, stores
        and older loads from `steps_to` on. A step of the device that had nothing to do is idle: its bit in `awake` is 0.
-       It isn't tried again until a step that may give it work wakes it (nicxi_wake). Waking too many costs time; waking
-       too few loses schedules. */
+       It isn't tried again until another step, which may have added work for it, wakes it (nicxi_wake). Waking too many
+       costs time; waking too few loses schedules. */
     struct actor actors[MOST_ACTORS];
     uint16_t count, steps_from, steps_to;
     uint64_t awake[MOST_ACTORS / 64 + 1];
@@ -242,7 +242,7 @@ struct engine {
     /* The schedule being run (run.c). The first *points entries of `schedule` are the actors, and the same entries of
        `steps` are their steps. A step of the device that had nothing to do is removed again: it isn't a point. */
     const nicx_chooser *chooser;
-    uint16_t can[MOST_ACTORS]; /* offered to the chooser; the actor that ran last comes first if it can continue */
+    uint16_t can[MOST_ACTORS]; /* offered to the chooser; the actor that ran last is first if it can continue */
     uint16_t *schedule;
     volatile uint32_t *points;
     struct step *steps; /* null if not requested */

@@ -170,7 +170,7 @@ static void go_to(struct exhaustive *it, struct node *node, uint32_t k)
     node->at = k;
 }
 
-/* The sleep set after a node's choice: of the steps asleep before it, and those already tried at the node, the ones
+/* The sleep set after a node's choice: the steps asleep before it and the steps already tried at the node, if they are
    independent of the choice. */
 static bool inherit(struct exhaustive *it, const struct node *above, struct node *node)
 {
@@ -265,7 +265,7 @@ static void begin_part(struct exhaustive *it)
 
 /* Moves to the next choice at the last node. At a point of the first schedule, each choice is a part. The first step of
    another process's part is run too, since the sleep sets of later parts need to know what it did. So the process
-   explores exactly those schedules of its parts that a single process would. */
+   explores exactly the schedules of its parts that a single process would. */
 static bool advance(struct exhaustive *it, struct node *node)
 {
     bool is_root = it->depth <= it->root;

@@ -68,7 +68,7 @@ static bool are_alike(const char *a, const char *b)
     }
 }
 
-/* Which actor comes last in an endless schedule is chance. Words are compared as files contain them. */
+/* The last actor in an endless schedule is a matter of chance. Words are compared as files contain them. */
 bool nicxi_is_the_same(const nicx_result *a, const nicx_result *b)
 {
     char words[sizeof a->words], others[sizeof b->words];
@@ -104,8 +104,8 @@ static void list_arrivals(struct arrivals *arrivals, const uint16_t *schedule, u
     }
 }
 
-/* Frames must arrive and link changes happen in the same order as before: a link that goes down earlier drops a frame,
-   which is a different failure. */
+/* Frames must arrive and link changes happen in the same order as before: an earlier link-down drops a frame, which is
+   a different failure. */
 static bool keeps_arrivals(const struct shrinking *it, uint32_t points)
 {
     static struct arrivals old, new;

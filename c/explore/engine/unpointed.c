@@ -59,7 +59,7 @@ struct decoded {
     const uint8_t *at;    /* after the opcode: the ModRM byte */
     unsigned rex, opcode; /* two-byte opcodes are 0x0F00 and up */
     bool is_wide;         /* immediates have four bytes, not two */
-    bool is_locked;       /* nothing can come between its load and its store */
+    bool is_locked;       /* no other access can occur between its load and its store */
     bool reads, writes;
 };
 
@@ -101,7 +101,7 @@ static void decode_two(struct decoded *it, unsigned part)
     it->reads = loads || exchanges;
 }
 
-/* Arithmetic below 0x40 comes in groups: to memory, from memory, and with a constant. */
+/* Arithmetic opcodes below 0x40 form groups: to memory, from memory, and with a constant. */
 static void decode_one(struct decoded *it, unsigned part)
 {
     unsigned opcode = it->opcode;

@@ -77,7 +77,7 @@ TASK(mp_send_wmb, put(&x, 1, RLX); atomic_thread_fence(REL); put(&y, 1, RLX);)
 TASK(mp_send_nicx_wmb, put(&x, 1, RLX); nicx_wmb(); put(&y, 1, RLX);)
 TASK(mp_take, r[0] = get(&y, ACQ); r[1] = get(&x, RLX);)
 
-/* R, S and 2+2W: which of two stores to a location comes last. */
+/* R, S and 2+2W: which of two stores to a location is last. */
 TASK(r_one, put(&x, 1, RLX); put(&y, 1, RLX);)
 TASK(r_two, put(&y, 2, RLX); r[0] = get(&x, RLX);)
 TASK(s_one, put(&x, 2, RLX); put(&y, 1, RLX);)

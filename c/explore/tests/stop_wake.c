@@ -1,6 +1,6 @@
 /* `stop_wake MODE words..`, built with -fsanitize=thread: a sender stops its queue when no descriptor is free, and then
    checks once more; a cleaner frees a descriptor, and wakes a stopped queue. Each stores its own flag and then loads
-   the other's, so each needs a full barrier in between, like the smp_mb that goes with Linux's netif_stop_queue and
+   the other's, so each needs a full barrier between the two, like the smp_mb used with Linux's netif_stop_queue and
    netif_wake_queue. Without it, both may see the old value, and the queue stays stopped forever. With FIXED it is
    correct.
 

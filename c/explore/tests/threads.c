@@ -1,5 +1,5 @@
-/* Runs searches while another thread of the process creates, uses and closes devices of the plain library: neither gets
-   the other's memory. Arguments: a folder for the files of failures, and the number of searches. */
+/* Runs searches while another thread of the process creates, uses and closes devices of the plain library: neither
+   thread gets the other thread's memory. Arguments: a folder for the files of failures, and the number of searches. */
 #define _DEFAULT_SOURCE
 #include <pthread.h>
 #include <stdio.h>

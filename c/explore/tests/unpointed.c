@@ -54,7 +54,7 @@ static void locked(void *unused)
     }
 }
 
-/* Nothing can come between the load and the store of an atomic operation. */
+/* No other access can occur between the load and the store of an atomic operation. */
 static void atomic(void *unused)
 {
     (void)unused;

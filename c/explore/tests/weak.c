@@ -211,7 +211,7 @@ static void halves(void)
     r[1] = two[1];
 }
 
-/* Nine stores, of which eight may be pending. */
+/* Nine stores, at most eight of them pending. */
 static void nine(void)
 {
     for (unsigned k = 0; k < NICX_STORES; k++)

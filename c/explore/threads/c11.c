@@ -1,5 +1,5 @@
-/* Threads of C11, implemented by those of POSIX: in this C library they use the same objects. Each call keeps its own
-   name and place. */
+/* C11 threads, implemented by POSIX threads: in this C library they use the same objects. Each call keeps its own name
+   and place. */
 #define _GNU_SOURCE
 #include <errno.h>
 #include <stdint.h>
@@ -81,7 +81,7 @@ void __wrap_call_once(once_flag *flag, void (*function)(void))
         __real_call_once(flag, function);
 }
 
-/* A C11 thread returns an int, so it starts in a wrapper, which takes its function from here. */
+/* A C11 thread returns an int, so it starts in a wrapper, which takes its function from this struct. */
 struct beginning {
     thrd_start_t function;
     void *argument;

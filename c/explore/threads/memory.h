@@ -1,4 +1,5 @@
-/* Accesses of the driver's own memory as points, by --points: all, or those of one variable or in one function. */
+/* Accesses of the driver's own memory as points, by --points: all accesses, or only those to one variable or in one
+   function. */
 #ifndef NICX_THREADS_MEMORY_H
 #define NICX_THREADS_MEMORY_H
 

@@ -23,7 +23,7 @@ struct clock {
 
 static struct clock now[CLOCKS];
 
-/* A thread's clock at each of its earlier times, each of which ended with a release. */
+/* A thread's clock at each of its earlier times. Each time ended with a release. */
 static struct {
     struct clock *list;
     uint32_t room;

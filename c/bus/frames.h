@@ -12,8 +12,8 @@
 #define FRAME_JUMBO 9014 /* the longest frame with an MTU of 9,000 */
 #define HASH_INPUT_MAX 36
 
-/* Seven kinds take turns: TCP, UDP and neither, over IPv4 and over IPv6, and one that isn't IP. IPv6 is used only if
-   the length has room for TCP's ports. */
+/* Seven kinds alternate: TCP, UDP and neither, over IPv4 and over IPv6, and a frame that isn't IP. IPv6 is used only if
+   the frame has room for TCP's ports. */
 enum frame_kind { FRAME_TCP4, FRAME_UDP4, FRAME_IPV4, FRAME_TCP6, FRAME_UDP6, FRAME_IPV6, FRAME_OTHER, FRAME_KINDS };
 
 struct frame {

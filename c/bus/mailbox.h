@@ -16,7 +16,7 @@ struct mailbox_counts mailbox_counts(const struct bus *it, unsigned int request)
 /* Returns how often the host sent a message that answers no request. */
 uint64_t mailbox_own_messages(const struct bus *it);
 
-/* Prints a line for each kind of request, with the words of its first request and of the answer to that. */
+/* Prints a line for each kind of request, with the words of the first request and of its answer. */
 void mailbox_tell(const struct bus *it);
 
 #endif

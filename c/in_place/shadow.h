@@ -1,5 +1,5 @@
 /* For recordings: the bytes that a replay has in place of the caller's memory. The caller changes its memory without a
-   call, so before a call reads some of it, the recording gets what has changed there. */
+   call, so before a call reads part of the memory, its changes are recorded. */
 #ifndef NICL_SHADOW_H
 #define NICL_SHADOW_H
 

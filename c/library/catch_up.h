@@ -1,5 +1,5 @@
-/* The caller's memory that a call can read. If it changed, it is poked before the call, so that a recording replays.
-   With a null recording, these functions do nothing. */
+/* The caller's memory that a call can read. Changed memory is poked before the call, so that a recording can be
+   replayed. With a null recording, these functions do nothing. */
 #ifndef NICL_CATCH_UP_H
 #define NICL_CATCH_UP_H
 

@@ -127,7 +127,7 @@ static void beyond_scripts(void)
                                "#: restore 0\n"));
 }
 
-/* Memory that the caller stores into is poked once before it is read, and other memory isn't. */
+/* Memory that the caller stored into is poked once before it is read; other memory isn't poked. */
 static void in_place(void)
 {
     static uint8_t memory[2 * NIC_BLOCK_BYTES];

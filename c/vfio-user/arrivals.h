@@ -12,7 +12,7 @@ struct bus;
 struct arrivals {
     const struct bus *bus;
     uint64_t waiting;
-    uint64_t done;   /* frames that the bus had received and dropped at the last check */
+    uint64_t done;   /* numbers of frames that the bus had received and dropped at the last check */
     bool is_partial; /* part of the first frame is written */
     uint16_t queue;  /* the queue that it is written to */
 };

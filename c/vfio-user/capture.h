@@ -14,7 +14,7 @@ enum capture_direction { CAPTURE_IN = 1, CAPTURE_OUT = 2 };
 
 #define CAPTURE_FRAME_MOST 65536u /* bytes: longer frames aren't written */
 
-/* Writes the start of a file. */
+/* Writes a file's header. */
 void capture_begin(struct output *to);
 void capture_write(struct output *to, enum capture_direction direction, const uint8_t *frame, size_t length);
 

@@ -94,7 +94,7 @@ bool closer_start(void)
     return all;
 }
 
-/* ---- giving files to the threads ---- */
+/* ---- passing files to the threads ---- */
 
 static bool make_room(struct queue *it)
 {

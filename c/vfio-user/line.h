@@ -31,7 +31,7 @@ void line_mask(struct line *it, bool is_masked);
 bool line_unmask_by(struct line *it, int file);
 /* Returns the file to poll; -1: none. */
 int line_unmask_file(const struct line *it);
-/* Reads that file. Returns whether it was signalled and so has unmasked the line. */
+/* Reads the unmask eventfd. Returns whether it was signalled, which unmasks the line. */
 bool line_take_unmask(struct line *it);
 /* Sets the line's level. Returns whether the client was notified. */
 bool line_level(struct line *it, bool level);

@@ -110,8 +110,8 @@ static void flush_stream(struct wire *it)
     }
 }
 
-/* A datagram is sent whole or not at all. Datagrams wait here while the other end's queue is full, and are lost without
-   an other end. The connector has resolved the other end's name, because a name may lead anywhere. */
+/* A datagram is sent whole or not at all. Datagrams wait here while the other end's queue is full, and are lost if the
+   other end doesn't exist. The connector has resolved the other end's name, because a name may lead anywhere. */
 static void flush_datagrams(struct wire *it)
 {
     while (buffer_waiting(&it->out)) {

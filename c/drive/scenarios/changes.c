@@ -49,7 +49,7 @@ static void reset_twice(void)
         nicd_wait_until_out(0);
 }
 
-/* The first reset may keep memory beyond what `open` allocated. If later resets keep more, memory leaks. */
+/* The first reset may keep more memory than `open` allocated. If later resets keep still more, memory leaks. */
 static void reset_and_count(void)
 {
     nicd_hold();

@@ -185,7 +185,7 @@ static void after(const struct step *step)
 
 /* --- access to memory that isn't lent: the driver's failure, unless it is allowed --- */
 
-/* The last blocks taken back in a schedule, with thread and call. */
+/* The last blocks taken back in a schedule, each with its thread and call. */
 enum { MOST_TAKEN = 16 };
 
 static struct {

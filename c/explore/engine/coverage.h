@@ -1,4 +1,4 @@
-/* What happened in any schedule of a search, so that the search can report what never happened. */
+/* Records the events that occurred in any schedule of a search, so that the search can report those that never did. */
 #ifndef NICX_COVERAGE_H
 #define NICX_COVERAGE_H
 

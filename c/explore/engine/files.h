@@ -30,7 +30,7 @@ struct schedule_file {
     char **description; /* the comment of each point, or null */
     uint32_t length;
     uint32_t last;  /* the number of the last line */
-    uint32_t cycle; /* how many points at the end repeat; 0: none */
+    uint32_t cycle; /* number of repeating points at the end; 0: none */
     bool is_weak;   /* found with weak memory */
     char other[64]; /* the scenario that it belongs to, or "" for this one */
     struct omitted omitted;

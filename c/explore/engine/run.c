@@ -571,7 +571,8 @@ static void reset(void)
     nicxi_cover_begin();
 }
 
-/* Reports a thread waiting for an act that never happens. A nicx_wait is often meant as a delay, which nothing ends. */
+/* Reports a thread waiting for an act that never happens. A nicx_wait is often meant as a delay, but time alone doesn't
+   end it. */
 static void judge_wait(const struct thread *thread)
 {
     char where[MOST_PLACE], by[MOST_PLACE], pause[MOST_PLACE] = "";

@@ -267,8 +267,8 @@ static bool gives_own(const struct processor *it, uint64_t bus, uint32_t length)
     return false;
 }
 
-/* The time before the last `older` changes of a location, if the processor's loads may still return that; otherwise
-   false. */
+/* Finds the time before the last `older` changes of a location. Returns false if the processor's loads may no longer
+   return that value. */
 static bool time_before(const struct processor *it, uint64_t bus, uint32_t length, uint32_t older, uint32_t *time)
 {
     uint32_t floor = floor_of(it, bus, length), last = 0;

@@ -6,7 +6,7 @@
 
 enum { MOST_WORDS = 160 };
 
-/* What an actor did, and the result: "r EICR = 0x00000020". */
+/* Formats an actor's step and its result: "r EICR = 0x00000020". */
 const char *nicxi_words(const struct step *step, char room[MOST_WORDS]);
 
 /* What a step of the device returned, as a script's run prints it. */

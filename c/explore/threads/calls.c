@@ -48,7 +48,7 @@ CALL(nic_lend, (nic * n, uint32_t block), (n, block), nicx_lend(block))
 CALL(nic_take, (nic * n, uint32_t block), (n, block), (nicxi_note_call(HERE), nicx_take(block)))
 CALL(nic_lend_all, (nic * n), (n), nicx_lend_all())
 
-/* --- the device's steps: a whole program runs them itself; in a scenario the explorer does --- */
+/* --- the device's steps: run by a whole program itself, or by the explorer in a scenario --- */
 
 static bool may_ask(const char *call, const void *at)
 {

@@ -83,7 +83,7 @@ static int memory(uint64_t bytes, uint8_t **at)
 
 /* ---- eventfds ---- */
 
-/* The client clears the eventfd's flag after it passed it, and fills the counter. */
+/* After passing the eventfd, the client clears the eventfd's flag and fills its counter. */
 static void full_eventfd(void)
 {
     struct peer peer;

@@ -101,7 +101,8 @@ static void each_has_its_own(void)
     CHECK(pending(&own) == 0 && pending(&shadow) == 0);
 }
 
-/* If both clients set up a vector, its messages go to the function's own guest, until that removes its eventfd. */
+/* If both clients set up a vector, its messages go to the function's own guest, until this guest removes its
+   eventfd. */
 static void both_have_it(void)
 {
     set_up(&shadow, 0);

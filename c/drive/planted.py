@@ -52,7 +52,7 @@ class Fault:
             raise Unplanted(f"{TABLE.name}: {self.name} has a line that is none: {line}")
 
     def source(self) -> str:
-        """Returns the driver's source with the fault planted."""
+        """Returns the driver's source with the planted fault."""
         text = DRIVERS[self.driver].read_text()
         for old, new in self.hunks:
             if text.count("\n".join(old)) != 1:

@@ -126,7 +126,7 @@ def line(row: Row) -> str:
 
 
 def counts(card: Card) -> str:
-    """Counts the rows by outcome, including those not reached if there are any."""
+    """Counts the rows by outcome, including unreached rows if there are any."""
     vacuous = f"{card.count(NOT_REACHED)} not reached, " if card.count(NOT_REACHED) else ""
     return (
         f"{card.count(PASSED)} passed, {card.count(FAILED)} failed, {vacuous}"

@@ -56,7 +56,7 @@ bool nicxi_do(struct post *post, uint32_t hang, void (*work)(struct post *, void
 /* Another thread of the process made a call that only tasks may make: reports that, and exits. */
 void nicxi_refuse_thread(void);
 
-/* From here on, notes in `where` which task overflows its stack; if `where` is null, prints it to standard error. */
+/* After this call, a stack overflow's task is noted in `where`, or printed to standard error if `where` is null. */
 void nicxi_catch_overflows(volatile struct overflow *where);
 const char *nicxi_overflow_words(const volatile struct overflow *overflow, char *room, size_t size);
 

@@ -48,7 +48,7 @@ static int get(atomic_int *at, memory_order order)
     return atomic_load_explicit(at, order);
 }
 
-/* SB: each task stores, and then loads what the other one stored. */
+/* SB: each task stores to one location, and then loads the location that the other task stores to. */
 TASK(sb_x, put(&x, 1, RLX); r[0] = get(&y, RLX);)
 TASK(sb_y, put(&y, 1, RLX); r[1] = get(&x, RLX);)
 TASK(sb_x_ra, put(&x, 1, REL); r[0] = get(&y, ACQ);)

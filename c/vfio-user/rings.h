@@ -78,8 +78,8 @@ void rings_remapped(struct rings *it, struct dma client);
 /* Returns the ring's owner; without a function if the ring was stopped or not set up. */
 struct dma rings_owner(const struct rings *it, bool is_transmit, uint16_t queue);
 
-/* Lends the device what its next step of this queue needs. Call it before each transmit step and after a receive step.
-   Returns false if the transmit queue has nothing to send. */
+/* Provides the blocks and the descriptor that the device needs for its next step of this queue. Call it before each
+   transmit step and after a receive step. Returns false if the transmit queue has nothing to send. */
 bool rings_step(struct rings *it, bool is_transmit, uint16_t queue);
 /* Like rings_step, for each receive queue that was touched. Call it before receive steps. */
 void rings_prepare_receive(struct rings *it);

@@ -36,7 +36,7 @@ def fetched(name: str) -> bool:
 
 
 class Browser(abc.ABC):
-    """A tab. `errors` holds the errors and warnings of its console."""
+    """A browser tab. `errors` holds its console's errors and warnings."""
 
     errors: list[str]
 
@@ -50,7 +50,7 @@ class Browser(abc.ABC):
 
     @abc.abstractmethod
     def press(self, key: str) -> None:
-        """Presses a key: a letter, or the key's name in a page, such as `ArrowLeft` or `F10`."""
+        """Presses a key: a letter, or a key's name in JavaScript, such as `ArrowLeft` or `F10`."""
 
     @abc.abstractmethod
     def click(self, x: float, y: float) -> None:
@@ -103,7 +103,8 @@ class Chromium(Browser):
             f"--user-data-dir={self.folder}",
             "about:blank",
         ]
-        # Chromium reads from 3 and writes to 4; the pipe's numbers are above them, so that neither is overwritten.
+        # Chromium reads file descriptor 3 and writes 4; the pipes' own numbers are higher, so that neither is
+        # overwritten.
         starter = f"exec 3<&{read_in} 4>&{write_out}; exec {found} " + " ".join(flags)
         self.process = subprocess.Popen(
             ["bash", "-c", starter], pass_fds=(read_in, write_out), stdout=subprocess.DEVNULL, stderr=subprocess.DEVNULL

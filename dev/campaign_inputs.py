@@ -79,7 +79,7 @@ class Inputs:
     # scripts
 
     def number(self) -> str:
-        """Returns a number in one of its notations."""
+        """Returns a number in a random notation."""
         it = self.dice
         value = it.choice((it.choice(EDGES), it.choice(WORDS), it.getrandbits(32), it.getrandbits(it.randint(1, 34))))
         return it.choice((str(value), hex(value), f"0x{value:08X}"))

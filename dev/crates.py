@@ -38,7 +38,8 @@ class Unpacked(Exception):
 
 
 def files_here() -> list[str]:
-    """Returns the repository's files, including uncommitted ones; in an archive of the sources, those of its list."""
+    """Returns the repository's files, including uncommitted ones; in an archive of the sources, the files in its
+    list."""
     if not (ROOT / ".git").exists():
         return (ROOT / "COMMIT").read_text().splitlines()[1:]
     listed = git("ls-files", "--cached", "--others", "--exclude-standard").splitlines()

@@ -112,8 +112,8 @@ def c_aliases(row: Row) -> str:
 
 
 def rust_registers() -> str:
-    """Returns the physical function's registers: the meaning and the first address; for several the stride and the
-    count; for a further run its address and the total count."""
+    """Returns the physical function's registers, each with its meaning and first address. Indexed registers also have a
+    stride and a count; a register with a further run has that run's address and the total count."""
     lines = ""
     for row in TABLE:
         first, stride, count, further = first_runs(row)

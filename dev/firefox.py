@@ -112,7 +112,7 @@ class Firefox(Browser):
         Path(self.folder, "user.js").write_text("".join(lines))
         flags = ["--headless", "--no-remote", "--profile", self.folder, "--remote-debugging-port", "0"]
         flags += ["--remote-allow-system-access", "about:blank"]
-        # (it ends with its check, however that ends)
+        # (the browser ends with the check, however the check ends)
         command = ["setpriv", "--pdeathsig", "TERM", found, *flags]
         self.process = subprocess.Popen(command, stdout=subprocess.DEVNULL, stderr=subprocess.DEVNULL)
         self.count, self.errors = 0, []

@@ -1,5 +1,5 @@
-"""What the scripts of this folder share: the root, the crates of crates.txt, parts of pages between two lines,
-generated files with their --check, and how a check ends."""
+"""Shared by the scripts of this folder: the root, the crates of crates.txt, parts of pages between two lines, generated
+files with their --check, and the report of a check."""
 
 from __future__ import annotations
 

@@ -170,8 +170,8 @@ def check_lit(look: Look) -> None:
 
 
 def check_when(look: Look) -> None:
-    """Checks for each step that its conditions are worded as before it and the rest as after it, and that both give the
-    same number of waiting frames."""
+    """Checks the wording of each step: its conditions describe the state before it, everything else the state after it.
+    Both must show the same number of waiting frames."""
     browser, waiting = look.browser, 0
     browser.load(look.file, "#start")
     for number, (*_, more) in enumerate(look.data["steps"]):

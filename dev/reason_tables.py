@@ -81,7 +81,7 @@ def bare(node: ast.expr) -> str:
 
 
 def register(it: Named) -> str:
-    """Returns the expression for what is named of a register."""
+    """Returns the expression for the register that is named, or for the named part of it."""
     index = f"({bare(it.index) if it.index else '0'})" if it.is_indexed else ""
     address = f"NIC_{it.register}{index}"
     if it.bit:

@@ -4,8 +4,8 @@
     dev/register_table.py            rewrites the files
     dev/register_table.py --check    says which files are stale, and ends with status 1 if any is
 
-A register is one line of TABLE. Run the script after an edit of that list. What it writes is whole files of
-crates/reg_table and crates/register_file, whose first line says so, and the table of docs/REGISTERS.md.
+A register is one line of TABLE. Run the script after an edit of that list. It writes the table of docs/REGISTERS.md,
+and whole files of crates/reg_table and crates/register_file; the first line of each says that it is generated.
 """
 
 from __future__ import annotations

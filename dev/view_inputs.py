@@ -57,15 +57,15 @@ rx
 # Scripts whose last events, recorded, depend on earlier ones: the number of virtual functions that each needs, and its
 # text.
 ENDS = {
-    # A slot is written whose ring was set up earlier.
+    # A slot is written; its ring was set up earlier.
     "slot.nic": (0, RECEIVES.format(**SLOT) + "poke 16 slot\nr RDH[0]\n"),
     # A frame covers the ring, because of the slot poked earlier.
     "over.nic": (0, RECEIVES.format(**OVER) + "r RDH[0]\n"),
-    # A frame that came earlier is received, and another one waits.
+    # A frame that arrived earlier is received, and another one waits.
     "second.nic": (0, RECEIVES.format(**SLOT).replace("rx\n", "arrive frame\nrx\n")),
     # A counter that was assigned earlier counts, and a read clears it.
     "counted.nic": (0, "w RQSMR[0] 3\n" + RECEIVES.format(**SLOT) + "r QPRC[3]\nr QPRC[3]\n"),
-    # Frames that came earlier also wait: one is for a function that resets itself, and one is first.
+    # Frames that arrived earlier also wait: one is for a function that resets itself, and one is first.
     "waits.nic": (2, WAITS.format(frame=FRAME, other=FRAME[:11] + "3" + FRAME[12:])),
     # A function resets what it wrote earlier, and writes it again.
     "reset.nic": (1, "w GCR_EXT 3\nvw 0 0x108 7\nvw 0 0x120 0x8281\nvw 0 0 0x04000000\nvw 0 0x108 1\nvw 0 0x104 2\n"),

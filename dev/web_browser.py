@@ -112,7 +112,7 @@ def typing(page: Page) -> None:
 
 
 def other_text(page: Page) -> None:
-    """Checks that the run of another text isn't shown, whether or not the new one is refused."""
+    """Checks that after an edit the previous text's run isn't shown, whether or not the new text is refused."""
     page.put("r STATUS\n")
     page.until("drawn.length > 0")
     page.value("putText('r NOTHING\\n'), 0")
@@ -206,7 +206,7 @@ def hostile(page: Page) -> None:
     page.holds("nothing was injected", "window.hacked === undefined && drawn[0].contentWindow.hacked === undefined")
     documents = "[document, drawn[0].contentDocument]"
     page.holds("no element came of it", f"{documents}.every((it) => !it.querySelector('img'))")
-    # (even what gets in by a fault of the page doesn't run: the policy lists what may)
+    # (even a script that a fault of the page lets through doesn't run: the policy lists the permitted ones)
     tried = "Object.assign(document.createElement('script'), { textContent: 'window.hacked = 1' })"
     page.value(f"document.body.append({tried}), 0")
     page.holds("the policy holds", "window.hacked === undefined")
@@ -214,7 +214,7 @@ def hostile(page: Page) -> None:
 
 
 def kept_text(page: Page) -> None:
-    """Checks that the text is still there after the page was closed."""
+    """Checks that the editor's text survives closing the page."""
     page.put("# kept\nr STATUS\n")
     page.load()
     page.until("element('text').value === '# kept\\nr STATUS\\n'")

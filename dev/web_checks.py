@@ -189,7 +189,7 @@ def by_python(text: str, sizes: dict[str, int]) -> Any:
 
 
 def by_page(view: dict[str, Any], answered: dict[str, Any]) -> Any:
-    """Returns the same from the page's answers."""
+    """Returns the same data as `by_python`, from the page's answers."""
     if "fault" not in view:
         return view["made"]
     if refused := answered.get("made", {}).get("refused"):

@@ -42,7 +42,7 @@ struct answer {
     size_t count;
     uint32_t word;
     uint8_t status;
-    uint8_t is_made; /* nic_new, nic_snapshot: created one */
+    uint8_t is_made; /* nic_new, nic_snapshot: whether it created one */
     nic_settling where;
     nic_outcome outcome[OUTCOMES];
     uint8_t bytes[ROOM];

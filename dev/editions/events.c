@@ -1,13 +1,13 @@
-/* Makes the same random events to two libraries, and compares each answer byte by byte:
+/* Makes the same random calls to two libraries, and compares each answer byte by byte:
 
        events COUNT SEED FROM FOLDER ONE.so [OTHER.so]
 
-   FOLDER is an empty one for recordings. From event FROM on, each event is printed; 0 prints none. With one library,
-   its answers are only summarized: two machines whose libraries print the same digest answer alike.
+   FOLDER is an empty folder for recordings. From event FROM on, each event is printed; 0 prints none. With only one
+   library, the program prints a digest of its answers: equal digests on two machines mean equal answers.
 
-   When a call requests memory, one library is sometimes refused it, request by request. Each refusal must be reported
-   and change nothing. The other library is refused nothing, and must give the answer that the first gives in the end.
-   The order in which the two request memory doesn't matter; how often it is the same is printed.
+   Sometimes the memory requests of a call are refused to one library, one after another. Each refusal must be reported
+   and change nothing. The other library gets all its memory, and must return what the first one finally returns. The
+   order in which the two request memory doesn't matter; the program prints how often it was equal.
 
    Status 0: nothing differs; 1: the first difference is printed; 2: the arguments or a library are invalid. */
 #define _GNU_SOURCE
@@ -89,7 +89,7 @@ static bool is_refusal(const struct answer *answer)
     return event_alike(&event, answer, &wanted);
 }
 
-/* Refuses request 1, 2, 3 .. of the call, until none is refused any longer. */
+/* Repeats the call with its request 1, 2, 3 .. refused, until it makes no further request. */
 static void make_refused(size_t k)
 {
     for (long at = 1;; at++) {
@@ -97,7 +97,7 @@ static void make_refused(size_t k)
         if (!asked.is_refused)
             return;
         seen.refusals++;
-        if (answers[k].status != NIC_OUT_OF_MEMORY) { /* it only saves time */
+        if (answers[k].status != NIC_OUT_OF_MEMORY) { /* the memory only saves time */
             seen.unneeded++;
             return;
         }
@@ -124,7 +124,7 @@ static bool settle_refused(size_t k)
     return true;
 }
 
-/* nic_why can do with less memory; its last line says so. */
+/* nic_why manages with less memory; its last line says so. */
 static void why_refused(size_t k)
 {
     static const char end[] = "out of memory for a copy: waiting frames, requested enables and reported causes are "
@@ -141,7 +141,7 @@ static void why_refused(size_t k)
     make(k, &event, &answers[k], 0);
 }
 
-/* Makes the event to one library with refusals. Returns whether the other one made it too. */
+/* Makes one library's call with refusals. Returns whether the other library was called too. */
 static bool make_under_refusals(size_t k)
 {
     if (event.call == CALL_nic_settle && side_count == 2)

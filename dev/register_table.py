@@ -91,7 +91,7 @@ FIELDS: dict[str, str | None] = {
 
 
 def cells() -> list[Row]:
-    """The rows among the cells, which a reset clears."""
+    """Returns the rows among the cells, which a reset clears."""
     rows = [row for row in TABLE if row.name not in FIELDS]
     assert all(row.reset == 0 for row in rows)
     return rows

@@ -9,7 +9,7 @@
 void problem(const char *format, ...) __attribute__((format(printf, 1, 2)));
 unsigned int problems(void);
 
-/* Compares two counts. Returns whether they are equal; if not, reports a problem. */
+/* Compares a reported count with the run's own. Returns whether they are equal; if not, reports a problem. */
 bool same(const char *what, uint64_t reported, uint64_t counted);
 
 /* Prints "nothing is wrong", or the number of problems. Returns the run's status, 0 or 1. */

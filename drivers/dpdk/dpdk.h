@@ -21,7 +21,7 @@ struct dpdk_options {
     uint16_t buffer;        /* data bytes of a packet */
     bool scalar, loud;      /* no vector functions in the driver; print everything that DPDK logs */
     bool has_null_driver;
-    unsigned int lcores; /* besides the main lcore */
+    unsigned int lcores; /* lcores besides the main one */
     const char *strays;  /* the file for strays; null for none */
 };
 

@@ -21,7 +21,7 @@ void restart_queues(uint16_t port);
 /* Sets the run's own redirection table. Returns 0, or 1 if the driver refuses it. */
 uint16_t choose(uint16_t port);
 
-/* Measures frames a second over the bench and over DPDK's null driver, in turns. */
+/* Measures frames per second over the bench and over DPDK's null driver, alternately. */
 int measure(uint16_t card, uint16_t null);
 
 #endif

@@ -60,7 +60,7 @@ static int list_none(uint16_t port)
     return rte_eth_dev_set_mc_addr_list(port, NULL, 0);
 }
 
-/* each request to the driver, and which frames then come in */
+/* each request to the driver, and the frames that it then receives */
 static const struct {
     const char *what;
     int (*ask)(uint16_t port);

@@ -11,7 +11,7 @@
 #include "verdict.h"
 
 #define HOST_DEVICE 0x10F7     /* 82599EB, KX4 */
-#define FUNCTION_DEVICE 0x10ED /* its virtual function */
+#define FUNCTION_DEVICE 0x10ED /* device ID of its virtual functions */
 #define NAME_ROOM 8
 
 const char *const phase_names[] = {

@@ -30,12 +30,12 @@ extern const char *const phase_names[];
 
 /* A run's parameters. */
 struct setting {
-    unsigned int max_vfs;   /* the host's limit */
+    unsigned int max_vfs;   /* the host's limit of functions */
     unsigned int functions; /* functions to probe */
-    unsigned int queues;    /* the host's, each way */
+    unsigned int queues;    /* the host's queues, each way */
     unsigned int vf_queues; /* each function's */
-    unsigned int slots;     /* in each ring */
-    unsigned int frames;    /* in each pass, each way, on each port */
+    unsigned int slots;     /* slots in each ring */
+    unsigned int frames;    /* frames per pass, each way, on each port */
     bool has_rss;           /* the host's */
     bool has_vectors;       /* request interrupts for queues */
 };
@@ -55,7 +55,7 @@ unsigned int port_queues(unsigned int which);
 /* Returns the device's queue for a port's queue. */
 uint16_t device_queue(unsigned int which, uint16_t queue);
 
-/* Each prints what it does. Returns false, and reports a problem, if that fails. A port that exists isn't probed
+/* Each prints its action. Returns false, and reports a problem, if the action fails. A port that exists isn't probed
    again. */
 bool port_probe(unsigned int which);
 bool port_start(unsigned int which); /* configures the port first if needed */
@@ -68,7 +68,7 @@ int port_try_probe(unsigned int which);
 /* Probes a function while the host isn't started: its driver gives up, unless the shim answers it. */
 void port_probe_early(unsigned int which);
 
-/* Takes what waits in a port's queues, if the port is started, as take_packets does. Returns the number of frames. */
+/* Takes the frames waiting in a port's queues, as take_packets does, if the port is started. Returns their number. */
 unsigned int port_take(unsigned int which, look_at *look, void *argument);
 unsigned int port_drain(unsigned int which); /* port_take without `look` */
 

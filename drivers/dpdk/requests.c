@@ -111,8 +111,8 @@ static int host_pings(uint16_t port)
     return rte_pmd_ixgbe_ping_vf(port, 0);
 }
 
-/* A request to a port's driver, the expected status, and who then receives a frame to each address: the host (H), a
-   function (its number), or nobody (-). The addresses are the columns of tell_head. */
+/* A request to a port's driver, the expected status, and the receiver of a frame to each address: the host (H), a
+   function (its number), or none (-). The addresses are the columns of tell_head. */
 static const struct {
     const char *what;
     unsigned int port;

@@ -1,4 +1,4 @@
-/* Requests of functions to their host, and what the host does to its functions. */
+/* Requests of functions to their host, and the host's actions on its functions. */
 #ifndef REQUESTS_H
 #define REQUESTS_H
 

@@ -1,4 +1,5 @@
-/* Measures frames of 60 bytes in and out a second, by DPDK's ixgbe driver over the bench and by DPDK's null driver. */
+/* Measures frames of 60 bytes, received and sent per second, by DPDK's ixgbe driver over the bench and by DPDK's null
+   driver. */
 #include "exchange.h"
 
 #include <stdlib.h>
@@ -40,7 +41,7 @@ static void arrive_burst(void)
     bus_receive(run_bus);
 }
 
-/* Sends back on each queue what came in on it. */
+/* Sends the frames received on each queue back on the same queue. */
 static unsigned int echo(uint16_t port)
 {
     struct rte_mbuf *packets[BURST];

@@ -14,7 +14,7 @@
 #define SEGMENTS 3
 
 static struct rss rss;
-static struct line_up in[QUEUES], out[QUEUES]; /* frames due from each queue */
+static struct line_up in[QUEUES], out[QUEUES]; /* frames expected from each queue, in order */
 static uint64_t received[QUEUES], sent[QUEUES];
 static unsigned int alike, hashes, unhashed;
 
@@ -264,7 +264,7 @@ static void restart_transmit(uint16_t port)
     same("frames out of the queue that was started again", sent[0] - before, BURST);
 }
 
-/* Has the first frame for this queue from `*number` on arrive. Returns how many descriptors the device writes. */
+/* Delivers the first frame for this queue from `*number` on. Returns how many descriptors the device writes. */
 static unsigned int arrive_at(uint16_t queue, unsigned int *number)
 {
     struct frame frame;

@@ -7,11 +7,11 @@
 /* From here on threads share the device. Without this, the calls below do nothing. */
 void turns_share(void);
 
-/* This thread enters the driver, or other code that stores into the driver's memory; then it leaves. */
+/* Call these when this thread enters and leaves the driver, or other code that stores into the driver's memory. */
 void turns_enter(void);
 void turns_leave(void);
 
-/* Takes the device exclusively, waiting until no thread is in the driver; then gives it back. */
+/* Acquires the device exclusively, waiting until no thread is in the driver, and releases it. */
 void turns_take(void);
 void turns_give_back(void);
 

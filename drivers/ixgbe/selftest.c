@@ -26,10 +26,10 @@ struct test {
 #define ARRAY_STEP 0x40
 #define COUNT(array) (sizeof(array) / sizeof *(array))
 
-/* the result of a row of the table */
+/* the result for a row of the table */
 struct result {
     unsigned int passed, failed, absent; /* absent: failed ones at addresses without a register */
-    uint32_t address, got, wanted;       /* of the first failure */
+    uint32_t address, got, wanted;       /* those of the first failure */
     uint32_t more, fewer;                /* bits that read 1 but should be 0, and the reverse */
     bool without;                        /* no address of the row has a register */
 };

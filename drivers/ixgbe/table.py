@@ -29,17 +29,17 @@ def without_comments(text: str) -> str:
 
 
 def definitions(text: str) -> str:
-    """All definitions of names that begin with IXGBE_, with their continuation lines."""
+    """Returns all definitions of names that begin with IXGBE_, with their continuation lines."""
     return "\n".join(re.findall(r"^#define[ \t]+IXGBE_(?:.*\\\n)*.*$", text, re.MULTILINE))
 
 
 def kinds(text: str) -> str:
-    """The test types' numbers, by name."""
+    """Returns the test types' numbers, by name."""
     return "\n".join(found(rf"#define[ \t]+{kind}[ \t]+\d+", text, kind).group() for kind in KINDS)
 
 
 def names(rows: str) -> str:
-    """The register name in each row of the table."""
+    """Returns the register name in each row of the table."""
     return ", ".join(f'"{name}"' for name in re.findall(r"\{\s*IXGBE_(\w+(?:\(\d+\))?)", rows))
 
 

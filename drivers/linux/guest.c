@@ -130,7 +130,7 @@ static void link_down_and_up(const struct interface *it)
     pass(it, FEW, FRAME_MAX, queues);
 }
 
-/* docs/REAL-DRIVERS.md lists the known results of the driver's test on the bench. */
+/* docs/REAL-DRIVERS.md lists the expected results of the driver's self-test on the bench. */
 static void driver_test(const struct interface *it)
 {
     static const struct {
@@ -160,7 +160,7 @@ static void down_and_up(const struct interface *it)
     pass(it, FEW, FRAME_MAX, queues);
 }
 
-/* docs/CARD.md lists the known results. */
+/* docs/CARD.md lists the expected results. */
 static void with_offloads(const struct interface *it)
 {
     bring_up(it);

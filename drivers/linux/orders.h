@@ -18,7 +18,7 @@ enum order {
     ORDER_PHASE = 1, /* enters phase `count` of the run */
     ORDER_LINK,      /* link up (count 1) or down (0) */
     ORDER_EXPECT,    /* expects `count` frames from MAC, numbered from `first` */
-    ORDER_SENT,      /* frames that came unchanged and in order; frames that came */
+    ORDER_SENT,      /* frames that arrived unchanged and in order; all frames that arrived */
     ORDER_SEND,      /* send `count` frames to MAC, numbered from `first`; to `function`, by RSS */
     ORDER_ONE,       /* send frame `first` to MAC; result 1 if the device accepted it */
     ORDER_MESSAGES,  /* MSI-X messages that `function` has sent */

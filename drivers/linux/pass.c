@@ -130,13 +130,14 @@ static unsigned int out(int socket, const struct interface *it, unsigned int cou
 struct batch {
     uint32_t first;
     unsigned int count, most;
-    unsigned int came, alike, ordered; /* ordered: frames in order */
+    unsigned int came, alike, ordered; /* ordered: frames received in order */
     bool has[BATCH];
 };
 
 static struct frame made[BATCH]; /* the frames of a batch */
 
-/* Finds the batch's frame with these bytes that hasn't come yet. Returns its index, or `count` if there is none. */
+/* Finds the batch's frame with these bytes among those not yet received. Returns its index, or `count` if there is
+   none. */
 static unsigned int find(const struct batch *batch, const uint8_t *bytes, size_t length)
 {
     for (unsigned int i = 0; i < batch->count; i++)
@@ -313,7 +314,7 @@ static const uint8_t group_mac[6] = {0x01, 0x00, 0x5e, 0x01, 0x02, 0x03};
 static const uint8_t other_group_mac[6] = {0x01, 0x00, 0x5e, 0x11, 0x22, 0x33};
 static const uint8_t everybody_mac[6] = {0xff, 0xff, 0xff, 0xff, 0xff, 0xff};
 
-/* What a socket's membership requests, and which of these should then come in: own, other, group, other group,
+/* The membership that a socket requests, and which of these it should then receive: own, other, group, other group,
    broadcast. */
 static const struct {
     const char *what;

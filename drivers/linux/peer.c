@@ -29,7 +29,8 @@ static struct {
     uint32_t next, left; /* frames left to send */
     uint16_t most, function;
     uint8_t to[6];
-    uint32_t expected, first, came, alike; /* frames expected: count, first number; came; came unchanged */
+    /* frames expected: count, first number; frames that arrived; of these, unchanged */
+    uint32_t expected, first, came, alike;
     uint16_t expected_most;
     uint8_t from[6];
 } now;

@@ -85,7 +85,7 @@ class Place:
     is_kept: bool = field(default=False, init=False)  # a run failed, so keep its logs
 
     def qemu(self, name: str) -> list[str]:
-        """The command for QEMU with its own loader and libraries, which aren't installed on this machine."""
+        """Returns the command for QEMU with its own loader and libraries, which aren't installed on this machine."""
         root = self.fetched / "qemu/root"
         libraries = root / "usr/lib/x86_64-linux-gnu"
         loader = next(it for it in (libraries, root / "usr/lib64", root / "lib64") if (it / LOADER).exists()) / LOADER
@@ -120,7 +120,7 @@ LOADER = "ld-linux-x86-64.so.2"
 
 
 def answer_of(lines: Iterable[str]) -> list[str]:
-    """The lines of a control socket's answer, without the "ok"."""
+    """Returns the lines of a control socket's answer, without the "ok"."""
     found: list[str] = []
     for line in lines:
         found.append(line.rstrip())
@@ -671,12 +671,12 @@ def run_named(name: str) -> Run:
 
 
 def names_of(words: list[str]) -> list[str]:
-    """The runs that the arguments select."""
+    """Returns the runs that the arguments select."""
     return {"--quick": QUICK, "--turn": ["turn"], "--only": words[1:]}.get(words[0] if words else "", list(RUNS))
 
 
 def needs_of(words: list[str]) -> list[str]:
-    """The package sets to fetch for these arguments."""
+    """Returns the package sets to fetch for these arguments."""
     if words[:1] == ["--fetch"] and words[1:]:
         return words[1:]
     if words[:1] == ["--measure"]:

@@ -36,7 +36,7 @@ from guests import (  # noqa: E402
     started,
 )  # fmt: skip
 
-READS, WRITES, FRAMES = 20_000, 100_000, 20_000  # of a register; frames each way
+READS, WRITES, FRAMES = 20_000, 100_000, 20_000  # reads and writes of a register; frames each way
 MEGABYTES = 32  # sent from one guest to the other
 
 
@@ -150,7 +150,7 @@ def none_wrong(text: str, card: Card) -> None:
 
 
 def rates_in(text: str, begin: str) -> list[float]:
-    """The frames a second in each line that begins so."""
+    """Returns the frames a second in each line that begins so."""
     found = re.findall(rf"^{begin}(\d+) of {FRAMES}\b.* in ([\d.]+) s", text, re.MULTILINE)
     return [int(came) / max(1e-6, float(time)) for came, time in found]
 

@@ -43,7 +43,7 @@ class Kernel:
         self.text, self.at = "", 0
 
     def read(self, seconds: float) -> bool:
-        """Reads what is available or comes within this many seconds. Returns false at the end of the output."""
+        """Reads what is available or arrives within this many seconds. Returns false at the end of the output."""
         assert self.process.stdout
         if not select.select([self.process.stdout], [], [], seconds)[0]:
             return True

@@ -26,7 +26,7 @@ static void turn_round(uint8_t *frame)
     }
 }
 
-/* Sends back what came, until no frame is left or no slot is free. A frame without a slot stays in its buffer. */
+/* Sends the received frames back until none is left or no slot is free. A frame without a slot stays in its buffer. */
 static void echo(void)
 {
     static bool is_swapped; /* the oldest frame has its addresses swapped but found no free slot */
@@ -56,7 +56,7 @@ void kernel(void)
         if (card_causes() & CARD_LINK)
             say_link();
         echo();
-        /* A frame that came after the last check raises the line at once, so no frame is forgotten. */
+        /* A frame that arrived after the last check raises the line at once, so no frame is forgotten. */
         card_unmask();
         sleep_until_interrupt();
     }

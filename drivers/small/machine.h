@@ -25,8 +25,8 @@ void pci_write(struct pci_function it, uint8_t offset, uint32_t word);
 void take_line(uint8_t number);
 /* Acknowledges an interrupt of that line at the interrupt controller. */
 void end_of_interrupt(uint8_t number);
-/* Enables interrupts and sleeps until one comes; they are disabled again on return. Call it with interrupts disabled,
-   after checking what the handler changes: an interrupt between check and sleep ends the sleep. */
+/* Enables interrupts and sleeps until one occurs; they are disabled again on return. Call it with interrupts disabled,
+   after checking the variables that the handler changes: an interrupt between check and sleep ends the sleep. */
 void sleep_until_interrupt(void);
 
 /* Waits at least this many microseconds. */

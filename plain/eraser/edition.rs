@@ -80,7 +80,7 @@ fn put(files: &[File], out: &Path) -> Result<usize, Fault> {
     Ok(files.len())
 }
 
-/// Returns the plain text of a worked case: a source of a crate `case` with the library `below`.
+/// Returns the plain text of an example case: a source of a crate `case` with the library `below`.
 pub fn case(path: &str, text: &str) -> Result<String, Fault> {
     erased(path, text, &Layer { name: "case".to_string(), libraries: vec!["below".to_string()] })
 }

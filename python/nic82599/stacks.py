@@ -193,5 +193,5 @@ class Points(Dma):
 
     def choose(self, bound: int) -> int:
         """Returns a value below the bound (1 to 256) that is part of the schedule, for example whether an allocation
-        fails or which input comes. All strategies explore it, and shrinking tries lower values."""
+        fails or which input arrives. All strategies explore it, and shrinking tries lower values."""
         return self._call("choose", bound)

@@ -18,7 +18,7 @@ KEY = bytes(range(1, 41))
 
 
 def receiving() -> Nic:
-    """A controller with receive queue 0 enabled, a ring at 0, and RSS of TCP over IPv4 to that queue."""
+    """Returns a controller with receive queue 0 enabled, a ring at 0, and RSS of TCP over IPv4 to that queue."""
     nic = Nic(blocks=2)
     nic.lend()
     for name, word in {"RXCTRL": 1, "FCTRL": 0x200, "RXCSUM": 1 << 13, "MRQC": 0x10001, "RDLEN[0]": 128}.items():

@@ -42,14 +42,14 @@ CHECKSUM = 0x200  # transmit descriptor, last word: insert TCP's or UDP's checks
 
 
 def mixed(seed: int) -> int:
-    """The hash in c/bus/frames.c."""
+    """Returns the hash in c/bus/frames.c."""
     for _ in range(2):
         seed = (seed ^ seed >> 16) * 0x45D9F3B & 0xFFFFFFFF
     return seed ^ seed >> 16
 
 
 def frame(number: int, to: bytes, sender: bytes) -> bytes:
-    """A frame as c/bus/frames.c makes it, of the kind that isn't IP (number modulo 7 is 6)."""
+    """Returns a frame as c/bus/frames.c makes it, of the kind that isn't IP (number modulo 7 is 6)."""
     assert number % 7 == 6
     length = 60 + number * 433 % (FRAME_MOST - 59)
     return to + sender + b"\x88\xb5" + bytes(mixed(number * 2048 + at) & 0xFF for at in range(14, length))
@@ -111,7 +111,7 @@ class Guest:
         return self.memory[self.base + to:self.base + to + answer]
 
     def used(self, ring: int = 0) -> int:
-        """The number of messages returned in a ring."""
+        """Returns the number of messages returned in a ring."""
         return int(struct.unpack_from("<H", self.memory, self.base + ring * RING_STEP + USED + 2)[0])
 
     def offer(self) -> None:
@@ -157,7 +157,7 @@ class Guest:
         self.write(MEMORY_WRITE, TDT, slot + 1)
 
     def received(self, slot: int) -> bytes:
-        """The contents of this slot's buffer, according to its write-back."""
+        """Returns the contents of this slot's buffer, according to its write-back."""
         _hash, status, length, _tag = struct.unpack_from("<QIHH", self.memory, RECEIVE_RING + 16 * slot)
         at = BUFFERS + 2048 * slot
         return self.memory[at:at + length] if status & 3 == 3 else b""

@@ -137,7 +137,7 @@ class Outcome:
         return self.findings[0].kind if self.fails else "not tried" if self.is_untried else "ok"
 
     def matches(self, pattern: str) -> bool:
-        """Whether the pattern matches a finding, or the guest's output if the guest was given up."""
+        """Returns whether the pattern matches a finding, or the guest's output if the guest was given up."""
         if any(re.search(pattern, f"{it.kind}: {it.text}") for it in self.findings):
             return True
         return self.is_fatal and any(re.search(pattern, line) for line in self.lines)
@@ -184,7 +184,7 @@ class Relay(Guest):
 
 
 def is_locked(lines: Sequence[str]) -> bool:
-    """Whether a lockup was reported, and no operation has begun since the first such report."""
+    """Returns whether a lockup was reported, and no operation has begun since the first such report."""
     for line in reversed(lines):
         if line.startswith("@search doing"):
             return False
@@ -225,7 +225,7 @@ class Bench:
             raise
 
     def initrd(self, start: str) -> Initrd:
-        """The initial file system: busybox, tools, the driver, and the scripts of all seeds."""
+        """Returns the initial file system: busybox, tools, the driver, and the scripts of all seeds."""
         tools = self.place.fetched / "tools/root"
         it = Initrd(self.kernel.modules, tools / "bin/busybox")
         for applet in ("arp", "stty"):

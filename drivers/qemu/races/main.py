@@ -71,7 +71,7 @@ class Search:
             self.end(bench)
 
     def has_enough(self, bench: Bench) -> bool:
-        """Whether the recording is long enough: drawing a longer one takes minutes."""
+        """Returns whether the recording is long enough: drawing a longer one takes minutes."""
         record = bench.record
         return record is not None and record.exists() and record.stat().st_size > self.words.record_most << 20
 
@@ -104,7 +104,7 @@ class Search:
         return case is not None and any(f.kind == case.kind for f in it.findings) and it.matches(case.pattern)
 
     def counts(self, it: Outcome) -> bool:
-        """Whether a seed failed in the way that the search looks for."""
+        """Returns whether a seed failed in the way that the search looks for."""
         if self.words.bisect and it.is_broken:
             return False
         return it.fails and (not self.words.match or it.matches(self.words.match))

@@ -44,13 +44,13 @@ def telling(what: Callable[[], str]) -> Iterator[None]:
 
 
 def said(it: Outcome) -> str:
-    """All findings of one try."""
+    """Returns all findings of one try."""
     findings = "; ".join(f"{finding.kind}: {finding.text}" for finding in it.findings)
     return findings if it.fails or it.is_untried else "ok" + (f" ({findings})" if findings else "")
 
 
 def again(it: Outcome) -> str:
-    """The result of the second try: the same verdict, another, or none."""
+    """Returns the result of the second try: the same verdict, another, or none."""
     if it.again is None:
         return ""
     if it.again.verdict == it.verdict:
@@ -60,7 +60,7 @@ def again(it: Outcome) -> str:
 
 
 def line(it: Outcome) -> str:
-    """The line for a seed."""
+    """Returns the line for a seed."""
     return f"{it.kernel} {it.driver} seed {it.seed}: {it.rounds} rounds in {it.seconds:.0f} s: {said(it)}{again(it)}"
 
 

@@ -89,7 +89,7 @@ def spoken(lines: Sequence[str]) -> Iterator[Finding]:
 
 
 def numbers(counts: Iterable[str]) -> dict[str, int]:
-    """The server's counts that a seed may raise."""
+    """Returns the server's counts that a seed may raise."""
     text = "\n".join(counts)
     found = {kind: re.search(pattern, text, re.MULTILINE) for kind, pattern in COUNTED.items()}
     return {kind: int(it[1]) if it else 0 for kind, it in found.items()}

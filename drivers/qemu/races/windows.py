@@ -96,7 +96,7 @@ def windows(lines: Iterable[str]) -> Iterator[Window]:
 
 
 def rows_of(window: Window) -> Iterator[str]:
-    """The lines for a window: one for each access that matters, and one for all accesses between two of these."""
+    """Yields the lines for a window: one for each access that matters, and one for all accesses between two of them."""
     run: list[Access] = []
     for it in [*window.before, *window.accesses]:
         if not it.mark:
@@ -109,7 +109,7 @@ def rows_of(window: Window) -> Iterator[str]:
 
 
 def lines_of(run: list[Access]) -> Iterator[str]:
-    """The lines for a run of accesses: a short run in full, a long one by register families."""
+    """Yields the lines for a run of accesses: a short run in full, a long one by register families."""
     if len(run) <= SHORT:
         yield from (line_of(it) for it in run)
         return
@@ -123,12 +123,12 @@ def line_of(it: Access) -> str:
 
 
 def with_tails(lines: Iterable[str]) -> list[Window]:
-    """The windows in which a tail was moved."""
+    """Returns the windows in which a tail was moved."""
     return [it for it in windows(lines) if it.tails]
 
 
 def text_of(found: list[Window], most: int = 3) -> str:
-    """The last windows as text."""
+    """Returns the last windows as text."""
     text = f"{len(found)} times the card was down and a frame was given to it\n"
     for window in found[-most:]:
         text += "\n" + "\n".join(rows_of(window)) + "\n"

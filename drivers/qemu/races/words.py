@@ -81,7 +81,7 @@ def parser() -> Words:
 
 
 def add_own(it: Words) -> None:
-    """Adds the options for the reporter's own workload and for what is sought."""
+    """Adds the options for the reporter's own workload and for the finding to search for."""
     own = it.add_argument_group("a workload of your own")
     own.add_argument("--script", type=Path, metavar="FILE",
                      help="a shell script that the guest runs each round in place of the drawn operations")
@@ -139,5 +139,5 @@ def check(it: Words, given: argparse.Namespace) -> None:
 
 
 def needs(given: argparse.Namespace) -> list[str]:
-    """The package sets to fetch for these arguments."""
+    """Returns the package sets to fetch for these arguments."""
     return ["qemu", "tools", *([] if given.kernel else [KERNELS[given.linux or "linux-6.1"]])]

@@ -73,8 +73,8 @@ FUNCTION: Sequence[Operation] = (
 
 
 def one_round(chance: random.Random, plan: Plan) -> list[str]:
-    """All operations in random order, most often preceded by one on the cable, so that the next operation reaches the
-    driver while it handles the link."""
+    """Returns all operations in random order. Most are preceded by an operation on the cable, so that the driver is
+    handling the link when they start."""
     operations = list(FUNCTION if plan.is_function else HOST)
     chance.shuffle(operations)
     lines: list[str] = []
@@ -87,7 +87,7 @@ def one_round(chance: random.Random, plan: Plan) -> list[str]:
 
 
 def with_own(number: int, seed: int, operations: list[str], plan: Plan) -> list[str]:
-    """A round's operations with the reporter's script, or the script alone."""
+    """Returns a round's operations with the reporter's script, or the script alone."""
     words = f"{seed} {number} {plan.limit}"
     if plan.own == "alone":
         return [f"own {words}", "own_ends"]
@@ -95,7 +95,7 @@ def with_own(number: int, seed: int, operations: list[str], plan: Plan) -> list[
 
 
 def script(seed: int, plan: Plan) -> str:
-    """The script of a seed. It ends with a check that frames pass with every byte correct."""
+    """Returns the script of a seed. It ends with a check that frames pass with every byte correct."""
     chance = random.Random(f"{plan.driver} {seed}")
     lines = [f"begin {seed}" if plan.has_traffic else f"begin {seed} quiet"]
     for number in range(1, plan.rounds + 1):

@@ -114,12 +114,12 @@ class Driver(Points):
             """Restarts the device after `suspend`."""
 
         def link(self) -> bool:
-            """Returns whether the link is up, as far as the driver knows. Makes no access."""
+            """Returns whether the link is up, as far as the driver knows. Doesn't access the device."""
 
         def stats(self) -> Stats:
             """Returns the driver's counters since `open`. Any thread may call it, concurrently with all other calls.
-            The frames and bytes of one direction are consistent with each other, no counter decreases, and no count is
-            lost. Makes no access."""
+            The frames and bytes of one direction are consistent with each other, no counter decreases, and no
+            count is lost. Doesn't access the device."""
 
         def mailbox_send(self, vf: int, words: tuple[int, ...]) -> bool:
             """Puts 1 to 16 words in the mailbox for the other side: from the host to function `vf`, or from a function
@@ -150,8 +150,8 @@ class Driver(Points):
         CARD.call("dma_free", bus)
 
     def alloc(self, size: int) -> int | None:
-        """Allocates some of the driver's own memory. This only counts what the driver takes besides DMA memory. Returns
-        its number, or None if the scenario refuses it."""
+        """Counts some of the driver's own memory, which it takes besides DMA memory. Returns its number, or None if the
+        scenario refuses it."""
         return CARD.call("alloc", size) or None
 
     def free(self, piece: int) -> None:

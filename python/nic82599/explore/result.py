@@ -64,9 +64,9 @@ class Result:
     without: frozenset[str] = frozenset()  # what is left out: "task a", "handler b", "frame 2", "link 0"
     cycle: int = 0  # number of points at the end that repeat forever; 0 if none do
     places: list[str] = field(default_factory=list, compare=False)  # the source line of each point
-    parting: Parting | None = field(default=None, compare=False)  # for a lenient replay
+    parting: Parting | None = field(default=None, compare=False)  # where a lenient replay diverges from the file
     turn: Turn | None = field(default=None, compare=False)  # the point of no return of a failure that a search found
-    traceback: str = field(default="", compare=False)  # of the task that raised
+    traceback: str = field(default="", compare=False)  # traceback of the task that raised
 
     @property
     def actors(self) -> list[str]:

@@ -94,7 +94,8 @@ class Scenario(Points):
         self, name: str, function: Callable[[], object], *, vector: int, vf: int | None = None, where: str | None = None
     ) -> None:
         """Names the handler of a vector's messages, of the physical function or of virtual function `vf`. `where` is
-        the task that it interrupts, BESIDE to run concurrently with all tasks, or None for any task or none."""
+        the task that it interrupts; BESIDE to run concurrently with all tasks; None to interrupt any task or run
+        concurrently."""
         if vf is not None and not 0 <= vf < self.vfs:
             raise ValueError(f"handler {name} belongs to a virtual function that doesn't exist")
         group = 0 if vf is None else vf + 1
@@ -103,7 +104,7 @@ class Scenario(Points):
     def timer(self, name: str, function: Callable[[], object], *, within: int = AT_REST) -> Thread:
         """Names a timer, for `arm`. When it fires, `function` runs concurrently with all tasks, once for each time
         it was armed. With AT_REST it fires when no other actor is runnable. Otherwise it fires at one of the
-        `within` points after it was armed; at the last of them it goes before any other actor."""
+        `within` points after it was armed; at the last of them it runs before any other actor."""
         if within < 0:
             raise ValueError(f"timer {name}: within must be AT_REST or a number of points from 1, not {within}")
         return self._named(Thread(name, function, "timer", within=_whole(within, 32, "within")))
@@ -123,8 +124,8 @@ class Scenario(Points):
 
     @property
     def came(self) -> int:
-        """The number of frames that have arrived so far, dropped ones included. Shrinking a failure leaves frames out,
-        so `end` should check for the frames that came, not for those that were named."""
+        """The number of frames that have arrived so far, dropped ones included. Shrinking a failure leaves frames
+        out, so `end` should check for the frames that arrived, not for those that were named."""
         return self._session.came() if self._session else 0
 
     # --- the controller, for accesses that the explorer needn't see ---
@@ -221,8 +222,8 @@ class Scenario(Points):
 
     def choose(self, bound: int) -> int:
         """Returns a value below the bound (1 to 256) that is part of the schedule, for example whether an allocation
-        fails or which input comes. All strategies explore it, and shrinking tries lower values. For use in `begin`,
-        tasks and handlers."""
+        fails or which input arrives. All strategies explore it, and shrinking tries lower values. For use in
+        `begin`, tasks and handlers."""
         if not 1 <= bound <= VALUES:
             self._call("fail", MISUSE, f"a choice has 1 to {VALUES} values, not {bound}".encode())
             return 0

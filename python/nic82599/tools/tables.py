@@ -207,11 +207,11 @@ class Place:
         return {"k": 0x40, "k/2": 4, "16": 4}.get(self.of, 0)
 
     def scale(self, k: int) -> int:
-        """The distance between the indices of two consecutive functions, in pools of k queues."""
+        """Returns the distance between the indices of two consecutive functions, in pools of k queues."""
         return {"0": 0, "v": 1, "k": k, "k/2": k // 2, "16": 16}[self.of]
 
     def count(self, k: int) -> int:
-        """The number of registers, in pools of k queues."""
+        """Returns the number of registers, in pools of k queues."""
         return max(1, self.scale(k))
 
 

@@ -1,4 +1,4 @@
-"""What the tools share: their options, and how they end."""
+"""Shared by the tools: their options, and the way they end."""
 
 from __future__ import annotations
 

@@ -285,7 +285,7 @@ def _steps(bench: Bench, script: Script, last: str, limit: int) -> list[Step]:
 
 
 def _missed(tracked: dict[int, int], shown: dict[int, int]) -> set[int]:
-    """Returns the registers that differ from what the steps left."""
+    """Returns the registers with a shown value that differs from the tracked one."""
     return {a for a, word in shown.items() if word != tracked.get(a, REGISTERS[a].row.reset)}
 
 

@@ -303,7 +303,7 @@ impl Drop for Counted {
     }
 }
 
-/// What schedules abandon doesn't accumulate: the closure of a service that never ends is dropped when the next
+/// Values that schedules abandon don't accumulate: the closure of a service that never ends is dropped when the next
 /// schedule starts.
 #[test]
 fn what_is_left_is_given_back() {

@@ -91,7 +91,7 @@ pub trait Driver: Sized + 'static {
     /// The longest frame that the driver supports, in bytes: 1,514 to [`MOST_FRAME`].
     const FRAME: u32 = 1514;
 
-    /// Creates the driver's state at the start of each schedule. Makes no access.
+    /// Creates the driver's state at the start of each schedule. Doesn't access the device.
     fn new() -> Self;
 
     /// Sets up the controller, from power-up or from the state that `close` left, and returns true when frames can be
@@ -132,11 +132,11 @@ pub trait Driver: Sized + 'static {
     const SUSPEND: Option<Plain<Self>> = None;
     /// Resumes the device.
     const RESUME: Option<Plain<Self>> = None;
-    /// Returns whether the link is up, as far as the driver knows. Makes no access.
+    /// Returns whether the link is up, as far as the driver knows. Doesn't access the device.
     const LINK: Option<fn(&Self) -> bool> = None;
 
     /// Returns the counts since `open`. Any thread may call it concurrently with other calls. Frames and bytes of a
-    /// direction must match, no count may decrease, and none may be lost. Makes no access.
+    /// direction must match, no count may decrease, and none may be lost. Doesn't access the device.
     const STATS: Option<fn(&Self) -> Stats> = None;
 
     /// Sends a message to the other side.

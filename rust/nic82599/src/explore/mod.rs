@@ -130,14 +130,14 @@ pub trait Scenario: 'static {
     /// Creates the driver's state for a schedule.
     fn state(&self) -> Self::State;
 
-    /// Sets the device up, once in each process. The calls are no points here.
+    /// Sets the device up, once in each process. Its calls are not points.
     ///
     /// # Errors
     ///
     /// Why it failed. With `?`, an [`Error`] becomes its message.
     fn bring_up(&self, bus: &Bus) -> Result<(), String>;
 
-    /// Names the tasks, the handlers, and the frames and link changes to come. Runs before each schedule.
+    /// Names the tasks, the handlers, and the frames and link changes of a schedule. Runs before each schedule.
     fn begin(&self, begin: &Begin<Self::State>);
 
     /// Checks the state after each step.
@@ -283,7 +283,7 @@ pub enum Where {
 pub enum When {
     /// When no other actor can run.
     AtRest,
-    /// At any of this many points after the one that armed it; at the last of them it goes before all other actors.
+    /// At any of this many points after the one that armed it; at the last of them it runs before all other actors.
     Within(NonZeroU32),
 }
 
@@ -324,8 +324,8 @@ impl<S: 'static> Begin<S> {
     }
 
     /// Names the handler that a message of a vector starts, for the physical function (`None`) or a virtual one.
-    /// Messages that come before the handler starts start it once. A message that comes while it runs starts it again
-    /// afterwards.
+    /// Several messages that are sent before the handler starts cause only one run. A message sent during the run
+    /// causes another one afterwards.
     pub fn handler(
         &self,
         name: &str,
@@ -356,17 +356,17 @@ impl<S: 'static> Begin<S> {
         raw::arm(timer.0);
     }
 
-    /// Returns a value below the bound (1 to 256) that is part of the schedule, for example which input comes.
+    /// Returns a value below the bound (1 to 256) that is part of the schedule, for example which input arrives.
     pub fn choose(&self, bound: u32) -> u32 {
         raw::choose(bound)
     }
 
-    /// Names a frame of at most 16,384 bytes, which comes after those already named.
+    /// Names a frame of at most 16,384 bytes, which arrives after those already named.
     pub fn frame(&self, frame: &[u8]) {
         raw::frame(frame);
     }
 
-    /// Names a link change, down or up. Link changes come in the order of these calls, independently of frames.
+    /// Names a link change, down or up. Link changes happen in the order of these calls, independently of frames.
     pub fn link_change(&self, up: bool) {
         raw::link_change(up);
     }
@@ -470,7 +470,7 @@ impl Bus {
         unless_lent(raw::take(block) == status::DONE, || Memory::block(block).start)
     }
 
-    /// Only a point, to put between two accesses of the driver's own memory.
+    /// A point without an access, to put between two accesses of the driver's own memory.
     pub fn point(&self) {
         raw::point();
     }
@@ -500,7 +500,7 @@ impl Bus {
     }
 
     /// A barrier of stores, for weak memory: when it returns, all earlier stores of the task's processor have reached
-    /// memory. With strong memory, all barriers are no-ops and no points.
+    /// memory. With strong memory, all barriers are no-ops without points.
     pub fn wmb(&self) {
         raw::wmb();
     }
@@ -516,7 +516,7 @@ impl Bus {
     }
 
     /// Returns a value below the bound (1 to 256) that is part of the schedule: whether an allocation fails, which
-    /// input comes. All strategies choose it, and shrinking tries lower values. In [`Scenario::bring_up`] the call
+    /// input arrives. All strategies choose it, and shrinking tries lower values. In [`Scenario::bring_up`] the call
     /// fails.
     pub fn choose(&self, bound: u32) -> u32 {
         raw::choose(bound)
@@ -647,8 +647,8 @@ pub struct Look<'a> {
 }
 
 impl Look<'_> {
-    /// Returns the number of frames that came so far, including dropped ones. Shrinking leaves frames out of a failure,
-    /// so let `end` compare with this number, not with how many were named.
+    /// Returns the number of frames that have arrived so far, including dropped ones. Shrinking leaves frames out of a
+    /// failure, so let `end` compare with this number, not with how many were named.
     pub fn came(&self) -> u32 {
         raw::came()
     }

@@ -314,7 +314,7 @@ fn running<T>(action: impl FnOnce(&Running) -> T) -> T {
     action(unsafe { &*it })
 }
 
-/// Calls the scenario. Its panic is reported as what is wrong.
+/// Calls the scenario. A panic is reported as the failure's message.
 fn driven(action: impl FnOnce(&dyn Driven) -> Option<String>) -> *const c_char {
     // SAFETY: `within` borrows the scenario for as long as the search runs.
     let result = running(|it| caught(|| action(unsafe { &*it.driven })));

@@ -300,7 +300,7 @@ impl Run {
 
     // --- events ---
 
-    /// Checks what a script's answer doesn't show.
+    /// Checks the parts of an event that a script's answer doesn't show.
     fn check(&self, event: &Event) {
         let memory = self.nic.memory();
         match *event {

@@ -128,7 +128,7 @@ static __attribute__((noinline)) uint32_t receive(uint32_t q)
     }
 }
 
-/* Sends what is posted, and collects it. */
+/* Sends the posted frames, and collects them. */
 static __attribute__((noinline)) void send_all(uint32_t q)
 {
     nic_outcome outcome;

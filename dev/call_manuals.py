@@ -33,7 +33,7 @@ STATUS = re.compile(r"^    NIC_(?P<name>\w+) = \d+,?(?: +/\* (?P<words>.*?) \*/)
 
 @dataclass(frozen=True)
 class Function:
-    """A function: its result type, its name, its parameters, and what follows it on its line."""
+    """A function: its result type, its name, its parameters, and the rest of its line."""
 
     type: str
     name: str

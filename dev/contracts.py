@@ -172,7 +172,7 @@ class Crate:
         self.names = {name for _, some, one in PASSED_ON.findall(root) for name in re.findall(r"\w+", some or one)}
 
     def of_trait(self, it: Contract) -> str:
-        """Returns the sentences that a trait of the crate gives to its function."""
+        """Returns the sentences of the trait's function that a contract implements, if the trait is in the crate."""
         return next((one.sentences for one in self.all if one.path == f"{it.trait}::{it.name}"), "")
 
     def is_public(self, it: Contract) -> bool:

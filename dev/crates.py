@@ -71,7 +71,7 @@ def shared_with(text: str) -> list[str]:
 
 
 def alone(text: str) -> str:
-    """Returns a file of the model crate as it is with the other crate's files beside it."""
+    """Returns the text that a file of the model crate has next to the other crate's files."""
     text = re.sub(rf'^ *#\[path = "[./]*{re.escape(OTHER)}[^\n]*\n', "", text, flags=re.M)
     return text.replace(f'path = "{OTHER}', 'path = "').replace('build = "build.rs"\n', "")
 

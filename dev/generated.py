@@ -19,7 +19,7 @@ def text_of(path: str) -> str:
 
 
 def git(*words: str, given: str | None = None) -> str:
-    """Runs a git command, optionally with input, and returns what it prints."""
+    """Runs a git command, optionally with input, and returns its output."""
     how = ["git", "-C", str(ROOT), *words]
     return subprocess.run(how, input=given, stdout=subprocess.PIPE, text=True, check=True).stdout
 

@@ -1,4 +1,4 @@
-"""dev/check_views's checks of a page in a browser: that it loads, shows what the bench answers, and can be used."""
+"""dev/check_views's checks of a page in a browser: it loads, shows the bench's answers, and can be used."""
 
 from __future__ import annotations
 

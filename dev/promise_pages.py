@@ -137,7 +137,7 @@ class Section:
 
 
 def selects(crates: dict[str, Crate], selector: str) -> bool:
-    """Returns whether what a selector names exists."""
+    """Returns whether a selector names something that exists."""
     name, kind, it = re.split(r"([/@]|$)", selector, maxsplit=1)
     there = crates[name].public() if name in crates else []
     return any(not kind or it == (one.module if kind == "/" else one.path) for one in there)
@@ -243,7 +243,7 @@ def statements(text: str) -> int:
 
 
 def faults_of(crate: Crate, it: Contract) -> Iterator[str]:
-    """Yields what a contract's comments lack."""
+    """Yields the faults of a contract's comments."""
     if not it.sentences:
         yield f"{it.place}: no doc comment"
     said = statements(it.sentences)
@@ -270,7 +270,7 @@ def faults_by_hand(crates: dict[str, Crate]) -> Iterator[str]:
 
 
 def missing(crate: Crate, path: str, rest: str, clauses: list[str]) -> Iterator[str]:
-    """Yields what a crate lacks of a path with clauses."""
+    """Yields the contract or the clauses that a text names but the crate lacks."""
     found = [it for it in crate.all if rest == it.path or rest.endswith(f"::{it.path}")]
     if not found and rest not in crate.types | {it.module for it in crate.all}:
         yield f"no `{path}`"

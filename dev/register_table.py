@@ -367,8 +367,8 @@ def between(low: int, high: int, ranges: list[tuple[int, int]]) -> list[tuple[in
 
 
 class Function:
-    """A function of the dispatch: the addresses that it handles, its arms, and what the table says about each arm with
-    a run and about each range between the arms."""
+    """A generated function of the dispatch: its address range, its arms, and the table's facts about each arm's run and
+    about each gap between the arms."""
 
     def __init__(
         self, name: str, low: int | None, high: int | None, remainder: Rest = None, matched: str = "address"
@@ -541,7 +541,7 @@ use crate::rows::RowId;
 
 
 def proof_arms(telling: list[Function]) -> str:
-    """Returns what the table says about each arm of a dispatch function, and about the ranges between the arms."""
+    """Returns the table's facts about each arm of a dispatch function, and about the ranges between the arms."""
     facts = [fact for function in telling for fact in function.facts()]
     kinds = sorted({fact.split()[0] for fact in facts})
     rows = ", ".join(row.variant for row in TABLE if any(f"(run {row.variant} " in fact for fact in facts))
@@ -844,7 +844,7 @@ pub cell_of : (row : RowId)
 
 
 def proof_cell_row() -> str:
-    """Returns the lemma about what the cells hold for a row."""
+    """Returns the lemma about the words that the cells hold for a row."""
     lines = "".join(f"cell_row a {row.variant} h = absurd cc\n" for row in fields())
     return f"""\
 -- A cell's words are those of its field.

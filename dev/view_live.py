@@ -69,7 +69,7 @@ class Served:
         return part
 
     def until(self, holds: Callable[[dict[str, Any]], bool]) -> dict[str, Any]:
-        """Returns the last part once the condition holds, or the last one received."""
+        """Polls until a part satisfies the condition, and returns it; after PATIENCE, returns the last part."""
         began = time.monotonic()
         while not holds(part := self.part()) and time.monotonic() - began < PATIENCE:
             time.sleep(0.1)

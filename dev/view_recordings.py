@@ -80,7 +80,7 @@ def record(script: Path, vfs: int | None, recording: Path) -> None:
 
 
 def facts(step: Step) -> list[object]:
-    """Returns what a view shows of a step, without its number."""
+    """Returns a step's contents in a view, without its number."""
     return [step.reply, step.changes, step.memory, step.written, step.lent, step.waiting, step.out, step.ring]
 
 
@@ -104,7 +104,7 @@ def in_rows(run: Run, count: Callable[[Step], int]) -> list[Step]:
 
 
 def compare(script: Path, vfs: int | None, recording: Path, expect: Expect) -> None:
-    """Checks that a whole recording shows what the script shows."""
+    """Checks that a whole recording shows the same steps as the script."""
     want, got = of_script(Bench(vfs), str(script)), of_recording(str(recording))
     name = script.name
     expect(not got.notes, f"{name}, recorded: {got.notes}")
@@ -130,15 +130,15 @@ def last(run: Run) -> tuple[dict[int, int], dict[int, bytes | None]]:
 
 
 def kept(run: Run, step: Step, sides: list[tuple[str, int]]) -> list[object]:
-    """Returns what the end of a recording must show of a step, as the whole recording does, with the ring if it is
-    in use. The ring is left out if it belongs to the first waiting frame, which may have come earlier."""
+    """Returns what the end of a recording must show of a step: the same as the whole recording, with the ring if it
+    is in use. The ring is left out if it belongs to the first waiting frame, which may have arrived earlier."""
     is_of_front = run.shown(step.pc) == "rx" and not step.reply.startswith(("wrote", "fault"))
     ring = None if is_of_front or step.ring not in sides else step.ring
     return [step.reply, step.changes, sorted(step.written), ring]
 
 
 def compare_end(name: str, recording: Path, whole: Run, limit: int, expect: Expect) -> None:
-    """Checks that the last events of a recording show what the whole recording shows there."""
+    """Checks that the last events of a recording look the same as in the whole recording."""
     part = of_recording(str(recording), limit)
     where = f"{name}, the last {limit} events"
     expect(len(part.steps) == limit + 1, f"{where}: {len(part.steps)} steps")
@@ -156,7 +156,7 @@ def compare_end(name: str, recording: Path, whole: Run, limit: int, expect: Expe
 
 
 def compare_waiting(where: str, whole: Run, part: Run, expect: Expect) -> None:
-    """Checks that frames that come in the end of a recording wait as in the whole recording."""
+    """Checks that frames that arrive in the end of a recording wait as in the whole recording."""
     came, count = len(whole.seen.arrived) - len(part.seen.arrived), len(part.steps) - 1
     want, got = whole.seen.arrived[came:], part.seen.arrived
     waiting = [[(frame.queue, frame.rss, frame.slots) for frame in frames] for frames in (want, got)]
@@ -329,7 +329,7 @@ def check_lent(folder: Path, expect: Expect) -> None:
 
 
 def check_no_bytes(folder: Path, expect: Expect) -> None:
-    """Checks that a script accepts a frame without bytes, and that it has none for the tools."""
+    """Checks that a script contains a frame without bytes as one byte, and that the tools show it without bytes."""
     file = folder / "empty.recording"
     with recorded(file) as nic:
         nic.link(True)
@@ -398,8 +398,8 @@ def check_names(folder: Path, expect: Expect) -> None:
 
 
 def check_history(folder: Path, expect: Expect) -> None:
-    """Checks that a script of a recording with snapshots contains what led to its end, and ends before an installed
-    image."""
+    """Checks that a script of a recording with snapshots contains the events that lead to its end, and ends before an
+    installed image."""
     file = folder / "history.recording"
     with recorded(file) as nic:
         nic["RXCTRL"] = 1

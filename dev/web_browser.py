@@ -23,7 +23,7 @@ HOSTILE = """# </script><script>window.hacked = 1</script>
 # <img src=x onerror=window.hacked=1>
 r STATUS # <b onclick='x'>
 """
-# How browsers report what the page's policy blocks.
+# Matches browsers' reports of accesses that the page's policy blocks.
 POLICY = re.compile("Content.Security.Policy")
 # Elements that have no name for a screen reader.
 NAMELESS = """[...document.querySelectorAll('button, input, select, textarea, iframe, [role=tabpanel]')].filter((it) =>
@@ -76,7 +76,8 @@ def first_answer(page: Page) -> None:
 
 
 def typing(page: Page) -> None:
-    """Checks completions by keys, the answer beside the line, and a refusal at its place while the last run stays."""
+    """Checks completions by keys, the answer next to the line, and a refusal at its place while the last run stays
+    visible."""
     page.put("")
     page.value("element('text').focus(), 0")
     page.browser.type("w CTRL_E")

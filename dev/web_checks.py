@@ -262,7 +262,7 @@ def page_part(checks: Checks) -> None:
 
 
 def graded(folder: Path) -> list[str]:
-    """Returns what is wrong with the grading of four files: a right one, a wrong one, a hostile one and none."""
+    """Returns the faults in the grading of four files: a right one, a wrong one, a hostile one and none."""
     known = lessons.read()
     answered = {str(it.number): {"script": it.parts["answer"], "outcome": "open"} for it in known}
     claimed = {str(it.number): {"script": it.parts["start"], "outcome": "solved"} for it in known}
@@ -335,7 +335,7 @@ def missing(part: str, checks: Checks) -> str | None:
 
 
 def done(checks: Checks, job: Callable[[Checks], None]) -> tuple[str, int]:
-    """Returns what a job prints, and how many faults it finds."""
+    """Returns a job's output, and the number of faults that it finds."""
     checks.faults, said = 0, io.StringIO()
     with contextlib.redirect_stdout(said):
         try:

@@ -19,8 +19,8 @@ junit_record() {
     { printf '%s\n' "$@" && cat "$RECORDS/said"; } >"$RECORDS/$COUNT"
 }
 
-# judged NAME COMMAND..: does one run. A failure ends the script, unless runs are recorded: then the script goes on, and
-# junit_end returns 1.
+# judged NAME COMMAND..: does one run. A failure ends the script, unless runs are recorded: then the script continues,
+# and junit_end returns 1.
 judged() {
     local name=$1 status begun=${EPOCHREALTIME/[.,]/}
     shift

@@ -169,7 +169,7 @@ static bool only_traffic(void)
     return end_all();
 }
 
-/* Sends frames to the host and VF0 in turns. Returns whether they received the numbers that `expect` sets. */
+/* Sends frames to the host and VF0 alternately. Returns whether they received the numbers that `expect` sets. */
 static bool differs(void (*expect)(unsigned int gets[2]))
 {
     unsigned int got[2] = {0, 0}, gets[2];

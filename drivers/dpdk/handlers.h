@@ -22,7 +22,7 @@ void handlers_begin(struct handlers_way way);
 /* Calls handlers until no message is due and the line is down. */
 void handlers_run(void);
 
-/* Calls of the bus. */
+/* Callbacks for the bus. */
 void handlers_reading(void *of, unsigned int function, uint32_t offset);
 void handlers_written(void *of, const struct bus_access *access);
 void handlers_message(void *of, unsigned int function, unsigned int vector);

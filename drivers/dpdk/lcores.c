@@ -35,7 +35,7 @@ static struct lcore {
 static atomic_uint passed, inside, together;
 static atomic_bool is_wire_done, is_given_up;
 
-/* ---- what an lcore does ---- */
+/* ---- an lcore's work ---- */
 
 static void compare(struct lcore *it, const struct rte_mbuf *packet)
 {

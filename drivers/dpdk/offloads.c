@@ -254,7 +254,7 @@ static bool is_l2_right(const struct packet *it, const uint8_t *frame)
            type[1] == (it->is_v6 ? 0xDD : 0x00);
 }
 
-/* Returns what is wrong with a frame that went out, or null. */
+/* Returns the fault of a frame that went out, or null. */
 static const char *compare(const struct packet *it, uint32_t number, unsigned int segment, bool is_last)
 {
     const uint8_t *frame = out[segment].bytes;

@@ -22,8 +22,8 @@ int who_gets(const uint8_t to[6], uint16_t tag);
 /* Sends one frame from a port to an address. Returns how many frames then go out. */
 unsigned int send_one(unsigned int which, const uint8_t to[6]);
 
-/* Sends frames to two ports' addresses in turns. Adds the numbers that the first and the second receive to got[0] and
-   got[1]. Any other frame is a problem. */
+/* Sends frames to two ports' addresses alternately. Adds the numbers that the first and the second receive to got[0]
+   and got[1]. Any other frame is a problem. */
 void frames_of_two(unsigned int frames, unsigned int got[2]);
 
 /* Sends this many frames to a port's address, numbered from `first` by `step`, and takes all receive steps. No port is

@@ -96,7 +96,7 @@ class Place:
         return words
 
     def forget(self) -> None:
-        """Removes what was written, unless it is kept."""
+        """Removes the written files, unless they are kept."""
         if not self.is_kept:
             shutil.rmtree(self.folder, ignore_errors=True)
 
@@ -154,7 +154,7 @@ class Server:
         return answer_of(self.answers)
 
     def end(self) -> str:
-        """Ends the server. Returns what it printed."""
+        """Ends the server. Returns its output."""
         self.process.terminate()
         status = self.process.wait(timeout=20)
         output = self.output.read_text()
@@ -232,7 +232,7 @@ class Guest:
         return "\n".join(self.lines)
 
     def when(self, text: str) -> float:
-        """Seconds from the guest's start to the first line with this text."""
+        """Returns the seconds from the guest's start to the first line with this text."""
         return next(at for at, line in zip(self.times, self.lines) if text in line)
 
     def kill(self) -> None:
@@ -364,7 +364,7 @@ def running(server: Server, *guests: Guest) -> Iterator[None]:
 
 
 def alone(machine: Machine, *words: str) -> tuple[str, str]:
-    """Runs one guest with one card. Returns its log and what the server printed."""
+    """Runs one guest with one card. Returns the guest's log and the server's output."""
     server = Server(machine.place, "one", *words)
     guest = machine.start("guest", server, *device(server.path))
     with running(server, guest):

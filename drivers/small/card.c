@@ -94,7 +94,7 @@ static bool reset(void)
     if (!wait_for(NIC_CTRL, NIC_CTRL_RST, false))
         return false;
     write(NIC_EIMC, 0x7FFFFFFF);
-    (void)read(NIC_EICR); /* clears what was raised */
+    (void)read(NIC_EICR); /* clears earlier causes */
     return wait_for(NIC_EEC, NIC_EEC_AUTO_RD, true) && wait_for(NIC_RDRXCTL, NIC_RDRXCTL_DMAIDONE, true);
 }
 

@@ -21,8 +21,8 @@ import time
 from collections.abc import Sequence
 from pathlib import Path
 
-SECONDS = 120.0  # wait for a line of the kernel, or a frame
-FETCHING = 3600.0  # wait until QEMU has been fetched
+SECONDS = 120.0  # seconds to wait for a line of the kernel, or for a frame
+FETCHING = 3600.0  # seconds to wait until QEMU has been fetched
 ON_THE_WAY = 32  # frames in flight: fewer than the kernel's ring has slots
 LATER = 200  # frames after the wire is plugged in again
 OWN = bytes.fromhex("020000000001")
@@ -61,7 +61,7 @@ class Kernel:
         return found
 
     def end(self) -> str:
-        """Ends QEMU through its console keys. Returns what the server then prints."""
+        """Ends QEMU through its console keys. Returns the server's output after that."""
         assert self.process.stdin
         with contextlib.suppress(BrokenPipeError):
             self.process.stdin.write(b"\x01x")

@@ -179,7 +179,7 @@ pub mod process {
         pub const FAILURE: ExitCode = ExitCode(1);
     }
 
-    /// What a program's `main` may return.
+    /// A type that a program's `main` may return.
     pub trait Ended {
         fn status(self) -> u8;
     }
@@ -226,7 +226,7 @@ pub mod process {
 }
 
 pub mod test {
-    //! `std::test`: what a test may return.
+    //! `std::test`: the types that a test may return.
 
     /// A test failed.
     #[derive(Clone, Copy, Debug, PartialEq, Eq)]

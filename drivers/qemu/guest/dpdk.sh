@@ -1,4 +1,4 @@
-# DPDK's testpmd sends back what it receives, with the addresses swapped, and prints each second what passed.
+# DPDK's testpmd sends received frames back with the addresses swapped, and prints its counts each second.
 D=0000:01:00.0
 PMD=/lib/x86_64-linux-gnu
 chmod 755 /

@@ -145,7 +145,7 @@ def statuses(folder: Path) -> None:
 
 
 def fetches() -> None:
-    """Only what the arguments need is fetched."""
+    """Only the packages that the arguments need are fetched."""
     assert needs(read_words([])) == ["qemu", "tools", "kernel-6.1"]
     assert needs(read_words(["linux-sid", "--function"])) == ["qemu", "tools", "kernel-sid"]
     assert needs(read_words(["--kernel", "/bin/sh", "--modules", "/"])) == ["qemu", "tools"]

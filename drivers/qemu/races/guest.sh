@@ -131,7 +131,7 @@ answers() {
     return 1
 }
 
-# Stops the traffic, then checks the carrier, a reply, and numbered frames each way, of which none may be missing.
+# Stops the traffic, then checks the carrier, a reply, and numbered frames each way. No frame may be missing.
 settle() {
     doing settle
     rm /tmp/pids
@@ -156,7 +156,7 @@ calm() { :; }
 # Sets the other end's ARP entry, so that the kernel sends no requests, which aren't numbered frames.
 neighbour() { arp -s 10.0.0.1 02:00:00:00:00:01; }
 
-# Has the other end print what has come. Only its last report counts, because a busy machine is late.
+# Has the other end print which frames have arrived. Only its last report counts, because a busy machine is late.
 sent() {
     grep eth0 /proc/net/dev
     ethtool -S eth0 | grep -E "^ *(tx|rx)_[a-z_]*: [1-9]"

@@ -148,7 +148,7 @@ class Lines:
 
 
 def keep_failure(it: Outcome, workload: str, out: Path) -> Path:
-    """Writes what is known of a failure into a separate folder."""
+    """Writes the logs and pages of a failure into a separate folder."""
     number, folder = 1, out / f"{it.kernel}-{it.driver}-{it.seed}"
     while folder.exists():
         number += 1

@@ -117,7 +117,7 @@ def scripted(lines: Sequence[str], limit: int) -> Iterator[Finding]:
 
 
 def checked(lines: Sequence[str], is_function: bool) -> Iterator[Finding]:
-    """Yields findings from what the guest and the server printed about the final check."""
+    """Yields findings from the lines of the guest and the server about the final check."""
     text = "\n".join(lines)
     if not re.search(r"^@search carrier 1$", text, re.MULTILINE):
         yield Finding("no link", KINDS["no link"])

@@ -15,8 +15,8 @@ from cases import CASES
 NAME = "drivers/qemu/search"
 KERNELS = {"linux-6.1": "kernel-6.1", "linux-6.12": "kernel-6.12", "linux-sid": "kernel-sid"}
 
-# Statuses for `git bisect run`. A status above 127 ends the bisect, so this is added to a status that the driver didn't
-# cause.
+# Statuses for `git bisect run`. A status above 127 ends the bisect, so ENDS_BISECT is added to a status that the driver
+# didn't cause.
 NOT_TRIED, ENDS_BISECT = 125, 128
 
 

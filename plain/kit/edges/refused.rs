@@ -1,4 +1,4 @@
-//! Tests what is returned when memory is refused, and that nothing has changed then.
+//! Tests the results of calls that are refused memory, and that these calls change nothing.
 
 use super::super::alloc::{AllocError, AllocFailed};
 use super::super::boxed::Box as KitBox;

@@ -114,6 +114,6 @@ def main(words: list[str]) -> int:
 if __name__ == "__main__":
     status = main([os.environ.get("NIC82599_PROGRAM", sys.argv[0]), *sys.argv[1:]])
     sys.stdout.flush()
-    ctypes.CDLL(None).fflush(None)  # flushes what the library has printed
+    ctypes.CDLL(None).fflush(None)  # flushes the library's output
     # The schedules' threads are still inside the library.
     os._exit(status)

@@ -68,7 +68,7 @@ def recording_of(path: str) -> str:
 
 
 def ask(path: str, request: str) -> tuple[list[str], str]:
-    """Sends a request. Returns the lines of the answer, and what is wrong with the request, or "". Raises Fault."""
+    """Sends a request. Returns the lines of the answer, and the request's fault, or "". Raises Fault."""
     with connected(path) as it, it.makefile("rb") as lines:
         return _asked(path, it, lines, request)
 

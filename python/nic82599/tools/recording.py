@@ -34,7 +34,7 @@ from .tool import MOST_STEPS, limit_of_script
 from .trace import Plan, Step, Trace
 from .trace import trace as of_text
 
-# What an invalid line of a recording may raise.
+# The exceptions that an invalid line of a recording may raise.
 BAD = (ValueError, KeyError, IndexError, OverflowError, TypeError, NicError)
 EMPTY = ": no bytes"
 # The maximum number of bytes of lent memory and frames, for the controller and its snapshots together.

@@ -15,7 +15,7 @@ pub trait Machine {
     fn dma(&self, bus: u64, bytes: usize) -> &[Cell<u8>];
     /// A barrier: earlier stores reach the device before later ones.
     fn wmb(&self);
-    /// A barrier: later loads aren't older than earlier ones.
+    /// A barrier: a later load returns no older value than an earlier one.
     fn rmb(&self);
 }
 

@@ -100,7 +100,7 @@ def c_names() -> str:
 
 
 def c_aliases(row: Row) -> str:
-    """Returns the alias addresses of a row's registers, each with the first address that it stands for."""
+    """Returns the alias addresses of a row's registers, each with the first address of its register."""
     lines = ""
     for run in row.runs[len(row.first_runs) :]:
         first = row.runs[0]

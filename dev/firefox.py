@@ -20,7 +20,7 @@ from browser import Browser, browser_program
 PATIENCE = 300.0
 TEXT, CLOSE, PING, PONG, LAST = 0x1, 0x8, 0x9, 0xA, 0x80
 MASK = b"mask"
-# The characters that stand for keys in WebDriver.
+# WebDriver's character codes of keys.
 KEYS = {"Tab": "\ue004", "Enter": "\ue006", "Escape": "\ue00c", "PageUp": "\ue00e", "PageDown": "\ue00f"}
 KEYS |= {"End": "\ue010", "Home": "\ue011", "ArrowLeft": "\ue012", "ArrowUp": "\ue013", "ArrowRight": "\ue014"}
 KEYS |= {"ArrowDown": "\ue015"} | {f"F{number}": chr(0xE030 + number) for number in range(1, 13)}

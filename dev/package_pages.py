@@ -7,8 +7,8 @@
     dev/package_pages.py --commands PAGE ..  prints what a reader of these installed pages runs to build and start C
 
 A link to a file that isn't shipped becomes its text; a link to a header of the library points to the installed one.
-Commands use what is installed: `nicbench`, the tools, and pkg-config's output instead of a clone's folders. What needs
-a clone says so. The script needs only Python; `--links` and `--commands` use nothing of the repository.
+Commands use what is installed: `nicbench`, the tools, and pkg-config's output instead of a clone's folders. Those that
+need a clone say so. The script needs only Python; `--links` and `--commands` use nothing of the repository.
 
 Status 0: no fault; 1: a fault; 3: wrong arguments.
 """

@@ -124,7 +124,7 @@ def python_statuses() -> str:
 
 
 def rust_statuses() -> str:
-    """src/status.rs of the crate."""
+    """Returns src/status.rs of the crate."""
     text = HEAD_RUST
     for name, numbers in lists().items():
         items = "".join(f"pub(crate) const {it}: u8 = {number};\n" for it, number in numbers.items())

@@ -100,7 +100,7 @@ def served(*words: str | Path) -> Iterator[Served]:
 
 
 def alike(part: dict[str, Any], file: Path, events: int, expect: Expect, what: str) -> None:
-    """Checks that a part equals the page that nicview makes of a file that ends there."""
+    """Checks that a part equals nicview's page of a file that ends there."""
     if not part.get("data"):
         expect(False, f"live, {what}: no part, and {part.get('said')!r}")
         return

@@ -28,7 +28,7 @@ ROOT = Path(__file__).resolve().parents[1]
 MOST_OF_A_LINE = 60
 Expect = Callable[[bool, str], None]
 HEAD = "#: nic vfs 0 fifo 64 blocks 256\n"
-# Lines to put into a changed recording, and one that begins it.
+# Lines to insert into a tampered recording, one of them a recording's first line.
 STRANGE = [
     "lend 99999999999", "lend -1", "#: lend 0 to 4000000000 # done", "#: lend 2 to 5 # done", "lend 3 to 9", "unlend 2",
     "#: restore 1", "#: restore 0", "#: drop 1", "#: snapshot 7", "#: image 00", "#: text zz", "#: ", "jmp x", "x:",

@@ -379,7 +379,7 @@ def looks(checks: Any) -> None:
     tried(checks, "examples and looks in the browser", [all_examples, at_all_widths])
 
 
-# What the guide shows of the page: a script of examples/, one of its lines, and the step that the line makes.
+# The guide's picture of the page: a script of examples/, and one of its lines, whose step is shown.
 SHOWN = ("queue.nic", "rx")
 
 

@@ -228,7 +228,7 @@ def tools(checks: Checks) -> None:
 
 
 def file_faults(text: str) -> list[str]:
-    """Returns what in the page accesses the outside, or would run foreign code."""
+    """Returns the faults of the page's file: its size, references to other files, and a policy that isn't strict."""
     faults = [] if len(text.encode()) <= MOST_BYTES else [f"{len(text.encode()):,} bytes"]
     outside = re.findall(r"""(?:src|href|action)\s*=\s*["'](?!data:,)[^"']*["']|@import|url\(\s*["']?http""", text)
     faults += [f"it reaches {it}" for it in outside]

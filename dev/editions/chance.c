@@ -16,7 +16,7 @@ const size_t chance_address_count = sizeof chance_addresses / sizeof *chance_add
 
 static uint64_t state = 1;
 
-/* Events that come before any others, for example the setup of a queue or the opening of the cards. */
+/* Events to make before any random ones, for example the setup of a queue or the opening of the cards. */
 static struct event planned[MOST_PLANNED];
 static size_t planned_count, planned_at;
 static unsigned left;    /* events left in this session */

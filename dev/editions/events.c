@@ -187,7 +187,7 @@ static void compare(const char *what)
     digest = event_digest(digest, &event, &answers[0]);
 }
 
-/* Makes a call of the comparison itself, without effects. */
+/* Makes a call for the comparison alone; it has no effects. */
 static void look(enum call call, uint8_t card, uint8_t vf, uint32_t at)
 {
     memset(&event, 0, offsetof(struct event, given));

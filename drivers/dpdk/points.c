@@ -1,6 +1,6 @@
-/* Makes each access of the driver to a descriptor ring a point of the explorer. The driver's files that touch rings are
-   compiled with -fsanitize=thread, so the compiler calls the functions below before each memory access. The sanitizer's
-   own library isn't linked: these are its only functions. Accesses outside the rings are ignored.
+/* Turns each access of the driver to a descriptor ring into a point of the explorer. The driver's files that touch
+   rings are compiled with -fsanitize=thread, so the compiler calls the functions below before each memory access. The
+   sanitizer's own library isn't linked: these are its only functions. Accesses outside the rings are ignored.
 
    A ring has two copies: the process's, which the driver accesses, and the bench's. Before a load, its bytes are copied
    from the bench. The bench sees a store at the next access to any address; no other task runs in between. */

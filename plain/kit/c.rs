@@ -86,7 +86,7 @@ pub fn guarded<H: Held, R: Answer>(handle: &mut H, call: impl FnOnce(&mut H) -> 
     })
 }
 
-/// Runs a call that exchanges memory, even if the handle is broken, because the caller's memory must come out of it.
+/// Runs a call that exchanges memory, even if the handle is broken, because the caller must get its memory back.
 /// During an exchange two owners share a piece of memory, and a panic would free it for one of them, so a panic frees
 /// nothing here. C, which knows both pieces, finds out with its next exchange which one the handle has.
 #[inline]

@@ -32,7 +32,7 @@ def answered(call: Callable[[], Event | bool | None]) -> str:
 
 
 class Run:
-    """A controller, the script of what was done to it, and the answers."""
+    """A controller, the script of the calls made on it, and their answers."""
 
     def __init__(self, seed: int, vfs: int) -> None:
         self.chance, self.vfs = random.Random(seed), vfs

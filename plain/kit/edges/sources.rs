@@ -1,4 +1,4 @@
-//! Tests of the erased sources where no program reaches: counters at their maximum, bytes that no program prints.
+//! Tests of cases in the erased sources that no program reaches: counters at their maximum, bytes that none prints.
 
 use super::*;
 use crate::dma_arena::Arena;

@@ -20,7 +20,7 @@ class Can(Flag):
     SHARED_DEVICE = 4  # `open` and `close` touch only their own queues and never reset the device
     HOST = 8  # `open` accepts `functions` above 0
 
-    # What the driver never does, by design: rows that depend on it aren't applicable.
+    # Things that the driver never does, by design. Rows that depend on them aren't applicable.
     NO_MODERATION = 16  # it never writes an interval to EITR
     NO_HEADS = 32  # it never writes RDH or TDH
     ONE_VECTOR = 64  # all queues share one vector

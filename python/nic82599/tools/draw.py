@@ -176,7 +176,7 @@ def finding_lines(run: Run) -> Iterator[str]:
 
 
 def _frame_lines(run: Run, step: Step) -> Iterator[str]:
-    """Yields the frames that came and went at a step."""
+    """Yields the frames that arrived or left at a step."""
     for sign, frames in step.waiting:
         for frame in frames:
             one = run.seen.arrived[frame]

@@ -152,7 +152,7 @@ class Recorded:
             self._stop(first, bisect_left(self.made.line_of, first.number))
 
     def _stop(self, fault: Fault, events: int) -> None:
-        """Hides what comes after this many events."""
+        """Hides everything after this many events."""
         self.stopped = self.stopped or fault
         self.most = min(self.most, events)
 

@@ -425,7 +425,7 @@ def _give_hashes(trace: Trace, replay: Replay, arrived: list[Frame]) -> None:
 
 
 def _account(trace: Trace, replay: Replay) -> tuple[list[Frame], list[Frame]]:
-    """Returns the received and the sent frames and the steps at which they came and went, according to the replies."""
+    """Returns the received and the sent frames, with the steps at which they arrived and left, from the replies."""
     frames = _Frames(trace, replay)
     for step in trace.steps:
         replay.earlier.append(frames.earlier)

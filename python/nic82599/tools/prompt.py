@@ -117,7 +117,7 @@ def line_at(session: Session, pc: int) -> str:
 
 
 def view_line(session: Session) -> str:
-    """Describes the machine's place and what comes next."""
+    """Describes the machine's place and the next instruction."""
     status = session.view.split()[-1]
     return (
         f"{session.view}\n{line_at(session, session.pc)}" if status == "running" else f"{session.view}: {session.last}"

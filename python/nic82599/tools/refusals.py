@@ -24,8 +24,8 @@ def most_of(text: str) -> int:
 
 
 def refusals(bench: Bench, text: str, first: Refused) -> Iterator[tuple[Refused, str]]:
-    """Yields each refusal with the refused text; line numbers match the original. The lines come in the order in which
-    the bench finds them. A refusal without a line is the last."""
+    """Yields each refusal with the refused text, in the order in which the bench finds them; line numbers match the
+    original. A refusal without a line is the last."""
     refused, lines, count, most = first, text.split("\n"), 0, most_of(text)
     while True:
         shown = "\n".join(lines)

@@ -1,4 +1,4 @@
-"""A run as the page and the drawings show it, independent of where its steps come from.
+"""A run as the page and the drawings show it, independent of the source of its steps.
 
 A source of steps fills a `Run`; `of_script` does so for a script on the bench. The page (page.py) and the drawings
 (draw.py) use only this: neither the program nor the instructions of a script.

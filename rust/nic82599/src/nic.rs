@@ -339,7 +339,7 @@ impl Nic {
         self.handle.int_step(0).unwrap_or(None)
     }
 
-    /// Runs steps until none has anything to do, and returns their events in order. It goes round by round. A round
+    /// Runs steps until none has anything to do, and returns their events in order. It runs in rounds. A round
     /// consists of the receive and then the transmit enable of each queue below `queues`; the EEPROM; one transmit step
     /// of each of these queues; one receive step; one message of each function. A new round begins after every 256
     /// events.

@@ -52,7 +52,7 @@ class Programs(NamedTuple):
 
 
 def plain_made(what: str) -> Path:
-    """Returns what dev/plain built: the program, or the folder of the library's archives."""
+    """Returns the path of dev/plain's build: the program, or the folder of the library's archives."""
     made = subprocess.run([PLAIN, what], stdout=subprocess.PIPE, text=True, check=False)
     if made.returncode:
         # (2: there is no rustc)

@@ -398,5 +398,5 @@ def draw(path: Path, folder: Path) -> None:
     page.browser.close()
 
 
-# What runs in separate browsers, concurrently.
+# Groups of checks that run concurrently, each in a separate browser.
 JOBS = [use, lessons, looks]

@@ -13,7 +13,7 @@ struct asked {
     long held;      /* blocks allocated and not freed */
 };
 
-/* From here on refuses request `number`, counted from 1; 0 refuses none. */
+/* Starts counting requests, and refuses request `number`, counted from 1; 0 refuses none. */
 void refuse_begin(long number);
 struct asked refuse_end(void);
 

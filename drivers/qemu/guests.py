@@ -576,8 +576,8 @@ def dpdk(place: Place) -> str:
 
 
 def back_to_back(place: Place, name: str, scripts: Sequence[str]) -> tuple[str, str, str]:
-    """Two guests on one wire; the second starts when the first one serves. Returns the second one's log, and what its
-    server and the first one's printed."""
+    """Runs two guests on one wire; the second starts when the first one serves. Returns the second guest's log, and the
+    output of its server and of the first guest's server."""
     left = Server(place, f"left{name}", f"--wire=listen:{place.folder}/wire{name}")
     right = Server(place, f"right{name}", f"--wire=stream:{place.folder}/wire{name}", "--mac=02:00:00:00:82:9a")
     server = Machine(place, "kernel-6.1", scripts[0]).start("guest", left, *device(left.path))

@@ -1,4 +1,4 @@
-//! Rewrites what differs in Rust, and what its compiler supports only since a version after 1.63, or not yet.
+//! Rewrites the forms that differ in Rust, and those that rustc supports only since a version after 1.63, or not yet.
 
 use super::fault::Fault;
 use super::layout::indented;

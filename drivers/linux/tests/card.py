@@ -283,7 +283,7 @@ def try_frames(program: str) -> None:
 
 
 def try_faults(program: str) -> None:
-    """The offload faults must be as many as the guest expects."""
+    """The number of offload faults must be the one that the guest expects."""
     for expected, wanted in ((1, 0), (0, 1), (2, 1)):
         card = Card(program)
         host = card.guests[0]

@@ -19,7 +19,7 @@ void pass_totals(void);
    or -1 if none does. A duplicate, or a frame with other bytes, is a problem. */
 int who_gets(const uint8_t to[6], uint16_t tag);
 
-/* Sends one frame from a port to an address. Returns how many frames then go out. */
+/* Sends one frame from a port to an address. Returns the number of frames that go out as a result. */
 unsigned int send_one(unsigned int which, const uint8_t to[6]);
 
 /* Sends frames to two ports' addresses alternately. Adds the numbers that the first and the second receive to got[0]

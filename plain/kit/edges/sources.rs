@@ -30,7 +30,7 @@ fn a_note_has_its_blocks_bytes() {
     let mut arena = Arena::new(Global, 0, 1).unwrap_or_else(|_| panic!("an arena of a block"));
     let mut buf = arena.take().expect("a block");
     for step in 0..64 {
-        // Each of these is noted twice, and the next one has as many bytes.
+        // Each byte string is noted twice, and the next one has the same length.
         buf.put(0, &[1, 2, 3, step / 2, 5]);
         let note = notes.of(Global, &buf).expect("a note");
         assert_eq!((note.number(), note.kept()), (buf.block(), &buf.bytes()[..note.kept().len()]));

@@ -213,7 +213,7 @@ class Session:
         self.links: list[bool] = []
         self.locks: set[stacks.Mutex] = set()
         self.maker = threading.get_ident()
-        self.running: dict[int, int] = {}  # thread ID -> index in `threads` of what it runs
+        self.running: dict[int, int] = {}  # thread ID -> index in `threads` of the thread that it runs
         self.fault: BaseException | None = None
         self.traceback = ""
         self.shared: Found | None = None

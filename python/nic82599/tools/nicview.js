@@ -55,7 +55,7 @@ function lentAfter(rows, [sign, first, last]) {
   return parts.filter(([a, b]) => a <= b);
 }
 const isLent = (rows, block) => rows.some(([first, last]) => first <= block && block <= last);
-// Where to scroll a list so that the first of its rows in sight is whole.
+// Returns the scroll position at which the first visible row of a list isn't cut off.
 const wholeRow = (rows, top, under = 0) =>
   Math.max(0, ...[...rows].map((one) => one.offsetTop - under).filter((at) => at <= top));
 // A note of a virtual machine's recording about a ring: where the guest has it.

@@ -189,7 +189,7 @@ impl fmt::Display for Absent {
 
 impl std::error::Error for Error {}
 
-/// Its message, for functions that report errors as text.
+/// Converts an error to its message, for functions that report errors as text.
 impl From<Error> for String {
     fn from(error: Error) -> String {
         error.to_string()

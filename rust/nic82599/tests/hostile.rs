@@ -1,4 +1,4 @@
-//! Calls that no driver should make, including those of memory in place and of reasons.
+//! Calls that no driver should make, including calls for memory in place and for reasons why nothing happens.
 
 mod common;
 

@@ -54,7 +54,7 @@ fn each_thread_has_its_own() {
         })
         .collect();
     for (number, thread) in made.into_iter().enumerate() {
-        let nic = thread.join().unwrap(); // created there, used here
+        let nic = thread.join().unwrap(); // created on the other thread, used on this one
         assert_eq!(nic.peek(RETA.at(number as u16)), 19_999);
         assert_eq!(nic.sizes().vfs, number as u8);
     }

@@ -18,7 +18,8 @@ extern char nicxi_data_begin[], nicxi_data_end[], nicxi_bss_begin[], nicxi_bss_e
 static char *kept_data, *kept_bss;
 static struct keys kept_keys;
 
-/* Without instrumentation: between variables are redzones that the address sanitizer protects from all accesses. */
+/* Not instrumented: the copied range includes the redzones between variables, and the address sanitizer would report an
+   instrumented access to them. */
 #if defined(__clang__) || defined(__GNUC__)
 __attribute__((no_sanitize("address")))
 #endif

@@ -1,5 +1,5 @@
-/* Register reads and writes through the C library: of all register addresses, shuffled, and of the tails of 64 queues.
-   benchmarks/frames counts the instructions of `reads`, `writes` and `tails`. */
+/* Measures register reads and writes through the C library: all register addresses, shuffled, and the tails of 64
+   queues. benchmarks/frames counts the instructions of `reads`, `writes` and `tails`. */
 #define MEASURE_CLOCK CLOCK_PROCESS_CPUTIME_ID
 #include "measure.h"
 #include "nic82599.h"

@@ -1,6 +1,6 @@
 /* Measures the calls of a C library in CPU time, so that other load on the machine matters little: accesses of all
    addresses and of tails, frames in and out, snapshots and restores, and the hash. benchmarks/editions links it with
-   each of several libraries and runs them in turns. */
+   several libraries and runs the programs alternately. */
 #define MEASURE_CLOCK CLOCK_PROCESS_CPUTIME_ID
 #include "measure.h"
 #include "nic82599.h"

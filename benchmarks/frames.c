@@ -1,6 +1,6 @@
-/* Frames through a device: each arrives on one of four queues by RSS, is received, read, sent again from the same
-   buffer and collected, 32 at a time, in the program's own memory. benchmarks/frames links this with each library that
-   it measures, and with least.c, which has the same calls.
+/* Passes frames through a device, 32 at a time, in the program's own memory. RSS selects one of four queues for each
+   frame, which is received, read, sent again from the same buffer, and collected. benchmarks/frames links this with
+   each library that it measures, and with least.c, which has the same calls.
 
    usage: frames LENGTH FRAMES */
 #define MEASURE_CLOCK CLOCK_PROCESS_CPUTIME_ID
@@ -16,7 +16,7 @@ static _Alignas(4096) uint8_t memory[MEMORY];
 static uint8_t frames[FLOWS][LONGEST], room[LONGEST];
 static nic n;
 
-/* A queue: its next receive slot to check, its tail, and its next transmit slot. */
+/* A queue: the next receive slot to check, the tail, and the next transmit slot. */
 static struct queue {
     uint32_t next, tail, out;
 } queues[QUEUES];
@@ -150,7 +150,7 @@ static __attribute__((noinline)) void refill(uint32_t q, uint32_t count)
     write_register(NIC_RDT(q), it->tail);
 }
 
-/* The measured part: `count` frames of this length, in and out. */
+/* The measured code: receives and sends `count` frames of this length. */
 __attribute__((noinline)) void pass(size_t length, uint32_t count)
 {
     nic_outcome outcome;

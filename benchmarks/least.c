@@ -1,6 +1,6 @@
-/* The least device for frames.c: the same calls, replies and descriptors, and only the registers that program uses. It
-   has no pools, functions, IPv6, VLANs, messages, resets or snapshots, no buffers across blocks, and one fault for each
-   ring instead of eight. It is a baseline for the library's frames, not a model of a card. */
+/* A minimal device for frames.c, with the same calls, replies and descriptors, but only the registers that frames.c
+   uses. It has no pools, functions, IPv6, VLANs, messages, resets or snapshots, no buffers across blocks, and one fault
+   for each ring instead of eight. It is a baseline for the library's frames, not a model of a card. */
 #include "nic82599.h"
 #include <stdlib.h>
 #include <string.h>
@@ -86,7 +86,7 @@ static bool is_for_us(const uint8_t *frame)
     return false;
 }
 
-/* Returns the first half of a frame's descriptors, and its queue by the addresses and ports of IPv4. */
+/* Returns the first half of a frame's descriptors, and its queue, which depends on the IPv4 addresses and ports. */
 static uint64_t sorted(const uint8_t *frame, size_t length, uint16_t *queue)
 {
     const uint8_t *packet = frame + 14;
@@ -153,7 +153,8 @@ static void free_first(void)
     waits--;
 }
 
-/* Ends a piece of the first frame: moves the head and, at the frame's end, counts and frees the frame. */
+/* Completes one buffer of the first frame: advances the head and, if this is the frame's last buffer, counts and frees
+   the frame. */
 static inline void end_piece(struct side *it, struct held *frame, uint32_t len, bool end)
 {
     it->head = after(it);
@@ -165,7 +166,7 @@ static inline void end_piece(struct side *it, struct held *frame, uint32_t len, 
     }
 }
 
-/* Writes a piece of the first frame to the slot at a ring's head. */
+/* Writes the next bytes of the first frame to the buffer of the slot at a ring's head. */
 static inline uint8_t write_piece(struct side *it, struct held *frame, nic_outcome *outcome)
 {
     uint64_t at = it->base + 16 * (uint64_t)it->head, first, second;
@@ -208,7 +209,7 @@ MINE uint8_t nic_rx_step(nic *n, nic_outcome *outcome)
     return inside ? write_piece(it, frame, outcome) : fault(it, frame->queue, outcome);
 }
 
-/* Stages bytes of a queue's frame, padded if the frame ends short. Returns false if memory is short. */
+/* Stages bytes of a queue's frame, and pads a short frame when it ends. Returns false if memory runs out. */
 static inline bool stage(struct held *frame, const uint8_t *from, uint32_t len, bool end)
 {
     uint32_t had = frame->length;

@@ -1,7 +1,7 @@
 /* Measures the calls of the C library: reads and writes of all addresses, shuffled, and of the tails of 64 queues;
-   snapshots and restores, both as the C library allocates by default and with freed memory kept; the lowest block,
-   taken and lent again. It also prints, as nanoseconds, whether the library is proved: 1 or 0. benchmarks/run prints
-   the table. */
+   snapshots and restores, both with the C library's default allocator settings and with freed memory kept in the
+   process; taking the lowest block and lending it again. It also prints whether the library is proved (1 or 0), in
+   place of nanoseconds. benchmarks/run prints the table. */
 #include "measure.h"
 #include "nic82599.h"
 #include "same_table.h"
@@ -16,7 +16,7 @@ static int opened(nic *n)
     return nic_open(n, 32, 64, 256) == NIC_DONE && nic_write32(n, NIC_GCR_EXT, 3) == NIC_DONE;
 }
 
-/* Keeps freed memory in the process, so that its pages aren't requested from the system again and again. */
+/* Keeps freed memory in the process, to avoid requesting its pages from the system again and again. */
 static void keep_pages(void)
 {
 #ifdef __GLIBC__

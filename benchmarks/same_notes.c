@@ -1,5 +1,5 @@
-/* The least cost of the driver's notes, in C. A frame's calls, and its bytes as often as notes and records keep them,
-   are written to memory that is touched for the first time. Prints a line for each measure: its name, the number of
+/* The minimum cost of the driver's notes, in C. It writes a frame's calls, and its bytes as often as notes and records
+   contain them, to memory that is touched for the first time. Prints a line for each measure: its name, the number of
    frames, and the nanoseconds. */
 #include <stdlib.h>
 #include <string.h>
@@ -11,7 +11,8 @@
 enum { RUNS = 50, FRAMES = 2000 };
 /* entries for a frame: 12 events, and the two device steps that do something; idle steps take no extra room */
 enum { ENTRIES = 12 + 2 };
-/* bytes of a call (in hand or of a pass), and of an entry of the history; each includes the idle steps before it */
+/* bytes of a call (of a device in hand, or of a pass), and of an entry of the history; each includes the idle steps
+   before it */
 enum { MADE = 88, ENTRY = 88 };
 /* notes that contain a frame's bytes: its arrival and its collection, in each list of calls; its block's notes, shared
    by taking, lending and taking it again; and its two records */
@@ -31,7 +32,7 @@ static int copies(int locked)
     return NOTES * (1 + locked) + BLOCK + RECORDS;
 }
 
-/* writes one frame's calls (to one list in hand, to two under the lock) and its bytes */
+/* writes one frame's calls (to one list for a device in hand, to two under the lock) and its bytes */
 __attribute__((noinline)) static uint8_t *note(uint8_t *at, size_t length, int locked)
 {
     for (int i = 0; i < ENTRIES; i++) {

@@ -22,7 +22,7 @@ from course_skeletons import ANSWERS, SKELETONS, at  # noqa: E402
 from explore.check import STRICT, Wrong, ran  # noqa: E402
 
 MILESTONES = sorted((HERE / "milestones").glob("*.rows"))
-# Causes for which a skeleton must not lose a row.
+# Causes by which a skeleton must not lose a row.
 NO_NAME = re.compile(r"crash|hang|exit|raised|panic|Error|Exception|traceback|deadlock")
 
 # Lists that are refused: their text, and the message after the file's name.
@@ -36,7 +36,7 @@ REFUSALS = {
     "# nothing\n\n": ": no rows: ",
     "\x1b]0;title\x07\n": r":1: malformed line: .*\\x1b",
 }
-# With 20 random schedules, there may be none in which a frame is on its way out during a reset.
+# With 20 random schedules, there may be none in which a frame is being sent during a reset.
 ENOUGH: list[object] = ["--runs", 100]
 SOME = ["--runs", 20, "--every", 20, "--seconds", 1800, "--hang", 600, "--no-pages", "--jobs", 2]
 
@@ -82,8 +82,8 @@ def said(out: Path) -> str:
 
 
 def check_stages(kit: Kit) -> str:
-    """The answer in C with the holes filled up to each milestone: these milestones have all points, and the next has
-    none."""
+    """Checks the answer in C with its holes filled up to each milestone: these milestones have all points, and the next
+    has none."""
     text, few = (ANSWERS / "driver.c").read_text(), last_rows(kit)
     for stage in range(len(MILESTONES) + 1):
         source = kit.folder / f"stage{stage}.c"
@@ -103,7 +103,8 @@ def rows_of(milestone: Path) -> list[str]:
 
 
 def check_causes(name: str, out: Path, wanted: int) -> None:
-    """The skeleton loses the wanted number of rows, none by a crash, a hang or another unnamed cause."""
+    """Checks that the skeleton loses the expected number of rows, none of them by a crash, a hang or another unnamed
+    cause."""
     causes = re.findall(r"^  (\S+) +\d+ points? lost: (.+)$", said(out), re.MULTILINE)
     for row, cause in causes:
         if NO_NAME.search(cause):
@@ -122,7 +123,7 @@ def last_rows(kit: Kit) -> list[Path]:
 
 
 def check_other(kit: Kit, name: str, program: Callable[[str], Path]) -> None:
-    """An answer and its skeleton in another language: one row of each milestone, or all rows of the answer with
+    """Checks an answer and its skeleton in another language: one row of each milestone, or all rows of the answer with
     --corpus-full."""
     kind = Path(name).suffix[1:]
     few = last_rows(kit)
@@ -168,8 +169,8 @@ def check_rust(kit: Kit) -> str:
 
 
 def check_refusals(kit: Kit) -> str:
-    """Malformed lists are refused by file and line. Their control characters aren't printed, and reading never
-    blocks on a pipe."""
+    """Checks that malformed lists are refused with file and line, that their control characters aren't printed, and
+    that reading never blocks on a pipe."""
     driver, path, pipe = SKELETONS["driver.c"], kit.folder / "bad.rows", kit.folder / "pipe"
     cases = [(path, text.encode(), f"bad.rows{wanted}") for text, wanted in REFUSALS.items()]
     cases += [(path, b"\xff\n", "bad.rows: unreadable: "), (path, b"#" * (1 << 20) + b"\n", "bad.rows: too long: ")]
@@ -186,7 +187,8 @@ def check_refusals(kit: Kit) -> str:
 
 
 def check_points(kit: Kit) -> str:
-    """Points in text and JUnit, for rows that pass, fail or aren't applicable, and for rows that aren't in a list."""
+    """Checks the points in text and JUnit, for rows that pass, fail or aren't applicable, and for rows that aren't in a
+    list."""
     small, path = ROOT / "c/drive/examples/small.c", kit.folder / "some.rows"
     path.write_text("receive-one 3 # one frame\n\nsetup-crc\nsend-one 1000\n")
     printed, out = kit.card("points", small, 1, "--require", path, "--rows", "receive-empty")
@@ -210,7 +212,7 @@ def check_points(kit: Kit) -> str:
     return "points as text and JUnit"
 
 
-# Code of a driver that looks around in its sandbox and records what it finds in the only folder that it can write to.
+# A driver that explores its sandbox and records what it finds in the only folder that it can write to.
 PRIES = """#include <stdio.h>
 #include <unistd.h>
 __attribute__((constructor)) static void pry(void)
@@ -223,7 +225,8 @@ __attribute__((constructor)) static void pry(void)
 
 
 def check_mark(kit: Kit) -> str:
-    """If bubblewrap can run: a driver is marked in its sandbox, and one that doesn't compile gets a line."""
+    """If bubblewrap can run, checks that a driver is marked in its sandbox and that one that doesn't compile gets a
+    line."""
     tried = ["bwrap", "--unshare-all", "--ro-bind", "/", "/", "true"]
     if not shutil.which("bwrap") or subprocess.run(tried, capture_output=True, check=False).returncode:
         return "the sandbox not tried: bubblewrap isn't installed, or may not run"

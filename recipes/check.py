@@ -1,5 +1,5 @@
 #!/usr/bin/env python3
-"""Checks the recipes for CI: two readers read each as the same YAML, and its commands run here in order.
+"""Checks the recipes for CI: two YAML readers agree on each of them, and its commands run here in order.
 
     recipes/check.py        tries all of them; status 0: all passed; 1: one didn't
 
@@ -65,13 +65,13 @@ LS = """#!/bin/sh
 
 
 class Wrong(Exception):
-    """A recipe isn't as it should be."""
+    """A recipe fails a check."""
 
 
 @dataclass
 class Job:
-    """What a runner reads from a recipe: its variables, its commands in pieces, the files that it keeps, and those
-    read as JUnit."""
+    """What a runner reads from a recipe: its variables, the scripts of its steps, the files that it keeps, and the
+    files read as JUnit."""
 
     name: str
     variables: dict[str, str]
@@ -141,7 +141,7 @@ def run_lines(job: Job, folder: Path, rows: str) -> None:
 
 
 def check_left(job: Job, folder: Path) -> None:
-    """The files to keep exist, and the installed packages are those that the bench needs."""
+    """Checks that the files to keep exist, and that the recipe installs exactly the packages that it needs."""
     for name in [*job.kept, *job.junit]:
         if not (folder / "repository" / name).exists():
             raise Wrong(f"{job.name}: it keeps {name}, which no line makes")
@@ -157,7 +157,7 @@ def check_left(job: Job, folder: Path) -> None:
 
 
 def check_container() -> None:
-    """The container file installs what the recipes install, and contains the expected instructions."""
+    """Checks that the container file installs what the recipes install, and has the expected instructions."""
     text = (HERE / "Containerfile").read_text().replace("\\\n", " ")
     lines = [line for line in text.splitlines() if line and not line.startswith("#")]
     kinds = [line.split()[0] for line in lines]
@@ -178,7 +178,7 @@ def check_reader() -> None:
 
 
 def check_jobs(path: Path) -> None:
-    """A recipe's job passes. The card's job fails if a required row fails."""
+    """Checks that a recipe's job passes, and that the card's job fails if a required row fails."""
     name = f"{path.parent.name}/{path.name}"
     job = (of_github if path.parent.name == "github" else of_gitlab)(name, parsed(path))
     with tempfile.TemporaryDirectory() as folder:

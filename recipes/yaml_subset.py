@@ -1,5 +1,5 @@
 """Reads the YAML subset that recipes/ uses: mappings and lists by indentation, plain and quoted scalars, `[a, b]`, and
-blocks after `|` and `>-`. Anything else is refused with its line. PyYAML, which not every machine has, reads the same
+blocks after `|` and `>-`. Anything else is refused with its line. PyYAML returns the same, but isn't on every machine
 (recipes/check.py compares them)."""
 
 from __future__ import annotations

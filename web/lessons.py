@@ -116,7 +116,7 @@ def check() -> int:
 
 
 def cell(text: str) -> str:
-    """Returns a text for a cell that no spreadsheet takes for a formula."""
+    """Returns a text for a cell, changed if a spreadsheet would read it as a formula."""
     return f"'{text}" if text[:1] in ("=", "+", "-", "@", "\t", "\r") else text
 
 

@@ -1,5 +1,5 @@
-// Answers in the page with nicbench's WebAssembly module (NICBENCH, plain/wasm/nicbench.mjs), for the tools' modules
-// (MODULES) and for the page itself. It runs in a worker, where instances may be created synchronously.
+// Answers requests of the tools' modules (MODULES) and of the page itself, using nicbench's WebAssembly module
+// (NICBENCH, plain/wasm/nicbench.mjs). It runs in a worker, where instances may be created synchronously.
 let wasm = null;
 const LIMIT_OF_STEPS = 4096;
 
@@ -106,8 +106,8 @@ function capture(octets, name) {
   return [...data, ...arrivals].join("\n") + "\n";
 }
 
-// Returns whether a script solves a lesson: it runs, the lesson's additional lines are reached and hold, and it printed
-// what the lesson wants to see. web/lessons.py checks the same for submitted files.
+// Returns whether a script solves a lesson: it runs, the lesson's additional lines are reached and hold, and it prints
+// what the lesson requires. web/lessons.py checks the same for submitted files.
 function solved(text, { check, wants, sizes }) {
   const own = fresh(sizes), whole = `${text.trimEnd()}\n${check}\nr STATUS\n`;
   try {

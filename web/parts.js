@@ -138,7 +138,7 @@ async function showObjects() {
   element("listing-out").textContent = listing;
 }
 
-// Links: the compressed script in the fragment. It is decoded to a text for the editor of at most this many bytes.
+// Links contain the compressed script in the fragment. The decoded script may have at most this many bytes.
 
 const MOST_LINK = 1 << 20;
 const toBase64 = (bytes) => btoa(String.fromCharCode(...bytes)).replaceAll("+", "-").replaceAll("/", "_").replaceAll("=", "");

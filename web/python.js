@@ -1,5 +1,5 @@
 "use strict";
-// What Python does by itself, for the tools' modules that web/translate.py translates: integers of any size, truth,
+// Python's own behaviour, for the tools' modules that web/translate.py translates: integers of any size, truth,
 // equality and order by value, dictionaries and sets, the methods of strings, lists and bytes, regular expressions.
 const P = (() => {
   class Exception extends Error {
@@ -617,7 +617,7 @@ const P = (() => {
         throw new ValueError(`'${text}' is no address of IPv6: it is written as 2001:db8::1`);
       return octets(words.flatMap((it) => [parseInt(it, 16) >> 8, parseInt(it, 16) & 255]));
     }
-    // Leaves out the longest run of two or more zero words, the first of several.
+    // Leaves out the longest run of two or more zero words, or the first of several equally long ones.
     toString() {
       const words = range(8).map((k) => ((this.packed[2 * k] << 8) | this.packed[2 * k + 1]).toString(16));
       let [from, length] = [0, 1];

@@ -609,7 +609,8 @@ def module(tree: ast.Module, name: str, kinds: Kinds, left_out: set[str], path: 
 
 
 def written(files: dict[str, Path], left_out: dict[str, set[str]]) -> str:
-    """Returns these modules, each after those that it needs, as JavaScript over `P`, in the object MODULES."""
+    """Returns these modules as JavaScript that uses `P`, in the object MODULES. Each module follows the ones that it
+    needs."""
     trees = {name: ast.parse(path.read_text(encoding="utf-8")) for name, path in files.items()}
     kinds = Kinds(trees)
     parts = [module(trees[it], it, kinds, left_out.get(it, set()), path.name) for it, path in files.items()]

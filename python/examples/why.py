@@ -1,4 +1,4 @@
-"""A driver that forgets a register receives nothing and sees no error: `Nic.why` says what is in the way."""
+"""A driver that forgets to write a register receives nothing and sees no error. `Nic.why` reports the cause."""
 
 from __future__ import annotations
 

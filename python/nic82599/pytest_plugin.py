@@ -3,8 +3,8 @@ searched.
 
 A failed test may have created controllers, or received them from fixtures. Its report has a section, the text of
 `nic.why()`, for each of them in which something waits or that dropped a frame. A controller that was closed earlier has
-a section if the failure itself closed it, as the end of a `with` does. pytest's option `-p no:nic82599` disables the
-plugin.
+a section only if the failure itself closed it, as when it leaves a `with` block. pytest's option `-p no:nic82599`
+disables the plugin.
 
     @pytest.mark.nic_schedules(1000)
     def test_poll():

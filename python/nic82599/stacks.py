@@ -57,7 +57,8 @@ _CALLS: dict[str, list[Any]] = {
 
 
 def calls_of(library: ctypes.CDLL, more: dict[str, list[Any]]) -> dict[str, Callable[..., int]]:
-    """Returns the library functions that a driver may call, by name; `more` are those that only this library has."""
+    """Returns the library functions that a driver may call, by name; `more` lists the functions that only this library
+    has."""
     calls = {}
     for name, words in {**_CALLS, **more}.items():
         call = calls[name] = getattr(library, f"nicp_{name}")

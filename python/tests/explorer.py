@@ -357,7 +357,7 @@ class Found(unittest.TestCase):
         self.assertRegex(output, r"(in|before) run \d+ of seed 1")
 
     def test_shares(self) -> None:
-        """Exhaustive searches with several processes run every schedule that one runs."""
+        """Exhaustive searches with several processes run the same schedules as with one."""
         one = traced(strategy="exhaustive")
         many = traced(strategy="exhaustive", jobs=3)
         self.assertEqual(set(one), set(many))
@@ -538,8 +538,8 @@ class Failures(unittest.TestCase):
             self.assertEqual(replay(Much(), path).words, "a frame is lost")
 
     def test_turn(self) -> None:
-        """The point of no return is a line before its step, among lines with their source lines. If there is none, a
-        line says that all schedules fail."""
+        """The report has a line for the point of no return, before that point's step; the steps' lines name their
+        source lines. If there is no such point, a line says that all schedules fail."""
         failure = self.found(Race())
         turn, lines = failure.result.turn, str(failure).splitlines()
         self.assertIsNotNone(turn)
@@ -606,7 +606,8 @@ class Failures(unittest.TestCase):
             self.assertRaises(BadSchedule, replay, mended, path)
 
     def test_shards(self) -> None:
-        """Together, shards run every schedule of a whole search, and one of them reports the first seed that fails."""
+        """Together, the shards run every schedule of an undivided search, and one of them reports the first seed that
+        fails."""
         whole = traced(strategy="exhaustive")
         parts = [traced(strategy="exhaustive", shard=(k, 3)) for k in (1, 2, 3)]
         self.assertEqual(set().union(*map(set, parts)), set(whole))

@@ -1,8 +1,8 @@
 //! Finds the library that `make -C c` or an installation provides, and links it. It looks where NIC82599_DIR points (a
 //! folder with the archive, or a prefix with it in `lib` or in Debian's multiarch folder); in `c/out` of the clone that
-//! contains this crate, building it if necessary; in the prefix that contains this crate; where pkg-config says. A
-//! packed crate contains the library's sources and builds them unless pkg-config offers a library of the same version.
-//! The archive is preferred, so that a program needs no other file.
+//! contains this crate, building it if necessary; in the prefix that contains this crate; in the folder that pkg-config
+//! reports. A packed crate contains the library's sources and builds them unless pkg-config offers a library of the
+//! same version. The archive is preferred, so that a program needs no other file.
 //!
 //! Without a library, compiling the crate fails with the reason; its documentation still builds.
 

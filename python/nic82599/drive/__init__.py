@@ -150,8 +150,8 @@ class Driver(Points):
         CARD.call("dma_free", bus)
 
     def alloc(self, size: int) -> int | None:
-        """Counts some of the driver's own memory, which it takes besides DMA memory. Returns its number, or None if the
-        scenario refuses it."""
+        """Registers an allocation of the driver's own memory, as opposed to DMA memory. Returns the allocation's
+        number, or None if the scenario refuses it."""
         return CARD.call("alloc", size) or None
 
     def free(self, piece: int) -> None:

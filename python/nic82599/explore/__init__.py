@@ -1,9 +1,9 @@
 """Searches for an order of steps that breaks a driver in Python, as docs/explore.md describes it for C.
 
-A `Scenario` is a driver's code as tasks and interrupt handlers over one controller. Each access of a task is a point:
-another task, a handler, a step of the device, the next frame or a link change may come first. `search` runs schedules
-until one fails; `replay` runs one from a file. The engine is the one for C, so a schedule found for the same scenario
-in C can be replayed here, and vice versa. Tested, not proved.
+A `Scenario` is a driver's code as tasks and interrupt handlers that use one controller. Each access of a task is a
+point: another task, a handler, a step of the device, the next frame or a link change may come first. `search` runs
+schedules until one fails; `replay` runs one from a file. The engine is the one for C, so a schedule found for the same
+scenario in C can be replayed here, and vice versa. Tested, not proved.
 
 Tasks are functions on threads, only one of which runs at any time. A schedule therefore needs no lock around the
 driver's memory, and code between two points isn't interrupted. A search runs in its own processes, forked after the
@@ -66,7 +66,7 @@ class Vacuous(AssertionError):
 @dataclass
 class Report:
     """The report of a search that found no failure: the number of distinct schedules (an estimate above 65,536), the
-    number of faults, and a line for each thing that the scenario names but that never happened."""
+    number of faults, and a line for everything that the scenario names but that never happened."""
 
     distinct: int
     faults: int
@@ -190,7 +190,7 @@ def search(
     `preemptions` preemptions. With `seconds` the search ends after that many seconds elapsed; `runs` may then be None
     with any strategy. `jobs` processes share the work; the failure found doesn't depend on their number. If N machines
     share a search, machine K is given the `shard` (K, N). A task that reaches no point for `hang` seconds counts as
-    hung. `memory` (strong, weak or tso) overrides the scenario's own; None keeps it.
+    hung. `memory` (strong, weak or tso) overrides the scenario's memory model; None keeps it.
 
     Raises Failure at the first schedule that fails, after shrinking it. The folder `out` receives the schedule as
     NAME.schedule, the device's side as NAME.nic, and a page as NAME.html. If nothing fails, the report lists what never

@@ -28,7 +28,7 @@ _WAS = re.compile(r"\S+:   it (?:was: |is:  )(.*)")
 class Turn:
     """A failure's point of no return: the point; the actor at this point in a schedule that succeeded; and how many
     schedules were tried after it, all of which failed. If `point` is None, all tried schedules fail, so the order of
-    the steps doesn't matter. `line` is that of a schedule's file."""
+    the steps doesn't matter. `line` is the comment about it in the schedule's file."""
 
     point: int | None
     other: str
@@ -74,7 +74,7 @@ class Result:
 
     @property
     def switches(self) -> int:
-        """The number of points at which another actor runs than at the point before. Chosen values don't count."""
+        """The number of points at which the actor differs from the previous point's. Chosen values don't count."""
         names = [name for name in self.actors if not name.startswith("value ")]
         return sum(one != other for one, other in zip(names, names[1:]))
 

@@ -1,4 +1,5 @@
-"""A scenario: a driver's code as tasks, handlers and timers over one controller, and the calls that this code makes."""
+"""A scenario: a driver's code as tasks, handlers and timers that use one controller, and the calls that this code
+makes."""
 
 from __future__ import annotations
 
@@ -30,7 +31,7 @@ CHECK, MISUSE = OUTCOMES.index("check"), OUTCOMES.index("misuse")
 
 
 class Scenario(Points):
-    """A driver's code over a controller. Your subclass defines `bring_up`, `begin` and `end`.
+    """A driver's code that uses one controller. Your subclass defines `bring_up`, `begin` and `end`.
 
     The sizes are those of `Nic`. The engine runs the enables and transmit steps of the queues below `queues`. A
     schedule with more than `points` points fails. `allowed` may contain "faults" (of queues) and "not lent" (the
@@ -87,7 +88,7 @@ class Scenario(Points):
         self._named(Thread(name, function, "task"))
 
     def service(self, name: str, function: Callable[[], object]) -> None:
-        """Names a task that may wait forever. If it still waits at the end, that is no deadlock."""
+        """Names a task that may wait forever. If it still waits at the end, that isn't a deadlock."""
         self._named(Thread(name, function, "task", is_service=True))
 
     def handler(

@@ -69,8 +69,8 @@ class _Made(ctypes.Structure):
 
 
 class Found(ctypes.Structure):
-    """The result of a search, in memory shared with its process. `traceback` is that of the last exception in any
-    process of the search."""
+    """The result of a search, in memory shared with its process. `traceback` is the traceback of the last exception in
+    any process of the search."""
 
     _fields_ = [
         ("distinct", _U64), ("faults", _U64), ("is_there", _BOOL), ("outcome", _U8), ("words", ctypes.c_char * 256),
@@ -82,7 +82,7 @@ class Found(ctypes.Structure):
         return _text(getattr(self, name))
 
     def lines(self) -> list[str]:
-        """Returns a line for each thing that never happened."""
+        """Returns a line for everything that the scenario names but that never happened."""
         return self.text("never").splitlines()
 
 
@@ -99,7 +99,7 @@ def _bytes(words: str) -> bytes:
 
 
 class _Engine:
-    """The library: its calls by name, and those of the controller."""
+    """The library: its calls and the controller's, by name."""
 
     def __init__(self) -> None:
         try:

@@ -1,5 +1,5 @@
-"""Writes a run of a script as a test: a C program on the library, or a Python test. It makes the same calls and checks
-for the same answers. It passes if the controller gives these answers.
+"""Writes a run of a script as a test: a C program that uses the library, or a Python test. The test makes the same
+calls, and passes if the controller returns the same answers.
 """
 
 from __future__ import annotations

@@ -55,7 +55,7 @@ _POOLS = "*pools 31:0 bits"
 _COUNT = "*count 31:0"
 
 # The fields of each row. A row that isn't listed has one field of 32 bits. `..` at the end: the card's register has
-# more bits that aren't listed, so none of the others counts as reserved.
+# more bits that aren't listed, so no other bit counts as reserved.
 _LINES = {
     "CTRL": "*Master_Disable 2, *LRST 3, *RST 26",
     "STATUS": "LAN_ID 3:2, LinkUp 7, Num_VFs 17:10, IOV_Active 18, *Master_Enable_Status 19",

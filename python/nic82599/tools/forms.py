@@ -61,7 +61,8 @@ TARGET = re.compile(r"([A-Za-z_][A-Za-z0-9_]*)(?:\[([^\]]*)\])?")
 
 @dataclass(frozen=True)
 class Place:
-    """What is wrong with a line, and which of its characters. The line number is 0 if no line is concerned."""
+    """An error in a line: the message and the range of characters. The line number is 0 if the error isn't in a
+    line."""
 
     line: int
     column: int
@@ -141,7 +142,7 @@ class Looker:
         return self._at(0, needs)
 
     def _wrong(self, kind: str, word: str) -> str | None:
-        """Returns what is wrong with the form of a word of this kind, or None."""
+        """Returns what is wrong with the format of a word of this kind, or None."""
         choices = kind.split("|")
         if len(choices) > 1:
             is_number = choices[-1] in MOST and number_of(word) is not None

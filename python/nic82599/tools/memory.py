@@ -96,8 +96,9 @@ class Frame:
 
 @dataclass
 class Seen:
-    """What a run shows besides its registers. `earlier` has, for each step, how many frames from before the run still
-    wait before it; all are 0 for a fresh run. `dropped` are the frames that were dropped on arrival."""
+    """What a run shows besides its registers. `earlier` has, for each step, how many of the frames that arrived before
+    the run still wait when the step begins; all are 0 for a fresh run. `dropped` are the frames that were dropped on
+    arrival."""
 
     sides: list[tuple[str, int]]
     arrived: list[Frame]
@@ -137,9 +138,9 @@ class Replay:
     def run(
         self, steps: list[Step], between: dict[int, list[str]], after: list[str], limit: int = 0
     ) -> list[list[str]]:
-        """Runs steps with further lines `between`, after the step with that number, and `after`, after all steps.
-        Returns the replies to the further lines after each step, in order of the steps, and last those to the lines
-        after all steps."""
+        """Runs steps with further lines: `between` maps a step's number to the lines after that step, and `after` are
+        the lines after all steps. Returns the replies to each step's further lines, in step order, and then the replies
+        to `after`."""
         lines, marks = [], []
         for step in steps:
             lines.append(self.trace.instruction(step).line())

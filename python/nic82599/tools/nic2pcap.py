@@ -11,9 +11,9 @@ including those that were dropped or not collected. A frame's time is its step, 
 direction, queue, slot, step and line. All steps of a recording are used, and 4,096 steps of a script, or as many as
 --limit says.
 
-With --queue only the frames of that queue are written. Standard error says how many frames there were. Status 1: a line
-of a frame isn't one, or the file can't be written; 2: the words are wrong, or RUN is refused or can't be read; 4:
-./nicbench gave no answer.
+With --queue only the frames of that queue are written. Standard error says how many frames there were. Status 1: a
+frame's line is malformed, or the file can't be written; 2: the arguments are invalid, or RUN is refused or can't be
+read; 4: ./nicbench didn't answer.
 """
 
 from __future__ import annotations
@@ -35,7 +35,7 @@ FRAME = re.compile(r"([0-9]{1,15}) frame queue ([0-9]{1,5}) ([0-9a-f]*)")
 
 
 class NoFrame(Exception):
-    """The line starts like a frame's but isn't one."""
+    """A line starts like a frame's line but is malformed."""
 
 
 def frames_in(lines: Iterable[str]) -> Iterator[tuple[int, int, bytes]]:

@@ -1,4 +1,4 @@
-"""A prompt over `nicbench debug`: runs a script step by step, forwards and backwards, and looks at the machine.
+"""A prompt for `nicbench debug`: runs a script step by step, forwards and backwards, and shows the machine's state.
 
     tools/nicdebug SCRIPT [--vfs N] [--fifo N]
 
@@ -6,8 +6,8 @@ SCRIPT is a register script, or a session of the debugger (the part before its l
 the C library (NIC82599_RECORD) of any length; then its last --limit events are debugged. `help` lists the commands. An
 invalid command doesn't end the session. If standard input isn't a terminal, each command is printed after its prompt.
 
-Exit status: 0 the session was ended; 2 the script is refused or can't be read; 3 the words are wrong; 4 ./nicbench gave
-no answer.
+Exit status: 0 the session ended; 2 the script is refused or can't be read; 3 the arguments are invalid; 4 ./nicbench
+didn't answer.
 """
 
 from __future__ import annotations

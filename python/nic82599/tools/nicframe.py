@@ -1,4 +1,4 @@
-"""Makes frames with right lengths and checksums: as lines of a register script, as hex, or as a capture.
+"""Builds frames with correct lengths and checksums: as lines of a register script, as hex, or as a capture.
 
     tools/nicframe tcp|udp SOURCE:PORT DESTINATION:PORT [options]
     tools/nicframe ip SOURCE DESTINATION [--protocol N] [options]
@@ -18,7 +18,7 @@ to 128 entries, in RETA.
     tools/nicframe udp [2001:db8::1]:53 [2001:db8::2]:53 --tag 7:2 --hex
     tools/nicframe arp 10.0.0.1 10.0.0.2 --pcap who-has.pcap
 
-Status 1: the capture can't be written; 3: the words are wrong.
+Status 1: the capture can't be written; 3: the arguments are invalid.
 """
 
 from __future__ import annotations

@@ -1,6 +1,6 @@
 """Says what is wrong with a script: why the bench refuses it, or what its author may have forgotten.
 
-    tools/niclint SCRIPT            the refusals with their words and what comes near, or warnings
+    tools/niclint SCRIPT            refusals, each with the wrong word and similar names; or warnings
     tools/niclint SCRIPT --trace    also runs it, and says why steps were idle, dropped frames, met faults or failed
 
 SCRIPT is a register script, a session of the debugger (the part before its line `%`), or - for standard input. It may
@@ -8,7 +8,7 @@ also be a recording of the C library (NIC82599_RECORD) of any length. All its li
 --trace explains its last --limit events, replayed on the library.
 
 Exit status: 0 nothing is wrong; 1 there are warnings, or with --trace a failed expect, a fault, a dropped frame or a
-refused access; 2 the script is refused or can't be read; 3 the words are wrong; 4 ./nicbench gave no answer.
+refused access; 2 the script is refused or can't be read; 3 the arguments are invalid; 4 ./nicbench didn't answer.
 """
 
 from __future__ import annotations

@@ -7,8 +7,8 @@ microseconds or nanoseconds; `-` is standard input. --count frames are taken fro
 1,024 that a script can name. They are named NAME1, NAME2 and so on (default `frame`). With --step each `arrive` is
 followed by `rx`, one receive step.
 
-A script can't contain a frame that was captured in part, is empty, or has more than 16,384 bytes. The run then ends
-with status 1; so it does for a link type other than Ethernet, and for a file that isn't a capture.
+A script can't contain a frame that was captured in part, is empty, or has more than 16,384 bytes. The status is then 1.
+It is also 1 for a link type other than Ethernet, and for a file that isn't a capture.
 
     tools/pcap2nic http.pcap --count 20 --step > arrivals.nic
     cat setup.nic arrivals.nic | ./nicbench run

@@ -1,5 +1,5 @@
 """Explains why a step was idle, dropped a frame, faulted or failed: the documented conditions with the register values
-that decide.
+that decide them.
 
 The conditions are those of docs/REGISTERS.md and docs/script.md for the step's kind, in the order in which the device
 tests them. For each one it shows the register values before the step, and whether it held. The reply itself always

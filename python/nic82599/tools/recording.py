@@ -198,7 +198,7 @@ class Units:
 class Recording:
     """A recording file, parsed. `lines` lacks an incomplete last line. `instructions` also has their replies and line
     numbers, counted from 1; `directives` are the lines that a script can't express; `bad` are the invalid lines.
-    `names` are the names of the data, and `known` the lines that may repeat, of the lines read so far."""
+    `names` are the names of the data and `known` the lines that may repeat, both among the lines read so far."""
 
     path: str
     lines: Lines

@@ -56,7 +56,7 @@ def _is_instruction(line: str) -> bool:
 
 
 def _is_too_many(lines: list[str], number: int, refused: Refused) -> bool:
-    """Returns whether a script is refused for its instruction 4,097."""
+    """Returns whether a script is refused because this line is instruction 4,097 or later."""
     return refused.name == "TooLong" and sum(map(_is_instruction, lines[:number])) > INSTRUCTIONS
 
 

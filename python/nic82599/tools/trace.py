@@ -49,8 +49,8 @@ class Step:
 
     @property
     def kind(self) -> str:
-        """The step's category: `failed` (an expect), `fault`, `dropped` (a frame), `refused` (a call that met nothing),
-        `stray` (an access without a register), `idle`, `message`, or ""."""
+        """The step's category: `failed` (an expect), `fault`, `dropped` (a frame), `refused` (a call that had nothing
+        to act on), `stray` (an access without a register), `idle`, `message`, or ""."""
         if self.status == "failed":
             return "failed"
         if self.reply.startswith(REFUSALS):

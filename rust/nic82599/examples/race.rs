@@ -40,7 +40,7 @@ fn poll(bus: &Bus, driver: &Driver, is_fixed: bool) {
             driver.next.set(driver.next.get() + 1);
         }
         if !is_fixed {
-            bus.write(EICR, CAUSE); // nothing old shall interrupt
+            bus.write(EICR, CAUSE); // old causes must not interrupt
         }
         bus.write(EIMS, CAUSE);
     }

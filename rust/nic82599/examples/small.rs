@@ -87,7 +87,7 @@ impl Small {
     }
 }
 
-/// Enables or disables the queue, and waits until RXDCTL reads so.
+/// Enables or disables the queue, and waits until RXDCTL reads accordingly.
 fn set_enable(platform: &Platform, enable: u32) {
     platform.write(RXDCTL.at(0), enable);
     while platform.read(RXDCTL.at(0)) & rxdctl::ENABLE != enable {

@@ -1,4 +1,4 @@
-//! A driver with something missing sees nothing happen. `Nic::why` says what is missing.
+//! A driver that forgets to write a register receives nothing and sees no error. `Nic::why` reports the cause.
 
 use nic82599::desc::Descriptor;
 use nic82599::regs::*;

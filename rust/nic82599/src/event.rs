@@ -22,7 +22,7 @@ pub enum Step {
     Tx(u16),
     /// A receive step: [`Nic::rx_step`](crate::Nic::rx_step).
     Rx,
-    /// An interrupt step: [`Nic::int_step`](crate::Nic::int_step), or that of a virtual function.
+    /// An interrupt step: [`Nic::int_step`](crate::Nic::int_step), or the step of a virtual function.
     Int(Option<u8>),
 }
 

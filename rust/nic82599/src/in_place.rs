@@ -113,7 +113,7 @@ impl Memory<'_> {
         Error::unless_done(unsafe { self.nic.handle().calls().lend_memory(bus, memory.as_ptr(), length) })
     }
 
-    /// Takes back memory that was lent in place. It may be a part of what one call lent. Its bytes are kept.
+    /// Takes back memory that was lent in place. It may be a part of the memory that one call lent. Its bytes are kept.
     ///
     /// # Errors
     ///

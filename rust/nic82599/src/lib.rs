@@ -41,9 +41,9 @@
 //! # Ok::<(), nic82599::Error>(())
 //! ```
 //!
-//! The feature `explore` adds the search for an order of steps that breaks your driver. Code over [`Device`] runs on a
-//! [`Nic`] and in a search. The feature `drive` adds the report card, which runs your driver's functions in ready-made
-//! scenarios.
+//! The feature `explore` adds the search for an order of steps that breaks your driver. Code that takes a [`Device`]
+//! runs on a [`Nic`] and in a search. The feature `drive` adds the report card, which runs your driver's functions in
+//! ready-made scenarios.
 //!
 //! The device's behavior is proved; this crate is tested. A refused call returns an [`Error`] and changes nothing. No
 //! argument panics except an index of [`Registers::at`] or [`VfRegisters::at`] that is out of range. docs/CARD.md of
@@ -93,7 +93,7 @@ pub use nic::{vf_address, Arrival, Frame, Function, Nic, Sizes, Snapshot};
 pub use register::{Field, HalfField, Register, Registers, VfRegister, VfRegisters};
 pub use settle::{Settled, Steps};
 
-/// The version of this crate. For that of the library, see [`library_version`].
+/// The version of this crate. For the library's version, see [`library_version`].
 pub const VERSION: &str = env!("CARGO_PKG_VERSION");
 
 /// Returns the version of the linked library.

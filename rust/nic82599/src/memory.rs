@@ -15,7 +15,7 @@ pub(crate) const BLOCK_BYTES: u64 = 2048;
 /// Bus address a is byte a % 2048 of block a / 2048, so b blocks occupy the addresses below 2048 * b. Only lent blocks
 /// can be read and written, by the device and by these methods.
 ///
-/// Ranges may have any form: `0x800..0x83C`, `..0x80`, `0x800..=0x83B`; a range with no upper bound ends at the end of
+/// Ranges may be of any type: `0x800..0x83C`, `..0x80`, `0x800..=0x83B`; a range with no upper bound ends at the end of
 /// packet memory.
 ///
 /// ```

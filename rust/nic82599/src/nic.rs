@@ -72,9 +72,8 @@ impl Snapshot {
 
 /// A controller. Dropping it frees its memory and discards its frames.
 ///
-/// All methods take `&self`, because every part of a driver that knows a device's address shares the device: each part
-/// may hold a reference. A `Nic` is `Send` but not `Sync`: you may move it to another thread, and two threads that
-/// share one need a lock around it.
+/// All methods take `&self`, because the parts of a driver share the device: each of them may hold a reference. A `Nic`
+/// is `Send` but not `Sync`: you may move it to another thread, and two threads that share one need a lock around it.
 ///
 /// ```
 /// use nic82599::{regs, Nic, Sizes};
@@ -400,7 +399,7 @@ impl Nic {
     ///
     /// let nic = Nic::open(Sizes::default())?;
     /// nic.install_text("size 128\ncsr 0x05080 0x400\n")?;
-    /// nic.write(regs::CTRL, regs::ctrl::RST); // a reset makes the image's register writes
+    /// nic.write(regs::CTRL, regs::ctrl::RST); // a reset performs the image's register writes
     /// assert_eq!(nic.peek(regs::FCTRL), 0x400);
     /// assert_eq!(nic.install_text("size 128\nno\n"), Err(Error::Text(TextFault::Syntax(2))));
     /// # Ok::<(), nic82599::Error>(())

@@ -61,7 +61,7 @@ impl FusedIterator for Settled {}
 /// nic.write(regs::EICS, 1 << 20);
 /// for event in nic.steps(1)? {
 ///     if let Event::Message { vector, .. } = event? {
-///         nic.write(regs::EIMC, 1 << 20); // the handler masks its cause before the device goes on
+///         nic.write(regs::EIMC, 1 << 20); // the handler masks its cause before the device continues
 ///         nic.write(regs::EICR, 1 << 20);
 ///         assert_eq!(vector, 3);
 ///     }

@@ -187,8 +187,7 @@ fn locks_in_two_orders() {
     fails(Simple { name: "locks", tasks: 0, begin, ..SIMPLE }, "deadlock", "waits for");
 }
 
-/// A handler for a virtual function's message, on a task. It doesn't interrupt the task where that has turned
-/// interrupts off.
+/// A handler for a virtual function's message, on a task. It doesn't interrupt the task while interrupts are off there.
 #[test]
 fn handlers() {
     let begin = |begin: &Begin<State>| {

@@ -1,4 +1,4 @@
-//! The search's weak memory, choices, timers and kit. The C tests cover these in full; here they are called from Rust.
+//! The search's weak memory, choices, timers and kit. The C tests cover these in full; these tests call them from Rust.
 
 use std::cell::{Cell, RefCell};
 use std::num::NonZeroU32;

@@ -1,5 +1,5 @@
-//! A small driver for the 82599 over a trait: one queue in each direction, polled or with one interrupt. It doesn't
-//! depend on the bench.
+//! A small driver for the 82599 that uses a trait to reach the machine: one queue in each direction, polled or with one
+//! interrupt. It doesn't depend on the bench.
 
 use std::cell::Cell;
 
@@ -117,7 +117,7 @@ impl Ring {
     }
 }
 
-/// Enables or disables a side of the queue, and waits until its control register reads so.
+/// Enables or disables a side of the queue, and waits until its control register reads accordingly.
 fn switch(machine: &impl Machine, side: u32, control: u32) {
     machine.write(side + CONTROL, control);
     while machine.read(side + CONTROL) & ENABLE != control & ENABLE {}

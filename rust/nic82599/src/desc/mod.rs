@@ -56,8 +56,8 @@ impl Descriptor {
     /// The size of a descriptor in bytes: slot s of a ring is at its base + `BYTES` * s.
     pub const BYTES: u64 = 16;
 
-    /// Creates a receive descriptor as a driver writes it. `buffer` is a bus address; its bit 0 is taken as 0. There is
-    /// no header buffer.
+    /// Creates a receive descriptor as a driver writes it. `buffer` is a bus address; its bit 0 is cleared. There is no
+    /// header buffer.
     pub const fn receive(buffer: u64) -> Descriptor {
         Descriptor { first: buffer & rxd::BUFFER, second: 0 }
     }
@@ -94,8 +94,8 @@ impl Descriptor {
         })
     }
 
-    /// Returns whether the device reported this transmit descriptor. It reports those with [`txd::RS`], unless it
-    /// writes back the head instead.
+    /// Returns whether the device reported this transmit descriptor as done. It reports those with [`txd::RS`], unless
+    /// it writes back the head instead.
     pub const fn is_sent(self) -> bool {
         self.second & txwb::DD != 0
     }

@@ -113,8 +113,8 @@ pub trait Driver: Sized + 'static {
     const INTERRUPT: Option<Interrupt<Self>> = None;
     /// Enables a queue's interrupts again after it was polled.
     const REARM: Option<Rearm<Self>> = None;
-    /// The driver's own threads, at most 4. They run from `open` on and may wait forever. Without `RECEIVE` they hand
-    /// up frames by [`Platform::deliver`], and the card always opens the driver with interrupts.
+    /// The driver's own threads, at most 4. They run from `open` on and may wait forever. Without `RECEIVE` they pass
+    /// received frames to [`Platform::deliver`], and the card always opens the driver with interrupts.
     const THREADS: &'static [fn(&Self, &Platform)] = &[];
 
     /// Sets which frames to accept. This function and those below return whether they succeeded; on false nothing has
@@ -171,7 +171,7 @@ pub type MailboxReceive<D> = fn(&D, &Platform, u8) -> Option<[u32; MAILBOX_WORDS
 /// The counts of a driver since `open`.
 #[derive(Clone, Copy, Debug, Default, PartialEq, Eq)]
 pub struct Stats {
-    /// Received frames: those handed up.
+    /// Received frames: those that `RECEIVE` returned or `deliver` was passed.
     pub rx_frames: u64,
     /// Bytes in the received frames.
     pub rx_bytes: u64,
@@ -196,8 +196,8 @@ impl Can {
     pub const SHARED_DEVICE: Can = Can(4);
     /// `open` supports `functions` above 0.
     pub const HOST: Can = Can(8);
-    /// By design, the driver writes no interval to EITR. For this flag and those below, rows that require it to aren't
-    /// applicable.
+    /// By design, the driver writes no interval to EITR. With this flag or one below, rows that require what the driver
+    /// never does aren't applicable.
     pub const NO_MODERATION: Can = Can(16);
     /// By design, the driver writes neither RDH nor TDH.
     pub const NO_HEADS: Can = Can(32);
@@ -299,15 +299,15 @@ impl Deref for Platform {
 }
 
 impl Platform {
-    /// Returns the bus, for code over [`Device`](crate::Device).
+    /// Returns the bus, for code that takes a [`Device`](crate::Device).
     pub fn bus(&self) -> &Bus {
         &self.bus
     }
 
     /// Allocates DMA memory of 1 to 524,288 zeroed bytes. Returns the bus address of its first byte, a multiple of 128.
     /// The memory after it isn't lent, so any access there by the driver or the device is reported. Returns `None` if
-    /// memory has run out, or if the scenario refuses it. There is room for 123 pieces of 2 KB, or for one of 503,808
-    /// bytes.
+    /// memory has run out, or if the scenario refuses it. There is room for 123 allocations of 2 KB, or for one of
+    /// 503,808 bytes.
     pub fn dma_alloc(&self, bytes: usize) -> Option<u64> {
         Some(raw::dma_alloc(bytes)).filter(|it| *it != 0)
     }
@@ -322,19 +322,20 @@ impl Platform {
     /// stores reaches the device at the driver's next call of the platform, barriers included: before that call, each
     /// run of changed bytes is written at its own point. Loads aren't points, so a loop that only waits for memory must
     /// call [`pause`](Bus::pause). If the first or the last byte wasn't allocated by `dma_alloc`, the schedule fails
-    /// and the result is `None`. A store outside every piece fails the schedule at the next call.
+    /// and the result is `None`. A store outside all allocations fails the schedule at the next call.
     pub fn dma(&self, bus: u64, bytes: usize) -> Option<&[Cell<u8>]> {
         raw::dma_cells(bus, bytes)
     }
 
     /// Allocates memory for the driver itself and moves a value into it, like `Box::try_new`. Returns `None` if a
-    /// scenario refuses it. Dropping the result frees it; memory that is left after `close` has returned is reported.
+    /// scenario refuses it. Dropping the result frees it; memory not freed when `close` returns is reported.
     pub fn own<T>(&self, value: T) -> Option<Own<T>> {
         let token = raw::Token::take(std::mem::size_of::<T>())?;
         Some(Own { value: Box::new(value), _token: token })
     }
 
-    /// Hands up a received frame of a queue from one of the driver's own threads, if there is no `RECEIVE`.
+    /// Passes a frame received on a queue to the card, from one of the driver's own threads. For a driver without
+    /// `RECEIVE`.
     pub fn deliver(&self, queue: u16, bytes: &[u8]) {
         raw::deliver(queue, bytes);
     }

@@ -327,7 +327,8 @@ plain_calls! {
     nicd_dma_free as dma_free(bus: u64);
 }
 
-/// Returns cells of DMA memory. The card owns this memory for the process's lifetime; a freed piece reads as zeros.
+/// Returns cells of DMA memory. The card owns this memory for the process's lifetime; a freed allocation reads as
+/// zeros.
 pub(super) fn dma_cells<'a>(bus: u64, bytes: usize) -> Option<&'a [Cell<u8>]> {
     let last = bus.checked_add(u64::try_from(bytes).ok()?.checked_sub(1)?)?;
     // SAFETY: the call takes no pointer.
@@ -347,8 +348,8 @@ pub(super) fn deliver(queue: u16, bytes: &[u8]) {
     at_point(|| unsafe { nicd_deliver(queue, bytes.as_ptr(), u32::try_from(bytes.len()).unwrap_or(u32::MAX)) })
 }
 
-/// A piece of memory that the card counts. Its value is stored elsewhere, because the card reuses the piece when the
-/// next schedule starts.
+/// An allocation that the card counts. Its value is stored elsewhere, because the card reuses the allocation's memory
+/// when the next schedule starts.
 pub(super) struct Token {
     piece: *mut c_void,
 }
@@ -369,7 +370,7 @@ impl Drop for Token {
     fn drop(&mut self) {
         // A driver's function that panics has already failed, and so has its schedule.
         if !std::thread::panicking() {
-            // SAFETY: the card checks whether it allocated the piece, and reads nothing of it if not.
+            // SAFETY: the card checks whether it allocated this memory, and doesn't read it if not.
             unsafe { nicd_free(self.piece) }
         }
     }

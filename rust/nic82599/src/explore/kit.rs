@@ -9,8 +9,8 @@ pub fn numbered_frame(length: usize, number: u32) -> Option<Vec<u8>> {
     raw::numbered_frame(&mut frame, number).then_some(frame)
 }
 
-/// Returns the number of a numbered frame, or of a frame of a [`Flow`]. Returns `None` if a byte belongs to another
-/// frame or to none.
+/// Returns the number of a numbered frame, or of a frame of a [`Flow`]. Returns `None` if a byte doesn't match that
+/// number, or if it is neither.
 pub fn frame_number(frame: &[u8]) -> Option<u32> {
     Some(raw::frame_number(frame)).filter(|it| *it != u32::MAX)
 }
@@ -69,8 +69,8 @@ impl<S: 'static> Begin<S> {
 }
 
 impl Bus {
-    /// Returns a flow's hash, 0 if none is computed, and the queue of its frames, by the current MRQC, RSSRK and RETA.
-    /// The queue is 0 if bits 3:0 of MRQC aren't 1. No points.
+    /// Returns a flow's hash, 0 if none is computed, and the queue of its frames, under the current MRQC, RSSRK and
+    /// RETA. The queue is 0 if bits 3:0 of MRQC aren't 1. No points.
     pub fn rss(&self, flow: &Flow) -> (u32, u16) {
         raw::rss(&flow.raw())
     }

@@ -149,7 +149,7 @@ pub trait Scenario: 'static {
         Ok(())
     }
 
-    /// Checks the state when all is at rest: no task, handler or step of the device can continue.
+    /// Checks the state at rest: no task, handler or step of the device can continue.
     ///
     /// # Errors
     ///
@@ -160,11 +160,12 @@ pub trait Scenario: 'static {
 /// How lent memory behaves, and which register accesses order it (docs/explore.md, "Missing barriers").
 #[derive(Clone, Copy, Debug, Default, PartialEq, Eq)]
 pub struct MemoryOrder {
-    /// Stores may be late and loads old, until a barrier. Without it, the other fields apply only with `--memory weak`.
+    /// Until a barrier, stores may reach memory late and loads may return old values. Without it, the other fields
+    /// apply only with `--memory weak`.
     pub is_weak: bool,
     /// A register write comes after all earlier stores, as with Linux's `writel()`.
     pub writes_order: bool,
-    /// No load after a register read is older than the read, as after Linux's `readl()`.
+    /// No load after a register read returns a value from before that read, as after Linux's `readl()`.
     pub reads_order: bool,
 }
 
@@ -179,8 +180,8 @@ pub enum Outcome {
     Refused,
 }
 
-/// Runs searches as a whole program, as the command line says (docs/explore.md, or `--help`). The exit status is 0 if
-/// nothing was found, 1 if a failure was found, and 2 if something is refused.
+/// Runs searches as a whole program, controlled by the command line (docs/explore.md, or `--help`). The exit status is
+/// 0 if nothing was found, 1 if a failure was found, and 2 if something is refused.
 pub fn main(scenario: impl Scenario) -> ExitCode {
     match run(scenario, env::args().collect()) {
         Outcome::Nothing => ExitCode::SUCCESS,
@@ -318,7 +319,7 @@ impl<S: 'static> Begin<S> {
         Task(raw::task(name, false, self.thread(function)))
     }
 
-    /// Names a task that may wait forever, as a loop that serves interrupts does. Waiting at the end is no deadlock.
+    /// Names a task that may wait forever, as a loop that serves interrupts does. Waiting at the end isn't a deadlock.
     pub fn service(&self, name: &str, function: impl Fn(&Bus, &S) + 'static) -> Task {
         Task(raw::task(name, true, self.thread(function)))
     }
@@ -499,18 +500,18 @@ impl Bus {
         Guard { lock }
     }
 
-    /// A barrier of stores, for weak memory: when it returns, all earlier stores of the task's processor have reached
+    /// A store barrier, for weak memory: when it returns, all earlier stores of the task's processor have reached
     /// memory. With strong memory, all barriers are no-ops without points.
     pub fn wmb(&self) {
         raw::wmb();
     }
 
-    /// A barrier of loads: a later load isn't older than it.
+    /// A load barrier: a later load doesn't return a value from before it.
     pub fn rmb(&self) {
         raw::rmb();
     }
 
-    /// A barrier of stores and loads.
+    /// A full barrier: both a store barrier and a load barrier.
     pub fn mb(&self) {
         raw::mb();
     }
@@ -648,7 +649,7 @@ pub struct Look<'a> {
 
 impl Look<'_> {
     /// Returns the number of frames that have arrived so far, including dropped ones. Shrinking leaves frames out of a
-    /// failure, so let `end` compare with this number, not with how many were named.
+    /// failure, so `end` should compare with this number, not with the number of frames named.
     pub fn came(&self) -> u32 {
         raw::came()
     }

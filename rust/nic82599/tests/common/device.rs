@@ -1,4 +1,4 @@
-//! Driver code over either kind of device, a `Nic` or a `Bus`.
+//! Driver code that runs on either kind of device, a `Nic` or a `Bus`.
 
 use nic82599::desc::Descriptor;
 use nic82599::regs::{vf, *};

@@ -86,7 +86,7 @@ static void receive(uint32_t round, size_t length)
     must(nic_arrive(&n, frame, length, &outcome) == NIC_DONE && nic_rx_step(&n, &outcome) == NIC_WROTE,
          "a frame is received");
     must(nic_get_desc(&n, 0, slot, &desc) == NIC_DONE && nic_rx_is_done(desc), "its descriptor is done");
-    must(nic_dma_read(&n, buffer, room, length) == NIC_DONE && room[20] == frame[20], "its bytes are there");
+    must(nic_dma_read(&n, buffer, room, length) == NIC_DONE && room[20] == frame[20], "its bytes are in the buffer");
 }
 
 static void send(uint32_t round, size_t length)

@@ -175,7 +175,8 @@ int main(int argc, char **argv)
     must(argc == 3, "usage: frames LENGTH FRAMES");
     size_t length = strtoul(argv[1], NULL, 10);
     uint32_t count = (uint32_t)strtoul(argv[2], NULL, 10);
-    must(length >= 60 && length <= LONGEST && count > 0 && count % BURST == 0, "LENGTH 60 to 1514, FRAMES by 32");
+    must(length >= 60 && length <= LONGEST && count > 0 && count % BURST == 0,
+         "LENGTH is 60 to 1514, FRAMES a multiple of 32");
     make_frames();
     open_device();
     MEASURE("frame", count, 1, pass(length, count));

@@ -360,7 +360,7 @@ def check_notes(folder: Path, expect: Expect) -> None:
         run = of_recording(str(file), limit)
         said = [run.comment(step.pc) for step in run.steps]
         ring = "guest: the ring of rx 0 is at 0x12340000, 8 slots"
-        wanted = ["", ring] if limit > 1 else [f"after the 2 events before; {ring}"]
+        wanted = ["", ring] if limit > 1 else [f"after the 2 earlier events; {ring}"]
         wanted.append("first; second ??")
         expect(said == wanted, f"the notes of the last {limit} events are {said}")
         expect(Data(run).whole()["comments"] == said, "the page has other notes")

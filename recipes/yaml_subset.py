@@ -61,7 +61,7 @@ class Reader:
         while self.indent() == indent:
             found = KEY.match(self.lines[self.at][indent:])
             if not found or found[1] in made:
-                raise self.refuse("a key and a colon are expected, each key once")
+                raise self.refuse("expected a key and a colon, each key only once")
             self.at += 1
             made[found[1]] = self.scalar(found[2], indent) if found[2] else self.nested(indent)
         if self.indent() > indent:
@@ -106,7 +106,7 @@ def plain(text: str) -> Any:
     if re.fullmatch(r"[0-9]+", text):
         return int(text)
     if re.search(r"^[&*!|>%@`{}\[\],'\"?]|: | #|:$", text):
-        raise Refused(f"{text!r}: quotes are needed, or it isn't read here")
+        raise Refused(f"{text!r}: quotes are needed, or this isn't supported")
     return text
 
 
@@ -115,5 +115,5 @@ def read(text: str) -> Any:
     reader = Reader(text.splitlines())
     made = reader.value(0)
     if reader.indent() != -1:
-        raise reader.refuse("it isn't read here")
+        raise reader.refuse("this isn't supported")
     return made

@@ -31,7 +31,7 @@ function keep(name, value) {
   try {
     localStorage.setItem(`nic82599:${name}`, JSON.stringify(value));
   } catch {
-    if (isKept) notice("This browser keeps nothing for the page: save the script as a file before you close it.");
+    if (isKept) notice("This browser stores nothing for the page: save the script as a file before you close it.");
     isKept = false;
   }
 }

@@ -72,7 +72,7 @@ def read() -> list[Lesson]:
     """Returns all lessons, in order."""
     found = [read_one(path) for path in sorted((HERE / "lessons").glob("*.txt"))]
     if [it.number for it in found] != list(range(1, len(found) + 1)):
-        raise Bad("the lessons aren't numbered in their order")
+        raise Bad("the lessons' numbers aren't in order")
     return found
 
 
@@ -100,7 +100,7 @@ def outcome(it: Lesson, script: str) -> str:
     if not last.startswith("ok") or not any(line.startswith(f"{end} word ") for line in printed):
         return last if last.startswith("failed") else "the script doesn't reach its end"
     replies = {line.partition(" ")[2] for line in printed}
-    return next((f"no line printed: {want}" for want in it.wants if want not in replies), "solved")
+    return next((f"the output lacks the line: {want}" for want in it.wants if want not in replies), "solved")
 
 
 def check() -> int:

@@ -120,7 +120,7 @@ function solved(text, { check, wants, sizes }) {
     const end = loaded.instructions.length - 1, isReached = printed.some((it) => it.startsWith(`${end} word `));
     if (!last.startsWith("ok") || !isReached) return { is: false, why: "The script doesn't reach its end." };
     const replies = printed.map((it) => it.slice(it.indexOf(" ") + 1)), missing = wants.find((it) => !replies.includes(it));
-    return missing ? { is: false, why: `No line printed \`${missing}\` yet.` } : { is: true, why: "Solved." };
+    return missing ? { is: false, why: `The output lacks the line \`${missing}\`.` } : { is: true, why: "Solved." };
   } catch (fault) {
     if (!(fault instanceof Refused)) throw fault;
     const [first] = refusalsOf(own, whole, fault);

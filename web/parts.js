@@ -82,7 +82,7 @@ async function dropped(file) {
       typed(text.value.length, text.value.length, (text.value && !text.value.endsWith("\n") ? "\n" : "") + lines);
     } else {
       const text = new TextDecoder("utf-8", { fatal: true }).decode(bytes);
-      if (text.startsWith("#: nic ")) throw new Error("this is a recording: tools/nicview shows it, and --script makes a script of it");
+      if (text.startsWith("#: nic ")) throw new Error("this is a recording: tools/nicview shows it, and --script converts it to a script");
       leaveLesson();
       putText(text, file.name);
       showTab("work");

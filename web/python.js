@@ -147,7 +147,7 @@ const P = (() => {
   // Iteration, truth, equality, order.
 
   function each(value) {
-    if (value === null || value === undefined) throw new TypeError("nothing to go through");
+    if (value === null || value === undefined) throw new TypeError("the value can't be iterated over");
     return value;
   }
   const list = (value = []) => [...each(value)];
@@ -598,7 +598,7 @@ const P = (() => {
     read(text) {
       const parts = text.split(".");
       if (parts.length !== 4 || !parts.every((it) => /^(0|[1-9]\d{0,2})$/.test(it) && Number(it) < 256))
-        throw new ValueError(`'${text}' is no address of IPv4: it is written as 10.0.0.1`);
+        throw new ValueError(`'${text}' isn't an IPv4 address such as 10.0.0.1`);
       return octets(parts.map(Number));
     }
     toString() {
@@ -614,7 +614,7 @@ const P = (() => {
       const missing = 8 - left.length - (right?.length ?? 0), isCut = right !== undefined;
       const words = [...left, ...Array(Math.max(0, isCut ? missing : 0)).fill("0"), ...(right ?? [])];
       if (more || (isCut && missing < 1) || words.length !== 8 || !words.every((it) => /^[0-9a-fA-F]{1,4}$/.test(it)))
-        throw new ValueError(`'${text}' is no address of IPv6: it is written as 2001:db8::1`);
+        throw new ValueError(`'${text}' isn't an IPv6 address such as 2001:db8::1`);
       return octets(words.flatMap((it) => [parseInt(it, 16) >> 8, parseInt(it, 16) & 255]));
     }
     // Leaves out the longest run of two or more zero words, or the first of several equally long ones.

@@ -13,7 +13,7 @@ static const char whole[] = "rx: 1 frame waits, the first for queue 0\n"
                             "driver advances the tail\n"
                             "rx 0: SRRCTL[0].Drop_En 0: a frame that finds no slot waits\n"
                             "int pf: LSC: the mask is 0\n"
-                            "int pf: RTxQ[0]: already reported; neither cause nor mask was 0 since\n";
+                            "int pf: RTxQ[0]: already reported; neither cause nor mask has been 0 since\n";
 static const char part[] =
     "rx 0: RDH[0] 0, RDT[0] 0: head and tail meet, so the device owns no slot until the "
     "driver advances the tail\n"

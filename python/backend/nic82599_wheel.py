@@ -56,7 +56,7 @@ def browser_page() -> bytes | None:
         words = [ROOT / "web/make", "-o", Path(folder) / "bench.html"]
         made = subprocess.run(words, stdout=sys.stderr, check=False)
         if made.returncode not in (0, 2):
-            sys.exit("nic82599_wheel: the page for browsers can't be made, see above: `web/make` is to work first")
+            sys.exit("nic82599_wheel: the browser page can't be built, see above: `web/make` must succeed first")
         return None if made.returncode else (Path(folder) / "bench.html").read_bytes()
 
 
@@ -135,14 +135,14 @@ def version() -> str:
     """Returns the version in the clone's VERSION file."""
     found = re.fullmatch(r"\d+\.\d+\.\d+\n?", (ROOT / "VERSION").read_text())
     if not found:
-        sys.exit("nic82599_wheel: VERSION holds no line of three numbers")
+        sys.exit("nic82599_wheel: VERSION doesn't contain three numbers on a line")
     return found[0].strip()
 
 
 def make_library() -> None:
     """Builds the shared library if it isn't up to date; pip shows the output if that fails."""
     if subprocess.run(["make", "-C", ROOT / "c"], stdout=sys.stderr, check=False).returncode:
-        sys.exit("nic82599_wheel: the library can't be made, see above: `make -C c` is to work first")
+        sys.exit("nic82599_wheel: the library can't be built, see above: `make -C c` must succeed first")
 
 
 def edition_script(program: str, edition: str) -> bytes:
@@ -194,4 +194,4 @@ def build_editable(
 
 
 def build_sdist(sdist_directory: str, config_settings: Settings | None = None) -> NoReturn:
-    raise UnsupportedOperation("the package is made of a clone, whose C library it holds: there is no sdist")
+    raise UnsupportedOperation("there is no sdist: the package is built from a clone and contains its C library")

@@ -378,7 +378,7 @@ def _library(path: str | os.PathLike[str] | None = None) -> ctypes.PyDLL:
             library.nic_is_proved.argtypes, library.nic_is_proved.restype = [], ctypes.c_bool
             library.nic_edition.argtypes, library.nic_edition.restype = [], ctypes.c_char_p
         except (OSError, AttributeError) as fault:
-            raise LibraryMissing(f"{place} isn't a library of the controller: {fault}") from fault
+            raise LibraryMissing(f"{place} isn't the controller's library: {fault}") from fault
         _loaded[place] = library
     return _loaded[place]
 

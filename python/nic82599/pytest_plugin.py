@@ -95,7 +95,7 @@ def words_of(marker: pytest.Mark) -> dict[str, Any]:
         words["runs"] = marker.args[0]
     for name in words:
         if name not in WORDS:
-            pytest.fail(f"nic_schedules: {name} is none of {', '.join(WORDS)}", pytrace=False)
+            pytest.fail(f"nic_schedules: {name} isn't one of {', '.join(WORDS)}", pytrace=False)
     if words.get("strategy") == "exhaustive":
         words.setdefault("runs", None)
     return words

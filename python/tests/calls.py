@@ -63,7 +63,7 @@ class Life(unittest.TestCase):
             self.assertEqual(list(Path(folder).iterdir()), [])
 
     def test_missing_library(self) -> None:
-        with self.assertRaisesRegex(nic82599.LibraryMissing, "isn't a library of the controller"):
+        with self.assertRaisesRegex(nic82599.LibraryMissing, "isn't the controller's library"):
             Nic(library="/nowhere/libnic82599.so")
         with tempfile.NamedTemporaryFile() as file, self.assertRaises(nic82599.LibraryMissing):
             Nic(library=file.name)

@@ -746,7 +746,7 @@ class Plugin(unittest.TestCase):
             self.assertIn("4 failed, 2 passed", output)
             self.assertIn("end: a frame is in the ring", output)
             self.assertIn("test_nothing returns no Scenario", output)
-            self.assertIn("nic_schedules: walks is none of runs, seed", output)
+            self.assertIn("nic_schedules: walks isn't one of runs, seed", output)
             self.assertIn("nic_schedules: depth: 17 isn't a whole number from 1 to 16", output)
             self.assertIn("--nic-jobs: 0 is no whole number", self.pytest(folder, "--nic-jobs", "0"))
             self.assertIn("--nic-shard: (3, 2) isn't (K, N)",

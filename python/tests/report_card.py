@@ -167,9 +167,9 @@ class Refusals(unittest.TestCase):
     def test_files(self) -> None:
         self.refused("can't load it: NameError: .* \\(given.py:2\\)", "nothing\n")
         self.refused("can't load it: SystemExit", "raise SystemExit\n")
-        self.refused("it has 0 classes of Driver$", "")
-        self.refused("it has 2 classes of Driver: A, B; FILE.py:CLASS", "class A(Driver): ...\nclass B(Driver): ...\n")
-        self.refused("it has no class C of Driver: A; FILE.py:CLASS", "class A(Driver): ...\n", "C")
+        self.refused("it has 0 subclasses of Driver$", "")
+        self.refused("it has 2 subclasses of Driver: A, B; select one", "class A(Driver): ...\nclass B(Driver): ...\n")
+        self.refused("it has no subclass C of Driver: A; select one", "class A(Driver): ...\n", "C")
         with self.assertRaisesRegex(Refused, "no such Python file"):
             load(Path("/nowhere.py"))
 

@@ -130,7 +130,7 @@ class Weak(unittest.TestCase):
         self.assertEqual(outcomes(Litmus("x=1 0=y", "y=1 1=x", "tso")), ALL)
 
     def test_words(self) -> None:
-        self.assertRaisesRegex(BadWord, "memory: 'week' is none of", search, Litmus("mb", "mb"), memory="week")
+        self.assertRaisesRegex(BadWord, "memory: 'week' isn't one of", search, Litmus("mb", "mb"), memory="week")
         self.assertRaisesRegex(ValueError, "memory must be strong, weak", search, Litmus("mb", "mb", "week"))
         self.assertRaises(ValueError, search, Litmus("mb", "mb", "weak", frozenset({"all"})))
 

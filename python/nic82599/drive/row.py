@@ -40,9 +40,9 @@ def driver_of(module: ModuleType, name: str, path: Path) -> type[Driver]:
     if name:
         found = [one for one in own if one.__name__ == name]
     if len(found) != 1:
-        what = f"no class {name}" if name else f"{len(found)} classes"
+        what = f"no subclass {name}" if name else f"{len(found)} subclasses"
         names = ", ".join(one.__name__ for one in own)
-        raise Refused(f"{path}: it has {what} of Driver{f': {names}; FILE.py:CLASS names one' if own else ''}")
+        raise Refused(f"{path}: it has {what} of Driver{f': {names}; select one with FILE.py:CLASS' if own else ''}")
     return found[0]
 
 

@@ -157,7 +157,7 @@ class _Plan:
     def check(self) -> None:
         """Raises BadWord if an argument is invalid."""
         if self.strategy not in STRATEGIES:
-            raise BadWord(f"strategy: {self.strategy!r} is none of {', '.join(STRATEGIES)}")
+            raise BadWord(f"strategy: {self.strategy!r} isn't one of {', '.join(STRATEGIES)}")
         for name in RANGES:
             has_end = self.strategy == "exhaustive" or self.seconds is not None
             may_be_none = name == "depth" or (name == "runs" and has_end)
@@ -168,7 +168,7 @@ class _Plan:
             check_seconds("seconds", self.seconds, 1_000_000_000)
         check_hang(self.hang)
         if self.memory not in (None, *KINDS):
-            raise BadWord(f"memory: {self.memory!r} is none of {', '.join(KINDS)}")
+            raise BadWord(f"memory: {self.memory!r} isn't one of {', '.join(KINDS)}")
 
     def options(self, folder: str, shrink: bool) -> list[str]:
         """Returns the arguments as options of the engine."""

@@ -214,7 +214,7 @@ class Advice:
             if on is None:
                 yield self._at(
                     enable.pc,
-                    f"no `qstep {side} {queue}` follows: the queue stays off until the device takes that step",
+                    f"no `qstep {side} {queue}` follows, so the queue stays off",
                 )
             yield from self._tails(letter, queue, enable, on)
             yield from self._held(bank, queue, on)
@@ -269,11 +269,11 @@ class Advice:
             if kind != 1:
                 yield self._at(
                     one.pc,
-                    f"SRRCTL[{queue}].DESCTYPE {kind}: a receive step is a fault; the bench supports only 1",
+                    f"SRRCTL[{queue}].DESCTYPE {kind}: receiving is a fault, because the bench supports only 1",
                 )
             elif not size:
                 yield self._at(
-                    one.pc, f"SRRCTL[{queue}].BSIZEPACKET is 0: buffers have no room, so a receive step is a fault"
+                    one.pc, f"SRRCTL[{queue}].BSIZEPACKET is 0: buffers have no room, so receiving is a fault"
                 )
 
     def _messages(self) -> Iterator[Warning]:

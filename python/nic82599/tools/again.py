@@ -58,7 +58,7 @@ class Again:
         return "done" if status == statuses.DONE else self._reply(status, "tx")
 
     def _refused(self, status: int) -> str:
-        refusal = nic82599._refused(status, "an event that is made again")
+        refusal = nic82599._refused(status, "a replayed event")
         if type(refusal) not in REFUSALS:
             raise refusal
         return REFUSALS[type(refusal)]

@@ -104,7 +104,7 @@ def _add(made: Made, recording: Recording, event: int) -> None:
         for block in range(first, min(last, BLOCKS - 1) + 1):
             made.add(f"lend {block}", reply, number)
         if last >= BLOCKS:
-            made.lines.append(f"# left out: lend {max(first, BLOCKS)} to {last}, since nicbench has {BLOCKS} blocks")
+            made.lines.append(f"# left out: lend {max(first, BLOCKS)} to {last}, because nicbench has {BLOCKS} blocks")
         return
     text, *_ = parts(recording.lines[number - 1])
     if one.op in (Op.POKE, Op.ARRIVE):

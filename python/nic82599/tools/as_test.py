@@ -64,7 +64,7 @@ def used_data(script: Script, steps: list[tuple[int, str]]) -> list[int]:
 # --- in C ---
 
 C_HEAD = """\
-/* A run of {name} on the bench, as a test: each call has to answer as it did there. {made}
+/* A run of {name} on the bench, as a test: each call must return the same answer as there. {made}
 
        cc -std=c99 {file} $(pkg-config --cflags --libs nic82599) && ./a.out    */
 #include <stdint.h>
@@ -134,7 +134,7 @@ class InC(Lines):
         """Adds a call with a check of its answer."""
         self.lines.append(f"    /* {said(self.script.lines[number - 1])} */")
         if reply == MISALIGNED:
-            self.lines.append("    /* (nicbench refuses the address; the library takes every one) */")
+            self.lines.append("    /* (nicbench refuses this address; the library accepts any address) */")
             return
         call = self.call(one)
         words = reply.split(" ")
@@ -241,7 +241,7 @@ def in_c(script: Script, printed: list[str], vfs: int, fifo: int, made: str = ""
 # --- in Python ---
 
 PYTHON_HEAD = '''\
-"""A run of {name} on the bench, as a test: each call has to answer as it did there. {made}
+"""A run of {name} on the bench, as a test: each call must return the same answer as there. {made}
 
     python3 -m pytest {file}    or    python3 {file}
 """
@@ -282,7 +282,7 @@ class InPython(Lines):
         """Adds a call with a check of its answer."""
         self.lines.append(f"        # {number}: {said(self.script.lines[number - 1])}")
         if reply == MISALIGNED:
-            self.lines.append("        # (nicbench refuses the address; the library takes every one)")
+            self.lines.append("        # (nicbench refuses this address; the library accepts any address)")
         elif reply in REFUSALS:
             self.used |= {REFUSALS[reply], "refused"}
             call, words = self.call(one)
@@ -380,7 +380,7 @@ def in_python(script: Script, printed: list[str], vfs: int, fifo: int, made: str
 
 def written(language: str, script: Script, printed: list[str], bench: Bench) -> str:
     """Returns the test in a language, `c` or `python`, for a run that printed these lines."""
-    made = "By nicview of the 82599 bench."
+    made = "Written by nicview of the 82599 bench."
     if language == "c":
         return in_c(script, printed, bench.vfs, bench.fifo, made)
     return in_python(script, printed, bench.vfs, bench.fifo, made)

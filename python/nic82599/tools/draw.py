@@ -125,7 +125,7 @@ def _runs(slots: list[tuple[int, str]]) -> list[str]:
 def _outside(ring: Ring) -> str:
     """Returns the head and the tail if they are outside the ring."""
     marks = [(name, at) for name, at in (("H", ring.head), ("T", ring.tail)) if at >= ring.slots]
-    return "".join(f"  {name} {at}" for name, at in marks) + (" (no slot of the ring)" if marks else "")
+    return "".join(f"  {name} {at}" for name, at in marks) + (" (outside the ring)" if marks else "")
 
 
 def _pointer(ring: Ring, slot: int) -> str:

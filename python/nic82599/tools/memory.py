@@ -334,7 +334,7 @@ def _ask_memory(trace: Trace, replay: Replay, asked: list[tuple[int, list[int]]]
             end += 1
         if end == at or runs == RUNS:
             trace.notes.append(
-                f"from step {asked[at][0]} on, lent memory isn't shown: no instructions are left for peeks"
+                f"from step {asked[at][0]} on, lent memory isn't shown: there is no room for further peeks"
             )
             for number, units in asked[at:]:
                 trace.steps[number].memory = [(unit, None) for unit in units]

@@ -45,7 +45,7 @@ def frames_in(lines: Iterable[str]) -> Iterator[tuple[int, int, bytes]]:
         if re.match(r"\d+ frame ", line):
             found = FRAME.fullmatch(line)
             if not found or len(found[3]) % 2:
-                raise NoFrame(f"standard input:{at}: not a line of a frame: {shortened(line)}")
+                raise NoFrame(f"standard input:{at}: not a frame's line: {shortened(line)}")
             yield int(found[1]), int(found[2]), bytes.fromhex(found[3])
 
 

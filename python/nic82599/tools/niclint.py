@@ -1,7 +1,7 @@
 """Says what is wrong with a script: why the bench refuses it, or what its author may have forgotten.
 
     tools/niclint SCRIPT            refusals, each with the wrong word and similar names; or warnings
-    tools/niclint SCRIPT --trace    also runs it, and says why steps were idle, dropped frames, met faults or failed
+    tools/niclint SCRIPT --trace    also runs it, and explains steps that were idle, dropped frames, faulted or failed
 
 SCRIPT is a register script, a session of the debugger (the part before its line `%`), or - for standard input. It may
 also be a recording of the C library (NIC82599_RECORD) of any length. All its lines are then checked for warnings, and
@@ -37,7 +37,7 @@ def words() -> argparse.Namespace:
     parser.add_argument("script", metavar="SCRIPT")
     parser.add_argument("--trace", action="store_true", help="run the script, and explain idle and failed steps")
     sizes(parser)
-    limit(parser, 4_096, "the number of steps to run")
+    limit(parser, 4_096, "the maximum number of steps to run")
     return parser.parse_args()
 
 

@@ -261,7 +261,7 @@ function showFrames(state, before) {
   const old = before.waiting.length, waited = old === state.waiting.length ? "" : `; before this step ${old || "none"}`;
   const waiting = counted(state.waiting.length, "waits to be received", "wait to be received");
   const most = (state.waiting.length ? `, of at most ${run.fifo}` : "") + waited;
-  const out = counted(state.out.length, "is out", "are out") + (state.out.length ? ", not collected" : "");
+  const out = counted(state.out.length, "waits to be collected", "wait to be collected");
   element("frames-part").hidden = !run.arrived.length && !run.sent.length;
   element("frames").replaceChildren(...list(waiting + most, state.waiting, run.arrived, "came"),
     ...(run.sent.length ? list(out, state.out, run.sent, "sent") : []));

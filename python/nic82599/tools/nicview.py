@@ -52,7 +52,7 @@ def words() -> argparse.Namespace:
     parser = Parser(description=called(__doc__ or ""), formatter_class=argparse.RawDescriptionHelpFormatter)
     parser.add_argument("script", metavar="SCRIPT")
     sizes(parser)
-    limit(parser, STEPS, "the number of steps to show")
+    limit(parser, STEPS, "the maximum number of steps to show")
     parser.add_argument("-o", metavar="FILE", help="the output file (standard output)")
     form = parser.add_mutually_exclusive_group()
     made = "a script of a recording, as far as nicbench can read one"

@@ -147,7 +147,7 @@ function beginLive() {
   document.addEventListener("keydown", (event) => {
     if (event.key === "p" && !event.ctrlKey && !event.metaKey && document.activeElement.id !== "search") pause();
   });
-  document.querySelector("#keys table").append(row([make("kbd", {}, "p"), "pause, follow (the file that grows)"]));
+  document.querySelector("#keys table").append(row([make("kbd", {}, "p"), "pause or follow the growing file"]));
   const header = document.querySelector("header");
   new ResizeObserver(() => {
     document.documentElement.style.setProperty("--under", `${header.offsetHeight + 4}px`);

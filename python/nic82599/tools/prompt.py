@@ -19,18 +19,18 @@ from .script import Bench, Fault, Refused, Script, of_text
 from .trace import Step, Trace, made, trace_of
 
 HELP = """\
-step [N], s        N steps on (1)                       back [N], b        N steps back (1)
-continue [N], c    on to the next breakpoint, or until a watched register changes, or the end; N steps at most
-continue fault     the same, and it stops after the next fault, dropped frame or failed expect; then ask `why`
-break WHERE        a breakpoint at a label, a line as `line 14`, or an instruction's number; clear WHERE takes it away
-breaks             the breakpoints                      list [LINE], l     the script round here, or round a line
-show TARGET, r     a register: RDT[3], GPRC, 0x01018    watch TARGET       shown when it changes; unwatch TARGET
-showvf N OFFSET    an offset of virtual function N      offsets N          what its offsets name now
-peek ADDRESS [N]   16 bytes of lent memory, N times     rings              the rings in use
-why                why the last step was idle, dropped a frame or met a fault
-restart            to the start; breakpoints stay       where, w           this place
+step [N], s        N steps forward (1)                  back [N], b        N steps back (1)
+continue [N], c    to the next breakpoint, a change of a watched register, or the end; at most N steps
+continue fault     the same, but also stops after a fault, a dropped frame or a failed expect; then try `why`
+break WHERE        sets a breakpoint: a label, a line as `line 14`, or an instruction's number; clear WHERE removes it
+breaks             lists the breakpoints                list [LINE], l     the script around here, or around a line
+show TARGET, r     a register: RDT[3], GPRC, 0x01018    watch TARGET       shows it when it changes; unwatch TARGET
+showvf N OFFSET    an offset of virtual function N      offsets N          each of its offsets: register, value
+peek ADDRESS [N]   N times 16 bytes of lent memory      rings              the rings in use
+why                why the last step was idle, dropped a frame or faulted
+restart            to the start; keeps the breakpoints  where, w           the current place
 help, h            these lines                          quit, q            ends the session (also ^D)
-An empty line does the last `step`, `back` or `continue` again."""
+An empty line repeats the last `step`, `back` or `continue`."""
 SHORT = {
     "s": "step",
     "b": "back",
@@ -301,7 +301,7 @@ def do_offsets(session: Session, words: list[str]) -> list[str]:
     if function >= session.bench.vfs or not k:
         raise Wrong(
             f"no function {function}: the device has {session.bench.vfs} (--vfs), "
-            f"and GCR_EXT.VT_Mode gives {128 // k if k else 'no'} pools"
+            f"and GCR_EXT.VT_Mode selects {128 // k if k else 'no'} pools"
         )
     named = regs.function_offsets(k, function)
     shown = session.ask([f"showvf {function} {offset}" for offset, _ in named], len(named))

@@ -92,7 +92,7 @@ def read(section: str, lines: list[str]) -> Row:
         elif not row.statement and not row.value:
             row.statement = line
         else:
-            raise Bad(f"{row.name}: what is this: {line}")
+            raise Bad(f"{row.name}: unknown line: {line}")
     return row
 
 
@@ -197,7 +197,7 @@ class Asked:
                 return self.number(node.body if self.number(node.test) else node.orelse)
             case ast.Call(func=ast.Name(id=name)):
                 return number(name, self.words, *map(self.number, node.args))
-        raise Bad(f"what is this: {ast.unparse(node)}")
+        raise Bad(f"unknown expression: {ast.unparse(node)}")
 
     def register(self, it: Named) -> int:
         """Returns the value of a register, field or bit."""

@@ -553,7 +553,7 @@ def _shown(recording: Recording) -> tuple[Script, list[str]]:
     replies = [recording.instructions.both(event)[1] for event in events]
     if recording.before:
         text = f"r 0x{first('STATUS'):05x}"
-        lines.insert(0, f"{text}                    # after the {recording.before:,} events before")
+        lines.insert(0, f"{text}                    # after the {recording.before:,} earlier events")
         made.before -= 1
         made.instructions.append(instruction(text.split(), {}))
         made.line_of.append(1)

@@ -168,7 +168,7 @@ class Bench:
         except places.Missing as missing:
             raise Fault(str(missing), True) from None
         except OSError as error:
-            raise Fault(f"{program} can't be started ({error.strerror}): set NICBENCH to another", True) from None
+            raise Fault(f"{program} can't be started ({error.strerror}): set NICBENCH to another one", True) from None
         with ThreadPoolExecutor(1) as pool:
             said = pool.submit(_hear, ran.stderr)
             out, _ = _talk(ran, text)
@@ -352,6 +352,6 @@ def of_text(bench: Bench, path: str, text: str) -> Script:
             line_of.append(number)
     if len(line_of) != len(instructions) or len(names) != len(data):
         raise Fault(
-            f"{path} has {len(instructions)} instructions, but {len(line_of)} lines of them: please report this"
+            f"{path} has {len(instructions)} instructions, but {len(line_of)} lines with them: please report this"
         )
     return Script(path, lines, instructions, data, line_of, labels, names)

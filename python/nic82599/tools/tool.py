@@ -58,7 +58,7 @@ def number(low: int, high: int) -> Callable[[str], int]:
 def limit(parser: argparse.ArgumentParser, default: int, what: str) -> None:
     """Adds the option for the number of steps."""
     which = number(1, MOST_STEPS)
-    parser.add_argument("--limit", metavar="N", type=which, default=default, help=f"{what} at most ({default})")
+    parser.add_argument("--limit", metavar="N", type=which, default=default, help=f"{what} ({default})")
 
 
 def limit_of_script(asked: int) -> int:

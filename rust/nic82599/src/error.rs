@@ -134,13 +134,13 @@ impl fmt::Display for Error {
                 return write!(f, "bus address 0x{bus:05x}: block {} isn't lent", bus / BLOCK_BYTES);
             }
             Error::NoBlock => "the block is already lent or doesn't exist",
-            Error::BadMemory => "memory lent in place must be a multiple of 2,048 bytes and not lent yet",
+            Error::BadMemory => "memory in place must begin and end at multiples of 2,048 bytes and not be lent yet",
             Error::NoQueue => "there are 128 queues",
             Error::NoGroup => "no such virtual function, or the mode has no pool for it",
             Error::Stray { at, word, why } => return write_stray(f, *at, *word, *why),
             Error::BadRange => "a range of memory ends before it begins",
             Error::TooManyVfs => "a controller has at most 63 virtual functions",
-            Error::BadFifo => "from 1 to 4,096 frames may wait",
+            Error::BadFifo => "the number of frames that may wait must be 1 to 4,096",
             Error::BadBlocks => "packet memory has 1 to 65,536 blocks",
             Error::TooLong => "the input of a hash has at most 36 bytes",
             Error::Image(fault) => return write!(f, "invalid EEPROM image: {fault}"),

@@ -215,9 +215,9 @@ impl fmt::Display for Why {
             Why::LinkDown => ("link down", "Nic::link turned it off"),
             Why::Off => ("off", "RXCTRL bit 0 is 0"),
             Why::Short => ("short", "it has fewer than 60 bytes"),
-            Why::Long => ("long", "it is longer than 1,514 bytes, or with jumbo frames than MAXFRS allows"),
+            Why::Long => ("long", "it is longer than the limit: 1,514 bytes, or MAXFRS with jumbo frames"),
             Why::Filter => ("filter", "no bit of FCTRL and no address (RAL, RAH, MTA) accepts its destination"),
-            Why::NoPool => ("no pool", "none is assigned to it, or the mode of MRQC doesn't have that pool"),
+            Why::NoPool => ("no pool", "none is assigned to it, or MRQC's mode doesn't have that pool"),
             Why::PoolOff => ("pool off", "VFRE disables its pool"),
             Why::Full => ("full", "as many frames wait as Sizes::fifo allows"),
             Why::QueueOff => ("queue off", "its queue isn't on: RXDCTL bit 25 reads 0"),
@@ -234,14 +234,14 @@ impl fmt::Display for Fault {
             Fault::Outside => ("outside", "head or tail is outside the ring"),
             Fault::NotLent(bus) => {
                 write!(f, "not lent 0x{bus:05x}")?;
-                return meant(f, "the ring, a buffer or a report's address is there");
+                return meant(f, "the ring, a buffer or a write-back address is there");
             }
             Fault::Type => ("type", "SRRCTL DESCTYPE isn't 1, advanced descriptors with one buffer"),
             Fault::NoBufferSize => ("no buffer size", "SRRCTL BSIZEPACKET is 0"),
-            Fault::Offload => ("offload", "the descriptor asks for segmentation, VLAN insertion or a checksum"),
+            Fault::Offload => ("offload", "the descriptor requests segmentation, VLAN insertion or a checksum"),
             Fault::Legacy => ("legacy", "the descriptor has no DEXT, so it is a legacy descriptor"),
             Fault::TooLong => {
-                ("too long", "the frame is longer than 1,514 bytes, or with jumbo frames than MAXFRS allows")
+                ("too long", "the frame is longer than the limit: 1,514 bytes, or MAXFRS with jumbo frames")
             }
             Fault::UnknownType => ("unknown type", "the descriptor's DTYP is neither data nor context"),
         };

@@ -120,7 +120,7 @@ thread_local! {
 fn called<D: Driver, T>(failed: T, action: impl FnOnce(&D, &Platform) -> T) -> T {
     let done = unwinding(|| {
         caught(|| {
-            let kept = DRIVER.with(|it| it.borrow().clone()).expect("the driver is made as a schedule begins");
+            let kept = DRIVER.with(|it| it.borrow().clone()).expect("the driver is created when a schedule begins");
             let driver: &D = kept.downcast_ref().expect("the process has one driver");
             action(driver, &Platform { bus: Bus::new() })
         })

@@ -130,7 +130,7 @@ USES = [
     (["nicdebug", "dev/views/eight.nic"], "c fault\n\n\nwhy\n", 0, "* acc is 0x00000006 since step 156, `r QPRC[0]`"),
     (["nicdebug", "dev/views/eight.nic"], "break line 165\nc fault\nc fault\n", 0, "at 147 pc 147 acc 0x00000001"),
     (["nicdebug", "examples/queue.nic"], "c fault\n", 0, "no fault, dropped frame or failed expect follows\n"),
-    (["nicdebug", "examples/queue.nic"], "help\n", 0, "continue fault     the same, and it stops after the next"),
+    (["nicdebug", "examples/queue.nic"], "help\n", 0, "continue fault     the same, but also stops after a fault"),
 ]
 
 # tools/niclint's warnings in the examples, each announced by its example: an access to no register and a write of

@@ -107,7 +107,7 @@ def tx_descriptor(
     buffer: int, length: int, *, frame: int | None = None, end: bool = True, report: bool = True
 ) -> bytes:
     """Returns a transmit data descriptor for `length` bytes of a buffer. `frame` is the length of the whole frame, by
-    default that of the buffer. `end` marks the frame's last buffer. With `report` the device sets DD when it is done.
+    default `length`. `end` marks the frame's last buffer. With `report` the device sets DD when it is done.
     """
     whole = length if frame is None else frame
     return packed(TX_DATA, BUFFER=buffer, DTALEN=length, DTYP=3, EOP=end, IFCS=1, RS=report, DEXT=1, PAYLEN=whole)

@@ -88,7 +88,7 @@ def engine() -> str:
 
 
 def program() -> str:
-    """Returns the path of the program `nicbench`, in a clone that of its launcher. Raises Missing."""
+    """Returns the path of the program `nicbench`; in a clone, the path of its launcher. Raises Missing."""
     path = os.environ.get("NICBENCH")
     if path:
         return path

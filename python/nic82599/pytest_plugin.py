@@ -76,7 +76,7 @@ def pytest_configure(config: pytest.Config) -> None:
 
 
 def shard_of(config: pytest.Config) -> tuple[int, int] | None:
-    """Returns the shard that the option gives, if any. Raises BadWord."""
+    """Returns the shard that the option specifies, if any. Raises BadWord."""
     text = config.getoption("--nic-shard")
     if text is None:
         return None

@@ -176,7 +176,7 @@ class Points(Dma):
         finally:
             self._call("interrupts", True)
 
-    # --- barriers for weak memory; under strong memory they do nothing and are no points ---
+    # --- barriers for weak memory; under strong memory they do nothing and aren't points ---
 
     def wmb(self) -> None:
         """Returns after all earlier stores of this thread have reached memory."""

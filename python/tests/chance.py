@@ -204,7 +204,7 @@ class Run:
         self.put(f"qstep {name} {queue}", answered(lambda: self.nic.queue_step(name, queue)))
 
     def repair(self) -> None:
-        """Sets up again each side that a fault disabled, and gives descriptors to all sides."""
+        """Sets up each side that a fault disabled again, and posts descriptors on all sides."""
         for queue in range(QUEUES):
             for side in "RT":
                 if not self.nic.peek(f"{side}XDCTL[{queue}]") & 0x0200_0000:
@@ -233,7 +233,7 @@ class Run:
             self.put(f"link {'up' if up else 'down'}", "done" if self.nic.link(up) else "idle")
 
     def one(self) -> None:
-        """Makes a random call, or some that belong together."""
+        """Makes a random call, or several related ones."""
         calls = (self.access, self.access_of_a_function, self.memory, self.arrive, self.collect, self.step, self.settle)
         more = (self.repair, self.post, self.post, self.arrive, self.arrive, self.step, self.step, self.link)
         self.chance.choice(calls + more)()

@@ -154,7 +154,8 @@ class Interrupted(unittest.TestCase):
         """Interrupts a call at each of its bytecodes, and returns how many there are."""
         (call, lends), at = CALLS[name], 0
         while True:
-            # No handler runs at the end of a `with`, so a lock left held there is no fault. Each case has its own lock.
+            # No handler runs at the end of a `with`, so a lock that is still held there isn't a fault. Each case has
+            # its own lock.
             keeping._turn = threading.RLock()
             case, tracer = Case(lends), Tracer(at, only)
             interrupted(call, case, tracer)
@@ -169,7 +170,7 @@ class Interrupted(unittest.TestCase):
             at += 1
 
     def is_exact(self, case: Case, where: str) -> None:
-        """Checks that what is lent can be taken back, and that nothing holds the buffer then."""
+        """Checks that lent memory can be taken back, and that nothing refers to the buffer then."""
         for block in range(BYTES // 2048):
             if is_lent(case.nic, 2048 * block):
                 case.nic.memory.unlend(2048 * block, 2048)

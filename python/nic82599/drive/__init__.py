@@ -15,10 +15,10 @@ in ready-made scenarios. Tested, not proved.
 
     python3 -m nic82599.drive mine.py
 
-This command prints the driver's card. The scenarios, the search and the checks are those of C. Each schedule creates
-its own driver, so state set in `__init__` or `open` starts fresh. The functions run on threads, only one of which runs
-at any time; code between two calls of the device isn't interrupted. If a function raises, the row fails and shows the
-exception's message and source lines.
+This command prints the driver's card. The scenarios, the search and the checks are the same as for C. Each schedule
+creates its own driver, so state set in `__init__` or `open` starts fresh. The functions run on threads, only one of
+which runs at any time; code between two calls of the device isn't interrupted. If a function raises, the row fails and
+shows the exception's message and source lines.
 """
 
 from __future__ import annotations
@@ -35,8 +35,9 @@ __all__ = ["Can", "Driver", "Filter", "MAILBOX_WORDS", "MOST_FRAME", "MOST_QUEUE
 
 
 class Driver(Points):
-    """The base class of a driver. Your subclass defines `name`, `open`, `close`, and `receive` or `send`, and those of
-    the functions below that your driver supports. Rows that need any other function are shown as not applicable.
+    """The base class of a driver. Your subclass defines `name`, `open`, `close`, and `receive` or `send`. It also
+    defines those functions below that your driver supports. Rows that need any other function are shown as not
+    applicable.
 
     For one queue, the card calls `receive` on one thread at a time, and likewise `send` and `reclaim`; calls for other
     queues may run concurrently. `interrupt` is called at any time between open and close: on top of any thread or

@@ -33,9 +33,9 @@ CHECK, MISUSE = OUTCOMES.index("check"), OUTCOMES.index("misuse")
 class Scenario(Points):
     """A driver's code that uses one controller. Your subclass defines `bring_up`, `begin` and `end`.
 
-    The sizes are those of `Nic`. The engine runs the enables and transmit steps of the queues below `queues`. A
-    schedule with more than `points` points fails. `allowed` may contain "faults" (of queues) and "not lent" (the
-    driver's accesses).
+    The sizes have the same meaning as for `Nic`. The engine runs the enables and transmit steps of the queues below
+    `queues`. A schedule with more than `points` points fails. `allowed` may contain "faults" (of queues) and "not lent"
+    (the driver's accesses).
 
     `memory` is "strong", "weak" or "tso" (docs/explore.md, "Missing barriers"). `orders` says what a register access
     orders under weak memory. With "writes", a register write comes after all earlier stores. With "reads", no load

@@ -303,7 +303,7 @@ class Advice:
                 yield self._at(one.pc, reason("pf_unraised", {}, silent).text)
 
     def _without_vector(self, masks: list[Access]) -> Iterator[Warning]:
-        """Warns about unmasked causes, other than those of queues, to which IVAR_MISC assigns no vector."""
+        """Warns about unmasked causes, other than queues' causes, to which IVAR_MISC assigns no vector."""
         misc = [one.word for one in self._of("IVAR_MISC")]
         others, timer = any(word & 0x8000 for word in misc), any(word & 0x80 for word in misc)
         for one in masks:

@@ -59,7 +59,7 @@ class Mark:
 
 
 class KeepingPlayer(Player):
-    """A player that can go back to marks. A snapshot is freed when no mark holds it."""
+    """A player that can go back to marks. A snapshot is freed when no mark refers to it."""
 
     def __init__(self, recording: Recording) -> None:
         super().__init__(recording)

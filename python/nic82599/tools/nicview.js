@@ -381,7 +381,7 @@ function show(n) {
   element("at").textContent = `${at} / ${Math.max(0, count - 1)}`;
   element("back").disabled = !position;
   element("on").disabled = position === count;
-  // Not disabled, so that the button keeps the focus and Shift still goes back.
+  // The button isn't disabled: it keeps the focus, and Shift still moves back.
   for (const button of nexts())
     button.setAttribute("aria-disabled", String(!next(position, isOf(button.dataset.next))));
   showNow(position, state);
@@ -398,7 +398,7 @@ function show(n) {
   document.dispatchEvent(new Event("moved"));
 }
 // The URL names the step. Chromium ignores more than 200 changes in ten seconds, and a live page or the slider may
-// exceed that. So the first 150 changes are made at once, and the rest at four per second.
+// exceed that. So the first 150 changes happen immediately, and the rest at four per second.
 let changes = 150, refilled = performance.now(), naming = 0;
 function nameStep(at) {
   const now = performance.now();

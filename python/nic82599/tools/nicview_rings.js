@@ -183,8 +183,8 @@ function writtenHead(state, address) {
   return [3, 2, 1, 0].reduce((word, k) => word * 256 + parseInt(content.slice(at + 2 * k, at + 2 * k + 2), 16), 0);
 }
 
-// Returns the ring to show large: the one that was clicked, otherwise the last one that a step up to this position
-// concerns.
+// Returns the ring to show large: the one that was clicked; otherwise the ring of the last step, up to this position,
+// that concerns one.
 function ringInFront(n, rings) {
   const clicked = rings.find((ring) => ring.name === pinned);
   if (clicked) return clicked;

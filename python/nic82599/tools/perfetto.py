@@ -22,7 +22,7 @@ from .trace import Step
 
 Event = dict[str, Any]
 PARTS = {"rx": "receive", "int": "interrupts", "qstep": "queues", "eestep": "EEPROM", "arrive": "link", "link": "link"}
-# The tracks of every run; those of the actors follow.
+# The tracks of every run; the actors' tracks follow.
 STEPS, TROUBLE, MESSAGES = range(1, 4)
 NAMES = {STEPS: "all steps", TROUBLE: "faults, drops, refusals, stray accesses, idle steps", MESSAGES: "messages"}
 

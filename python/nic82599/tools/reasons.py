@@ -3,7 +3,7 @@ that decide them.
 
 The conditions are those of docs/REGISTERS.md and docs/script.md for the step's kind, in the order in which the device
 tests them. For each one it shows the register values before the step, and whether it held. The reply itself always
-comes from the program. The conditions and their texts are those of reason_table.py.
+comes from the program. The conditions and their texts come from reason_table.py.
 """
 
 from __future__ import annotations

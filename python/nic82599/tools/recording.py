@@ -1,7 +1,7 @@
 """Replays a recording of the library (NIC82599_RECORD, nic_record) as a run.
 
 A recording is a script of the calls that a program made on a controller, with the replies as comments, and without the
-limits of a script. Lines that begin with `#:` hold what a script can't express: the sizes, ranges of lent blocks,
+limits of a script. Lines that begin with `#:` contain what a script can't express: the sizes, ranges of lent blocks,
 snapshots, EEPROM images. The whole recording is replayed, but only the last steps after the last restored snapshot or
 installed image are shown. If there were earlier steps, the first step shown is a read of STATUS, which changes nothing
 and shows the state at that point.
@@ -41,7 +41,7 @@ EMPTY = ": no bytes"
 MOST_HELD = 1 << 30
 # A note of the program about the next call (nic_note).
 NOTE = "# note: "
-# A virtual machine's note about a ring. It holds until the next note about the same ring.
+# A virtual machine's note about a ring. It is valid until the next note about the same ring.
 RING = re.compile(r"guest: the ring of (\S+ \d+) is at [^;]*")
 # After these directives the steps start fresh.
 RESTARTS = (["restore"], ["image"], ["text"])
@@ -376,7 +376,7 @@ class TooMuch(ValueError):
 
 
 class Held:
-    """An upper bound on the bytes held by a recording's controller and its snapshots, derived from the replies: lent
+    """An upper bound on the bytes that a recording's controller and its snapshots need, derived from the replies: lent
     blocks, waiting frames, and transmitted frames. Raises TooMuch."""
 
     def __init__(self, fifo: int) -> None:

@@ -1,7 +1,7 @@
 """The controller's registers. All generated register tables come from this list, and the tools read it.
 
 A register is one line of TABLE. After an edit, run `dev/generate registers` for the tables of the proved crates and of
-the pages, and `dev/generate drivers` for those of the C and Rust drivers.
+the pages, and `dev/generate drivers` for the C and Rust drivers' tables.
 """
 
 from __future__ import annotations
@@ -29,7 +29,7 @@ class Run:
 @dataclass(frozen=True)
 class Row:
     """Registers of the same name. docs/REGISTERS.md explains `kind` and `bank`. The first run that contains an index
-    gives the index its first address. `mask` is the writable bits; `reset` is the value after a reset."""
+    determines the index's first address. `mask` is the writable bits; `reset` is the value after a reset."""
 
     name: str
     meaning: str

@@ -49,7 +49,7 @@ pub(crate) struct Handle {
 /// The state of a controller.
 pub(crate) struct Kept {
     card: card::Kept,
-    // Not `Sync`, to match the crate over the C library: code that compiles here compiles there.
+    // Not `Sync`, to match the crate that links the C library: code that compiles here compiles there.
     _one: PhantomData<Cell<()>>,
 }
 

@@ -41,9 +41,9 @@
 //! # Ok::<(), nic82599::Error>(())
 //! ```
 //!
-//! The package is called `nic82599-model`. Programs import it as `nic82599`, like the crate over the C library, so a
-//! driver written for one compiles for the other. The other crate can also explain why nothing happens, record, lend
-//! memory in place, search for races and produce report cards. This crate moves memory by value instead
+//! The package is called `nic82599-model`. Programs import it as `nic82599`, like the crate that links the C library,
+//! so a driver written for one compiles for the other. The other crate can also explain why nothing happens, record,
+//! lend memory in place, search for races and produce report cards. This crate moves memory by value instead
 //! ([`Nic::exchange`]).
 //!
 //! The controller's sources are proved. This crate is Rust generated from them without their proofs. No proof covers

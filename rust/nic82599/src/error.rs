@@ -46,7 +46,7 @@ pub enum Error {
     BadRange,
     /// A controller has at most 63 virtual functions.
     TooManyVfs,
-    /// A controller holds 1 to 4,096 waiting frames.
+    /// A controller has room for 1 to 4,096 waiting frames.
     BadFifo,
     /// Packet memory has 1 to 65,536 blocks.
     BadBlocks,

@@ -120,7 +120,7 @@ pub enum Why {
     NoPool,
     /// VFRE disables the frame's pool.
     PoolOff,
-    /// The list of waiting frames is full: it holds [`Sizes::fifo`](crate::Sizes::fifo) frames.
+    /// The list of waiting frames is full: it has room for [`Sizes::fifo`](crate::Sizes::fifo) frames.
     Full,
     /// In a receive step: the queue is disabled.
     QueueOff,

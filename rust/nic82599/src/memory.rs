@@ -87,7 +87,7 @@ impl<'a> Memory<'a> {
     ///
     /// # Errors
     ///
-    /// Those of [`Memory::read`]; nothing is then written.
+    /// The errors of [`Memory::read`]; nothing is then written.
     pub fn fill(&self, range: impl RangeBounds<u64>, byte: u8) -> Result<(), Error> {
         let (first, length) = self.place(range)?;
         self.write(first, &vec![byte; length])

@@ -14,7 +14,7 @@ use nic82599::explore::{search, Begin, Bus, Lock, Look, Outcome, Scenario};
 use nic82599::regs::{rxctrl, EIMS, FCTRL, RETA, RXCTRL};
 use nic82599::{Nic, Sizes, Snapshot};
 
-/// A scenario made of plain functions.
+/// A scenario that consists of plain functions.
 #[derive(Clone, Copy)]
 struct Tried {
     name: &'static str,
@@ -330,7 +330,7 @@ fn what_is_left_on_a_stack_is_dropped_once() {
     });
 }
 
-/// A value whose drop makes an access.
+/// A value whose drop accesses a register.
 struct Acts<'a>(&'a Bus);
 
 impl Drop for Acts<'_> {

@@ -284,7 +284,7 @@ pub enum Where {
 pub enum When {
     /// When no other actor can run.
     AtRest,
-    /// At any of this many points after the one that armed it; at the last of them it runs before all other actors.
+    /// At any of this many points after it was armed; at the last of them it runs before all other actors.
     Within(NonZeroU32),
 }
 
@@ -457,7 +457,7 @@ impl Bus {
     ///
     /// # Errors
     ///
-    /// Those of [`Nic::lend`].
+    /// The errors of [`Nic::lend`].
     pub fn lend(&self, block: u32) -> Result<(), Error> {
         Error::unless_done(raw::lend(block))
     }
@@ -466,7 +466,7 @@ impl Bus {
     ///
     /// # Errors
     ///
-    /// Those of [`Nic::take`]; an error is a failure unless the scenario allows it.
+    /// The errors of [`Nic::take`]; an error is a failure unless the scenario allows it.
     pub fn take(&self, block: u32) -> Result<(), Error> {
         unless_lent(raw::take(block) == status::DONE, || Memory::block(block).start)
     }
@@ -672,7 +672,7 @@ impl Look<'_> {
     ///
     /// # Errors
     ///
-    /// Those of [`Memory::read`].
+    /// The errors of [`Memory::read`].
     pub fn read(&self, range: impl RangeBounds<u64>) -> Result<Vec<u8>, Error> {
         self.nic.memory().read(range)
     }

@@ -33,7 +33,7 @@ pub(super) const BESIDE: c_int = -2;
 
 type Function = extern "C" fn(*mut c_void);
 
-/// The result of a call that a panicking task doesn't really make: 0, false, or a status of success.
+/// The result of a call that is skipped because the task is panicking: 0, false, or a status of success.
 pub(crate) trait Unmade {
     const UNMADE: Self;
 }
@@ -69,7 +69,7 @@ impl Unmade for u8 {
 /// The panic that unwinds a task abandoned by its schedule.
 struct Left;
 
-/// Makes a call at which the schedule may abandon the calling task; it then unwinds instead of returning.
+/// Performs a call at which the schedule may abandon the calling task; it then unwinds instead of returning.
 pub(crate) fn at_point<T: Unmade>(call: impl FnOnce() -> T) -> T {
     if thread::panicking() {
         return T::UNMADE;

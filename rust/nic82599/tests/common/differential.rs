@@ -1,5 +1,5 @@
-//! Random calls, and the script of the same events with its answers. The same seed gives the same calls as
-//! c/tests/differential.c, so that the two programs write the same bytes. What a script doesn't show is checked here.
+//! Random calls, and the script of the same events with its answers. From the same seed, c/tests/differential.c makes
+//! the same calls, so both programs write the same bytes. What a script doesn't show is checked here.
 
 use std::fmt::Write;
 

@@ -130,7 +130,7 @@ def check_growing(folder: Path, expect: Expect) -> None:
     busy_recording(whole, 30)
     lines = whole.read_bytes().splitlines(keepends=True)
     with served(file) as it:
-        expect("waits for" in it.part()["said"], "live: that the file isn't there isn't said")
+        expect("waiting for" in it.part()["said"], "live: that the file isn't there isn't said")
         at = 0
         for end in (1, 5, len(lines) // 3, len(lines) // 2, len(lines)):
             head, last = b"".join(lines[at : end - 1]), lines[end - 1]
@@ -418,7 +418,7 @@ def check_following(browser: Browser, folder: Path, expect: Expect) -> None:
 
     with served(file) as it:
         seen = Seen(browser, it, expect)
-        seen.until("it waits", "element('notice').textContent.includes('waits for')")
+        seen.until("it waits", "element('notice').textContent.includes('waiting for')")
         events = grow(0, 60)
         seen.until("the first steps come", f"live.until === {events} && position === count && count > 0")
         events = grow(60, 110)

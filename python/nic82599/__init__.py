@@ -29,7 +29,7 @@ if sys.version_info < (3, 11):  # noqa: UP036
     raise ImportError(f"nic82599 needs Python 3.11 or newer; this is {sys.version_info[0]}.{sys.version_info[1]}")
 
 if not getattr(sys, "_is_gil_enabled", lambda: True)():
-    raise ImportError("nic82599 needs the interpreter's lock, which keeps calls apart: start Python with PYTHON_GIL=1")
+    raise ImportError("nic82599 needs the interpreter's lock, which serializes calls: start Python with PYTHON_GIL=1")
 
 import ctypes
 import operator
@@ -532,7 +532,7 @@ def vf_address(gcr_ext: int, function: int, offset: str | int) -> int:
     address = ctypes.c_uint32()
     status = _library().nic_vf_address(word, number, at, ctypes.byref(address))
     if status == statuses.STRAY:
-        raise Stray(f"0x{at:05x} names no register of virtual function {number} (GCR_EXT 0x{word:08x})")
+        raise Stray(f"0x{at:05x} isn't a register of virtual function {number} (GCR_EXT 0x{word:08x})")
     if status != statuses.DONE:
         raise _refused(status, f"function {number}, GCR_EXT 0x{word:08x}")
     return address.value
@@ -627,7 +627,7 @@ class Function(_Registers):
             return f"{function} has no pool: GCR_EXT bits 1:0 select {pools or 'no'} pools"
         if isinstance(name, str):
             return f"{function} has no {name} (0x{at:05x}): its pool has {queues} queues"
-        return f"0x{at:05x} names no register of {function}"
+        return f"0x{at:05x} isn't a register of {function}"
 
     def _read(self, call: str, at: int) -> Word:
         word = ctypes.c_uint32()
@@ -912,7 +912,7 @@ class Nic(_Registers, _OneOwner):
         return address_of(name) if isinstance(name, str) else _whole(name, 32, "address")
 
     def _why_stray(self, name: str | int, at: int) -> str:
-        return f"0x{at:05x} names no register"
+        return f"0x{at:05x} isn't a register"
 
     def _read(self, call: str, at: int) -> Word:
         word = ctypes.c_uint32()

@@ -18,8 +18,8 @@ SONAME = "libnic82599.so.0"
 ENGINE = "libnic82599_python.so"
 # Debian's multiarch library folder below a prefix.
 MULTIARCH = f"lib/{os.uname().machine}-linux-gnu"
-BUILDS_LIBRARY = "`make -C c` in a clone builds it, a release package has it"
-BUILDS_PROGRAM = "a release package has it, and `pip install ./python` in a clone makes it if rustc is installed"
+BUILDS_LIBRARY = "`make -C c` in a clone builds it, and a release package contains it"
+BUILDS_PROGRAM = "a release package contains it, and `pip install ./python` in a clone builds it if rustc is installed"
 
 
 class Missing(Exception):
@@ -84,7 +84,7 @@ def engine() -> str:
     for place in places:
         if place.exists():
             return str(place)
-    raise Missing(f"no library of the explorer at {places[0]} and {places[1]}: {BUILDS_LIBRARY}")
+    raise Missing(f"no explorer library at {places[0]} and {places[1]}: {BUILDS_LIBRARY}")
 
 
 def program() -> str:

@@ -262,7 +262,7 @@ class Registers(unittest.TestCase):
                     why = f"virtual function {number} has no pool: GCR_EXT bits 1:0 select {pools}"
                 else:
                     self.assertEqual(function["VFMBMEM[15]"], 0)
-                    why = f"0x00004 names no register of virtual function {number}"
+                    why = f"0x00004 isn't a register of virtual function {number}"
                 word = 0 if number < min(count, 40) else 0xFFFF_FFFF
                 with self.assertRaisesRegex(nic82599.Stray, f"{re.escape(why)} .it reads as 0x{word:08x}.$") as caught:
                     function[4]
@@ -272,8 +272,8 @@ class Registers(unittest.TestCase):
             (lambda: one.vf(1)["VFCTRL"], "no virtual function 1: the controller has 1, numbered from 0"),
             (lambda: nic.vf(3)["VFRDT[2]"], r"virtual function 3 has no VFRDT\[2\] \(0x01098\): its pool has 2 queues"),
             (lambda: nic.vf(3).peek("VTIVAR[1]"), r"virtual function 3 has no VTIVAR\[1\] \(0x00124\): its pool has 2"),
-            (lambda: nic.vf(3).__setitem__(4, 1), "^0x00004 names no register of virtual function 3$"),
-            (lambda: nic.peek(0xC), "^0x0000c names no register$"),
+            (lambda: nic.vf(3).__setitem__(4, 1), "^0x00004 isn't a register of virtual function 3$"),
+            (lambda: nic.peek(0xC), "^0x0000c isn't a register$"),
         ):
             with self.subTest(why), self.assertRaisesRegex(nic82599.Stray, why):
                 call()

@@ -79,7 +79,7 @@ fn library() -> Result<(PathBuf, Option<String>), String> {
     if !is_of_this_version && is_here && sources.join("c/take_crate").exists() {
         return of_sources(&sources);
     }
-    installed.ok_or_else(|| format!("no library of the controller: {HELP}"))
+    installed.ok_or_else(|| format!("no controller library: {HELP}"))
 }
 
 /// Builds the library from the sources in a packed crate. make writes to a copy, so the sources stay unchanged.

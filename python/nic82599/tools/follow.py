@@ -229,7 +229,7 @@ class Following:
 
     def __init__(self, path: str, limit: int, sizes: tuple[int | None, int | None] = (None, None)) -> None:
         self.path, self.limit, self.sizes = path, limit, sizes
-        self.state = State(said=f"waits for {path}")
+        self.state = State(said=f"waiting for {path}")
         self.shown: Recorded | Written | None = None
 
     def look(self) -> bool:
@@ -266,7 +266,7 @@ class Following:
         try:
             found = os.stat(self.path)
         except FileNotFoundError:
-            gone = f"{self.path} no longer exists" if self.shown else f"waits for {self.path}"
+            gone = f"{self.path} no longer exists" if self.shown else f"waiting for {self.path}"
             raise NotThere(gone) from None
         except OSError as error:
             raise Fault(f"{self.path} can't be read ({error.strerror})") from None

@@ -1,17 +1,18 @@
-//! Laws of a driver's whole life so far: it started, and since then it received and sent. `starting` is about its
-//! start, and about both halves from then on.
+//! Laws of a driver's whole life so far: it was started, and since then it has received and sent. `starting` is about
+//! its start, and about both halves from then on.
 //!
-//! Each law is the contract of a function that does nothing. `specs/Course` defines over what history a driver is
-//! started, and when packets and frames are in order. `specs/Life` defines a life by the calls of the driver's pass,
-//! `specs/Lends` which blocks it lends, and `specs/Reported` a life by what the driver's calls return. `specs/InHand`
-//! defines the history of a device in hand. `specs/Order` states what holds for a life over a history of a shared
-//! device, and `specs/Faultless` that neither its start nor its calls find the device at fault. `specs/Looks` states
-//! what holds if a poll finds no packet, and `specs/Waits` if it finds one waiting. `specs/Places` states where its
-//! blocks are, and `specs/FullRing` how many slots are taken if its ring is full. `specs/Ends` is about what a stopped
-//! driver left, `specs/Stopped` about the calls of its stop, and `specs/Silent` about the time after these have
-//! switched its queue off. `specs/Refused` is about a refused start, and `specs/Room` about an arena with room for its
-//! rings. `specs/Beside` is about a driver alongside any calls of its author's, as are `specs/BesideApart` for its
-//! blocks, `specs/BesideRoom` for its full ring, `specs/BesideStart` for its start and `specs/BesideStop` for its stop.
+//! Each law is the contract of a function that does nothing. `specs/Course` defines the histories over which a driver
+//! is started, and when packets and frames are in order. `specs/Life` defines a life by the calls of the driver's pass,
+//! and `specs/Reported` by what the driver's calls return. `specs/Lends` is about the blocks that it lends.
+//! `specs/InHand` defines the history of a device in hand. `specs/Order` states what holds for a life over a history of
+//! a shared device. `specs/Faultless` states that neither its start nor its calls find the device at fault.
+//! `specs/Looks` is about polls that find no packet, and `specs/Waits` about polls that find one waiting.
+//! `specs/Places` states where its blocks are, and `specs/FullRing` how many slots are taken if its ring is full.
+//! `specs/Ends` is about the records that a stopped driver returns, `specs/Stopped` about the calls of its stop, and
+//! `specs/Silent` about the time after these have switched its queue off. `specs/Refused` is about a refused start, and
+//! `specs/Room` about an arena with room for its rings. `specs/Beside` is about a driver whose author makes any other
+//! calls alongside it. `specs/BesideApart` is about its blocks then, `specs/BesideRoom` about its full ring,
+//! `specs/BesideStart` about its start, and `specs/BesideStop` about its stop.
 #![tactic(auto)]
 
 ghost use Rattle.driver_laws.specs.Beside as beside;
@@ -41,15 +42,15 @@ pub mod starting;
 /// The laws in this crate are about histories that begin in any state a device can be in, new or used, with or without
 /// an installed EEPROM image. The calls through a `pmd_access::Direct` form one history, all of pass 0. It follows what
 /// is known to have happened to the device before it came into hand, none of it by pass 0. The calls through an
-/// `Interleaved` form one too: own ones are of pass 0, foreign ones of pass 1. The history leads to the device in hand.
-/// The laws require that the device was in the state that the earlier part leads to when the way was made; `began` says
-/// so of a new way, and each call of a driver keeps it. They also require that the history leaves the queue alone. For
-/// a `Direct`, the result of `device_lock::left_alone` suffices in any state. For an `Interleaved`, it suffices if no
-/// image is installed and no mode of pools was set in that state.
+/// `Interleaved` form one too: its own calls are of pass 0, the foreign ones of pass 1. The history leads to the device
+/// in hand. The laws require that the device was in the state that the earlier part leads to when the `Direct` or
+/// `Interleaved` was created; `began` says so when it is new, and each call of a driver keeps it. They also require
+/// that the history leaves the queue alone. For a `Direct`, the result of `device_lock::left_alone` suffices in any
+/// state. For an `Interleaved`, it suffices if no image is installed and no mode of pools was set in that state.
 ///
 /// The calls through a `pmd_access::ThroughLock` form a history of a device that was new: the history that passes
 /// closed, up to the last of these calls. The pass may have any tag. The premise is that `left_alone`, called on the
-/// result of `close`, is true for that tag and the queue. The calls are in the closed history, up to an entry of that
+/// result of `close`, is true for that tag and the queue. The closed history contains the calls, up to an entry of that
 /// pass. `pmd::begins_well` reports what the laws require of the place where a driver starts, as
 /// `pmd::laws::worker_begins_well` says.
 pub fn calls_in_hand_are_a_history()
@@ -81,32 +82,33 @@ pub fn lives_lend_apart()
     ensures { LifeLendsApart }
 {}
 
-/// No call of `rx`, `tx`, `reap`, `rx_burst` or `tx_burst` after the driver's start ends with the device at fault. Nor
-/// does a `tx_burst` that returns how many packets were accepted find it at fault. The premises: the history is legal,
-/// leaves the queue alone and begins well; between the driver's calls, its author may make any harmless calls through
-/// the same pass. Just before the driver's first access, the frames that wait for the queue fit a packet of the driver.
-/// None of its arena's blocks that its pass tries to lend is lent then, and no other pass tries to lend any of them
-/// after the pass's first entry.
+/// No call of `rx`, `tx`, `reap`, `rx_burst` or `tx_burst` after the driver's start ends with the device at fault. A
+/// `tx_burst` that returns the number of accepted packets doesn't find it at fault either. The premises: the history is
+/// legal, leaves the queue alone and begins well; between the driver's calls, its author may make any harmless calls
+/// through the same pass. Just before the driver's first access, the frames that wait for the queue fit a packet of the
+/// driver. Of its arena's blocks, none that its pass tries to lend is lent at that point, and no other pass tries to
+/// lend any of these after the pass's first entry.
 pub fn no_call_finds_the_device_at_fault()
     ensures finds { NoCallFindsFault }
     ensures meets { NoBurstMeetsFault }
 {}
 
 /// No start ends with the device at fault, neither while it fills its receive ring nor at any other of its events. The
-/// premises are those of `no_call_finds_the_device_at_fault`. In addition, both sides of the queue are off and not
-/// requested on just before the driver's first access.
+/// premises are those of `no_call_finds_the_device_at_fault`. In addition, just before the driver's first access, both
+/// sides of the queue are off with no enable request pending.
 pub fn no_start_finds_the_device_at_fault()
     ensures filling { NoFillingFindsFault }
     ensures during { NoStartFindsFault }
 {}
 
 /// Take a legal history of any sound device that leaves the queue alone and begins well, where a `start` returned a
-/// driver and its calls followed. Each block that the driver has out with a half is lent at the device. Now take the
-/// blocks of its arena that its pass tries to lend. Let none of them be lent just before its first access, and let no
-/// other pass try to lend any of them after the pass's first entry. Then each of them that is lent at the device is out
-/// with a half. So, with the books that `calls_keep_the_books` keeps, each block is in one place: free in the arena, in
-/// hand, or lent to the device. This holds for each block that was free in the arena handed to the driver, or out of it
-/// then, for example in hand. Others may have lent the blocks that were out, or that the driver handed out.
+/// driver and its calls followed. Each block that one of the driver's halves has out is lent at the device. Now take
+/// the blocks of its arena that its pass tries to lend. Let none of them be lent just before its first access, and let
+/// no other pass try to lend any of them after the pass's first entry. Then each of them that is lent at the device is
+/// out with one of the halves. So, with the books that `calls_keep_the_books` keeps, each block is in one place: free
+/// in the arena, in hand, or lent to the device. This holds for each block that was free in the arena handed to the
+/// driver, or out of it then, for example in hand. Blocks that were out then, or that the driver handed out, may have
+/// been lent by others.
 pub fn blocks_out_are_lent_at_the_device()
     ensures lent { OutIsLent }
     ensures known { LentIsOut }
@@ -121,47 +123,47 @@ pub fn calls_keep_the_books()
     ensures { BooksGoOn }
 {}
 
-/// After a `start` returned a driver and its calls followed, `tx` may return that the ring is full. Then the
-/// outstanding packets have fewer parts than the number of descriptors given to the start. With the parts of the given
-/// packet, there are at least that many; if it has one part, all slots but one are taken. The same holds after a call
-/// of `tx_burst` that returns 0, with the parts of the first packet that it leaves.
+/// Suppose a `start` returned a driver, its calls followed, and then `tx` returns that the ring is full. Then the
+/// outstanding packets have fewer parts than the number of descriptors given to the start. Together with the parts of
+/// the given packet, there are at least that many; if it has one part, all slots but one are taken. The same holds
+/// after a call of `tx_burst` that returns 0, with the parts of the first packet that it leaves.
 pub fn full_ring_has_no_room()
     ensures reported { FullHasNoRoom }
     ensures none { NoneHasNoRoom }
 {}
 
-/// Suppose a pass made some calls, and perhaps more after them. An entry of the history has the event and the reply of
-/// the last of these calls, and before it the pass made exactly the others. No clause says that the entry is the
-/// pass's.
+/// Suppose a pass made some calls, and perhaps more after them. Then one entry of the history has the event and the
+/// reply of the last of the calls first mentioned; before that entry, the pass made exactly the preceding ones. No
+/// clause says that the entry is the pass's.
 pub fn calls_end_at_an_entry()
     ensures { CallsEnd }
 {}
 
-/// A call of the driver may poll and find nothing: `rx` when it returns none, `rx_burst` when some packets were
-/// requested and it returns 0. Then what the driver had handed out is everything delivered before the entry of its last
-/// poll, also within a longer history. The same holds before the call's own first event, whatever others, and harmless
-/// calls of its own pass, did ahead of it.
+/// Suppose a call of the driver polls and finds nothing: `rx` returns none, or `rx_burst` returns 0 although packets
+/// were requested. Then the driver had handed out everything that was delivered before the entry of the call's last
+/// poll, also within a longer history. The same holds before the call's own first event, whatever other passes, or
+/// harmless calls of its own pass, did before it.
 pub fn empty_look_leaves_nothing()
     ensures before { NoneIsAllBefore }
     ensures first { NoneIsAllAtFirst }
 {}
 
-/// If a call of a driver in a life ends with a packet outstanding, as a `reap` does that isn't idle, its last event was
-/// a poll. Before the call's own first event, not everything that the driver had accepted was sent, whatever others,
-/// and harmless calls of the driver's own pass, did ahead of it. The same follows from what the calls of a
-/// `pmd_driver::Pmd` return alone.
+/// Suppose a call of a driver in a life ends with a packet outstanding, like a `reap` that isn't idle; its last event
+/// was a poll. Before the call's own first event, not everything that the driver had accepted was sent, whatever other
+/// passes, or harmless calls of the driver's own pass, did before it. The same follows just from what the calls of a
+/// `pmd_driver::Pmd` return.
 pub fn waiting_look_leaves_some_unsent()
     ensures before { WaitingIsNotAllBefore }
     ensures reported { WaitingIsNotAllAsReported }
 {}
 
-/// The order of packets and frames over a history as in `life_in_order`, from what the calls of a `pmd_driver::Pmd`
-/// return alone. A `start` returned the driver. Calls of `rx`, `tx`, `reap`, `rx_burst`, `tx_burst`, `packet` and
-/// `release` followed, in any order and with any results. Between them come harmless calls through the same pass, for
-/// example those by which its author lets frames arrive. The packets that the driver handed out are a prefix of those
-/// delivered. If `rx` returns none, or `rx_burst` returns 0 though some were requested, they are all packets delivered
-/// before its last poll, and so before its first event. The frames sent are a prefix of those that it accepted, and all
-/// of them if none is outstanding, for example when `reap` returns so.
+/// The order of packets and frames over a history as in `life_in_order`, derived just from what the calls of a
+/// `pmd_driver::Pmd` return. A `start` returned the driver. Calls of `rx`, `tx`, `reap`, `rx_burst`, `tx_burst`,
+/// `packet` and `release` followed, in any order and with any results. Between them come harmless calls through the
+/// same pass, for example those by which its author lets frames arrive. The packets that the driver handed out are a
+/// prefix of those delivered. If `rx` returns none, or `rx_burst` returns 0 though some were requested, they are all
+/// the packets delivered before the call's last poll, and so before its first event. The frames sent are a prefix of
+/// those that the driver accepted, and all of them if none is outstanding, for example if `reap` returns this.
 pub fn driver_in_order()
     ensures handed { reported.HandedIsPrefix }
     ensures none { reported.NoneIsAllBefore }
@@ -170,15 +172,16 @@ pub fn driver_in_order()
     ensures idle { reported.IdleIsAllSent }
 {}
 
-/// Packets come in order too if the driver's author makes any calls of the device before its start and between its
-/// calls, for example those of a second driver of another queue. These calls must meet what other passes must meet: the
-/// history leaves the queue alone when each of them carries another pass's tag instead. So after the first entry of the
-/// driver's pass, they write no row of the queue and no setting, and don't reset its pool. They lend, take and poke no
-/// block that the driver itself lends. Just before its own first access, the driver begins well. The retagged history
-/// has only the driver's own calls, reported as its clauses say (`reported`), and belongs to a life (`lived`). So the
-/// laws on these apply, and what they say of packets and frames also holds for the original history. For a device in
-/// hand, marks say which calls are the driver's own (`in_hand`, `interleaved`). They work through one way after another
-/// too, for example if a `Direct` is finished and another one steps the other driver's queue.
+/// Packets are also in order if the driver's author makes any calls to the device before the driver's start and between
+/// its calls, for example the calls of a second driver on another queue. These calls must meet the conditions for other
+/// passes: if each of them carries another pass's tag instead, the history leaves the queue alone. So after the first
+/// entry of the driver's pass, they write no row of the queue and no setting, and don't reset its pool. They lend, take
+/// and poke no block that the driver itself lends. Just before its own first access, the driver begins well. The
+/// retagged history has only the driver's own calls, reported as its clauses say (`reported`), and belongs to a life
+/// (`lived`). So the laws on reported drivers and lives apply, and what they state about packets and frames also holds
+/// for the original history. For a device in hand, marks say which calls are the driver's own (`in_hand`,
+/// `interleaved`). The marks may also span several ways to the device in succession, for example if a `Direct` is
+/// finished and another one steps the other driver's queue.
 pub fn driver_among_any_calls_in_order()
     ensures reported { beside.OwnAreReported }
     ensures lived { beside.ReportedIsLived }
@@ -207,8 +210,8 @@ pub fn driver_among_any_calls_keeps_its_blocks()
 
 /// No start of a driver as in `driver_among_any_calls_in_order` ends with the device at fault at any of its events,
 /// whatever calls its author made before. The conditions are those of `driver_among_any_calls_keeps_its_blocks`. In
-/// addition, both sides of its queue are off and not requested on just before its first access. A start that comes up
-/// adds calls to those already made, including its first access.
+/// addition, just before its first access, both sides of its queue are off with no enable request pending. A start that
+/// comes up adds calls to those already made, including its first access.
 pub fn driver_among_any_calls_starts()
     ensures adds { start.StartAdds }
     ensures filling { start.NoFillingFindsFault }
@@ -222,11 +225,11 @@ pub fn full_ring_among_any_calls_has_no_room()
     ensures none { room.NoneHasNoRoom }
 {}
 
-/// If a driver as in `driver_among_any_calls_in_order` is stopped, what it handed out is a prefix of what was
+/// If a driver as in `driver_among_any_calls_in_order` is stopped, the packets that it handed out are a prefix of those
 /// delivered, at any place during the calls of its stop and at their end. If the stop takes blocks back only after both
-/// sides were seen off, what was sent is a prefix of what it accepted. After its calls have switched both sides off,
-/// nothing more is delivered or sent on the queue. `stop_calls_ask_for_no_side` and `stops_take_blocks_once_off` say
-/// that the calls of a stop, as made, meet these conditions.
+/// sides were seen off, the frames sent are a prefix of those that it accepted. After its calls have switched both
+/// sides off, nothing more is delivered or sent on the queue. According to `stop_calls_ask_for_no_side` and
+/// `stops_take_blocks_once_off`, the calls that a stop makes meet these conditions.
 pub fn driver_among_any_calls_stops_in_order()
     ensures handed { stop.HandedIsPrefix }
     ensures sent { stop.SentIsPrefix }
@@ -234,9 +237,9 @@ pub fn driver_among_any_calls_stops_in_order()
 {}
 
 /// Take a legal history that leaves the queue alone and begins well, up to where a driver that lived was to stop, as
-/// `pmd::run_worker` says of its driver. What is left as handed out is a prefix of what was delivered, and what was
-/// sent is a prefix of what is left as accepted. The same holds over a history that continues to any place during its
-/// stop, or to the end of the stop, home or not.
+/// `pmd::run_worker` says of its driver. The packets that the driver's remains list as handed out are a prefix of those
+/// delivered, and the frames sent are a prefix of those listed as accepted. The same holds over a history that
+/// continues to any place during its stop, or to the end of the stop, whether or not all blocks came home.
 pub fn what_is_left_is_in_order()
     ensures before { LeftIsPrefix }
     ensures handed { HandedOverStop }
@@ -244,33 +247,34 @@ pub fn what_is_left_is_in_order()
 {}
 
 /// Over a history as in `what_is_left_is_in_order`, a driver's start was refused, as `pmd::run_worker` says of a driver
-/// that never lived. Just before the start's first event, port and queue name the queue, and both sides are off and not
-/// requested on. From that event on, nothing is sent on the queue, to any place during the start and the stop of what
-/// it left, and to the end of these. So what is left as handed out, and what was sent since, are in order too.
+/// that never lived. Just before the start's first event, port and queue name the queue, and both sides are off with no
+/// enable request pending. From that event on, nothing is sent on the queue, up to any place during the start and the
+/// stop of its remains, and up to their end. So the packets listed as handed out, and the frames sent since that event,
+/// are in order too.
 pub fn refused_start_sends_nothing()
     ensures sent { RefusedSendsNothing }
     ensures left { LeftOfRefusedIsPrefix }
 {}
 
-/// Let a life as in `life_in_order` be followed by calls of a stop, none of which requests a side on. The packets that
-/// the driver had handed out are a prefix of those delivered in the whole history, including whatever came after. If
-/// these calls take blocks back only after both sides were seen off, the frames sent on the queue are in order too: in
-/// the whole history, they are a prefix of those that the driver had accepted.
+/// Let a life as in `life_in_order` be followed by calls of a stop, none of which requests that a side be enabled. The
+/// packets that the driver had handed out are a prefix of those delivered in the whole history, including whatever came
+/// after. If these calls take blocks back only after both sides were seen off, the frames sent on the queue are in
+/// order too: in the whole history, they are a prefix of those that the driver had accepted.
 pub fn stopped_life_in_order()
     ensures handed { stopped.HandedIsPrefix }
     ensures sent { stopped.SentIsPrefix }
 {}
 
-/// The calls of a stop of a `pmd_driver::Pmd`, with device steps between them, request no side on; nor do those of a
-/// failed stop.
+/// The calls of a stop of a `pmd_driver::Pmd`, with device steps between them, never request that a side be enabled;
+/// nor do the calls of a failed stop.
 pub fn stop_calls_ask_for_no_side()
     ensures stops { stopped.StopEnds }
-    // Nor do those of a failed stop.
+    // Nor do the calls of a failed stop.
     ensures fails { stopped.FailedStopEnds }
 {}
 
 /// The calls of a stop, and of a failed stop, take blocks back only after both sides were seen off, also if they follow
-/// others that do so. The same is true of no call at all.
+/// other calls that do so. The same is true if there are no calls at all.
 pub fn stops_take_blocks_once_off()
     ensures none { stopped.NoCallTakes }
     ensures stops { stopped.StopTakesOnceOff }
@@ -278,9 +282,10 @@ pub fn stops_take_blocks_once_off()
 {}
 
 /// Let a life as in `life_in_order` be followed by calls of a stop that take blocks back only after both sides were
-/// seen off. From then on, nothing more is delivered or sent on the queue, while the calls of the driver's pass are
-/// those of a stop. The same holds for a driver that lived and was stopped, as `pmd::run_worker` says of its driver:
-/// from where its stop had switched both sides off, to any place during the stop, and to its end, home or not.
+/// seen off. From then on, nothing more is delivered or sent on the queue, as long as the driver's pass makes only
+/// calls of a stop. The same holds for a driver that lived and was stopped, as `pmd::run_worker` says of its driver:
+/// from where its stop had switched both sides off, up to any place during the stop, and up to its end, whether or not
+/// all blocks came home.
 pub fn switched_off_queue_is_silent()
     ensures once { SilentOnceOff }
     ensures over { SilentOverStop }

@@ -4,8 +4,8 @@
 //!
 //! Each law is the contract of a function that does nothing. `specs/Along` defines the histories that the laws are
 //! about, and `specs/Histories` which of these drive both halves. Crate `pmd_driver` states how the halves follow from
-//! the calls of a driver's pass, and `specs/Agreeing` what the device and both halves agree on. `specs/Healthy` defines
-//! over which histories the device never gives the reply of a queue at fault.
+//! the calls of a driver's pass. `specs/Agreeing` defines what the device and both halves agree on, and `specs/Healthy`
+//! the histories over which the device never replies as a queue at fault does.
 
 ghost use Rattle.pmd_driver.specs.NicDevice.DmaRing.declared.dir.Dir.TheVariants.{Rx, Tx};
 ghost use Rattle.pmd_driver.specs.Halves.{ReceivingDrives, SendingDrives, OthersDrive, DrivesOn};
@@ -57,10 +57,10 @@ pub fn set_up_is_written()
 /// A start is refused before any event with the first of these faults. `BadSize`: a ring would have fewer than 8 or
 /// more than 1,024 descriptors, or a number that isn't a multiple of 8; or a frame would have fewer than 1,518 bytes or
 /// more than 9,728. `NoBuffer`: fewer blocks are free than one for each slot but one and one for each 128 descriptors
-/// of both rings. With those and two runs for the rings, `DeviceFault`: the port can't name the queue. A packet meets
-/// the first of these: `BadSize`, if it is empty, longer than the limit, or longer than its blocks of 2,048 bytes;
-/// `ForeignBlock`, if its blocks can't go home or another ring has one; a full ring, if more than all slots but one
-/// would be taken.
+/// of both rings. With those and two runs for the rings, `DeviceFault`: the port can't name the queue. A packet is
+/// refused for the first of these reasons: `BadSize`, if it is empty, longer than the limit, or longer than its blocks
+/// of 2,048 bytes; `ForeignBlock`, if its blocks can't go home or another ring has one of them; a full ring, if more
+/// than all slots but one would be taken.
 pub fn refusals_have_an_order()
     ensures starts { StartsHaveAnOrder }
     ensures packets { PacketsHaveAnOrder }
@@ -74,9 +74,9 @@ pub fn frames_have_their_numbers()
     ensures { FramesAre }
 {}
 
-/// A word that a driver writes to a register of a disabled side is the side's, whole: its ring's base, length, head or
-/// tail, its control word, or no head write-back. A write of the enable word is only a request. The queue's other side,
-/// memory, the frame limit and the separation of the queues stay unchanged.
+/// If a driver writes a word to a register of a disabled side, the side has exactly this word afterwards: as its ring's
+/// base, length, head or tail, as its control word, or as a head write-back that is off. A write of the enable word is
+/// only a request. The queue's other side, memory, the frame limit and the separation of the queues stay unchanged.
 pub fn words_of_an_off_side_are_taken()
     ensures receive { WordsAreTaken Rx }
     ensures transmit { WordsAreTaken Tx }
@@ -91,15 +91,16 @@ pub fn standing_sides_are_left()
 
 /// A driver lays out the empty transmit ring of a queue with its transmit side disabled, and only after that requests
 /// the side to be enabled. Nothing is sent on the queue meanwhile, over a legal history that leaves it alone, whether
-/// the side is enabled yet or not. The driver's pass writes no register except its queue's. It lays the ring out while
-/// the side is disabled and not requested on: the length first, then head and tail. Just before the first of these
-/// calls, the driver begins well.
+/// the side is enabled yet or not. The driver's pass writes only registers of its queue. It lays the ring out while the
+/// side is disabled with no enable request pending: the length first, then head and tail. Just before the first of
+/// these calls, the driver begins well.
 pub fn laid_queue_is_silent()
     ensures { LaidQueueIsSilent }
 {}
 
-/// A driver's own accesses keep sides that are disabled, or enabled with an empty ring: a side takes the word written
-/// to it, a side is enabled if its enable word was read with bit 25, and the lent block of zero bytes is kept.
+/// A driver's own accesses preserve this state: each side is disabled, or enabled with an empty ring. A side takes the
+/// word written to it, a side is enabled if its enable word was read with bit 25, and the lent block of zero bytes is
+/// kept.
 pub fn accesses_keep_sides_standing()
     ensures receive_write { WriteStands Rx }
     ensures transmit_write { WriteStands Tx }
@@ -116,33 +117,33 @@ pub fn fresh_sides_agree()
     ensures transmit { FreshTransmitAgrees }
 {}
 
-/// After a write of the receive side's enable word without bit 25, the side isn't requested on, and stays so over every
-/// event that leaves the queue alone. A read that then returns bit 25 as 0 finds it disabled. Two sides that are
-/// disabled and not requested on stay as they are.
+/// After a write of the receive side's enable word without bit 25, the side has no enable request pending, and this
+/// stays true over every event that leaves the queue alone. A read that then returns bit 25 as 0 finds it disabled. Two
+/// sides that are disabled with no enable request pending stay as they are.
 #[tactic(auto, using(crate::proofs::SwitchedOff::off_sides_stand, crate::proofs::SwitchedOff::receive_guard_is_off))]
 pub fn guarded_receive_side_is_off()
     ensures guard { ReceiveGuardIsOff }
     ensures stand { OffSidesStand }
 {}
 
-/// Over a legal history that leaves the queue alone, both sides are disabled and not requested on wherever the driver's
-/// pass has made the accesses that find them disabled; and they stay as they are. Just before the first of these
-/// accesses, the driver begins well.
+/// Over a legal history that leaves the queue alone, both sides are disabled with no enable request pending wherever
+/// the driver's pass has made the accesses that find them disabled; and they stay as they are. Just before the first of
+/// these accesses, the driver begins well.
 pub fn both_sides_are_seen_off()
     ensures quieting { QuietingLeads }
     ensures stand { QuietSidesStand }
 {}
 
 /// Over a legal history that leaves the queue alone, take a place where the state of the sides is known. Wherever the
-/// driver's pass has then made some accesses, it is the state after these accesses.
+/// driver's pass has then made some accesses, the sides are in the state that these accesses lead to.
 pub fn accesses_lead_over_a_history()
     ensures { AccessesLead }
 {}
 
 /// Take a legal history that leaves the queue alone, and a place where the driver's pass has made the calls by which
 /// both rings were set up and both sides enabled. There the device and the driver agree on both sides, with nothing
-/// posted or sent yet. Both are enabled, nothing was received or sent since, and nothing is written yet of a frame for
-/// the queue. This holds whether or not the receive ring is filled next. Just before its first access, the driver
+/// posted or sent yet. Both are enabled, nothing was received or sent since, and no part of a frame for the queue is
+/// written yet. This holds whether or not the receive ring is filled next. Just before its first access, the driver
 /// begins well.
 pub fn switched_sides_agree()
     ensures agree { SwitchedSidesAgree }
@@ -159,14 +160,14 @@ pub fn start_leaves_sides_that_agree()
     ensures on { StartGoesOn }
 {}
 
-/// A start that returns `StartTimeout` made 1,000 reads of its queue's RXDCTL and TXDCTL together, each of which
+/// A start that returns `StartTimeout` made 1,000 reads of its queue's RXDCTL and TXDCTL in total, each of which
 /// returned bit 25 as 0. Each follows a write of the same register, and the last write before it has bit 25 as 1.
 #[tactic(auto, using(crate::proofs::TimedOut::timeouts_poll))]
 pub fn timeouts_poll_a_thousand_times()
     ensures { TimeoutsPoll }
 {}
 
-/// These reads are among the calls of the start's pass, by the numbers that RXDCTL and TXDCTL have at its port.
+/// These reads are among the calls of the start's pass, with the numbers that RXDCTL and TXDCTL have at its port.
 #[tactic(auto, using(crate::proofs::TimedOut::polls_are_reported))]
 pub fn polls_of_a_timeout_are_reported()
     ensures { PollsAreReported }
@@ -188,7 +189,7 @@ pub fn replies_at_a_start_are_healthy()
 
 /// No start finds the device at fault while it sets up its rings, one after the other, or enables both sides. The
 /// history is legal and leaves the queue alone. Just before the start's first call, port and queue name the queue, and
-/// its sides are disabled and not requested on. No block that the start lends is already lent.
+/// its sides are disabled with no enable request pending. No block that the start lends is already lent.
 pub fn starts_find_no_device_at_fault()
     ensures receive { ReceiveIsReady }
     ensures transmit { TransmitIsReady }
@@ -196,8 +197,8 @@ pub fn starts_find_no_device_at_fault()
 {}
 
 /// A start that returns `DeviceFault` during its events does so before both sides are enabled, or while it fills its
-/// receive ring. Over a history as in `starts_find_no_device_at_fault`, the first never happens; and when the filling
-/// of the ring began, the device and the driver agreed on both sides.
+/// receive ring. Over a history as in `starts_find_no_device_at_fault`, the first case never occurs; and when the
+/// filling of the ring began, the device and the driver agreed on both sides.
 pub fn faults_at_a_start_come_filling()
     ensures cases { FaultsAreEarlyOrFilling }
     ensures early { NoFaultIsEarly }
@@ -205,8 +206,8 @@ pub fn faults_at_a_start_come_filling()
 {}
 
 /// The calls of one half change its state and leave the other half unchanged; device steps leave both unchanged; and
-/// sequences of calls compose. So the halves follow from any calls of a running driver, if each call that belongs to
-/// neither half is a device step.
+/// sequences of calls compose. So the state of both halves follows from any calls of a running driver, if each call
+/// that belongs to neither half is a device step.
 pub fn calls_lead_both_halves()
     ensures receiving { ReceivingDrives }
     ensures sending { SendingDrives }
@@ -215,12 +216,13 @@ pub fn calls_lead_both_halves()
 {}
 
 /// Take a history of any sound device that leaves the driver's queue alone, from a place where the device agrees with
-/// both halves. The receive side has just been enabled there, and is requested on. From there on, the pass makes the
-/// calls of the halves, and calls that leave the queue alone. The packets that the driver returned are a prefix of
-/// those delivered since. If the next poll finds none, each of them was returned, or is complete and returned when the
-/// tail advances. If none is complete, all were returned, and so they were at each earlier place since which none was
-/// returned. The frames sent since are a prefix of those that the driver accepted, and all of them if none is
-/// outstanding. If the transmit side is enabled at that place, all of these are counted since it was enabled.
+/// both halves. The receive side has just been enabled there, and its enable request is set. From there on, the pass
+/// makes the calls of the halves, and calls that leave the queue alone. The packets that the driver returned are a
+/// prefix of those delivered since. If the next poll finds none, each of them was returned, or is complete and returned
+/// when the tail advances. If none is complete, all were returned; at each earlier place after which none was returned,
+/// all those delivered by then had been returned. The frames sent since are a prefix of those that the driver accepted,
+/// and all of them if none is outstanding. If the transmit side is enabled at that place, all of these are counted
+/// since it was enabled.
 pub fn both_sides_in_order()
     ensures handed { HandedIsPrefix }
     ensures taken { NoneIsAllTaken }
@@ -231,19 +233,19 @@ pub fn both_sides_in_order()
     ensures counted { CountedWhereUp }
 {}
 
-/// After a write of any word to the enable register of either side of the driver's queue, as a stopping driver makes,
-/// the device agrees with both halves as before. But nothing may be outstanding if the word requests the transmit side
-/// to be enabled.
+/// After a write of any word to the enable register of either side of the driver's queue, such as a stopping driver
+/// makes, the device agrees with both halves as before. But nothing may be outstanding if the word requests the
+/// transmit side to be enabled.
 pub fn enable_words_keep_the_agreement()
     ensures { EnableWordsKeep }
 {}
 
-/// Harmless calls leave every queue alone, and both halves as they are. They lend, take and poke no block. They write
-/// no register that a queue relies on by a number of the physical function, and none by a number of a virtual function.
-/// Device steps that the ways to a device take before the driver's calls are harmless. So are some calls that the
-/// driver's own author makes through the same pass, for example the arrival of a frame or a write of EIMS. So nothing
-/// more is required of a pass if its calls that belong to neither half are harmless. A call through a way to a device
-/// adds only harmless calls if its event is harmless, or if it is refused.
+/// Harmless calls leave every queue alone, and both halves as they are. They lend, take and poke no block. Through the
+/// physical function, they write no register that a queue relies on, and through a virtual function none at all. The
+/// device steps before the driver's calls, on each way to a device, are harmless. So are some calls that the driver's
+/// own author makes through the same pass, for example the arrival of a frame or a write of EIMS. So nothing more is
+/// required of a pass if its calls that belong to neither half are harmless. A call through a way to a device adds only
+/// harmless calls if its event is harmless, or if it is refused.
 pub fn harmless_calls_leave_the_queue_alone()
     ensures called { CallsAddHarmless }
     ensures refused { StepsAddHarmless }
@@ -254,9 +256,9 @@ pub fn harmless_calls_leave_the_queue_alone()
 {}
 
 /// Which events are harmless, by addresses. A write of FCTRL, at 0x05080, or EIMS, at 0x00880, is. A write of CTRL,
-/// HLREG0, MAXFRS, GCR_EXT or a register of a ring isn't, as the first and the last of their addresses show, nor is one
-/// of PVFCTRL with bit 26. No write by a virtual function is, and no event that lends, takes or pokes a block. Every
-/// other event is.
+/// HLREG0, MAXFRS, GCR_EXT or a register of a ring isn't, as the first and the last of their addresses show, nor is a
+/// write of PVFCTRL with bit 26. No write by a virtual function is harmless, and neither is an event that lends, takes
+/// or pokes a block. Every other event is harmless.
 pub fn harmless_events_are_listed()
     ensures address { HarmlessByAddress }
     ensures others { OthersAre }
@@ -278,15 +280,16 @@ pub fn own_replies_are_healthy()
     ensures { OwnRepliesAreHealthy }
 {}
 
-/// So no call of a driver ends with the device at fault over a history as in `own_replies_are_healthy`, as `finds` in
-/// its clauses describes: neither a call that receives, nor one that sends or reaps.
+/// So no call of a driver ends with the device at fault, in the sense of the clause `finds`, over a history as in
+/// `own_replies_are_healthy`. This holds for calls that receive, send or reap.
 pub fn no_call_finds_the_device_at_fault()
     ensures { NoFault }
 {}
 
-/// The beginning of a history as in `both_sides_in_order` leads to that place from the driver's start. Over entries
-/// that write no setting, the frames of the receive list for the queue keep fitting this many blocks. If no other pass
-/// lends a block of the driver's arena, only those blocks are lent that were lent before or that the pass lent.
+/// The clauses apply to the entries before the place in `both_sides_in_order`, for example those of the driver's start.
+/// Over entries that write no setting, the frames of the receive list for the queue keep fitting this many blocks. If
+/// no other pass lends a block of the driver's arena, only those blocks are lent that were lent before or that the pass
+/// lent.
 pub fn entries_before_lead_there()
     ensures short { FramesStayShortAlong }
     ensures lent { OnlyPassLent }

@@ -31,7 +31,7 @@ pub fn add_entries(rt: &impl Hand, history: &mut Vec<Entry>, entries: Vec<Entry>
     }
 }
 
-/// Finishes a `Direct` on which one pass made all calls, and appends them to a history.
+/// Finishes a `Direct` on which one pass made all calls, and appends these calls to a history.
 pub fn finished(rt: &impl Hand, history: &mut Vec<Entry>, pass: u8, direct: Direct) -> Device {
     let (device, calls) = direct.finish();
     add_calls(rt, history, pass, done(rt, calls.into_vec(rt.alloc())));

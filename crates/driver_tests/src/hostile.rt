@@ -88,7 +88,7 @@ type Reported<P> = (What, P, P);
 
 const NO_WRITE: Reported<At> = (What::Nothing, Zero, Zero);
 
-/// Actions of others, in order. (A table of lists can't be a constant, and would cost its proof a step for each
+/// Actions of others, in order. (A table of lists can't be a constant, and its proof would need a step for each
 /// element.)
 type Deeds = (Deed, Deed, Deed);
 

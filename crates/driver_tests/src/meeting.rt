@@ -6,23 +6,23 @@ use std::sync::atomic::{AtomicU64, Ordering};
 use std::sync::{Mutex, Wait};
 use std::thread;
 
-/// The number of looks of a task for another that will come: more than a test can take. After each look other threads
-/// may run.
+/// How often a task looks for another one that is sure to come: more often than any test can last. Other threads may
+/// run after each look.
 pub const PATIENT: u32 = u32::MAX;
-/// The number of looks of a task for another that only comes later.
+/// How often a task looks for another one that comes only later.
 pub const SHORT: u32 = 1_000;
 
 /// The number of points in a worker's run.
 const POINTS: u8 = 200;
 
-/// A task that counts itself in, and waits until two have. Each look takes the lock and frees it.
+/// A task that adds itself to the count, and waits until the count is two. Each look takes the lock and releases it.
 #[derive(Drop)]
 struct Meet<'a, R: Wait> {
     rt: &'a R,
     come: &'a Mutex<u64>,
 }
 
-/// Counts the caller in. Returns whether two have come within this many looks.
+/// Adds the caller to the count. Returns whether the count reaches two within this many looks.
 pub fn meets<R: Wait>(rt: &R, come: &Mutex<u64>, looks: u32) -> bool {
     {
         let mut come = come.lock(rt);
@@ -134,7 +134,7 @@ fn three_workers_meet_at_each_point(rt: HostRuntime) {
     });
 }
 
-/// A later point counts as an earlier one, and no member waits for one that left.
+/// A member at a later point also counts as being at an earlier one, and no member waits for one that left.
 #[test]
 fn no_one_waits_for_who_is_ahead_or_left(rt: HostRuntime) {
     let gate = Lockstep::new(&rt, 2);

@@ -8,8 +8,8 @@ use pmd::{Gate, Lockstep};
 use std::sync::atomic::{AtomicU64, Ordering};
 use std::sync::{Mutex, Wait};
 
-/// A gate with a first point that lets a worker pass only while both workers are at it. Each looks there for the other,
-/// a limited number of times. The other points are open, and the first point is open to everyone else.
+/// A gate whose first point lets a worker pass only while both workers are at it. There, each worker looks for the
+/// other a limited number of times. The other points are open, and the first point is open to everyone else.
 #[derive(Drop)]
 struct Meeting<'a, R> {
     rt: &'a R,

@@ -49,7 +49,7 @@ fn let_all_go(rt: &impl Hand, bufs: &mut Vec<Buf>, mut list: Vec<Event>) {
 pub struct Left {
     /// The device at the end.
     pub device: Device,
-    /// The calls. The own ones are the driver's.
+    /// The calls. The calls marked as own are the driver's.
     pub history: Vec<Entry>,
     /// The number of foreign events.
     pub foreign: usize,
@@ -102,7 +102,7 @@ pub fn take_all(rt: &impl Hand, bufs: &mut Vec<Buf>, mut memory: LentMemory) {
     done(rt, memory.finish());
 }
 
-/// Gives a block to the first of the arenas in which it is missing.
+/// Returns a block to the first arena in which it is missing.
 fn give_home(rt: &impl Hand, buf: Buf, arenas: &mut [Arena]) {
     let mut away = Some(buf);
     for arena in arenas {
@@ -130,8 +130,8 @@ fn not_whole(rt: &impl Hand, mut arenas: Vec<Arena>) -> Vec<Arena> {
     away
 }
 
-/// Gives each block to the first of the arenas in which it is missing, and checks that none is missing afterwards.
-/// Returns the number of arenas that didn't close before.
+/// Returns each block to the first arena in which it is missing, and checks that none is missing afterwards. Returns
+/// the number of arenas that didn't close before.
 pub fn all_home(rt: &impl Hand, mut bufs: Vec<Buf>, arenas: Vec<Arena>) -> usize {
     let mut away = not_whole(rt, arenas);
     let count = away.len();

@@ -1,4 +1,4 @@
-//! A worker ends early for one reason, and its driver then doesn't stop for another. The first reason is reported.
+//! A worker ends early for one reason, and then its driver fails to stop for another. The first reason is reported.
 
 use crate::bench::{end, in_hand, make, stepped, stops};
 use crate::outcome::{Hand, done, emptied, empty, fail, push, same, sees, some};

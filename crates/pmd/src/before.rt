@@ -88,7 +88,7 @@ pub(crate) fn is_first(watched: Watched, left: usize, entry: &Entry) -> bool
     entry.pass == watched.pass && left == 0 && !is_step(&entry.event)
 }
 
-/// The number of calls still left after an entry.
+/// The number of calls that remain after an entry.
 pub(crate) fn still_left(watched: Watched, left: usize, entry: &Entry) -> usize
     ensures { result ≡ still_left watched left entry.now }
 {

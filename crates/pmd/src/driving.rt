@@ -81,7 +81,7 @@ fn work<G: Gate, N: Nic>(
     meet(gate, order.worker, 2)
 }
 
-/// Stops a driver once. If the stop is refused, the driver remains.
+/// Tries once to stop a driver. If the stop is refused, returns the driver.
 fn take_home<N: Nic>(alloc: Global, nic: &mut N, pmd: Pmd) -> (Rest, Option<PmdFault>)
     ensures stopped { IsStopped pmd.queue (N.made nic.old) (halted_of pmd.rings) (N.made nic.new) result.0
         result.1 }
@@ -97,7 +97,7 @@ fn take_home<N: Nic>(alloc: Global, nic: &mut N, pmd: Pmd) -> (Rest, Option<PmdF
     }
 }
 
-/// Stops the driver left by a refused start once, if there is one.
+/// Tries once to stop the driver that a refused start left, if there is one.
 fn end<N: Nic>(alloc: Global, nic: &mut N, rest: Rest) -> Rest
     ensures down { ComesDown (N.made nic.old) rest (N.made nic.new) result }
     ensures handed { left_handed result ≡ left_handed rest }

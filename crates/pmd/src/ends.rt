@@ -26,7 +26,7 @@ pub struct WorkerEnd {
 pub struct Ran {
     /// The end of each job, in the order of the jobs.
     pub ends: Vec<WorkerEnd>,
-    /// How many frames were let in.
+    /// How many frames the device accepted.
     pub fed: usize,
 }
 
@@ -35,7 +35,7 @@ pub struct Ran {
 pub enum RunFault {
     /// There are no jobs, or more than 16.
     NoJobs,
-    /// The arena of this job shares a number with that of an earlier one. It is the first job with that fault.
+    /// The arena of this job shares a block number with an earlier job's arena. It is the first job with that fault.
     Overlap(usize),
     /// Memory ran out.
     OutOfMemory,

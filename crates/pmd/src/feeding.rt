@@ -12,7 +12,7 @@ use std::sync::Wait;
 /// The outcome for frames that were to arrive.
 #[derive(Debug, Drop)]
 pub struct Fed {
-    /// How many frames were let in.
+    /// How many frames the device accepted.
     pub done: usize,
     /// Why the call for a frame was refused, which ended the feeding. `None` if all frames arrived.
     pub refused: Option<CallFault<()>>,
@@ -51,7 +51,7 @@ pub fn feed<R: Wait, const VFS: u8, const FIFO: u16>(
     }
 }
 
-/// Lets one frame arrive. Returns how many were let in: 1 or 0.
+/// Lets one frame arrive. Returns how many frames were accepted: 1 or 0.
 fn arrive<R: Wait, const VFS: u8, const FIFO: u16>(
     rt: &R,
     alloc: Global,
@@ -78,7 +78,7 @@ fn arrive<R: Wait, const VFS: u8, const FIFO: u16>(
     }
 }
 
-/// How many frames one call let in, given its reply. The reply holds no buffer and is dropped.
+/// How many frames were accepted in one call, given its reply. The reply holds no buffer and is dropped.
 fn count_let_in(reply: Reply) -> usize
     requires { may_arrive reply ≡ true }
     ensures { result ≡ (if is_done reply then 1 else 0) }

@@ -1,4 +1,4 @@
-//! Whether the frames let in before a driver's start fit its packets, according to a history's entries.
+//! Whether the frames accepted before a driver's start fit its packets, according to a history's entries.
 
 ghost use Rattle.std.specs.Prelude.{◌≡◌, ◌↔◌, ◌*◌, IsTrue};
 ghost use Rattle.pmd_driver.specs.PmdAccess.Frames.{most_blocks};
@@ -9,7 +9,7 @@ use crate::before::{is_first, still_left};
 use crate::beginning::FRAME_CHECK;
 use pmd_driver::{BLOCK_BYTES, Entry, Event, Reply, Watched};
 
-/// The length in bytes of the frame that an entry let in; 0 if it let none in.
+/// The length in bytes of the frame that arrived in an entry and was accepted; 0 if there is none.
 fn let_in_by(entry: &Entry) -> usize
     ensures { result ≡ let_in_by entry.now.event entry.now.reply }
 {
@@ -19,8 +19,8 @@ fn let_in_by(entry: &Entry) -> usize
     }
 }
 
-/// The length in bytes of the longest frame let in before the driver's first entry. Returns `None` if there is no such
-/// entry.
+/// The length in bytes of the longest frame accepted before the driver's first entry. Returns `None` if there is no
+/// such entry.
 fn longest_before(watched: Watched, from: usize, history: &[Entry]) -> Option<usize>
     ensures { result ≡ known_before longest_after watched 0 from history.now }
 {
@@ -36,8 +36,8 @@ fn longest_before(watched: Watched, from: usize, history: &[Entry]) -> Option<us
     None
 }
 
-/// The capacity in bytes of the most blocks that one of the driver's packets takes, if a frame has at most `frame`
-/// bytes with its check sequence.
+/// The maximum capacity in bytes of a driver's packet, in blocks of 2,048 bytes, if a frame has at most `frame` bytes
+/// with its check sequence.
 fn room_of(frame: u16) -> usize
     ensures { result ≡ 2048 * most_blocks frame }
 {
@@ -45,10 +45,10 @@ fn room_of(frame: u16) -> usize
     BLOCK_BYTES * ((packet + BLOCK_BYTES - 1) / BLOCK_BYTES)
 }
 
-/// Returns whether the frames let in before a driver's start fit its packets, in a history of a new device. A frame
-/// fits if it isn't longer than the most blocks that a packet takes, of 2,048 bytes each, where a frame has at most
-/// `frame` bytes with its check sequence. The check covers entries before the driver's first event, which comes after
-/// `from` calls of its pass and isn't a device step. A dropped frame doesn't count. Also true if there is no such
+/// Returns whether the frames accepted before a driver's start fit its packets, in a history of a new device. A frame
+/// fits if it isn't longer than the maximum number of blocks of a packet, at 2,048 bytes each, for frames of at most
+/// `frame` bytes with their check sequence. The check covers entries before the driver's first event, which comes after
+/// `from` calls of its pass and isn't a device step. A dropped frame doesn't count. Returns true if there is no such
 /// event. It allocates nothing.
 pub fn frames_fit(watched: Watched, from: usize, frame: u16, history: &[Entry]) -> bool
     ensures { IsTrue result ↔ FramesFit watched from (2048 * most_blocks frame) history.now }

@@ -1,4 +1,4 @@
-//! The calling thread's part: it feeds the workers and collects their reports.
+//! The calling thread's work: it lets frames arrive for the workers and collects their reports.
 
 ghost use Rattle.std.specs.Prelude.{◌≡◌, map};
 ghost use Rattle.pmd.specs.Feeding.{AreFed, done_in, gained};
@@ -20,7 +20,7 @@ fn drain_all(collectors: &mut [Collector])
     }
 }
 
-/// Lets the frames arrive if the gate lets the calling thread on. Returns how many were let in.
+/// Lets the frames arrive if the gate lets the calling thread on. Returns how many were accepted.
 fn feed_at<R: Wait, G: Gate, const VFS: u8, const FIFO: u16>(
     rt: &R,
     alloc: Global,
@@ -41,7 +41,8 @@ fn feed_at<R: Wait, G: Gate, const VFS: u8, const FIFO: u16>(
 }
 
 /// The calling thread's work while the workers run. At the gate its number follows those of the workers. It passes
-/// point 0, feeds, passes point 1, and leaves; then it takes their reports so far. Returns how many frames were let in.
+/// point 0, lets the frames arrive, passes point 1, and leaves; then it takes the workers' reports so far. Returns how
+/// many frames were accepted.
 pub(crate) fn host<R: Wait, G: Gate, const VFS: u8, const FIFO: u16>(
     rt: &R,
     alloc: Global,

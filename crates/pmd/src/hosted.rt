@@ -25,7 +25,7 @@ impl<E, T: Task<E>> Promise<ManuallyDrop<E>> for EndOf<T> {
 /// A thread that runs a task, or the task's end if no thread could be created.
 type Seat<E, T> = Result<PromisedHandle<ManuallyDrop<E>, EndOf<T>>, ManuallyDrop<E>>;
 
-/// A value on its way to a thread or back. The value must be droppable there, which a task and its end may not be.
+/// A value on its way to a thread or back. It must be droppable there, but a task and its end may not be.
 /// `ManuallyDrop::into_inner` unwraps it.
 fn on_its_way<T>(value: T) -> ManuallyDrop<T>
     ensures { manually_drop_value result ≡ value }

@@ -15,8 +15,8 @@ pub struct Job {
     pub port: Port,
     /// The number of its queue at that port.
     pub queue: u16,
-    /// The queue, below 128, that the device steps before each of its calls belong to: the one that its port and queue
-    /// name when it starts (`queue_at`).
+    /// The queue, below 128, whose device steps run before each of its calls: the queue that `port` and `queue` name
+    /// when it starts (`queue_at`).
     pub pf_queue: u16,
     /// The number of descriptors of each ring: a multiple of 8 from 8 to 1,024.
     pub size: u16,
@@ -29,9 +29,9 @@ pub struct Job {
 }
 
 impl Job {
-    /// Returns whether the device steps before its calls are those of its own queue: `pf_queue` is the queue that its
-    /// port and queue name, in this pool mode and with `vfs` virtual functions. If it isn't, only others can enable its
-    /// queue.
+    /// Returns whether the device steps before its calls belong to its own queue: whether `pf_queue` is the queue that
+    /// its port and queue name, in this pool mode and with `vfs` virtual functions. If it isn't, only others can enable
+    /// its queue.
     pub fn steps_its_queue(&self, mode: Mode, vfs: u8) -> bool
         ensures { IsTrue result ↔ (queue_at mode vfs self.now.port self.now.queue ≡ Some self.now.pf_queue) }
     {
@@ -42,7 +42,7 @@ impl Job {
     }
 }
 
-/// Returns whether two arenas share a number.
+/// Returns whether two arenas share a block number.
 fn share(a: &Arena, b: &Arena) -> bool
     ensures { IsTrue result ↔ Share a.now b.now }
 {
@@ -51,7 +51,7 @@ fn share(a: &Arena, b: &Arena) -> bool
     begins_there || begins_here
 }
 
-/// Returns whether the arena of a job shares a number with that of an earlier one.
+/// Returns whether a job's arena shares a block number with an earlier job's arena.
 fn shares_earlier(jobs: &[Job], at: usize) -> bool
     requires { at < length jobs.now }
     ensures { IsTrue result ↔ SharesEarlier jobs.now at }
@@ -64,7 +64,7 @@ fn shares_earlier(jobs: &[Job], at: usize) -> bool
     false
 }
 
-/// The first job with an arena that shares a number with that of an earlier one.
+/// The first job whose arena shares a block number with an earlier job's arena.
 pub fn overlap(jobs: &[Job]) -> Option<usize>
     ensures some { IfSome result (λ n. IsFirstToShare jobs.now n) }
     ensures none { IfNone result ((n : ℕ) → ¬ SharesEarlier jobs.now n) }

@@ -1,5 +1,5 @@
-//! What a true result of `begins_well`, `never_asked_on`, `others_lend_none` and `frames_fit` says about the device
-//! when a worker's driver starts.
+//! What follows for the device at the start of a worker's driver if `begins_well`, `never_asked_on`, `others_lend_none`
+//! or `frames_fit` is true.
 //!
 //! Each law is the contract of a function that does nothing. `specs/Order` states the first one, which the clause
 //! `order` of `run_workers` relies on. `specs/AtFirst` states the others, for the laws of crate `driver_laws` on a
@@ -10,8 +10,8 @@ ghost use Rattle.pmd.specs.Order.{EndsAreInOrder};
 
 /// A worker's end is in order over every history of a new device that leaves the job's queue alone and in which the
 /// job's driver begins well. To begin well, port and queue must name the job's queue just before the driver's first
-/// event, and the device's frame limit must be that of the job's frames. If the end has a fault, both sides must also
-/// be off at that point, with no enable request pending.
+/// event, and the device's frame limit must be the limit of the job's frames. If the end has a fault, both sides must
+/// also be off at that point, with no enable request pending.
 ///
 /// Over such a history, the packets that the end reports as handed out are a prefix of those delivered on the queue.
 /// The frames sent there are a prefix of those that the driver accepted, up to the last note of the end's pass. Both
@@ -21,32 +21,33 @@ pub fn ends_are_in_order()
     ensures { EndsAreInOrder }
 {}
 
-/// Over the history of a new device in which `begins_well` is true of a driver: just before the driver's first event,
-/// its port and queue name the watched queue, and the device's frame limit is that of its frames. The clause `order` of
-/// `run_workers` requires this, and so do the laws of `driver_laws` on a driver's life after the same calls of its
-/// pass.
+/// If `begins_well` is true of a driver in the history of a new device, the following holds just before the driver's
+/// first event: its port and queue name the watched queue, and the device's frame limit is the limit of its frames. The
+/// clause `order` of `run_workers` requires this, and so do the laws of `driver_laws` on a driver's life after the same
+/// calls of its pass.
 pub fn worker_begins_well()
     ensures { BegunHasGround }
 {}
 
-/// Over the history of a new device in which `begins_well` is true of a driver and `never_asked_on` of its queue: just
-/// before the driver's first event, both sides of the queue are off with no enable request pending. `run_workers`
+/// If, in the history of a new device, `begins_well` is true of a driver and `never_asked_on` of its queue, then both
+/// sides of the queue are off just before the driver's first event, with no enable request pending. `run_workers`
 /// requires this if a worker's end has a fault.
 pub fn worker_starts_quiet()
     ensures { NeverAskedIsQuiet }
 {}
 
-/// Over a legal history of a new device in which `others_lend_none` is true of a driver and of its arena's blocks: no
-/// other pass tries to lend any block that the driver's pass tries to lend, and none of those is lent just before the
-/// driver's first event. This is what three laws require of blocks: `driver_laws::no_call_finds_the_device_at_fault`,
-/// `no_start_finds_the_device_at_fault` and `blocks_out_are_lent_at_the_device`.
+/// If `others_lend_none` is true of a driver and of its arena's blocks, in a legal history of a new device, then no
+/// other pass tries to lend any block that the driver's pass tries to lend, and none of these blocks is lent just
+/// before the driver's first event. Three laws require this of blocks:
+/// `driver_laws::no_call_finds_the_device_at_fault`, `no_start_finds_the_device_at_fault` and
+/// `blocks_out_are_lent_at_the_device`.
 pub fn worker_has_its_blocks_alone()
     ensures { OthersLendNoneIsAlone }
 {}
 
-/// Over a legal history of a new device in which `frames_fit` is true of a driver: the frames that wait for the
-/// driver's queue just before its first event fit the number of blocks that its packets may take. Two laws require this
-/// of these frames: `driver_laws::no_call_finds_the_device_at_fault` and `no_start_finds_the_device_at_fault`.
+/// If `frames_fit` is true of a driver in a legal history of a new device, the frames that wait for the driver's queue
+/// just before its first event fit the number of blocks that its packets may take. Two laws require this of these
+/// frames: `driver_laws::no_call_finds_the_device_at_fault` and `no_start_finds_the_device_at_fault`.
 pub fn frames_of_a_worker_fit()
     ensures { FramesFitIsShort }
 {}

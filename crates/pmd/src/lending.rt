@@ -106,9 +106,9 @@ fn none_lent_before(
 }
 
 /// Returns whether nobody else lends a driver's blocks in a history of a new device. The blocks are the `count` from
-/// `first` on, as its arena has them. No entry of another pass may try to lend any of them, whatever the reply, and
-/// none may be lent just before the driver's first event. That event comes after `from` calls of its pass and isn't a
-/// device step. A block is lent if an earlier entry lends it and none after that takes it back. It allocates nothing.
+/// `first` on, as in its arena. No entry of another pass may try to lend any of them, whatever the reply, and none may
+/// be lent just before the driver's first event. That event comes after `from` calls of its pass and isn't a device
+/// step. A block is lent if an earlier entry lends it and none after that takes it back. It allocates nothing.
 pub fn others_lend_none(
     watched: Watched,
     from: usize,

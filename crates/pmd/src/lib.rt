@@ -9,21 +9,22 @@
 //! one of them, through any `Nic`.
 //!
 //! Tasks on threads: a `TaskCell` holds a task, then its end. If no thread can be created for a task, the task gives up
-//! so that nobody waits for it, and its `Start` says so. Meeting points: `Gate` is what a worker requires of one;
-//! `Lockstep` is the gate at which all members meet that haven't left.
+//! so that nobody waits for it, and its `Start` says so. Meeting points: the trait `Gate` is what a worker requires of
+//! a meeting point; `Lockstep` is a gate at which all members that haven't left wait for one another.
 //!
 //! A worker: `job.rt` describes its work, `reports.rt` the ring of its reports, and `feeding.rt` the frames that arrive
-//! in the meantime. `turns.rt` takes one packet, reports it and sends it again; `driving.rt` is a whole run with the
+//! in the meantime. `turns.rt` receives one packet, reports it and sends it again; `driving.rt` is a whole run with the
 //! points at which the worker meets the others.
 //!
 //! The team: `assignment.rt` is what a worker takes to its thread and what comes back, `worker_task.rt` its task there,
-//! `room.rt` the memory allocated before a thread starts, `host.rt` the calling thread's part, `ends.rt` how workers
+//! `room.rt` the memory allocated before a thread starts, `host.rt` the calling thread's work, `ends.rt` how workers
 //! end, and `team.rt` a whole run.
 //!
-//! Checks of a driver by a closed history: `before.rt` walks the entries up to the driver's first one. `beginning.rt`
-//! decides which queue a port addresses and whether the driver begins well there. `quiet.rt` checks that nothing tried
-//! to enable its queue before, `lending.rt` that nobody else lends its blocks, and `fitting.rt` that the frames let in
-//! before fit its packets. `verdict.rt` checks all of this, and that the queue was left alone, in one call.
+//! Checks of a driver against a closed history: `before.rt` walks the entries up to the driver's first one.
+//! `beginning.rt` decides which queue a port addresses and whether the driver begins well there. `quiet.rt` checks that
+//! nothing tried to enable its queue before, `lending.rt` that nobody else lends its blocks, and `fitting.rt` that the
+//! frames accepted before that fit its packets. `verdict.rt` checks all of this, and that the queue was left alone, in
+//! one call.
 #![tactic(auto)]
 
 mod assignment;

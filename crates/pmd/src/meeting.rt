@@ -56,8 +56,8 @@ impl<'a, R: Wait> Lockstep<'a, R> {
         self.moved.notify_all();
     }
 
-    /// Waits until each member has come to a point or a later one, or has left. The lock is then held, and its contents
-    /// show this.
+    /// Waits until each member has come to a point or a later one, or has left. Returns with the lock held; its
+    /// contents show this.
     fn wait(&self, point: u8) -> MutexGuard<'_, Standings>
         ensures { HaveAllCome point self.now (mutex_guard_value result).of }
     {

@@ -8,7 +8,7 @@ use pmd_driver::{Entry, Watched};
 
 /// Returns whether no entry tries to enable the watched queue before its driver's first event, in a history of a new
 /// device. An entry tries to if it writes, under any name, a value with bit 25 to RXDCTL or TXDCTL of the queue. The
-/// driver's first event comes after `from` calls of its pass and isn't a device step. Also true if there is no such
+/// driver's first event comes after `from` calls of its pass and isn't a device step. Returns true if there is no such
 /// event. It allocates nothing.
 pub fn never_asked_on(watched: Watched, from: usize, history: &[Entry]) -> bool
     ensures { IsTrue result ↔ NeverAskedOn watched from history.now }

@@ -51,7 +51,7 @@ fn refusal(jobs: &[Job]) -> Option<RunFault>
 }
 
 /// Runs the tasks in their cells, each on its own thread, and the calling thread's part in the meantime. Returns how
-/// many frames were let in.
+/// many frames were accepted.
 fn run_cells<R: Threads + Wait + Sync, G: Gate + Sync, const VFS: u8, const FIFO: u16>(
     rt: &R,
     alloc: Global,
@@ -164,10 +164,10 @@ fn run_in<R: Threads + Wait + Sync, G: Gate + Sync, const VFS: u8, const FIFO: u
 /// This also holds over the history returned when the passes are closed, if `left_alone` and `begins_well` are true of
 /// the end's pass and the job. Again, the end must have no fault, or `never_asked_on` must be true too.
 ///
-/// A job isn't refused if its `pf_queue` isn't the queue that its port and queue name. Which queue they name depends on
-/// the device's mode when its worker starts, and others may step that queue. If they don't, the worker ends with
-/// `StartTimeout` after 1,000 polls that show a side off. If port and queue name no queue, it ends with `DeviceFault`.
-/// `Job::steps_its_queue` checks this in advance.
+/// A job isn't refused just because its `pf_queue` isn't the queue that its port and queue name. Which queue they name
+/// depends on the device's mode when its worker starts, and others may step that queue. If they don't, the worker ends
+/// with `StartTimeout` after 1,000 polls that show a side off. If port and queue name no queue, it ends with
+/// `DeviceFault`. `Job::steps_its_queue` checks this in advance.
 ///
 /// No clause says how often a worker looks, what it sends, which points it passes, or why the last frames don't arrive;
 /// tests check that.

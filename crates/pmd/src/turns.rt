@@ -1,4 +1,4 @@
-//! One packet after another: take it, report it, and send it again.
+//! Receives one packet after another, reports each, and sends it again.
 
 ghost use Rattle.std.specs.Prelude.{◌≡◌, ◌+◌, ◌<◌, ◌≤◌, ◌++◌, ◌∷◌, [], length, true, IfOk, IfSome, IfNone, OnErr};
 ghost use Rattle.rtrb.specs.Ring.{sent, known_free, SameProducer};

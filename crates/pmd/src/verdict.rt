@@ -1,5 +1,5 @@
-//! Checks a driver by a closed history in one call. `judge` checks everything that the laws on a driver's packets and
-//! blocks require of a history, and names the first requirement that doesn't hold.
+//! Checks a driver against a closed history in one call. `judge` checks everything that the laws on a driver's packets
+//! and blocks require of a history, and names the first requirement that doesn't hold.
 
 ghost use Rattle.std.specs.Prelude.{◌↔◌, IsOk, IfErr};
 ghost use Rattle.pmd.specs.Judged.{IsClear, IsFirst};
@@ -10,14 +10,14 @@ use crate::lending::others_lend_none;
 use crate::quiet::never_asked_on;
 use pmd_driver::{Entry, Watched, left_alone};
 
-/// A driver to judge by a history.
+/// A driver to judge against a history.
 #[derive(Clone, Copy)]
 pub struct Driven {
     /// The number of virtual functions, the driver's pass, and its queue.
     pub watched: Watched,
     /// The number of calls that its pass made before it started.
     pub from: usize,
-    /// The queue and the frame limit it was started with.
+    /// The queue and the frame limit that it was started with.
     pub given: Given,
     /// The first block of its arena.
     pub first: u32,
@@ -37,12 +37,12 @@ pub enum Doubt {
     AskedOnBefore,
     /// A block of its arena was lent when it started, or another pass tries to lend one; `others_lend_none` is false.
     LentByOthers,
-    /// A frame let in before it started is too long for its packets; `frames_fit` is false.
+    /// A frame accepted before it started is too long for its packets; `frames_fit` is false.
     TooLong,
 }
 
-/// Judges a driver by a history of a new device: first with `left_alone`, then with `begins_well`, `never_asked_on`,
-/// `others_lend_none` and `frames_fit`. Returns the first doubt. It allocates nothing.
+/// Judges a driver against a history of a new device: first with `left_alone`, then with `begins_well`,
+/// `never_asked_on`, `others_lend_none` and `frames_fit`. Returns the first doubt. It allocates nothing.
 pub fn judge(driven: &Driven, history: &[Entry]) -> Result<(), Doubt>
     ensures clear { IsOk result ↔ IsClear driven.now history.now }
     ensures first { IfErr result (λ doubt. IsFirst driven.now history.now doubt) }

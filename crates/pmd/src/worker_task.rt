@@ -98,7 +98,7 @@ impl<'a, R: Wait, G: Gate, const VFS: u8, const FIFO: u16> Task<Back>
         }
     }
 
-    /// It leaves the gate, and its arena is home.
+    /// Leaves the gate. The arena is returned unused.
     fn give_up(self) -> Back {
         let WorkerTask {
             rt: _,

@@ -6,7 +6,7 @@ ghost use Rattle.pmd_access.specs.Begun.{entries_in, entry_by, marked_entries, t
 use device_lock::{Call, Entry};
 use std::alloc::Global;
 
-/// The pass of own calls, then that of foreign calls.
+/// The pass of own calls, then the pass of foreign calls.
 const OWN: u8 = 0;
 
 const FOREIGN: u8 = 1;

@@ -1,9 +1,9 @@
 //! How the driver reaches the device.
 //!
-//! `Nic` is a way to the device: each call first makes some events, then its own. There are three ways. `Direct` drives
-//! an owned device, and `ThroughLock` uses a pass to a shared one; both step the driver's queue before a call.
-//! `Interleaved` makes given lists of foreign events instead. Contracts see the events that a way made as the list of
-//! its calls.
+//! `Nic` is a way to access the device: each call first applies some events, then its own. There are three ways.
+//! `Direct` drives an owned device, and `ThroughLock` uses a pass to a shared one; both step the driver's queue before
+//! a call. `Interleaved` applies given lists of foreign events instead. In contracts, the applied events are the list
+//! of its calls.
 //!
 //! The rest builds on it: the accesses that a driver makes, each with the replies that it can get (`accesses.rt`), the
 //! set-up of the whole device (`pf_setup`), a queue with the numbers of its registers at a port, whose sides are made

@@ -8,7 +8,7 @@ ghost use Rattle.device_lock.specs.NicDevice.RegisterFile.Queue.{tail_row};
 use device_lock::{Dir, Place, Port, QUEUES, RowId, addr_of};
 use std::marker::Model;
 
-/// How many of its queues the offsets of a virtual function have room for.
+/// The number of queues for which a virtual function's offsets have room.
 const OWN_QUEUES: u16 = 64;
 
 /// The offset of the receive side of a virtual function's first queue. The transmit side starts at twice this offset.

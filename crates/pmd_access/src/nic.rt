@@ -15,8 +15,9 @@ pub trait Nic {
     /// The calls made through it, with their replies, oldest first.
     ghost made: { Self → List Call };
 
-    /// Where its calls began, as far as it is known. For a pass: the pass that the calls belong to. For a device in
-    /// hand: its state before the first call, from which everything done is a legal history that leads to the device.
+    /// Where its calls began, as far as this is known. For a pass: the pass that the calls belong to. For a device in
+    /// hand: its state before the first call; from this state, everything done is a legal history that leads to the
+    /// device.
     ghost began: { Self → Origin → Type 0 };
 
     /// The reasons for which it may refuse calls, other than lack of memory.

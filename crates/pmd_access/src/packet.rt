@@ -99,7 +99,7 @@ pub fn give_bufs(arena: &mut Arena, bufs: Bufs)
     left.finish()
 }
 
-/// What the driver keeps of a packet that it received or accepted.
+/// What the driver keeps about a packet that it received or accepted.
 #[derive(Debug, Drop)]
 pub struct Record {
     /// The packet's bytes, without the frame check sequence.

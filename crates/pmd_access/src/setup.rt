@@ -171,8 +171,8 @@ fn maxfrs(frame: u16) -> Part<'static>
     }
 }
 
-/// The whole setup, part by part: pools, all receiving and sending; how a frame's queue is chosen; which frames are
-/// accepted and how long they may be; then transmission and reception are enabled.
+/// The whole setup, part by part: the pools, all of which receive and send; how a frame's queue is chosen; which frames
+/// are accepted and how long they may be; then transmission and reception are enabled.
 fn parts_of(setup: &Setup) -> [Part<'_>; 15]
     ensures settings { all_settings result ≡ settings_of setup.now }
     ensures known { All IsPart result }

@@ -1,4 +1,4 @@
-//! Several packets in one call: as many as wait, with one tail write.
+//! Sends several packets in one call, with one tail write.
 
 ghost use Rattle.std.specs.Prelude.{◌≡◌, ◌<◌, ◌+◌, ◌==◌, if◌then◌else◌, true, false, None, length, IfErr};
 ghost use Rattle.pmd_rx.specs.Keeping.{numbers_of_all};
@@ -16,8 +16,8 @@ use pmd_tx::{TxAnswer, TxFault};
 use std::alloc::Global;
 use std::collections::VecDeque;
 
-/// How many packets were queued, and the fault that stopped the burst, if any: that of the next packet or of the last
-/// one.
+/// How many packets were queued, and the fault that stopped the burst, if any: the next packet's fault or the last
+/// one's.
 pub(crate) struct Queued {
     pub(crate) sent: u16,
     pub(crate) met: Option<PmdFault>,
@@ -42,10 +42,10 @@ impl Running {
         ensures drives { DrivesRings (N.made nic.old) self.old (N.made nic.new) self.new }
         // The first packets of the list were accepted in order, as many as reported, and removed. The others are
         // unchanged, except that after a wrong reply to lending the first one, it may be in other blocks with the same
-        // numbers. The tail isn't moved until all are queued; then it is. Without a fault it has passed everything
-        // outstanding. The burst stops only if no packet is left, the ring has no room for the next, the next is
-        // refused before any event, or a call met a fault during its events. If the first packet is refused, no event
-        // occurs.
+        // numbers. The tail isn't moved until all are queued; then it is. Without a fault, the tail has passed
+        // everything outstanding. The burst stops only if no packet is left, the ring has no room for the next, the
+        // next is refused before any event, or a call met a fault during its events. If the first packet is refused, no
+        // event occurs.
         ensures sent { IsSendBurst vacant packets.old.items packets.new.items result (N.made nic.old) self.old
             (N.made nic.new) self.new }
         ensures blocks { KeepsUp self.old (numbers_of_all packets.old.items) self.new

@@ -191,9 +191,9 @@ impl Running {
             .send(alloc, nic, &mut self.arena, elsewhere, packet)
     }
 
-    /// Frees the blocks of sent packets, oldest first. It first continues with a packet that waits since an earlier
-    /// call. By its clauses, if it ends without a fault, the tail has passed both the freed packets and the oldest
-    /// remaining one.
+    /// Frees the blocks of sent packets, oldest first. It first continues with a packet that has waited since an
+    /// earlier call. By its clauses, if it ends without a fault, the tail has passed both the freed packets and the
+    /// oldest remaining one.
     ///
     /// `DeviceFault` if the device sends a reply that a healthy queue can't send, `Call` if a call was refused. Blocks
     /// already freed stay free.

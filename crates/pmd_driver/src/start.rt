@@ -58,7 +58,7 @@ struct Places {
     transmit: u32,
 }
 
-/// Finds the two lowest runs of free blocks that fit a ring each, if enough blocks are free.
+/// Finds the two lowest runs of free blocks that fit one ring each, if enough blocks are free.
 fn find_places(arena: &Arena, size: u16) -> Option<Places>
     requires { (8 ≤ size) × (size ≤ 1024) }
     ensures some { IsSome result ↔ (has_room arena.now size ≡ true) }
@@ -129,7 +129,7 @@ fn half_started(fault: PmdFault, queue: Queue, halted: Halted) -> StartRefused
     }
 }
 
-/// A refusal while preparing the receive ring. Those of its blocks already lent are out of the arena.
+/// A refusal while preparing the receive ring. Those of the ring's blocks that are already lent are out of the arena.
 fn left_before_one(
     alloc: Global,
     queue: Queue,
@@ -147,8 +147,8 @@ fn left_before_one(
     half_started(fault, queue, Halted::of_blocks(alloc, arena, lent))
 }
 
-/// A refusal while preparing the transmit ring. The receive ring's blocks, and those of the transmit ring already lent,
-/// are out of the arena.
+/// A refusal while preparing the transmit ring. The receive ring's blocks are out of the arena, and so are those of the
+/// transmit ring's blocks that are already lent.
 fn left_after_one(
     alloc: Global,
     queue: Queue,
@@ -231,10 +231,10 @@ impl Pmd {
     /// posted for incoming frames. A frame has at most `frame` bytes with its frame check sequence: 1,518 to 9,728.
     ///
     /// Before any event, in this order: `BadSize` if the size or the frame length is out of range; `NoBuffer` if too
-    /// few blocks are free, or no two such runs are; `DeviceFault` if the port can't address the queue. After that,
-    /// `DeviceFault` if a side of the queue is on, or if the device sends a reply that a healthy queue can't send;
-    /// `StartTimeout` if 1,000 polls show a side off; `Call` if a call was refused. If a block was already lent, the
-    /// error returns the half-started driver.
+    /// few blocks are free, or no two such runs are free; `DeviceFault` if the port can't address the queue. After
+    /// that, `DeviceFault` if a side of the queue is on, or if the device sends a reply that a healthy queue can't
+    /// send; `StartTimeout` if 1,000 polls show a side off; `Call` if a call was refused. If a block was already lent,
+    /// the error returns the half-started driver.
     pub fn start<N: Nic>(
         alloc: Global,
         nic: &mut N,

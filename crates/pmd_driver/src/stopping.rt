@@ -85,7 +85,7 @@ impl Leaving {
     }
 }
 
-/// Takes the blocks of both rings home, the first ring's first.
+/// Takes the blocks of both rings home, starting with the first ring's.
 fn bring_both<N: Nic>(
     alloc: Global,
     nic: &mut N,

@@ -1,4 +1,4 @@
-//! Posts blocks to the receive ring and receives from it: calls in order, any of which may be the last one made.
+//! Posts blocks to the receive ring and receives from it: sequences of calls, any of which may be the last one made.
 
 ghost use Rattle.std.specs.Prelude.{ℕ, ◌≡◌, ◌≢◌, ◌<◌, ◌≤◌, ◌+◌, [], length, true, false, Ok, Err, IfErr, OnOk, OnErr};
 ghost use Rattle.pmd_access.specs.NicDevice.DmaArena.Numbers.{Numbers, free_count, is_free, with_free};

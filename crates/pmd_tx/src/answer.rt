@@ -18,7 +18,7 @@ pub struct TxFault {
     pub packet: Option<Packet>,
 }
 
-/// What a reap found out about the packets sent.
+/// What a reap found out about the sent packets.
 #[derive(Clone, Copy, Debug, PartialEq, Eq)]
 pub struct Reaped {
     /// How many sent packets had their blocks freed.

@@ -43,7 +43,7 @@ pub(crate) fn start_of(packet: &Packet) -> [u8; 60]
     start
 }
 
-/// Undoes a padding: restores the packet's length and its first bytes.
+/// Undoes the padding: restores the packet's length and its first bytes.
 pub(crate) fn unpad(packet: Packet, len: u16, start: &[u8; 60]) -> Packet
     requires { 0 < length packet.bufs }
     ensures { result ≡ unpadded packet len start.now }

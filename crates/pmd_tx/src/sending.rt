@@ -81,8 +81,8 @@ impl TransmitRing {
 
     /// Sends a packet of 1 byte to the limit, padded with zero bytes to 60. For each part it lends the block and writes
     /// the descriptor; then it advances the tail, past packets queued earlier too. It first continues with a packet
-    /// that waits since an earlier call. `elsewhere` says whether another ring of the driver has lent a block with one
-    /// of the packet's block numbers.
+    /// that has waited since an earlier call. `elsewhere` says whether another ring of the driver has lent a block with
+    /// one of the packet's block numbers.
     ///
     /// Before any event it checks the packet. `BadSize` if its length is out of range or above the capacity of its
     /// blocks; `ForeignBlock` if its blocks can't go home or one is lent elsewhere; `RingFull` if the outstanding
@@ -126,7 +126,7 @@ impl TransmitRing {
 
     /// Does the work of `send` but leaves the tail, so that one `flush` can advance it past several packets. For each
     /// part of the packet it lends the block and writes the descriptor. It first finishes lending and writing for a
-    /// packet that waits since an earlier call.
+    /// packet that has waited since an earlier call.
     ///
     /// It returns what `send` returns. If none of its blocks was lent yet, the packet is returned; otherwise it is
     /// accepted, and the next call continues with it. The device sends it after `flush`, `send` or `reap` has advanced
@@ -209,7 +209,7 @@ impl TransmitRing {
         }
     }
 
-    /// Queues a packet that passed the check, when no other packet waits for more than the tail.
+    /// Queues a packet that passed the check. Earlier packets may wait only for the tail to advance.
     fn accept_and_ask<N: Nic>(
         &mut self,
         alloc: Global,

@@ -1,4 +1,4 @@
--- A driver alongside any calls of its author's, over the retagged history.
+-- A driver whose author makes any other calls alongside it, over the retagged history.
 use Rattle.driver_laws.proofs.Faultless.{FindsDuring, filling_never, found, made, made_is, never_at_fault, none_during}
 use Rattle.driver_laws.proofs.Prelude.{AllFollow, AtPort, BeforeLast, BeginsApart, Beside, Bool, Call, DrivesRings}
 use Rattle.driver_laws.proofs.Prelude.{Entry, FaultsEarly, FaultsFilling, Follows, GoesOn, HasGround, IsAlong, IsFresh}
@@ -17,7 +17,7 @@ use Rattle.driver_laws.specs.{BesideStart.BeginsBeside}
 use Rattle.driver_laws.specs.Reported as own
 use Rattle.driver_laws.specs.{StartPrelude.entries_in, StartPrelude.marked_entries, Retagged.AreSame}
 
--- The calls marked as own are those of pass 0.
+-- The calls marked as own are the calls of pass 0.
 pub own_are : (calls : List Call) (own : List Bool) → calls_of 0 (marked_entries calls own) ≡ own_calls calls own
 own_are [] own = refl
 own_are (c ∷ calls) [] = refl
@@ -40,8 +40,8 @@ pub goes_on : {origin : State} {before reported : List Entry} (was : WasReported
 goes_on {origin = origin} {before = before} {reported = reported} was es calls own device began same =
     grind (arith, common_steps, events-append, legal-append, calls_joined, own_are, leads-append)
 
--- A driver alongside any calls of its author's is reported by its own calls alone, over the retagged history. So are
--- its start and its stop.
+-- A driver whose author makes other calls alongside it is reported by its own calls alone, over the retagged history.
+-- So are its start and its stop.
 
 -- A running driver continues from one moment to the next by its own calls alone.
 
@@ -85,7 +85,7 @@ own_again {q = q} {old = old} {m = m} {later = later} {ahead = ahead} {own = own
       ends = ends;
     }
 
--- The retagged history is along.
+-- The retagged history is legal and leaves the queue alone (`IsAlong`).
 pub retagged_along : {w : Watched} {origin : State} {h g : List Entry} → IsRetagged w origin h g → IsAlong w origin g
 retagged_along {origin = origin} {h = h} {g = g} x = grind (arith, common_steps, events_same, legal_same)
 
@@ -162,7 +162,7 @@ module _ (x : Beside) where
   own_life = life_of (again x) (x.ahead ++ x.reported.start) x.reported.started.0 x.own
       (halves_of (goes reported).rings) is_life
 
-  -- What a call added comes after these.
+  -- The calls that the driver's next call added come after its own calls so far.
   pub called_after : (n : Moment) (y : IsCalledBeside x n) (added : List Call) → n.made ≡ (now x).made ++ added
       → x.own ++ y.since ≡ x.own ++ added
   called_after n y added is =

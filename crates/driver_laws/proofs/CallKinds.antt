@@ -1,5 +1,5 @@
--- Calls of a kind in sequence, with device steps between them: those of a driver's accesses, successful or failed,
--- those that lend its blocks, and those of its stop. Also, which blocks a pass lends by them.
+-- Sequences of calls of one kind, with device steps between them: the calls of a driver's accesses, successful or
+-- failed, the calls that lend its blocks, and the calls of its stop. Also the blocks that a pass lends with them.
 use Rattle.driver_laws.proofs.Ground.{IsDriven, words_are_writes, writes_driven}
 use Rattle.driver_laws.proofs.StartPrelude.{AllAre, AreMadeOf, AtEntries, Ends, IsAlong, IsEnable, IsEnding}
 use Rattle.driver_laws.proofs.StartPrelude.{IsOtherwise}
@@ -32,7 +32,7 @@ each_such P Q such [] are = tt
 each_such P Q such (c ∷ cs) are = (such c.event are.0, each_such P Q such cs are.1)
 
 module _ (P : Event Block → Type 0) where
-  -- Calls in parts.
+  -- Calls in two parts.
 
   each_both : (cs ds : List Call) → Each (λ c. P c.event) cs → Each (λ c. P c.event) ds
       → Each (λ c. P c.event) (cs ++ ds)
@@ -145,7 +145,7 @@ accesses_plain q =
     accesses_are q (IsPlain q) IsDriven (step_plain q) (λ port number. tt)
     (λ row word number own named. (row, refl, own, named))
 
--- A device step is an asking event, and asking calls are calls of a stop.
+-- Device steps satisfy `IsAsking`, and calls that do are calls of a stop.
 module _ (q : AtPort) where
   step_asks : (e : Event Block) → is_step e ≡ true → IsAsking q e
   step_asks e is = grind (arith, common_steps)
@@ -159,7 +159,7 @@ module _ (q : AtPort) where
   pub asks_end : (old new : List Call) → Asks q old new → Ends q old new
   asks_end old new (cs, is, are) = (cs, is, each_such (IsAsking q) (IsEnding q) asking_ends cs are)
 
--- Accesses of the enable words that request no side on.
+-- Accesses of the enable words that don't request that a side be enabled.
 
 abbrev pub MayAsk : Access → Type 0
 MayAsk (Sees row on) = IsEnable row

@@ -1,6 +1,6 @@
 -- No call of a driver finds the device at fault from the place where both sides of its queue are on, and so over its
--- whole life. Nor does a burst meet it at fault, whatever it returns. What the call reports may follow other calls:
--- what it added comes after the driver's. The same holds for a start.
+-- whole life. Nor does a burst meet it at fault, whatever it returns. What a call reports also holds after other calls:
+-- the calls that it added come after the driver's. The same holds for a start.
 use Rattle.driver_laws.proofs.Laying.{LaysTo, among, past_first, preparing_lays, ready_after, then_some}
 use Rattle.driver_laws.proofs.Order.{begun, drawn_both, drawn_gone, driven_by, first, last_before, may, on_before}
 use Rattle.driver_laws.proofs.Order.{on_of}
@@ -53,7 +53,7 @@ module _ {own : Blocks} {on : List Call} {h : Halves} {new : List Call} (f : Fin
       steps
       (steps_last is_neither (Sends Elsewhere) _ _ (call_of f.event f.reply) (grind (arith, common_steps)) f.adds.2)
 
--- Calls that lead to a faulting call are part of it.
+-- A faulting call also includes the calls that lead up to it.
 pub found_on : {own : Blocks} {old mid new : List Call} {h j : Halves} → DrivesApart own old h mid j
     → FindsFault own mid j new → FindsFault own old h new
 found_on drives f = search (rules, apart_on)
@@ -133,8 +133,8 @@ module _ {c : Course} (x : On c) (own : Blocks)
             (begun_by w.pass p.front (λ none. some_on y (sym p.fronts ∙ none)));
       })
 
--- A burst: up to some of its events, both halves were driven on to a call with a reply that no healthy queue returns. A
--- call that ends this way is one.
+-- During a burst, both halves were driven on to a call with a reply that no healthy queue returns. This includes a
+-- burst that ends with such a call.
 abbrev pub FindsDuring : Running → List Call → List Call → Type 0
 FindsDuring r old new =
     (mid : List Call) × (later : List Call) × (new ≡ mid ++ later)
@@ -216,7 +216,7 @@ module _ (x : BeginsApart) where
       (is_own-of_free a number (free_before a ns b drawn number free)) (new_asked number asked))
       (λ is. both_ways (among ns number) (times_among ns number (drawn_gone a ns b number drawn free)) is)
 
-  -- No start fails before both sides are on, whatever arena it had.
+  -- No start fails before both sides are on, whatever its arena.
   early_never : (b : Numbers) (early : FaultsEarly q size frame old b new)
       → LendsFresh w origin h q size frame old b new early → ⊥
   early_never b early fresh =

@@ -1,6 +1,5 @@
--- The words that a driver writes to the registers of a queue: each is its side's, whole, while the side is off. Also
--- what a driver relies on in addition to its sides: port and queue name its queue, and frames are no longer than its
--- packets.
+-- The words that a driver writes to a queue's registers: while a side is off, it takes each of them whole. Also what a
+-- driver relies on in addition to its sides: port and queue name its queue, and frames are no longer than its packets.
 use Rattle.driver_laws.proofs.StartPrelude.{AllAre, Done, Fits, HasGround, IsKept, IsPlain, NamesRow, Outcome, Tdwbah}
 use Rattle.driver_laws.proofs.StartPrelude.{WritesNoSetting, across, asks_pool_reset, asks_reset, gives, is_receive}
 use Rattle.driver_laws.proofs.StartPrelude.{is_setting, is_transmit, left_did, named_written, owner_of, plain-write}
@@ -46,8 +45,8 @@ pub each_side : (P : Dir → Type 0) → P Rx → P Tx → (dir : Dir) → P dir
 each_side P receive transmit Rx = receive
 each_side P receive transmit Tx = transmit
 
--- Rows of one side are neither the other's nor settings. A word written to one requests no reset and changes only that
--- register.
+-- The rows of one side belong neither to the other side nor to the settings. A word written to one requests no reset
+-- and changes only that register.
 pub driven : (dir : Dir) (row : RowId) (word : ℕ) → Fits dir row word
     → (is_driven row ≡ true) × ((x : Side) → x ≡ side_with (across dir) row word x) × (is_setting row ≡ false)
     × (asks_reset (row_of row).kind word ≡ false) × (asks_pool_reset (row_of row).kind word ≡ false)
@@ -192,7 +191,7 @@ module _ (queue : ℕ) (s : State) (port : Port) (n word : ℕ) (small : queue <
   abbrev t : State
   t = after s (event.Write port n word)
 
-  -- A register of one side isn't the other's.
+  -- A register of one side isn't a register of the other.
   other_left : (d : Dir) (row : RowId) → NamesRow s port n row queue → asks_reset (row_of row).kind word ≡ false
       → asks_pool_reset (row_of row).kind word ≡ false → owner_of (place row queue) ≡ owner.Side d queue
       → LeavesSide (across d) queue s t

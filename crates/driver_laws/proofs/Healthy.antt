@@ -89,7 +89,7 @@ pub unbegun_since : (queue : ℕ) (s : State) (es : List Entry) → IsSound s �
     → pieces_since queue s None es ≡ Some [] → partial_on queue (leads_to s es).waiting ≡ 0
 unbegun_since queue s es sound events is = unbegun_on queue s None es sound events (λ e. cc) is
 
--- What either half has lent, in the other order.
+-- What either half has lent, with the halves in the other order.
 swapped : (own xs ys : Blocks) (m : Memory) → OnlyLent own (either xs ys) m → OnlyLent own (either ys xs) m
 swapped own xs ys m only n is has = grind (arith, common_steps)
 
@@ -183,8 +183,8 @@ all_here : (h : Halves) (doers : List Doer) (e : Entry) (b : Bool) (calls : List
     → AreHealthy h doers (with_call b e calls)
 all_here h doers e b calls here rest = search rules
 
--- Over entries, of the numbers that no other pass lends, only those that the halves have lent are lent. Replies are
--- healthy if the waiting frames fit.
+-- Take the numbers that no other pass lends. Over entries, only those of them are lent that the halves have lent.
+-- Replies are healthy if the waiting frames fit.
 along : (own : Blocks) {w : Watched} {mine : Blocks} (doers : List Doer) (es : List Entry) {s : State}
     {out : List Piece} {sent : List (List ℕ)} {h : Halves} → Meets w mine s out sent h → Runs w mine s h doers es
     → OnlyLent own (healthy.lent_by h) s.memory → OnlyPassLends w.pass own es

@@ -37,7 +37,7 @@ StepsOn q size lent l [] last = last ≡ l
 StepsOn q size lent l (c ∷ cs) last =
     (m : Laid) × Steps q size lent l c.event c.reply m × StepsOn q size lent m cs last
 
--- The calls made between.
+-- The calls made in between.
 pub record LaysTo (q : AtPort) (size : ℕ) (lent : Blocks) (l : Laid) (old new : List Call) (last : Laid) : Type 0 where
   pub calls : List Call
   pub made : new ≡ old ++ calls
@@ -79,7 +79,7 @@ module _ (q : AtPort) (size : ℕ) (lent : Blocks) where
   abbrev pub To : Laid → List Call → List Call → Laid → Type 0
   To = LaysTo q size lent
 
-  -- The calls lay out the ring as far as some state.
+  -- The calls lay out the ring up to some state.
   abbrev pub Part : Laid → List Call → List Call → Type 0
   Part l old new = (last : Laid) × To l old new last
 

@@ -36,7 +36,7 @@ use Rattle.pmd_driver.specs.PmdRx.Keeping as received
 use Rattle.pmd_driver.specs.PmdTx.Leaving as leaving
 use Rattle.pmd_driver.specs.PmdTx.Sending as sending
 
--- What holds for each event and reply by which calls lay out holds for each call.
+-- If something holds for each event and reply of calls that lay out the ring, it holds for each of these calls.
 
 module _ (q : AtPort) (size : ℕ) (lent : Blocks) where
   each_is : (P : Event Block → Reply Block → Type 0)
@@ -62,7 +62,7 @@ module _ (q : AtPort) (size : ℕ) (lent : Blocks) where
 -- What others lend in a part of a history.
 
 module _ (pass : ℕ) (own : Blocks) where
-  -- No other pass tries to lend these blocks in the beginning of a history.
+  -- No other pass tries to lend these blocks in the first part of a history.
   pub others_before : (front back : List Entry) → OthersLendNone pass own (front ++ back)
       → OthersLendNone pass own front
   others_before front back none before e following is =
@@ -290,7 +290,8 @@ lent h = received.lent_of h.receive ++ leaving.lent_of h.transmit
 lent_counted : (h : Halves) (n : ℕ) → halves_lent_by h n ≡ some (times_in_hand (lent h) n)
 lent_counted h n = grind (arith, common_steps, ring_block_among, list_any-append, counted (lent h) n)
 
--- A block's count of places is the same by what the device has lent as by what is out or lent elsewhere.
+-- A block's count of places is the same whether it is computed from the memory lent to the device or from what is out
+-- or lent elsewhere.
 placed : (f has : Bool) (t k e once : ℕ) → once ≤ 1 → cond f 1 0 + (t + (k + e)) ≡ once
     → cond has 1 0 ≡ cond (some t) 1 0 + e → cond f 1 0 + k + cond has 1 0 ≡ once
 placed f has t k e once most same is = grind (arith, common_steps)

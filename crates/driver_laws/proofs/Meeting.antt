@@ -108,7 +108,7 @@ pub left : (w : Watched) (mode : Mode) (mine : Blocks) (e : Event Block) → IsT
     → LeavesRegisters w mode e × LeavesBlocks mine e
 left w mode mine e is = grind (arith, common_steps, runs)
 
--- For one entry.
+-- This holds for one entry.
 one_left : (w : Watched) (mine : Blocks) (mode : Mode) (doers : List Doer) (e : Entry) (b : Bool) (calls : List Call)
     → OthersHarmless doers (with_call b e calls)
     → (b ≡ true → IsTrue (is_neither (doer_of true doers)) → LeavesRegisters w mode e.event × LeavesBlocks mine e.event)

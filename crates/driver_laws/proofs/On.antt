@@ -1,5 +1,6 @@
--- The words of both rings are written while neither side is requested on. Both are then requested and polled until they
--- are on. When both rings came up and both sides were enabled this way, the device and the driver agree on both.
+-- The words of both rings are written while neither side is requested to be on. Both are then requested and polled
+-- until they are on. When both rings came up and both sides were enabled this way, the device and the driver agree on
+-- both.
 use Rattle.pmd_driver.specs.PmdAccess.Frames.{most_blocks}
 use Rattle.pmd_driver.specs.{Running.Running, Started.AreUp}
 use Rattle.ring_laws.proofs.{Kept.first_place, Leaving.start_agrees as fresh_agrees}
@@ -72,7 +73,7 @@ switching polls more = receive_polled true polls ++ polled Tx true more
 
 module _ (ring size other : ℕ) (one : IsSized ring size) (two : IsSized other size) (p : Sides)
     (off : ((p.side Rx).wanted ≡ false) × ((p.side Tx).wanted ≡ false)) where
-  -- Both are requested on.
+  -- Both are requested to be on.
 
   abbrev asked_on : Sides
   asked_on = after_access (Sets Txdctl 0x2000000) (after_access (Sets Rxdctl 0x2000000) (laid ring size other p))

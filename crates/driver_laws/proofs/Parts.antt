@@ -1,4 +1,4 @@
--- A history by the calls that a pass made: in parts, around one of them, and retagged.
+-- A history described by the calls that a pass made: in parts, around one of these calls, and retagged.
 use Rattle.driver_laws.proofs.StartPrelude.{calls_other, calls_own, gathered}
 use Rattle.driver_laws.specs.StartPrelude.{AreEvents, Call, Entry, IsEvent, IsLegal, Piece, State, after, call_in}
 use Rattle.driver_laws.specs.StartPrelude.{calls_of}
@@ -21,7 +21,7 @@ pub more_some : (old more : List Call) → old ≢ [] → old ++ more ≢ []
 more_some [] more some = absurd (some refl)
 more_some (o ∷ old) more some = λ e. cc
 
--- A history in two parts, by its calls.
+-- A history in two parts, given its calls in two parts.
 pub record Parts (pass : ℕ) (h : List Entry) (xs ys : List Call) : Type 0 where
   pub front : List Entry
   pub back : List Entry
@@ -40,7 +40,7 @@ calls_joined pass g h = rw (filter-append, map-append) refl
 pub own_some : (pass : ℕ) (g : List Entry) (e : Entry) → e.pass ≡ pass → calls_of pass (g ++ e ∷ []) ≢ []
 own_some pass g e own none = grind (arith, common_steps)
 
--- The calls of a pass, by whether an entry is the pass's.
+-- The calls of a pass, depending on whether an entry is the pass's.
 
 abbrev pub with_call : Bool → Entry → List Call → List Call
 with_call true e calls = call_in e ∷ calls
@@ -120,7 +120,7 @@ module _ (pass : ℕ) where
         backs = calls_own pass a.entry a.following (eq-eqb a.entry.pass pass a.own) ∙ (λ k. a.call k ∷ a.later k);
       }
 
--- Two beginnings of a list, for example of a history or of the calls of a pass: one begins the other.
+-- Of two beginnings of a list, for example of a history or of a pass's calls, one is a beginning of the other.
 
 abbrev pub Begins : {A : Type 0} → List A → List A → Type 0
 Begins {A} xs zs = (back : List A) × (xs ++ back ≡ zs)

@@ -1,5 +1,5 @@
--- Two sides at rest are left so by every event that leaves the queue alone, and by a driver's accesses. Also their
--- state after accesses in sequence, over a history.
+-- Two sides stay at rest over every event that leaves the queue alone, and over a driver's accesses. Also their state
+-- after a sequence of accesses, over a history.
 use Rattle.driver_laws.proofs.Ground.{driven, each_side, ground_names, ground_same, plain_keeps, side_driven}
 use Rattle.driver_laws.proofs.StartPrelude.{AtEntries, IsAlong, IsIdle, IsMet, IsPlain, IsZero, Point, Sides, Stands}
 use Rattle.driver_laws.proofs.StartPrelude.{across}
@@ -51,7 +51,7 @@ write_stands dir queue s sides rings port n word row met stand unwanted fits goe
     let t : State = after s (event.Write port n word) in
     let off = not_so (side_of dir queue s).on (sides dir).wanted x.wanted unwanted in
     let taken = words_taken dir queue s port n word row met.small met.sound off fits names in
-    -- A side that is off rests with it: no word says whether a side is on, or what it has staged.
+    -- A side that is off stays at rest: the word changes neither whether it is on nor what it has staged.
     let same : side_of dir queue t ≡ side_with dir row word (record (sides dir) { on = false; staged = [] }) =
     let is = x.same in cc (taken.side) in
     let own : Stands (side_of dir queue t) (side_with dir row word (sides dir)) = grind (arith, same, not_so, goes) in
@@ -82,7 +82,7 @@ lend_stands queue s sides rings ring stand = search (rules, lent_cases, and_one,
 
 -- The state of sides after the accesses of a driver.
 
--- What each entry keeps that receives and sends nothing.
+-- What is preserved by each entry that receives and sends nothing.
 abbrev pub IdleKeeps : Watched → State → (List Entry → Type 0) → Type 0
 IdleKeeps w origin N =
     (done : List Entry) (e : Entry) → pieces w.queue (leads_to origin done) e.event ≡ []
@@ -101,8 +101,8 @@ with_all ns p = record p { rings = and_all ns p.rings }
 abbrev pub laid_with : Dir → (ring size : ℕ) → Sides → Sides
 laid_with dir ring size p = with_all (ring_blocks ring size) (after_accesses (ring_words dir ring size) p)
 
--- An access, and accesses in sequence, from sides with this property, while the entries so far keep what entries keep
--- that receive and send nothing.
+-- An access, and accesses in sequence, from sides with this property. The entries so far preserve what entries that
+-- receive and send nothing preserve.
 module _ {w : Watched} {origin : State} {h : List Entry} (q : AtPort) (frame : ℕ) (along : IsAlong w origin h)
     (C : Sides → Type 0) (N : List Entry → Type 0) (idle : IdleKeeps w origin N) where
   abbrev Standing : Sides → State → Type 0

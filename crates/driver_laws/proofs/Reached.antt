@@ -30,8 +30,8 @@ pub reached_next : (w : Watched) (origin : State) (done : List Entry) (e : Entry
     → leads_to origin (done ++ e ∷ []) ≡ after (leads_to origin done) e.event
 reached_next w origin done e = leads-append origin done (e ∷ [])
 
--- Each entry that leaves the queue alone keeps what holds for the entries so far, and the driver's own call leads from
--- one property to the other.
+-- Each entry that leaves the queue alone preserves what holds for the entries so far, and the driver's own call leads
+-- from one property to the other.
 
 abbrev pub KeptOver : Watched → State → Blocks → (List Entry → Type 0) → Type 0
 KeptOver w origin mine P =
@@ -49,7 +49,7 @@ Before w h calls P =
     (done rest : List Entry) (e : Entry) → done ++ e ∷ rest ≡ h → e.pass ≡ w.pass
     → calls_of w.pass done ++ call_in e ∷ [] ≡ calls → P done
 
--- For a state alone.
+-- The same for a property of the state alone.
 
 pub state_kept : (w : Watched) (origin : State) (mine : Blocks) (P : State → Type 0) → IsKept w mine P
     → KeptOver w origin mine (λ done. P (leads_to origin done))

@@ -1,5 +1,6 @@
--- The calls of a start lay out an empty transmit ring, in turn, and those alongside them lay out no more of it. So do
--- the calls of a refused start, as far as it got, until its remains came down. So it sends nothing.
+-- The calls of a start lay out an empty transmit ring, in turn, and those alongside them lay out no more of it. The
+-- same is true of the calls of a refused start, as far as it got, until its remains came down. Therefore it sends
+-- nothing.
 use Rattle.driver_laws.proofs.{Healthy.drive_same, Laid.laid_queue_is_silent, CallKinds.each_such}
 use Rattle.driver_laws.specs.StartPrelude.{drive}
 use Rattle.driver_laws.specs.{Laid.Lays, Laid.LaysOn, StartPrelude.Rdt, StartPrelude.StartRefused}

@@ -1,6 +1,6 @@
 -- A call of a driver that polls last and finds no packet complete, or the oldest outstanding one not done, within a
--- longer history. What the call reports may follow other calls: what it added comes after a life. A driver's life as
--- its calls report it is a life: it continues over calls as reported, with harmless ones between.
+-- longer history. What a call reports also holds after other calls: the calls that it added come after a life. A
+-- driver's life as its calls report it is a life: it continues over calls as reported, with harmless ones between.
 use Rattle.driver_laws.proofs.Order.{Ran, all_apart, begun, counted, driven, fresh_own, in_parts, last as last_there}
 use Rattle.driver_laws.proofs.Prelude.{AllFollow, AllOwn, AtPort, Block, Blocks, Call, Doer, Drives, Drove, Entry}
 use Rattle.driver_laws.proofs.Prelude.{Event, FindsNone, Follows, Halves, IsReported, Leads, LeadsApart, Life, List, Lives}

@@ -183,7 +183,7 @@ module _ (s : State) (queue : ℕ) (sent : List (List ℕ)) (u : Sender) (f : �
 
 module _ (queue : ℕ) (mine : Blocks) (s : State) (sound : IsSound s) (out : List Piece) (v : Receive)
     (j : Agree queue s out v) (outside : WritesOutside queue mine (reply_to s event.RxStep)) where
-  -- What is received is outside a block of the other half's.
+  -- What is received goes outside the other half's blocks.
   reported_outside : (n : ℕ) → IsTrue (mine n) → Each v (λ b. b ≢ n) → (r : Reply Block) → reply_to s event.RxStep ≡ r
       → WritesOutside queue mine r → IsSparedBy r n
   reported_outside n is away (Wrote on slot end desc at len) reported left =

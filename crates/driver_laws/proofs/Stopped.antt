@@ -1,6 +1,6 @@
 -- What a driver handed out and sent stays in order during its stop and after. After its life, neither side is enabled
--- again. What device and driver agree on holds while the driver requests its sides off. When both are off, nothing more
--- happens on the queue. The same is true of what a driver left that lived and was stopped.
+-- again. Device and driver still agree while the driver requests its sides to be off. When both are off, nothing more
+-- happens on the queue. The same is true of the records that a stopped driver left.
 use Rattle.driver_laws.proofs.Reached.{LeadsOver, all_lead, free_left, reached, reached_next}
 use Rattle.ring_laws.proofs.DeviceLaws.{KeptSettings.settings_stand, Standing.stays_within}
 use Rattle.ring_laws.proofs.{Foreign.no_registers, Steady.deed_settles}
@@ -41,7 +41,7 @@ ground_along {w = w} q frame doers (e ∷ es) {s = s} m r g =
     ground_along q frame (doers_after (e.pass == w.pass) doers) es next.meets (runs_on m r)
     (search (rules, ground_same, settings_stand s e.event next.setting, stays_within))
 
--- If more pieces come, what began the packets so far still begins them.
+-- A prefix of the packets so far remains a prefix when more pieces are received.
 further : (xs : List Kept) (so_far : Option (List Piece)) (ps : List Piece)
     → receive.IsPrefixOf xs (packets_if_any so_far)
     → receive.IsPrefixOf xs (packets_if_any (option_map (λ qs. qs ++ ps) so_far))
@@ -95,8 +95,8 @@ module _ (w : Watched) (origin : State) (q : AtPort) (frame : ℕ) where
         let ends : IsEnding q e.event = subst (λ (n : Call). IsEnding q n.event) (sym same) own in
         keeps_on done e (ending_moves (reached w origin done) e.event met made ends kept.ground kept.settled) kept
 
-    -- Device and driver agree while the driver requests its sides off, counting the frames sent since the transmit side
-    -- was enabled.
+    -- Device and driver agree while the driver requests its sides to be off, counting the frames sent since the
+    -- transmit side was enabled.
     module _ (mine : Blocks) (k : Halves) where
       abbrev sent : List Entry → List (List ℕ)
       sent done = sent_since w.queue origin [] done

@@ -33,7 +33,7 @@ use Rattle.ring_laws.proofs.Lent.{again_is_done}
 use Rattle.pmd_driver.specs.NicDevice.declared.event.Event.TheVariants as event
 use Rattle.pmd_driver.specs.NicDevice.declared.event.Reply.TheVariants as reply
 
--- Both sides are requested on, and this many reads find one of them off.
+-- Both sides are requested to be on, and this many reads find one of them off.
 
 abbrev both : Asked
 both = record { receive = true; transmit = true }
@@ -122,7 +122,7 @@ module _ (q : AtPort) (w : Enables) (are : AreEnables q w) where
   apart : (n : ℕ) → IsNumberOf q.port Txdctl q.queue n → (n == w.receive) ≡ false
   apart n named = ne_eqb n w.receive (numbers_apart q.port q.queue w.receive n are.receive named)
 
-  -- What its call reports of an access.
+  -- What a call reports about its access.
   abbrev Tells : Access → Call → Type 0
   Tells a c = (x : Asked) → (is_missed w x c.event c.reply ≡ is_miss x a) × (asked_after w x c.event ≡ asked_by a x)
 
@@ -145,7 +145,7 @@ polls_are_reported q old new x w are =
     let reported = accesses_reported q w are x.all (old ++ x.before) new none_asked x.enables x.made in
     (reported.0, reported.1, reported.2 ∙ x.polls)
 
--- An access by which a side is seen off, or requested off.
+-- An access by which a side is seen off, or requested to be off.
 abbrev IsQuieting : Access → Type 0
 IsQuieting (Sees row on) = IsEnable row × (on ≡ false)
 IsQuieting (Sets row word) = MayAsk (Sets row word)
@@ -234,7 +234,7 @@ module _ {w : Watched} {origin : State} {h : List Entry} (q : AtPort) (frame : �
       (asked_last stops.mid stops.fails.1.0 (call_of (event.Lend (zero_block stops.next)) (reply.Twice stops.fails.0))
       stops.next (eq-eqb stops.next stops.next refl))))
 
-  -- Both sides are requested on and polled.
+  -- Both sides are requested to be on and polled.
 
   polls_never_stray : (side : Dir) (polls : ℕ) (old new : List Call)
       → PollsEnd DeviceFault q old new side true polls → Next Ground old → Never w origin h new

@@ -31,8 +31,9 @@ pub record IsRetagged (w : Watched) (origin : State) (h g : List Entry) : Type 0
 
 -- From one moment of a running driver to the next, with the calls so far that were the driver's own. Either a call of
 -- `rx`, `tx`, `reap`, `rx_burst` or `tx_burst`, as its clause `drives` says, where all calls are its own. Or any calls
--- of the author's, through any way, with at most one call of `packet` or `release`, as its clause `halves` says. There
--- the way's record of its calls may start fresh, for example if a `Direct` is finished and another is made.
+-- of the author, through any way to the device, with at most one call of `packet` or `release`, as its clause `halves`
+-- says. In the second case, the way's record of its calls may start fresh, for example if a `Direct` is finished and
+-- another is created.
 
 abbrev pub DroveBy : Moment → List Call → Moment → List Call → Type 0
 DroveBy m own n then = Drove m n × (since : List Call) × (n.made ≡ m.made ++ since) × (then ≡ own ++ since)
@@ -82,7 +83,7 @@ now x = last x.m x.later
 abbrev pub IsReportedBeside : Beside → Type 0
 IsReportedBeside x = calls_of x.w.pass x.g ≡ x.own
 
--- The moments are reported for the driver's own calls alone too, with the same driver at each.
+-- The moments are also reported for the driver's own calls alone, with the same driver at each.
 abbrev pub by_own : List Call → Moment → Moment
 by_own own m = record m { made = own }
 
@@ -143,8 +144,8 @@ NoneIsAllBefore =
     (early : List Entry) → AreSame early called.look.before →
     handed_of (now x).driver.rings ≡ delivered x.w.queue x.origin early
 
--- What it had handed out is also everything delivered before the call's own first event, whatever the author did ahead
--- of it.
+-- What it had handed out is also everything delivered before the call's own first event, whatever the author did before
+-- it.
 abbrev pub NoneIsAllAtFirst : Type 0
 NoneIsAllAtFirst =
     (x : Beside) (n : Moment) (called : IsCalledBeside x n) → LooksInVain (now x) n →
@@ -170,8 +171,9 @@ pub record GoesOn (origin : State) (before reported es again : List Entry) (call
   pub leads : leads_to origin (before ++ es) ≡ device
 
 -- The calls through a `Direct` or an `Interleaved` continue a retagged history. Marks say which of the calls are the
--- driver's own; an `Interleaved` has further marks for its own and foreign calls. This continues through one way after
--- another. For two drivers over one device, each has its own marks and counts the other's calls as not its own.
+-- driver's own; an `Interleaved` has further marks for its own and foreign calls. This continues through several ways
+-- in succession. If two drivers share one device, each has its own marks, which count the other driver's calls as not
+-- its own.
 
 abbrev pub DirectIsRetagged : Type 0
 DirectIsRetagged =

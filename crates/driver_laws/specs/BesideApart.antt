@@ -1,5 +1,5 @@
--- A driver alongside any calls that its author makes, where nobody else lends a block of its arena that it tries to
--- lend: none of its calls finds the device at fault, and each block is in one place.
+-- A driver whose author makes any other calls alongside it. If nobody else lends a block of its arena that it tries to
+-- lend, none of its calls finds the device at fault, and each block is in one place.
 use Rattle.std.specs.Prelude.{if◌then◌else◌, ◌+◌, ◌++◌, ◌≡◌, IsTrue, List, ℕ}
 use Rattle.driver_laws.specs.StartPrelude.{Call, arena_of, calls_of}
 use Rattle.driver_laws.specs.StartPrelude.{halted_of, has_block, is_free, is_own, places_of}

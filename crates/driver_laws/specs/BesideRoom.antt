@@ -1,11 +1,11 @@
--- A driver with a full ring, alongside any calls of its author's.
+-- A driver with a full ring, whose author makes any other calls alongside it.
 use Rattle.std.specs.Prelude.{◌+◌, ◌<◌, ◌≤◌, List, ℕ}
 use Rattle.driver_laws.specs.StartPrelude.{AtPort, Call, Numbers, Packet, parts_for}
 use Rattle.driver_laws.specs.{Beside.IsReportedBy, Reported.Drove, Reported.Moment, Reported.last}
 use Rattle.driver_laws.specs.FullRing.{AcceptsNone, TellsFull, outstanding}
 
 -- If a call of `tx` returns that the ring is full, fewer parts are outstanding than the number of descriptors given to
--- its start. With the parts of the given packet, there are at least that many.
+-- its start. Together with the parts of the given packet, there are at least that many.
 abbrev pub FullHasNoRoom : Type 0
 FullHasNoRoom =
     (q : AtPort) (size frame : ℕ) (old : List Call) (a : Numbers) (m : Moment) (later : List Moment)

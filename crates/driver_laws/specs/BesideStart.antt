@@ -1,4 +1,4 @@
--- A driver's start, after and alongside any calls of its author's, that doesn't find the device at fault.
+-- A driver's start doesn't find the device at fault, whatever other calls its author makes before and alongside it.
 use Rattle.std.specs.Prelude.{◌++◌, ◌≡◌, ◌≢◌, List, ℕ}
 use Rattle.driver_laws.specs.StartPrelude.{AreUp, AtPort, Call, DeviceFault, Entry, Numbers, Running, StartRefused}
 use Rattle.driver_laws.specs.StartPrelude.{StopsStarting, calls_of}

@@ -15,13 +15,13 @@ abbrev pub NamesDriven : AtPort → Port → ℕ → Type 0
 NamesDriven q port number =
     (row : RowId) × (port ≡ q.port) × (is_driven row ≡ true) × IsNumberOf q.port row q.queue number
 
--- The event writes no register except the queue's own.
+-- The event writes only registers of the queue, if any.
 abbrev pub IsPlain : AtPort → Event Block → Type 0
 IsPlain q (event.Write port number word) = NamesDriven q port number
 IsPlain q other = ⊤
 
--- An event that requests a side off or observes it: a write of an enable word of the queue without bit 25, a read of a
--- register, or a device step.
+-- An event that requests a side to be off or observes it: a write of an enable word of the queue without bit 25, a read
+-- of a register, or a device step.
 abbrev pub IsAsking : AtPort → Event Block → Type 0
 IsAsking q (event.Write port number word) =
     (side : Dir) × (port ≡ q.port) × IsFalse (has_bit 25 word) × IsNumberOf q.port (enable_row side) q.queue number

@@ -20,7 +20,7 @@ pub record Ended : Type 0 where
 abbrev pub IsToStop : Ended → Type 0
 IsToStop x = calls_of x.w.pass x.h ≡ x.lived.made
 
--- The history ends during or after the stop, successful or not: `since` has the calls of the stop made so far.
+-- The history ends during or after the stop, successful or not: `since` contains the calls of the stop made so far.
 pub record IsOver (x : Ended) : Type 0 where
   pub since : List Call
   pub rest : List Call
@@ -33,12 +33,12 @@ LeavesHanded x = IsHandedInOrder x.course (left_handed x.left)
 abbrev pub LeavesSent : Ended → Type 0
 LeavesSent x = IsSentInOrder x.course (left_accepted x.left)
 
--- What the driver left as handed out is a prefix of what was delivered, and what was sent is a prefix of what it left
--- as accepted.
+-- The packets that the driver's remains list as handed out are a prefix of those delivered, and the frames sent are a
+-- prefix of those listed as accepted.
 abbrev pub LeftIsPrefix : Type 0
 LeftIsPrefix = (x : Ended) → IsToStop x → LeavesHanded x × LeavesSent x
 
--- What the driver left is in order during and after the stop too, with everything delivered and sent meanwhile.
+-- Both lists are in order during and after the stop too, with everything delivered and sent meanwhile.
 
 abbrev pub HandedOverStop : Type 0
 HandedOverStop = (x : Ended) → IsOver x → LeavesHanded x

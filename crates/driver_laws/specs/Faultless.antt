@@ -1,5 +1,5 @@
--- A driver, where nobody else tries to lend a block of its arena that it tries to lend: neither its calls nor its start
--- find the device at fault.
+-- If nobody else tries to lend a block of a driver's arena that the driver tries to lend, neither its calls nor its
+-- start find the device at fault.
 use Rattle.std.specs.Prelude.{ℕ, IsTrue, IsFalse, List, ◌≡◌, ◌≢◌, ◌++◌, All, Option, Some, None, Result}
 use Rattle.driver_laws.specs.StartPrelude.{has_block, is_own, State, Blocks, calls_of, Call, WhereUp, halves_of}
 use Rattle.driver_laws.specs.StartPrelude.{Running}

@@ -15,8 +15,8 @@ abbrev pub outstanding : Rings → ℕ
 outstanding (Up r) = length r.transmit.outstanding
 outstanding (Down h) = 0
 
--- Fewer parts are outstanding than the number of descriptors given to the driver's start. With the parts of the given
--- packet, there are at least that many. So if that packet has one part, all slots but one are taken.
+-- Fewer parts are outstanding than the number of descriptors given to the driver's start. Together with the parts of
+-- the given packet, there are at least that many. So if that packet has one part, all slots but one are taken.
 abbrev pub FullHasNoRoom : Type 0
 FullHasNoRoom =
     (q : AtPort) (size frame : ℕ) (old : List Call) (a : Numbers) (m : Moment) (later : List Moment) (n : Moment)

@@ -20,8 +20,8 @@ spares_all (Some p) word =
     not (is_setting p.row) && not (is_receive p.row) && not (is_transmit p.row)
     && not (asks_pool_reset (row_of p.row).kind word)
 
--- Whether an event is harmless. By a number of the physical function, it writes no register that a queue relies on; by
--- one of a virtual function, it writes none at all. It lends, takes and pokes no block.
+-- Whether an event is harmless. Through the physical function, it writes no register that a queue relies on; through a
+-- virtual function, it writes none at all. It lends, takes and pokes no block.
 abbrev pub is_harmless : Event Block → Bool
 is_harmless (event.Write Pf number word) = spares_all (place_among runs number) word
 is_harmless (event.Write (Vf v) offset word) = false
@@ -71,11 +71,11 @@ Leads old h new k =
     (doers : List Doer) × (since : List Call) × (new ≡ old ++ since) × AllOwn h doers since
     × (k ≡ played_by h doers since) × OthersHarmless doers since
 
--- So the driver's calls lead, because the calls that they make in addition are device steps.
+-- So the driver's calls lead the halves on, because the other calls that they make are device steps.
 abbrev pub DrivesLead : Type 0
 DrivesLead = (old new : List Call) (h k : Halves) → Drives old h new k → Leads old h new k
 
--- Harmless calls by themselves lead, and calls after leading calls do too.
+-- Harmless calls alone lead the halves on, and so do two such sequences of calls in succession.
 abbrev pub HarmlessLead : Type 0
 HarmlessLead = (old new : List Call) (h : Halves) → AddsHarmless old new → Leads old h new h
 

@@ -21,9 +21,9 @@ AreHealthy h (d ∷ doers) (n ∷ calls) = IsHealthy h d n × AreHealthy (after_
 abbrev pub lent_by : Halves → Blocks
 lent_by h = either (received.has_lent h.receive) (sending.has_lent h.transmit)
 
--- A history that drives the halves and shares these numbers with no other pass: no other pass tries to lend a block of
--- them. At the end of its first entries, the frames that wait for the queue fit the blocks that the driver takes for a
--- packet. Of the numbers, only those that the halves have lent are lent.
+-- A history that drives the halves and shares these numbers with no other pass: no other pass tries to lend a block
+-- with one of them. At the end of its first entries, the frames that wait for the queue fit the blocks that the driver
+-- takes for a packet. Of the numbers, only those that the halves have lent are lent.
 pub record IsUnshared (w : Watched) (origin : State) (start rest : List Entry) (h : Halves) (doers : List Doer)
     (own : Blocks) : Type 0 where
   pub driven : IsDriven w origin start rest h doers

@@ -25,15 +25,16 @@ pub record WasMade (s : State) (before : List Entry) : Type 0 where
 abbrev pub in_hand : State → ℕ → Watched
 in_hand s queue = record { vfs = s.vfs; pass = 0; queue = queue }
 
--- The history is along from state `s`, pass 0 made these calls in it, and it leads to the device.
+-- The history from state `s` on is legal and leaves the queue alone (`IsAlong`), pass 0 made these calls in it, and it
+-- leads to the device.
 pub record IsHistoryOf (s : State) (queue : ℕ) (h : List Entry) (calls : List Call) (device : State) : Type 0 where
   pub along : IsAlong (in_hand s queue) s h
   pub made : calls_of 0 h ≡ calls
   pub leads : leads_to s h ≡ device
 
--- The calls through a `Direct`, after what was made before, form a history that leaves a queue alone, if they leave it
--- alone. What the entries of a history report suffices, whatever the state. All entries after the first of pass 0 are
--- of that pass, so only what steps wrote for other queues is required.
+-- The calls through a `Direct`, after the calls made before, form a history that leaves a queue alone, if they leave it
+-- alone. The reports of a history's entries suffice for this, whatever the state. All entries after the first one of
+-- pass 0 belong to that pass, so the only requirement is on what steps wrote for other queues.
 abbrev pub DirectIsHistory : Type 0
 DirectIsHistory =
     (s : State) (queue : ℕ) (before : List Entry) (d : InHand) → queue < 128 → WasMade s before →
@@ -50,7 +51,7 @@ InterleavedIsHistory =
     IsHistoryOf s queue (before ++ marked_entries i.calls i.own) (made_of i) i.device
 
 -- A new device with this number of virtual functions, and room for this many frames, was shared. These passes closed
--- this history of it, as `close` says, and `history` of its result.
+-- its history, as `close` says, and `history` says of the result.
 pub record IsClosed (vfs fifo : ℕ) (h : List Entry) (ps : List PassValue) : Type 0 where
   -- As `Shared::new` requires.
   pub device : (vfs ≤ 63) × (0 < fifo) × (fifo ≤ 4096)
@@ -64,7 +65,8 @@ pub record IsClosed (vfs fifo : ℕ) (h : List Entry) (ps : List PassValue) : Ty
 abbrev pub at_lock : (vfs tag queue : ℕ) → Watched
 at_lock vfs tag queue = record { vfs = vfs; pass = tag; queue = queue }
 
--- The history is along from the new device, and the pass made these calls in it.
+-- The history from the new device on is legal and leaves the queue alone (`IsAlong`), and the pass made these calls in
+-- it.
 pub record IsHistoryAtLock (vfs fifo tag queue : ℕ) (h : List Entry) (calls : List Call) : Type 0 where
   pub along : IsAlong (at_lock vfs tag queue) (new_state vfs fifo) h
   pub made : calls_of tag h ≡ calls

@@ -32,8 +32,8 @@ NoneIsAllBefore =
     (x : Life) (new : List Call) (v : Receive) (looked : LooksInVain x new v) →
     x.k.receive.handed ≡ delivered x.w.queue x.origin looked.look.before
 
--- What it had handed out is also everything delivered before the call's own first event, including harmless calls ahead
--- of it.
+-- What it had handed out is also everything delivered before the call's own first event, even if harmless calls come
+-- before that event.
 abbrev pub NoneIsAllAtFirst : Type 0
 NoneIsAllAtFirst =
     (x : Life) (new : List Call) (v : Receive) (looked : LooksInVain x new v) (before more : List Entry) →

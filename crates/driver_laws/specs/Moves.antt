@@ -20,12 +20,12 @@ pub record IsMet (queue : ℕ) (s : State) : Type 0 where
   pub small : queue < 128
   pub sound : IsSound s
 
--- If a side is requested on, its ring is empty.
+-- If a side is requested to be on, its ring is empty.
 abbrev pub MayGoOn : Side → Type 0
 MayGoOn x = x.wanted ≡ true → is_empty x.ring ≡ true
 
--- A word is written to a register of a side that isn't requested on: the side takes it, if its ring is empty whenever
--- the word requests it on.
+-- A word is written to a register of a side that isn't requested to be on: the side takes it, if its ring is empty
+-- whenever the word requests it to be on.
 abbrev pub WriteStands : Dir → Type 0
 WriteStands dir =
     (queue : ℕ) (s : State) (sides : Dir → Side) (rings : Blocks) (port : Port) (number word : ℕ) (row : RowId) →

@@ -24,6 +24,6 @@ NumbersName s q queue =
     (row : RowId) (number : ℕ) → is_driven row ≡ true → IsNumberOf q.port row q.queue number →
     NamesRow s q.port number row queue
 
--- The numbers do so if port and queue name it.
+-- The numbers name these registers if port and queue name the queue.
 abbrev pub NamedQueueHasTheNumbers : Type 0
 NamedQueueHasTheNumbers = (s : State) (q : AtPort) (queue : ℕ) → NamesQueue s q queue → NumbersName s q queue

@@ -36,7 +36,7 @@ SwitchedSidesAgree =
 abbrev pub SwitchedSidesGoOn : Type 0
 SwitchedSidesGoOn = WhereOn (λ w origin h new v t. AtEntries w h new (WentOn w.queue origin))
 
--- Nothing is written there yet of a frame that waits for the queue.
+-- At that place, no part of a frame that waits for the queue is written yet.
 abbrev pub SwitchedSidesBeginNone : Type 0
 SwitchedSidesBeginNone =
     WhereOn (λ w origin h new v t. AtCalls w origin h new (λ s. partial_on w.queue s.waiting ≡ 0))

@@ -37,7 +37,7 @@ after_accesses [] p = p
 after_accesses (a ∷ rest) p = after_accesses rest (after_access a p)
 
 -- An access that keeps the sides at rest: the read of an enable word, or a word written to a side that isn't requested
--- on.
+-- to be on.
 
 abbrev pub IsEnable : RowId → Type 0
 IsEnable Rxdctl = ⊤

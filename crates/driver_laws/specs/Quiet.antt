@@ -1,4 +1,4 @@
--- A queue with its receive side not requested on, and a queue with both sides off.
+-- A queue whose receive side isn't requested to be on, and a queue with both sides off.
 use Rattle.std.specs.Prelude.{◌≡◌, IsFalse, false, ℕ}
 use Rattle.driver_laws.specs.StartPrelude.{Block, Blocks, Event, IsSound, Port, Rx, Rxdctl, State, Watched, after}
 use Rattle.driver_laws.specs.StartPrelude.{has_bit}
@@ -9,15 +9,15 @@ use Rattle.pmd_driver.specs.NicDevice.declared.event.Reply.TheVariants as reply
 use Rattle.ring_laws.specs.Sides as sides
 use Rattle.ring_laws.specs.Off as transmit
 
--- The receive side isn't requested on; for `IsOff`, it is off too.
+-- The receive side isn't requested to be on; for `IsOff`, it is off too.
 abbrev pub IsUnwanted : ℕ → State → Type 0
 IsUnwanted queue s = sides.IsUnwanted (side_of Rx queue s)
 
 abbrev pub IsOff : ℕ → State → Type 0
 IsOff queue s = sides.IsOff (side_of Rx queue s)
 
--- After a write of the enable word without bit 25, the receive side isn't requested on, whether it is enabled or
--- disabled. It stays so over every event that leaves the queue alone. A read that then returns bit 25 as 0 finds it
+-- After a write of the enable word without bit 25, the receive side isn't requested to be on, whether it is enabled or
+-- disabled. This stays true over every event that leaves the queue alone. A read that then returns bit 25 as 0 finds it
 -- disabled.
 pub record ReceiveGuardIsOff : Type 0 where
   pub written :
@@ -36,7 +36,7 @@ pub record ReceiveGuardIsOff : Type 0 where
 abbrev pub no_block : Blocks
 no_block number = false
 
--- In a sound device, two sides that are disabled and not requested on stay as they are.
+-- In a sound device, two sides that are disabled with no enable request pending stay as they are.
 abbrev pub OffSidesStand : Type 0
 OffSidesStand =
     (queue : ℕ) (s : State) → IsSound s → IsOff queue s → transmit.IsOff queue s →

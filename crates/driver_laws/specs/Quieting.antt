@@ -13,13 +13,13 @@ pub record Both (P Q : Side → Type 0) (queue : ℕ) (q : AtPort) (frame : ℕ)
   pub receive : P (side_of Rx queue s)
   pub transmit : Q (side_of Tx queue s)
 
--- Both sides are off and not requested on.
+-- Both sides are off with no enable request pending.
 abbrev pub IsQuiet : ℕ → AtPort → ℕ → State → Type 0
 IsQuiet queue q frame s = Both IsOff IsOff queue q frame s
 
--- Both sides are off and not requested on, wherever the pass has made the accesses that see them off. Just before the
--- first of these accesses, the driver's port and queue name this queue, and the device's frame limit is the driver's
--- packet limit.
+-- Both sides are off with no enable request pending, wherever the pass has made the accesses that see them off. Just
+-- before the first of these accesses, the driver's port and queue name this queue, and the device's frame limit is the
+-- driver's packet limit.
 abbrev pub QuietingLeads : Type 0
 QuietingLeads =
     (w : Watched) (q : AtPort) (frame : ℕ) (origin : State) (h : List Entry) (old new : List Call) →
@@ -27,7 +27,7 @@ QuietingLeads =
     (made : AreMade q old new both_quiet) → BeforeLast w origin h made.0 (HasGround w.queue q frame) →
     AtCalls w origin h new (IsQuiet w.queue q frame)
 
--- The sides are off and not requested on.
+-- The sides are off with no enable request pending.
 abbrev pub are_off : Sides → Bool
 are_off p =
     (not (p.side Rx).on && not (p.side Rx).wanted) && (not (p.side Tx).on && not (p.side Tx).wanted)

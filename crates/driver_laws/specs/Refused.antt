@@ -10,7 +10,7 @@ use Rattle.ring_laws.specs.Delivered as receive
 use Rattle.ring_laws.specs.Laws as transmit
 
 -- A driver's start was refused over a legal history of a sound device that leaves the queue alone. The history goes up
--- to some place during the start and the stop of its remains, or to the end of these.
+-- to some place during the start and the stop of its remains, or up to their end.
 pub record Refused : Type 0 where
   pub course : Course
   pub open course use *
@@ -20,7 +20,7 @@ pub record Refused : Type 0 where
   pub never : NeverLived q size frame old a e new left
   pub along : IsAlong w origin h
   -- The entry `first` is the start's first, after device steps. Just before it, port and queue name the queue, and both
-  -- sides are off and not requested on.
+  -- sides are off with no enable request pending.
   pub before : List Entry
   pub first : Entry
   pub following : List Entry
@@ -40,9 +40,9 @@ pub record Refused : Type 0 where
 abbrev pub RefusedSendsNothing : Type 0
 RefusedSendsNothing = (x : Refused) → sent_in x.w.queue (leads_to x.origin x.before) (x.first ∷ x.following) ≡ []
 
--- So what is left as handed out is a prefix of what was delivered from there on, counted since the receive side was
--- last enabled. What was sent from there on, counted since the transmit side was last enabled, is a prefix of what is
--- left as accepted. Both lists left are empty.
+-- So the packets listed as handed out are a prefix of those delivered from there on, counted since the receive side was
+-- last enabled. The frames sent from there on, counted since the transmit side was last enabled, are a prefix of those
+-- listed as accepted. Both lists are empty.
 abbrev pub LeftOfRefusedIsPrefix : Type 0
 LeftOfRefusedIsPrefix =
     (x : Refused) →

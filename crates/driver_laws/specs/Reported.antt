@@ -66,8 +66,8 @@ abbrev pub HandedIsPrefix : Type 0
 HandedIsPrefix =
     (x : Reported) → IsReportedOf x → IsHandedInOrder x.course (handed_of (now x).driver.rings)
 
--- What was sent is a prefix of what the driver accepted, and all of it if no packet is outstanding, for example when
--- `reap` returns so.
+-- What was sent is a prefix of what the driver accepted, and all of it if no packet is outstanding, for example if
+-- `reap` returns this.
 
 abbrev pub SentIsPrefix : Type 0
 SentIsPrefix =
@@ -99,8 +99,8 @@ NoneIsAllBefore =
     (x : Reported) (n : Moment) (looked : IsReportedToLook x n) →
     handed_of (now x).driver.rings ≡ delivered x.w.queue x.origin looked.look.before
 
--- What it had handed out is also everything delivered before the call's own first event, including harmless calls ahead
--- of it.
+-- What it had handed out is also everything delivered before the call's own first event, even if harmless calls come
+-- before that event.
 abbrev pub NoneIsAllAtFirst : Type 0
 NoneIsAllAtFirst =
     (x : Reported) (n : Moment) (looked : IsReportedToLook x n) (before more : List Entry) →

@@ -30,7 +30,7 @@ table s = take 32 (drop 17 (settings_of s))
 abbrev pub back : Setup → List Setting
 back s = drop 49 (settings_of s)
 
--- The front's words: those of GCR_EXT, VT_CTL and MRQC, with all pools enabled between them.
+-- The words of `front`: for GCR_EXT and VT_CTL, then the four that enable all pools, then for MRQC.
 abbrev pub front_words : ℕ → ℕ → ℕ → List ℕ
 front_words mode pools mrqc =
     mode ∷ pools ∷ 0xFFFFFFFF ∷ 0xFFFFFFFF ∷ 0xFFFFFFFF ∷ 0xFFFFFFFF ∷ mrqc ∷ []

@@ -24,7 +24,7 @@ SwitchesOff q old h new (rest.Running p) (Some f) (after, is, inl unclosed) off 
 SwitchesOff q old h new (rest.Running p) (Some f) (after, is, inr (inl unswitched)) off = ⊥
 SwitchesOff q old h new (rest.Running p) (Some f) (after, is, inr (inr (mid, switched, during))) off = off ≡ mid
 
--- For a driver that lived, the queue stays silent from there on, to any place during its stop and to its end.
+-- For a driver that lived, the queue stays silent from there on, up to any place during its stop and up to its end.
 abbrev pub SilentOverStop : Type 0
 SilentOverStop =
     (x : Ended) (off : List Call) (done rest : List Entry) → IsOver x →

@@ -23,7 +23,7 @@ SentIsPrefix =
     (x : Life) (new : List Call) → IsStopping x new → TakesOnceOff x.q x.made new →
     IsSentInOrder x.course x.k.transmit.accepted
 
--- The calls of a driver's stop are of this kind, as are those of a failed stop.
+-- The calls of a driver's stop are of this kind, as are the calls of a failed stop.
 
 abbrev pub StopEnds : Type 0
 StopEnds =
@@ -36,7 +36,7 @@ FailedStopEnds =
     StopFails f q old h new left → Ends q old new
 
 -- Blocks are taken back only after both sides were seen off: by a stop, by a failed stop, by a stop after another, and
--- by no call at all.
+-- if there are no calls at all.
 
 abbrev pub StopTakesOnceOff : Type 0
 StopTakesOnceOff =

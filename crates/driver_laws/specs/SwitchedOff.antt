@@ -4,8 +4,8 @@ use Rattle.ring_laws.specs.Delivered.{delivered}
 use Rattle.driver_laws.specs.StartPrelude.{AtPort, Call, Entry, IsSwitched, State, Watched, calls_of, sent_since}
 use Rattle.driver_laws.specs.{Along.AtCalls, Along.IsAlong, Points.HasGround, Quieting.IsQuiet, Stopping.Ends}
 
--- Wherever the pass has switched both sides off, they are off and not requested on, if the driver's port and queue
--- named this queue before.
+-- Wherever the pass has switched both sides off, they are off with no enable request pending, if the driver's port and
+-- queue named this queue before.
 abbrev pub SwitchingOffLeads : Type 0
 SwitchingOffLeads =
     (w : Watched) (q : AtPort) (frame : ℕ) (origin : State) (h : List Entry) (old new : List Call) →

@@ -1,4 +1,4 @@
--- The words of a side that is off: a word written to one of its registers is the side's.
+-- The words of a side that is off: the side takes a word that is written to one of its registers.
 use Rattle.std.specs.Prelude.{◌%◌, ◌*◌, ◌+◌, ◌/◌, ◌<◌, ◌^◌, ◌≡◌, IsFalse, None, ℕ}
 use Rattle.pmd_driver.specs.NicDevice.Named.{named}
 use Rattle.ring_laws.specs.{DeviceLaws.Leaving.LeavesMemory, Sides.LeavesSide}
@@ -76,7 +76,7 @@ pub record TakesWord (dir : Dir) (queue : ℕ) (row : RowId) (word : ℕ) (s t :
   pub other : LeavesSide (across dir) queue s t
   pub ground : KeepsGround s t
 
--- A side takes a word written by a number of its register, in a sound device, while the side is off.
+-- A side takes a word written with a number of its register, in a sound device, while the side is off.
 abbrev pub WordsAreTaken : Dir → Type 0
 WordsAreTaken dir =
     (queue : ℕ) (s : State) (port : Port) (number word : ℕ) (row : RowId) → queue < 128 → IsSound s →

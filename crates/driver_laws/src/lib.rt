@@ -44,7 +44,7 @@ pub mod starting;
 /// is known to have happened to the device before it came into hand, none of it by pass 0. The calls through an
 /// `Interleaved` form one too: its own calls are of pass 0, the foreign ones of pass 1. The history leads to the device
 /// in hand. The laws require that the device was in the state that the earlier part leads to when the `Direct` or
-/// `Interleaved` was created; `began` says so when it is new, and each call of a driver keeps it. They also require
+/// `Interleaved` was created; `began` says so for a new one, and each call of a driver preserves it. They also require
 /// that the history leaves the queue alone. For a `Direct`, the result of `device_lock::left_alone` suffices in any
 /// state. For an `Interleaved`, it suffices if no image is installed and no mode of pools was set in that state.
 ///
@@ -132,9 +132,9 @@ pub fn full_ring_has_no_room()
     ensures none { NoneHasNoRoom }
 {}
 
-/// Suppose a pass made some calls, and perhaps more after them. Then one entry of the history has the event and the
-/// reply of the last of the calls first mentioned; before that entry, the pass made exactly the preceding ones. No
-/// clause says that the entry is the pass's.
+/// Suppose a pass made a list of calls, and perhaps more after it. Then an entry of the history has the event and the
+/// reply of the list's last call; before that entry, the pass made exactly the list's other calls. No clause says that
+/// the entry is the pass's.
 pub fn calls_end_at_an_entry()
     ensures { CallsEnd }
 {}
@@ -148,10 +148,10 @@ pub fn empty_look_leaves_nothing()
     ensures first { NoneIsAllAtFirst }
 {}
 
-/// Suppose a call of a driver in a life ends with a packet outstanding, like a `reap` that isn't idle; its last event
-/// was a poll. Before the call's own first event, not everything that the driver had accepted was sent, whatever other
-/// passes, or harmless calls of the driver's own pass, did before it. The same follows just from what the calls of a
-/// `pmd_driver::Pmd` return.
+/// Suppose a call of a driver in a life ends with a packet outstanding, as a `reap` that isn't idle does. Then its last
+/// event was a poll. Before the call's own first event, not everything that the driver had accepted was sent, whatever
+/// other passes, or harmless calls of the driver's own pass, did before it. The same follows just from what the calls
+/// of a `pmd_driver::Pmd` return.
 pub fn waiting_look_leaves_some_unsent()
     ensures before { WaitingIsNotAllBefore }
     ensures reported { WaitingIsNotAllAsReported }

@@ -74,9 +74,9 @@ pub fn frames_have_their_numbers()
     ensures { FramesAre }
 {}
 
-/// If a driver writes a word to a register of a disabled side, the side has exactly this word afterwards: as its ring's
-/// base, length, head or tail, as its control word, or as a head write-back that is off. A write of the enable word is
-/// only a request. The queue's other side, memory, the frame limit and the separation of the queues stay unchanged.
+/// A disabled side takes the whole word that a driver writes to one of its registers: as its ring's base, length, head
+/// or tail, as its control word, or to turn head write-back off. A write of the enable word is only a request. The
+/// queue's other side, memory, the frame limit and the separation of the queues stay unchanged.
 pub fn words_of_an_off_side_are_taken()
     ensures receive { WordsAreTaken Rx }
     ensures transmit { WordsAreTaken Tx }
@@ -117,9 +117,9 @@ pub fn fresh_sides_agree()
     ensures transmit { FreshTransmitAgrees }
 {}
 
-/// After a write of the receive side's enable word without bit 25, the side has no enable request pending, and this
-/// stays true over every event that leaves the queue alone. A read that then returns bit 25 as 0 finds it disabled. Two
-/// sides that are disabled with no enable request pending stay as they are.
+/// After a write of the receive side's enable word without bit 25, the side isn't requested to be on. This stays true
+/// over every event that leaves the queue alone. A read that then returns bit 25 as 0 finds it disabled. Two sides that
+/// are disabled with no enable request pending stay as they are.
 #[tactic(auto, using(crate::proofs::SwitchedOff::off_sides_stand, crate::proofs::SwitchedOff::receive_guard_is_off))]
 pub fn guarded_receive_side_is_off()
     ensures guard { ReceiveGuardIsOff }
@@ -216,7 +216,7 @@ pub fn calls_lead_both_halves()
 {}
 
 /// Take a history of any sound device that leaves the driver's queue alone, from a place where the device agrees with
-/// both halves. The receive side has just been enabled there, and its enable request is set. From there on, the pass
+/// both halves. The receive side has just been enabled there, and is still requested to be on. From there on, the pass
 /// makes the calls of the halves, and calls that leave the queue alone. The packets that the driver returned are a
 /// prefix of those delivered since. If the next poll finds none, each of them was returned, or is complete and returned
 /// when the tail advances. If none is complete, all were returned; at each earlier place after which none was returned,
@@ -233,8 +233,8 @@ pub fn both_sides_in_order()
     ensures counted { CountedWhereUp }
 {}
 
-/// After a write of any word to the enable register of either side of the driver's queue, such as a stopping driver
-/// makes, the device agrees with both halves as before. But nothing may be outstanding if the word requests the
+/// After a write of any word to the enable register of either side of the driver's queue, the device agrees with both
+/// halves as before. A stopping driver makes such writes. But nothing may be outstanding if the word requests the
 /// transmit side to be enabled.
 pub fn enable_words_keep_the_agreement()
     ensures { EnableWordsKeep }
@@ -256,7 +256,7 @@ pub fn harmless_calls_leave_the_queue_alone()
 {}
 
 /// Which events are harmless, by addresses. A write of FCTRL, at 0x05080, or EIMS, at 0x00880, is. A write of CTRL,
-/// HLREG0, MAXFRS, GCR_EXT or a register of a ring isn't, as the first and the last of their addresses show, nor is a
+/// HLREG0, MAXFRS, GCR_EXT or a register of a ring isn't, as the first and the last of their addresses show. Nor is a
 /// write of PVFCTRL with bit 26. No write by a virtual function is harmless, and neither is an event that lends, takes
 /// or pokes a block. Every other event is harmless.
 pub fn harmless_events_are_listed()
@@ -264,7 +264,7 @@ pub fn harmless_events_are_listed()
     ensures others { OthersAre }
 {}
 
-/// Over a history as in `both_sides_in_order`, if the next read finds the oldest outstanding packet not done, what was
+/// Take a history as in `both_sides_in_order`. If the next read finds the oldest outstanding packet not done, what was
 /// sent up to any earlier place isn't everything that the driver accepted.
 pub fn waiting_packets_are_not_all_sent()
     ensures { WaitingIsNotAll }

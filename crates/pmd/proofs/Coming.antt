@@ -103,7 +103,7 @@ one_come j (Ended b) d (end, pair, room) = (pair, omega (arith, end.few, room))
 one_come j (Waits assignment) d ended = absurd ended
 one_come j Empty d ended = absurd ended
 
--- The rest of all reports can be taken.
+-- The rest of each worker's reports can be taken.
 pub all_come : (jobs : List Job) (cells : List (TaskCell Assignment Back)) (collectors : List Collector)
     → AllEnded jobs cells collectors → HaveCome cells collectors
 all_come [] [] [] ended = tt

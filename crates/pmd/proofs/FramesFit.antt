@@ -1,4 +1,4 @@
--- Lemmas: the test of a history decides whether the frames let in before the driver starts fit.
+-- Lemmas: the test of a history decides whether the frames accepted before the driver starts fit.
 use Rattle.std.proofs.Common.{◌≡◌, ℕ, List, Option, nat_le}
 use Rattle.std.specs.Prelude.{◌↔◌, IsTrue}
 use Rattle.std.proofs.lemmas.Bool.{le-leb, leb-true}

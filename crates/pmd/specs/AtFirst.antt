@@ -10,7 +10,7 @@ use Rattle.pmd.specs.declared.beginning.Given.{Given}
 use Rattle.driver_laws.specs.Asked as asked
 
 -- If a driver begins well in a history of a new device, the following holds just before its first event. Its port and
--- queue name the watched queue, and the device's frame limit is that of its frames.
+-- queue name the watched queue, and the device's frame limit is the limit of its frames.
 abbrev pub BegunHasGround : Type 0
 BegunHasGround =
     (w : Watched) (fifo : ℕ) (old : List Call) (given : Given) (h : List Entry) →
@@ -28,7 +28,7 @@ NeverAskedIsQuiet =
     (IsQuiet w.queue (record { port = given.port; queue = given.queue }) given.frame)
 
 -- If a legal history's entries show that nobody else lends an arena's blocks, the following holds. No other pass tries
--- to lend any of these blocks that the driver's pass tries to lend, and none of those is lent just before the driver's
+-- to lend any of these blocks that the driver's pass tries to lend, and none of these is lent just before the driver's
 -- first event.
 abbrev pub OthersLendNoneIsAlone : Type 0
 OthersLendNoneIsAlone =

@@ -13,11 +13,11 @@ use Rattle.pmd.specs.declared.before.Reported.{Reported}
 abbrev pub is_first : Watched → ℕ → Entry → Bool
 is_first w left e = (e.pass == w.pass) && ((left == 0) && not (is_step e.event))
 
--- How many calls are left after an entry.
+-- How many calls remain after an entry.
 abbrev pub still_left : Watched → ℕ → Entry → ℕ
 still_left w left e = if e.pass == w.pass then left - 1 else left
 
--- A test of what is known; it is true if nothing is.
+-- A test of what is known; it is true if nothing is known.
 abbrev pub holds_of : {S : Type 0} → (S → Bool) → Option S → Bool
 holds_of test None = true
 holds_of test (Some s) = test s

@@ -11,7 +11,7 @@ use Rattle.pmd.specs.Queues.{queue_at}
 use Rattle.pmd.specs.Starts.{Starts}
 use Rattle.pmd.specs.declared.beginning.Given.{Given}
 
--- With these settings, port and queue name the watched queue, and the device's frame limit is that of the driver's
+-- With these settings, port and queue name the watched queue, and the device's frame limit is the limit of the driver's
 -- frames.
 pub record Fits (w : Watched) (s : Settings) (x : Given) : Type 0 where
   pub names : queue_at s.mode w.vfs x.port x.queue ≡ Some w.queue

@@ -30,7 +30,7 @@ pub record IsEndOf (j : Job) (pass : PassValue) (rest : Rest) (reported : List R
   pub few : length reported ≤ j.rounds
   -- Without a fault, the driver stopped.
   pub home : IfNone fault (is_home rest ≡ true)
-  -- No block is missing: if none is lost, an arena that is home has the same numbers free as before.
+  -- No block is missing: if none is lost, the same numbers are free as before in an arena that is home.
   pub whole : IsWhole j.arena rest
   -- Without a thread, nothing was done.
   pub idle : fault ≡ Some NoThread → (pass ≡ j.pass) × IsHome j.arena rest

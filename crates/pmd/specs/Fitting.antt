@@ -11,12 +11,13 @@ use Rattle.pmd_driver.specs.DeviceLock.declared.entry.Entry.{Entry}
 use Rattle.pmd.specs.Before.{known_through}
 use Rattle.pmd.specs.Starts.{Starts}
 
--- The length in bytes of the frame that an event let in, given its reply; 0 if the frame was dropped or none arrived.
+-- The length in bytes of the frame that was accepted in an event, given its reply; 0 if the frame was dropped or none
+-- arrived.
 abbrev pub let_in_by : Event Block → Reply Block → ℕ
 let_in_by (event.Arrive frame) Done = length frame
 let_in_by event reply = 0
 
--- The length in bytes of the longest frame let in, after an entry and after all entries of a history.
+-- The length in bytes of the longest accepted frame, after an entry and after all entries of a history.
 
 abbrev pub longest_after : ℕ → Entry → ℕ
 longest_after longest e = max longest (let_in_by e.event e.reply)
@@ -24,7 +25,7 @@ longest_after longest e = max longest (let_in_by e.event e.reply)
 abbrev pub longest_let_in : List Entry → ℕ
 longest_let_in h = known_through longest_after 0 h
 
--- No frame longer than `most` bytes was let in before the driver's first entry, which comes after `from` calls of its
+-- No frame longer than `most` bytes was accepted before the driver's first entry, which comes after `from` calls of its
 -- pass.
 abbrev pub FramesFit : Watched → ℕ → ℕ → List Entry → Type 0
 FramesFit w from most h =

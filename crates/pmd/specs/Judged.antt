@@ -1,4 +1,4 @@
--- The checks of a driver by a closed history, one after the other.
+-- The checks of a driver against a closed history, one after the other.
 use Rattle.std.specs.Prelude.{◌*◌, List, ⊤}
 use Rattle.pmd_driver.specs.DeviceLock.Alone.{LeavesAlone}
 use Rattle.pmd_driver.specs.DeviceLock.declared.entry.Entry.{Entry}

@@ -1,4 +1,4 @@
--- Arenas that share a number.
+-- Arenas that share a block number.
 use Rattle.std.specs.Prelude.{◌≡◌, ℕ, zero, suc, ◌<◌, true, List, [], ◌∷◌}
 use Rattle.pmd_driver.specs.NicDevice.DmaArena.Numbers.{Numbers, is_own}
 use Rattle.pmd.specs.declared.job.Job.{Job}
@@ -13,11 +13,11 @@ arena_at (j ∷ jobs) (suc at) = arena_at jobs at
 abbrev pub Share : Numbers → Numbers → Type 0
 Share a b = (number : ℕ) × (is_own a number ≡ true) × (is_own b number ≡ true)
 
--- The arena of the job shares a number with that of an earlier one.
+-- The job's arena shares a block number with an earlier job's arena.
 abbrev pub SharesEarlier : List Job → ℕ → Type 0
 SharesEarlier jobs at = (earlier : ℕ) × (earlier < at) × Share (arena_at jobs earlier) (arena_at jobs at)
 
--- This is the first job with an arena that shares a number with that of an earlier one.
+-- This is the first job whose arena shares a block number with an earlier job's arena.
 pub record IsFirstToShare (jobs : List Job) (at : ℕ) : Type 0 where
   pub shares : SharesEarlier jobs at
   pub first : (before : ℕ) → before < at → ¬ SharesEarlier jobs before

@@ -38,7 +38,8 @@ NoneAsksOn w h =
     (before : List Entry) (e : Entry) (following : List Entry) → before ++ e ∷ following ≡ h →
     IsFalse (asks_on w (settings_through w.vfs first_settings before).mode e.event)
 
--- No entry before the driver's first one tries to. The driver's first entry comes after `from` calls of its pass.
+-- No entry before the driver's first one tries to enable the queue. The driver's first entry comes after `from` calls
+-- of its pass.
 abbrev pub NeverAskedOn : Watched → ℕ → List Entry → Type 0
 NeverAskedOn w from h =
     (old : List Call) → length old ≡ from → (x : Starts w.pass old h) → NoneAsksOn w x.before

@@ -9,13 +9,13 @@ use Rattle.pmd.specs.declared.ends.RunFault.TheVariants.{NoJobs, Overlap, OutOfM
 abbrev pub is_team_size : ℕ → Bool
 is_team_size count = nat_le 1 count && nat_le count 16
 
--- Jobs that can run: their number is permitted, and no two arenas share a number.
+-- Jobs that can run: the number of jobs is permitted, and no two arenas share a block number.
 pub record IsTeam (jobs : List Job) : Type 0 where
   pub size : is_team_size (length jobs) ≡ true
   pub apart : (at : ℕ) → ¬ SharesEarlier jobs at
 
 -- No worker starts, for the first of these reasons that holds: the number of jobs isn't permitted (`NoJobs`), the job
--- at this index is the first with an arena that shares a number with that of an earlier one (`Overlap`), or memory ran
+-- at this index is the first whose arena shares a block number with an earlier job's arena (`Overlap`), or memory ran
 -- out (`OutOfMemory`).
 abbrev pub IsWhy : List Job → RunFault → Type 0
 IsWhy jobs NoJobs = is_team_size (length jobs) ≡ false

@@ -21,23 +21,23 @@ pub fn ends_are_in_order()
     ensures { EndsAreInOrder }
 {}
 
-/// If `begins_well` is true of a driver in the history of a new device, the following holds just before the driver's
-/// first event: its port and queue name the watched queue, and the device's frame limit is the limit of its frames. The
-/// clause `order` of `run_workers` requires this, and so do the laws of `driver_laws` on a driver's life after the same
-/// calls of its pass.
+/// Take a history of a new device in which `begins_well` is true of a driver. Just before the driver's first event, its
+/// port and queue name the watched queue, and the device's frame limit is the limit of its frames. The clause `order`
+/// of `run_workers` requires this, and so do the laws of `driver_laws` on a driver's life after the same calls of its
+/// pass.
 pub fn worker_begins_well()
     ensures { BegunHasGround }
 {}
 
-/// If, in the history of a new device, `begins_well` is true of a driver and `never_asked_on` of its queue, then both
-/// sides of the queue are off just before the driver's first event, with no enable request pending. `run_workers`
+/// Take a history of a new device in which `begins_well` is true of a driver and `never_asked_on` of its queue. Just
+/// before the driver's first event, both sides of the queue are off with no enable request pending. `run_workers`
 /// requires this if a worker's end has a fault.
 pub fn worker_starts_quiet()
     ensures { NeverAskedIsQuiet }
 {}
 
-/// If `others_lend_none` is true of a driver and of its arena's blocks, in a legal history of a new device, then no
-/// other pass tries to lend any block that the driver's pass tries to lend, and none of these blocks is lent just
+/// Take a legal history of a new device in which `others_lend_none` is true of a driver and of its arena's blocks. No
+/// other pass tries to lend any of these blocks that the driver's pass tries to lend. None of those blocks is lent just
 /// before the driver's first event. Three laws require this of blocks:
 /// `driver_laws::no_call_finds_the_device_at_fault`, `no_start_finds_the_device_at_fault` and
 /// `blocks_out_are_lent_at_the_device`.
@@ -45,9 +45,9 @@ pub fn worker_has_its_blocks_alone()
     ensures { OthersLendNoneIsAlone }
 {}
 
-/// If `frames_fit` is true of a driver in a legal history of a new device, the frames that wait for the driver's queue
-/// just before its first event fit the number of blocks that its packets may take. Two laws require this of these
-/// frames: `driver_laws::no_call_finds_the_device_at_fault` and `no_start_finds_the_device_at_fault`.
+/// Take a legal history of a new device in which `frames_fit` is true of a driver. The frames that wait for the
+/// driver's queue just before its first event fit the number of blocks that its packets may take. Two laws require this
+/// of these frames: `driver_laws::no_call_finds_the_device_at_fault` and `no_start_finds_the_device_at_fault`.
 pub fn frames_of_a_worker_fit()
     ensures { FramesFitIsShort }
 {}

@@ -1,4 +1,4 @@
--- Lemmas: two ways home as one.
+-- Lemmas: two ways home combined into one.
 use Rattle.std.proofs.Common.{◌≡◌, ℕ, zero, suc, ◌+◌, inl, inr, List, [], ◌++◌, length-append, refl, sym, ap, subst, arith}
 use Rattle.pmd_access.specs.DeviceLock.declared.entry.Call.{Call}
 use Rattle.pmd_access.specs.NicDevice.DmaArena.Numbers.{Numbers}

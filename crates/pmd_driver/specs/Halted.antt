@@ -44,7 +44,7 @@ goes_back h p = are_out h.arena (numbers_of p.bufs) && not (list_any (λ n. is_o
 abbrev pub is_free_or_out : Numbers → List ℕ → ℕ → Bool
 is_free_or_out a out n = is_free a n || nat_lt 0 (times_in_hand out n)
 
--- Two ways home as one: the first one's blocks, then the second one's.
+-- Two ways home combined into one: the first one's blocks, then the second one's.
 abbrev pub both_ways : Homebound → Homebound → Homebound
 both_ways a b = record { lent = a.lent ++ b.lent; lost = a.lost + b.lost }
 

@@ -98,8 +98,8 @@ pub record StopsBeforeOne (q : AtPort) (size : ℕ) (old : List Call) (a : Numbe
   pub fails : ReceiveFails e.fault q size old a new arena out
   pub left : IsLeftWith q arena out e.rest
 
--- The transmit ring wasn't prepared. The returned driver has the empty receive ring, and those of the other ring's
--- blocks that were lent.
+-- The transmit ring wasn't prepared. The returned driver has the empty receive ring, and the transmit ring's blocks
+-- that were lent.
 pub record StopsAfterOne (q : AtPort) (size frame : ℕ) (old : List Call) (a : Numbers) (new : List Call)
     (e : StartRefused) : Type 0 where
   pub made : List Call

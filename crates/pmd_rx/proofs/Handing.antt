@@ -42,7 +42,7 @@ owed_some v a some free none = omega (arith, some, free, none)
 pub owed_here : (v : Receive) (a : Numbers) → v.stage ≡ Owes → wanted v ≤ free_count a → free_count a ≡ 0 → ⊥
 owed_here v a owes free none = omega (arith, free, none, ap owed owes)
 
--- After naming a block while holding a part, one round less is left; the packet still waits, or it is complete.
+-- After naming a block while holding a part, one round fewer remains; the packet still waits, or it is complete.
 
 ended_some : (bs : List Block) (p : Packet) → 0 < length bs → if_any bs p ≡ p ∷ []
 ended_some [] p some = absurd (omega (arith, some))
@@ -113,7 +113,7 @@ less_owes a v n owes during free =
       more = lent.more;
     }
 
--- One round less is left if the part was taken just before.
+-- One round fewer remains if the part was taken just before.
 pub less_takes : (a b : Numbers) (u v w : Receive) → v.stage ≡ Takes → u.stage ≡ Owes
     → length u.seen + 1 ≡ length v.seen → u.whole ≡ v.whole → IsOneLess a u b w → IsOneLess a v b w
 less_takes a b u v w takes owes seen same less =
@@ -135,7 +135,7 @@ less_takes a b u v w takes owes seen same less =
           (whole.0, whole.1 ∙ ap (λ (ps : List Packet). ps ++ whole.0 ∷ []) same);
     }
 
--- One round less is left, given a result.
+-- One round fewer remains, given a result.
 
 pub owes_less : {E : Type 0} (r : Result Unit E) (a b : Numbers) (v w : Receive) → v.stage ≡ Owes → IsDuring v v.stage
     → OnOk r ((n : ℕ) × (is_free a n ≡ true) × (b ≡ with_free a n false) × (w ≡ refilled v n))

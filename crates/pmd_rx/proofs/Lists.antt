@@ -8,7 +8,7 @@ use Rattle.pmd_rx.specs.Keeping.{numbers_of_all}
 use Rattle.pmd_rx.specs.Receive.{records_of}
 use Rattle.pmd_rx.specs.Shown.{AreRecords}
 
--- One element less.
+-- One element fewer.
 
 pub take_less : {A : Type 0} (p q : ℕ) (xs : List A) → 1 + q ≡ p → take q (drop 1 xs) ≡ drop 1 (take p xs)
 take_less p q xs is = sym (drop-take 1 q xs) ∙ ap (λ (n : ℕ). drop 1 (take n xs)) is

@@ -194,7 +194,7 @@ module _ (p : Packet) (whole : All (λ (b : Block). IsBlock b) p.bufs) (some : 0
       | inr is ↦ rw is refl
     ]
 
-    -- Undoing a padding restores the packet.
+    -- Undoing the padding restores the packet.
 
     undone-by : (bs : List Block) → p.bufs ≡ bs → p.len < 60
         → with_first (with_first bs p.len (zeros p.len)) 0 (first_bytes bs) ≡ bs

@@ -1,4 +1,4 @@
--- How a sending driver's state follows from the calls made. Each call has the move that it is.
+-- How a sending driver's state follows from the calls made. Each call is paired with its move.
 use Rattle.std.specs.Prelude.{ℕ, ◌≡◌, ◌<◌, ⊤, Bool, true, false, List, [], ◌∷◌, ◌++◌}
 use Rattle.pmd_access.specs.NicDevice.DmaArena.Block.{Block}
 use Rattle.pmd_access.specs.NicDevice.declared.event.Event.{Event}
@@ -32,8 +32,8 @@ is_elsewhere m = false
 abbrev pub OthersStep : List Move → List Call → Type 0
 OthersStep moves calls = StepsWhere is_elsewhere moves calls
 
--- Some calls were made, which by these moves lead the driver from one state to the other. Those that aren't its own are
--- device steps.
+-- Some calls were made, which lead the driver from one state to the other through these moves. The calls that aren't
+-- its own are device steps.
 abbrev pub Plays : List Call → Sender → List Call → Sender → Type 0
 Plays old v new w =
     (moves : List Move) × (since : List Call) × (new ≡ old ++ since) × AllOwn v moves since

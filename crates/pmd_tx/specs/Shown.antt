@@ -23,7 +23,7 @@ all_parts (k ∷ kept) = parts_of k.bytes ++ all_parts kept
 abbrev pub latest : ℕ → List Kept → List Part
 latest count kept = drop (length (all_parts kept) - count) (all_parts kept)
 
--- How many parts the newest packet has, and the bytes of the part with which `left` parts are left.
+-- How many parts the newest packet has, and the bytes of part number `left` from its end, where 1 is the last part.
 abbrev pub newest_parts : List Kept → ℕ
 newest_parts [] = 0
 newest_parts (k ∷ []) = parts_for (length k.bytes)

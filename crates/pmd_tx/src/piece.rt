@@ -34,7 +34,7 @@ pub(crate) fn parts_for(len: u16) -> u16
     ((u32::from(len) + 2047) / 2048) as u16
 }
 
-/// Appends the segments of a packet of `whole` bytes: one in block `first` and one in each of these Bufs. The queue
+/// Appends the pieces of a packet of `whole` bytes: one in block `first` and one in each of these Bufs. The queue
 /// already has room for them.
 pub(crate) fn add_pieces(pieces: &mut VecDeque<Piece>, first: u32, others: &Bufs, whole: u16)
     requires room { deque_len pieces.old + 1 + length others.now ≤ deque_capacity pieces.old }
@@ -62,7 +62,7 @@ pub(crate) fn add_pieces(pieces: &mut VecDeque<Piece>, first: u32, others: &Bufs
     });
 }
 
-/// The index of the first segment that ends its packet, if the newest segment ends one.
+/// The index of the first piece that ends its packet. The newest piece must end one.
 pub(crate) fn first_last(pieces: &VecDeque<Piece>) -> u16
     requires some { 0 < length pieces.now.items }
     requires few { length pieces.now.items ≤ 1024 }
@@ -78,7 +78,7 @@ pub(crate) fn first_last(pieces: &VecDeque<Piece>) -> u16
     unreachable!()
 }
 
-/// The number of packets that end with one of these segments.
+/// The number of packets that end with one of these pieces.
 pub(crate) fn count_ends(pieces: &VecDeque<Piece>) -> usize
     ensures { result ≡ count_by (λ piece. piece.last) pieces.now.items }
 {

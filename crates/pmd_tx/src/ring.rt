@@ -626,7 +626,7 @@ impl TransmitRing {
     }
 }
 
-/// Makes room for `more` segments, a record, and the bytes that the record keeps. Returns `None` if there is no memory.
+/// Makes room for `more` pieces, a record, and the bytes that the record keeps. Returns `None` if there is no memory.
 fn room_for(
     alloc: Global,
     pieces: &mut VecDeque<Piece>,
@@ -665,7 +665,7 @@ fn with_ring(blocks: VecDeque<u32>, ring: u32, size: u16) -> VecDeque<u32>
     lent
 }
 
-/// The bytes of the part of the newest packet that starts its last `left` parts.
+/// The bytes of a part of the newest packet: part number `left` from the end, where 1 is the last part.
 fn newest_part(accepted: &[Record], left: usize) -> &[u8]
     requires some { 0 < left }
     requires few { left ≤ newest_parts accepted.now }
@@ -678,14 +678,14 @@ fn newest_part(accepted: &[Record], left: usize) -> &[u8]
     &rest[..rest.len().min(2048)]
 }
 
-/// Returns whether one of these segments is in the block.
+/// Returns whether one of these pieces is in the block.
 fn holds(pieces: &VecDeque<Piece>, block: u32) -> bool
     ensures { result ≡ list_any (λ piece. block == piece.block) pieces.now.items }
 {
     pieces.iter().any(|piece| block == piece.block)
 }
 
-/// Appends the blocks of the first `count` segments to `blocks`, which has room for them.
+/// Appends the blocks of the first `count` pieces to `blocks`, which has room for them.
 fn with_pieces(blocks: VecDeque<u32>, pieces: &VecDeque<Piece>, count: u16) -> VecDeque<u32>
     requires some { count ≤ length pieces.now.items }
     requires room { deque_len blocks + count ≤ deque_capacity blocks }

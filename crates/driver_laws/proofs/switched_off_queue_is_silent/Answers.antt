@@ -1,4 +1,5 @@
--- What a driver's stop says of where it had switched its queue off, and so the silence from then on.
+-- What a driver's stop states about the place where it had switched its queue off, and the silence that follows from
+-- this.
 use Rattle.driver_laws.proofs.Prelude.{AtPort, Call, Ends, Halted, IsAsking, IsSwitched, List, PmdFault, Rest, Up}
 use Rattle.driver_laws.proofs.Prelude.{calls_of, closed, common_steps, false, halted_of, inr, none_made, refl, subst}
 use Rattle.driver_laws.proofs.Prelude.{◌++◌, ◌≡◌}
@@ -10,7 +11,7 @@ use Rattle.driver_laws.{proofs.Prelude.IsEnding, proofs.Prelude.None, proofs.Sto
 use Rattle.driver_laws.{specs.Silent.SwitchesOff}
 use Rattle.pmd_driver.specs.declared.start.Rest.TheVariants as rest
 
--- What a driver's stop says.
+-- What a driver's stop states.
 
 module _ (q : AtPort) (old : List Call) (h : Halted) (new : List Call) where
   abbrev GoesOff : List Call → Type 0

@@ -1,4 +1,4 @@
--- Proof: no waiting frame is longer than the longest that was let in, as the history's entries report it.
+-- Proof: no waiting frame is longer than the longest accepted one, as the history's entries report it.
 use Rattle.pmd_driver.proofs.NicDevice.Cases.{arrived_cases}
 use Rattle.pmd_driver.specs.DeviceLock.{NicDevice.Outcome.Outcome, NicDevice.Step.step_of}
 use Rattle.driver_laws.proofs.Prelude.{All, Block, Event, FitsBlocks, Waiting, after, most_blocks, new_state, ◌≤◌}
@@ -16,7 +16,7 @@ abbrev IsUpTo : ℕ → Waiting → Type 0
 IsUpTo longest w = length w.frame ≤ longest
 
 module _ (longest : ℕ) (s : State) (h : All (IsUpTo longest) s.waiting) where
-  -- The same bound with the frame that an event lets in, if any.
+  -- The same bound, with the frame that is accepted in an event, if any.
   abbrev After : Event Block → Outcome → Type 0
   After e o = All (IsUpTo (max longest (let_in_by e o.reply))) o.state.waiting
 

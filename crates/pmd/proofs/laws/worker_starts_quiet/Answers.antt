@@ -30,7 +30,7 @@ use Rattle.pmd_driver.specs.NicDevice.declared.event.Event.TheVariants as event
 
 -- A side that is off with no enable request pending stays so over every event that doesn't try to enable the queue.
 
--- By the registers.
+-- The side's state according to the registers.
 
 abbrev IsDown : Dir → ℕ → Registers → Type 0
 IsDown dir queue r = (is_on r dir queue ≡ false) × (is_wanted r dir queue ≡ false)

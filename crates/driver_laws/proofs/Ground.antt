@@ -40,7 +40,7 @@ use Rattle.pmd_driver.specs.NicDevice.RegisterFile.declared.owner.Owner.TheVaria
 use Rattle.pmd_driver.specs.NicDevice.VfMap.declared.located.Located.TheVariants as located_as
 use Rattle.pmd_driver.specs.NicDevice.declared.event.Event.TheVariants as event
 
--- What holds for either side holds for each.
+-- What holds for the receive side and the transmit side holds for each side.
 pub each_side : (P : Dir → Type 0) → P Rx → P Tx → (dir : Dir) → P dir
 each_side P receive transmit Rx = receive
 each_side P receive transmit Tx = transmit

@@ -183,8 +183,8 @@ all_here : (h : Halves) (doers : List Doer) (e : Entry) (b : Bool) (calls : List
     → AreHealthy h doers (with_call b e calls)
 all_here h doers e b calls here rest = search rules
 
--- Take the numbers that no other pass lends. Over entries, only those of them are lent that the halves have lent.
--- Replies are healthy if the waiting frames fit.
+-- Take the numbers that no other pass lends. Over entries, a block with such a number is lent only if the halves have
+-- lent it. Replies are healthy if the waiting frames fit.
 along : (own : Blocks) {w : Watched} {mine : Blocks} (doers : List Doer) (es : List Entry) {s : State}
     {out : List Piece} {sent : List (List ℕ)} {h : Halves} → Meets w mine s out sent h → Runs w mine s h doers es
     → OnlyLent own (healthy.lent_by h) s.memory → OnlyPassLends w.pass own es

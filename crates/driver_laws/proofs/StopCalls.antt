@@ -1,5 +1,5 @@
--- The calls of a driver's stop are those of a stop, with device steps between them, and take blocks back only after
--- both sides are off. The same is true of those of them that were made so far.
+-- The calls of a driver's stop satisfy the definition of a stop's calls, with device steps between them, and take
+-- blocks back only after both sides are off. The same is true of the calls made so far.
 use Rattle.driver_laws.proofs.CallKinds.{asks_end, bringing_ends, step_ends, switched_off_asks, unswitched_asks}
 use Rattle.pmd_driver.specs.Stopping.{ComesHome, IsLeftDuring, StopFails, Stops, bringing, brought}
 use Rattle.pmd_driver.specs.declared.home.Home.{Home}

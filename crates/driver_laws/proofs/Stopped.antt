@@ -230,7 +230,7 @@ life x =
     life_of x.course live.made live.fresh x.lived.made (halves_of x.lived.last)
     (record { along = x.along; up = live.up; begins = x.begins; since = drives_lead _ _ _ _ live.drives.apart.drives })
 
--- The calls after the life are those of a stop, and take blocks back only after both sides were seen off.
+-- The calls after the life are calls of a stop, and take blocks back only after both sides were seen off.
 module _ (x : Ended) (y : IsOver x) where
   open x use {q, new, lived}
 

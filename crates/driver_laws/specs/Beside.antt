@@ -1,4 +1,4 @@
--- A driver alongside any calls that its author makes through the same way to the device, such as those of a second
+-- A driver alongside any calls that its author makes through the same way to the device, such as the calls of a second
 -- driver.
 use Rattle.std.specs.Prelude.{[], ◌++◌, ◌<◌, ◌∷◌, ◌≡◌, ◌≢◌, ◌⊎◌, Bool, List, ℕ, length}
 use Rattle.driver_laws.specs.{Harmless.AddsHarmless, Retagged.AreSame}
@@ -49,12 +49,12 @@ AllFollowBy m own [] then = then ≡ own
 AllFollowBy m own (n ∷ later) then = (next : List Call) × FollowsBy m own n next × AllFollowBy n next later then
 
 -- A `start` brought the driver up, as its clause `started` says, and the other moments follow the moment when it
--- returned. The driver's own calls are those of its start and those since. Other calls of its pass may precede them,
--- whichever of the calls made before the start are reported as the pass's.
+-- returned. The driver's own calls are the calls of its start and its calls since. Other calls of its pass may precede
+-- them, whichever of the calls made before the start are reported as the pass's.
 pub record IsReportedBy (q : AtPort) (size frame : ℕ) (old : List Call) (a : Numbers) (m : Moment) (later : List Moment)
     (ahead own : List Call) : Type 0 where
   pub started : HasStarted q size frame old a m.made m.driver
-  -- The calls of the start, and those of them up to its first access.
+  -- The calls of the start, and its first calls, up to its first access.
   pub start : List Call
   pub made : m.made ≡ old ++ start
   pub first : List Call
@@ -137,7 +137,7 @@ pub record IsCalledBeside (x : Beside) (n : Moment) : Type 0 where
   pub look : EndsAt x.w.pass x.g (x.own ++ since)
 
 -- If that call polls in vain, what the driver had handed out is everything delivered before the entry of its last poll.
--- The entries counted are those of the original history that correspond to the retagged ones.
+-- The entries counted are the original history's entries that correspond to the retagged ones.
 abbrev pub NoneIsAllBefore : Type 0
 NoneIsAllBefore =
     (x : Beside) (n : Moment) (called : IsCalledBeside x n) → LooksInVain (now x) n →

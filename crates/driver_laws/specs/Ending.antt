@@ -10,7 +10,7 @@ abbrev pub Each : (Call → Type 0) → List Call → Type 0
 Each P [] = ⊤
 Each P (c ∷ cs) = P c × Each P cs
 
--- The number is that of a register of the driver's queue, at its port.
+-- The number names a register of the driver's queue, at its port.
 abbrev pub NamesDriven : AtPort → Port → ℕ → Type 0
 NamesDriven q port number =
     (row : RowId) × (port ≡ q.port) × (is_driven row ≡ true) × IsNumberOf q.port row q.queue number

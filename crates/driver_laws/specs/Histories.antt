@@ -11,8 +11,8 @@ use Rattle.ring_laws.specs.Delivered as receive
 use Rattle.ring_laws.specs.ReceiveUp as receiving
 use Rattle.ring_laws.specs.Laws as transmit
 
--- Which half an entry belongs to, and the doers left after it. The entries of the driver's pass belong to the doers in
--- turn; those of other passes belong to neither half.
+-- Which half an entry belongs to, and the doers that remain after it. The entries of the driver's pass belong to the
+-- doers in turn; entries of other passes belong to neither half.
 abbrev pub doer_of : Bool → List Doer → Doer
 doer_of false doers = Sends Elsewhere
 doer_of true [] = Sends Elsewhere

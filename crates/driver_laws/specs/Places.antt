@@ -45,9 +45,9 @@ pub record Balances (a : Numbers) (outside : List ℕ) (h : Halted) (hand : List
   pub once : AreOut a outside
   pub all : KeepsEach a outside h.arena (all_out h ++ hand)
 
--- This holds when the driver starts, with those in hand that were out of the arena. It holds after each call, as its
--- clause `blocks` says: what was in hand for the call no longer is, and what the call hands out, or leaves in a list
--- that it was given, is. The order of the blocks in hand doesn't matter.
+-- This holds when the driver starts, with the blocks in hand that were out of the arena. It holds after each call, as
+-- its clause `blocks` says: what was in hand for the call no longer is, and what the call hands out, or leaves in a
+-- list that it was given, is. The order of the blocks in hand doesn't matter.
 pub record BooksGoOn : Type 0 where
   pub start :
       (a : Numbers) (outside : List ℕ) (h : Halted) → AreOut a outside → HasAll a h []

@@ -8,7 +8,7 @@ use Rattle.driver_laws.specs.StartPrelude.{AtPort, Block, Call, Event, IsSwitche
 abbrev pub AreMadeOf : (Event Block → Type 0) → List Call → List Call → Type 0
 AreMadeOf P old new = (calls : List Call) × (new ≡ old ++ calls) × Each (λ c. P c.event) calls
 
--- The calls are those of a stop; or they request the sides to be off and take no block.
+-- The calls are calls of a stop; or they request the sides to be off and take no block.
 abbrev pub Ends : AtPort → List Call → List Call → Type 0
 Ends q old new = AreMadeOf (IsEnding q) old new
 

@@ -39,8 +39,8 @@ ghost use Rattle.driver_laws.specs.TimedOut.{TimeoutsPoll};
 ghost use Rattle.driver_laws.specs.Waiting.{WaitingIsNotAll};
 ghost use Rattle.driver_laws.specs.Words.{WordsAreTaken};
 
-/// The numbers that a driver uses at its port are those of the registers of its queue. At the physical function, these
-/// are each of the device's queues by its number; at a virtual function, those of its pool, from the first on.
+/// The numbers that a driver uses at its port name the registers of its queue. At the physical function, this is any of
+/// the device's queues, by its number; at a virtual function, a queue of its pool, counted from the pool's first.
 #[tactic(auto, using(crate::proofs::Ground::named_queue_has_the_numbers))]
 pub fn named_queue_has_the_numbers()
     ensures { NamedQueueHasTheNumbers }

@@ -16,7 +16,7 @@ pub const PLAIN: Setup = Setup {
     frame: 1518,
 };
 
-/// The number of calls, including those of idle steps.
+/// The number of calls, including the calls of idle steps.
 pub fn count_calls(calls: &Calls) -> usize {
     let (made, rested) = calls.kept();
     let mut steps = rested.count();

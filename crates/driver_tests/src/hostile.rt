@@ -73,7 +73,7 @@ impl On {
     }
 }
 
-/// The kind of write that queue 3 made, by the reply to its step.
+/// The kind of write that queue 3 made, according to the reply to its step.
 #[derive(Clone, Copy, PartialEq, Eq)]
 enum What {
     Nothing,
@@ -82,8 +82,8 @@ enum What {
     Advanced,
 }
 
-/// The kind of write, and its places: those of a frame and its descriptor, or that of a report of a sent packet or
-/// fetched descriptor.
+/// The kind of write, and its places: where a frame and its descriptor were written, or where a sent packet or a
+/// fetched descriptor was reported.
 type Reported<P> = (What, P, P);
 
 const NO_WRITE: Reported<At> = (What::Nothing, Zero, Zero);
@@ -129,7 +129,7 @@ const GOES_ON: u64 = 0x000F_0000_2A30_003C;
 const ENDS: u64 = 0x000F_0000_2B30_003C;
 
 /// In the first rows others write registers, take and lend blocks, and write descriptors. In the last rows a step of
-/// queue 3 writes, in some of them into the driver's blocks. Only its reply shows this, whichever pass makes the step.
+/// queue 3 writes, in some of them into the driver's blocks. Only the reply shows this, whichever pass runs the step.
 /// The ring of queue 3 may be in one of the driver's blocks, where all bytes are 0 and therefore name block 0, or it
 /// may be the driver's own ring.
 #[rattlefmt::skip]
@@ -287,7 +287,7 @@ pub fn stopped_again(rt: &impl Hand, direct: &mut Direct, pmd: Pmd) -> Home {
     stopped(rt, direct, pmd)
 }
 
-/// Checks that all blocks are back or counted as lost. The lost ones and those of the second arena must be where the
+/// Checks that all blocks are back or counted as lost. The lost blocks and the second arena's blocks must be where the
 /// others left them: owned, or still lent.
 fn settle(rt: &impl Hand, home: Home, device: Device, mut bufs: Vec<Buf>, second: Arena) {
     let (arena, lost, _handed, _accepted) = left_by(home);

@@ -99,7 +99,7 @@ fn two_tasks_meet(rt: HostRuntime) {
     same(&rt, missing as usize, 0);
 }
 
-/// Passes each point in turn. After each point, checks that every worker has come to it.
+/// Passes each point in turn. After each point, checks that every worker has reached it.
 fn go_through<G: Gate>(
     rt: &impl Hand,
     gate: &G,

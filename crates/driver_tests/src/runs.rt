@@ -25,7 +25,7 @@ impl<'a, R: Wait> Gate for Meeting<'a, R> {
     fn leave(&self, _worker: usize) {}
 }
 
-/// A `Meeting` gate to which the second worker comes only after the first has left it, so they run one after the other.
+/// A `Meeting` gate at which the second worker arrives only after the first has left, so they run one after the other.
 #[derive(Drop)]
 struct InTurn<'a, R> {
     meeting: Meeting<'a, R>,

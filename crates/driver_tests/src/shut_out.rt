@@ -17,7 +17,7 @@ impl<R: Abort + Wait + AllocGlobal> Caller for R {}
 /// A shared device without virtual functions.
 type Bench = Shared<0, 64>;
 
-/// A gate that lets nobody pass. When the worker comes, the gate stops all steps of the device through bit 2 of CTRL.
+/// A gate that lets nobody pass. When the worker arrives, the gate stops all steps of the device through bit 2 of CTRL.
 struct Shutting<'a, R> {
     rt: &'a R,
     bench: &'a Bench,

@@ -14,10 +14,10 @@ use device_lock::Pass;
 use nic_device::{Arena, Buf, Event, Mode, Octets, Port};
 use pmd::{Home, Pmd, Rest, StartRefused, StopRefused, ThroughLock};
 
-/// The number of turns in a run. Four frames arrive in each turn. There is one run for each of twenty seeds.
+/// The number of rounds in a run. Four frames arrive in each round. There is one run for each of twenty seeds.
 const TURNS: u32 = 125;
 
-/// The number of turns after which everything is set up again.
+/// The number of rounds after which everything is set up again.
 const SPELL: u32 = 25;
 
 /// The addresses of queue 0's registers. Those of queue 1 are 64 bytes higher.
@@ -198,8 +198,8 @@ impl Storm {
         put(rt, &mut self.host, host);
     }
 
-    /// Lets four frames arrive, lets the stranger make an event in a quarter of the turns, and gives both drivers their
-    /// turn.
+    /// Lets four frames arrive, lets the stranger make an event in a quarter of the rounds, and lets both drivers
+    /// receive and send.
     fn turn(&mut self, rt: &impl Hand, bench: &Bench) {
         for _frame in 0..4 {
             self.arrive(rt, bench);
@@ -241,7 +241,7 @@ fn end_storm(rt: &impl Hand, storm: Storm) -> Over {
     }
 }
 
-/// Runs all turns of a storm, with the set-up.
+/// Runs all rounds of a storm, with the set-up.
 fn all_turns(rt: &impl Hand, bench: &Bench, storm: &mut Storm) {
     for number in 0..TURNS {
         if number % SPELL == 0 {

@@ -32,7 +32,7 @@ struct Seen {
     frame: Octets,
 }
 
-/// A gate at which a worker and the host meet. When the worker comes to point 2, the gate looks at the device through
+/// A gate at which a worker and the host meet. When the worker reaches point 2, the gate looks at the device through
 /// its own pass.
 struct Looking<'a, R> {
     rt: &'a R,
@@ -191,7 +191,7 @@ fn watched(rt: &impl Hand, bench: &Bench, passes: Vec<Pass>) -> (Vec<Pass>, Vec<
     (passes, seen.into_inner())
 }
 
-/// Checks that the worker came to its last point once, with its queue enabled and the frame transmitted.
+/// Checks that the worker reached its last point once, with its queue enabled and the frame transmitted.
 fn saw_it_done(rt: &impl Hand, seen: Vec<Seen>) {
     let mut seen = seen;
     let Seen { is_on, frame: out } = some(rt, seen.pop());
@@ -210,7 +210,7 @@ fn run_one(rt: &impl Hand) {
 }
 
 /// A worker polls once for a packet, then reaps until the packet's five descriptors are done, which takes one call
-/// each. Therefore the frame is already transmitted when the worker comes to its last point. Only after that does it
+/// each. Therefore the frame is already transmitted when the worker reaches its last point. Only after that does it
 /// stop its driver.
 #[test]
 fn a_worker_reaps_all_before_its_last_point_and_stops_after_it(rt: HostRuntime) {

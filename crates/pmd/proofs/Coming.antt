@@ -120,7 +120,7 @@ one_end j (Ended b) d e ended (pass, rest, reports, fault) = rw (pass, rest, rep
 one_end j (Waits assignment) d e ended made = absurd ended
 one_end j Empty d e ended made = absurd ended
 
--- The ends collected are those of the jobs.
+-- The collected ends are the jobs' ends.
 pub all_ends : (jobs : List Job) (cells : List (TaskCell Assignment Back)) (collectors : List Collector)
     (ends : List WorkerEnd) → AllEnded jobs cells collectors → AreMade cells ends → AreEnds jobs ends
 all_ends [] [] [] [] ended made = tt

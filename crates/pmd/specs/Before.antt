@@ -1,4 +1,4 @@
--- What is known of a history just before a driver's first entry, computed in one pass over the entries.
+-- What is known about a history just before a driver's first entry, computed in one pass over the entries.
 use Rattle.std.specs.Prelude.{ℕ, ◌-◌, ◌==◌, Bool, true, false, not, ◌&&◌, ◌||◌, List, [], ◌∷◌, Option, Some, None, if◌then◌else◌}
 use Rattle.pmd_driver.specs.NicDevice.DmaArena.Block.{Block}
 use Rattle.pmd_driver.specs.NicDevice.declared.event.Event.{Event}

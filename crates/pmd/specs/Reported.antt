@@ -1,4 +1,4 @@
--- A worker's reports of the packets that it took.
+-- A worker's reports of the packets that it received.
 use Rattle.std.specs.Prelude.{ℕ, suc, List, [], ◌∷◌, length}
 use Rattle.pmd_driver.specs.PmdAccess.Packet.{Kept}
 use Rattle.pmd.specs.declared.reports.Report.{Report}

@@ -23,8 +23,8 @@ pub struct Given {
 }
 
 /// The device queue, below 128, that a queue's number at a port names, in this pool mode and with `vfs` virtual
-/// functions. The physical function's numbers are the device's; a virtual function's count within its pool. Returns
-/// `None` if there is no such queue.
+/// functions. The physical function's numbers are the device's; a virtual function's numbers count within its pool.
+/// Returns `None` if there is no such queue.
 pub fn queue_at(mode: Mode, vfs: u8, port: Port, number: u16) -> Option<u16>
     ensures { result ≡ queue_at mode vfs port number }
 {

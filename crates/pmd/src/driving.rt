@@ -40,7 +40,7 @@ pub struct Order {
     pub rounds: u32,
 }
 
-/// Comes to a point of the gate.
+/// Waits at a point of the gate.
 fn meet<G: Gate>(gate: &G, worker: usize, point: u8) -> Result<(), WorkerFault>
     ensures fault { IfErr result (λ fault. is_threadless fault ≡ false) }
     ensures shut { OnErr result (G.shuts gate.now worker) }

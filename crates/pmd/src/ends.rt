@@ -16,7 +16,7 @@ pub struct WorkerEnd {
     pub pass: Pass,
     /// Its driver's arena and records, or the driver if it couldn't be stopped.
     pub rest: Rest,
-    /// Its reports of the packets it took, in order.
+    /// Its reports of the packets that it received, in order.
     pub reports: Vec<Report>,
     /// Why it ended early, or why its driver didn't stop; `None` otherwise.
     pub fault: Option<WorkerFault>,

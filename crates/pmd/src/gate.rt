@@ -6,7 +6,7 @@ pub trait Gate {
     /// therefore wait for a limited time, or open only some of its points.
     ghost shuts: { Self → ℕ → Type 0 } = { λ _ _. ⊤ };
 
-    /// Comes to a point and waits until the gate lets the worker on. Returns false if it doesn't.
+    /// Arrives at a point and waits until the gate lets the worker on. Returns false if it doesn't.
     fn pass(&self, worker: usize, point: u8) -> bool
         ensures shut { result ≡ false → shuts self.now worker };
 

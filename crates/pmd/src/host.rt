@@ -40,7 +40,7 @@ fn feed_at<R: Wait, G: Gate, const VFS: u8, const FIFO: u16>(
     }
 }
 
-/// The calling thread's work while the workers run. At the gate its number follows those of the workers. It passes
+/// The calling thread's work while the workers run. Its number at the gate follows the workers' numbers. It passes
 /// point 0, lets the frames arrive, passes point 1, and leaves; then it takes the workers' reports so far. Returns how
 /// many frames were accepted.
 pub(crate) fn host<R: Wait, G: Gate, const VFS: u8, const FIFO: u16>(

@@ -12,7 +12,7 @@ pub const MAX_MEMBERS: usize = 17;
 
 /// A gate with at most 17 members; their workers are numbered from 0. Contracts see the number of members.
 ///
-/// A member that comes to a point waits until every member that hasn't left has come to that point or a later one. No
+/// A member that reaches a point waits until every member that hasn't left has reached that point or a later one. No
 /// clause says so; tests check it.
 #[derive(Drop)]
 pub struct Lockstep<'a, R> {
@@ -33,7 +33,7 @@ impl<'a, R> Model for Lockstep<'a, R> {
 }
 
 impl<'a, R> Lockstep<'a, R> {
-    /// Creates a gate with `members` members. None of them has come to a point yet.
+    /// Creates a gate with `members` members. None of them has reached a point yet.
     pub fn new(rt: &'a R, members: usize) -> Self
         requires { members ≤ 17 }
         ensures { result ≡ members }
@@ -48,7 +48,7 @@ impl<'a, R> Lockstep<'a, R> {
 }
 
 impl<'a, R: Wait> Lockstep<'a, R> {
-    /// Records that a member has come to a point, and wakes the waiting ones to check again.
+    /// Records that a member has reached a point, and wakes the waiting ones to check again.
     fn come(&self, member: usize, point: u8)
         requires { member < self.now }
     {
@@ -56,7 +56,7 @@ impl<'a, R: Wait> Lockstep<'a, R> {
         self.moved.notify_all();
     }
 
-    /// Waits until each member has come to a point or a later one, or has left. Returns with the lock held; its
+    /// Waits until each member has reached a point or a later one, or has left. Returns with the lock held; its
     /// contents show this.
     fn wait(&self, point: u8) -> MutexGuard<'_, Standings>
         ensures { HaveAllCome point self.now (mutex_guard_value result).of }

@@ -7,12 +7,12 @@ ghost use Rattle.rtrb.specs.Ring.{sent, received, known_free, known_items, IsPai
 use rtrb::{Consumer, Producer, RingBuffer};
 use std::alloc::{AllocError, Global};
 
-/// A worker's report of a packet that it took.
+/// A worker's report of a packet that it received.
 #[derive(Clone, Copy, PartialEq, Eq, Debug)]
 pub struct Report {
     /// The queue in the job, 0 to 127.
     pub queue: u16,
-    /// How many packets the worker took before this one.
+    /// How many packets the worker received before this one.
     pub number: u32,
     /// The packet's length in bytes.
     pub len: u16,
@@ -29,7 +29,7 @@ pub struct Collector {
 }
 
 impl Collector {
-    /// Creates a ring for at most `most` reports: the worker's end, and the one that collects them. This allocates all
+    /// Creates a ring for at most `most` reports: the worker's end, and the end that collects them. This allocates all
     /// memory that they need.
     pub fn with_room(alloc: Global, most: u32) -> Result<(Producer<Report>, Collector), AllocError>
         ensures pair { IfOk result (λ r. IsPair r.0 r.1.consumer) }

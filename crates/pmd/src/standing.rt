@@ -6,7 +6,7 @@ use crate::meeting::MAX_MEMBERS;
 /// Where a member of a gate is.
 #[derive(Clone, Copy)]
 pub enum Standing {
-    /// It hasn't come to any point.
+    /// It hasn't reached any point.
     Outside,
     /// It waits at this point or has passed it.
     At(u8),
@@ -15,7 +15,7 @@ pub enum Standing {
 }
 
 impl Standing {
-    /// Returns whether the member has come to a point or a later one, or has left.
+    /// Returns whether the member has reached a point or a later one, or has left.
     pub fn has_come(self, point: u8) -> bool
         ensures { result ≡ has_come point self }
     {
@@ -26,7 +26,7 @@ impl Standing {
         }
     }
 
-    /// Where the member is after it comes to a point. It never returns to an earlier point, and stays away after it has
+    /// Where the member is after it reaches a point. It never returns to an earlier point, and stays away after it has
     /// left.
     pub fn moved_to(self, point: u8) -> Standing
         ensures { result ≡ moved_to point self }
@@ -46,7 +46,7 @@ pub struct Standings {
 }
 
 impl Standings {
-    /// No member has come to a point yet.
+    /// No member has reached a point yet.
     pub fn new() -> Standings
         ensures { All (λ s. s ≡ Standing.Outside) result.of }
     {
@@ -55,7 +55,7 @@ impl Standings {
         }
     }
 
-    /// Records that a member has come to a point.
+    /// Records that a member has reached a point.
     pub fn come(&mut self, member: usize, point: u8)
         requires { member < 17 }
         ensures { self.new.of ≡ with_one_at member point self.old.of }
@@ -72,7 +72,7 @@ impl Standings {
         self.of[member] = Standing::Left;
     }
 
-    /// Returns whether each of the first `members` members has come to a point or a later one, or has left.
+    /// Returns whether each of the first `members` members has reached a point or a later one, or has left.
     pub fn have_come(&self, members: usize, point: u8) -> bool
         ensures { IsTrue result ↔ HaveAllCome point members self.now.of }
     {

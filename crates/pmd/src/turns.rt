@@ -35,7 +35,7 @@ fn receive<N: Nic>(alloc: Global, nic: &mut N, pmd: &mut Pmd) -> Result<Option<P
     pmd.rx(alloc, nic)
 }
 
-/// Reports a packet that the worker took; `number` packets came before it.
+/// Reports a packet that the worker received; `number` packets came before it.
 fn tell(queue: u16, number: u32, packet: &Packet, producer: &mut Producer<Report>)
     requires { 0 < known_free producer.old }
     ensures sent { sent producer.new ≡ sent producer.old ++ report_of queue number (kept_of packet.now) ∷ [] }

@@ -11,7 +11,7 @@ use device_lock::{Buf, CallFault};
 #[derive(Debug, Drop)]
 pub enum PmdFault {
     /// A ring's size isn't a multiple of 8 from 8 to 1,024; the limit on a frame's length isn't from 1,518 to 9,728; or
-    /// a packet's length is 0, above that of a frame without its check sequence, or above the capacity of its Bufs.
+    /// a packet's length is 0, above the frame limit less the check sequence, or above the capacity of its Bufs.
     BadSize,
     /// A block of a packet can't return to the driver's arena.
     ForeignBlock,

@@ -7,7 +7,7 @@ use Rattle.pmd_driver.specs.Halted.{both_ways}
 use Rattle.pmd_driver.specs.Leaving.{bringing_both}
 use Rattle.pmd_driver.proofs.Bringing.{brings_out}
 
--- The blocks of one way, then those of the other.
+-- The blocks of one way, then the blocks of the other.
 brings_then : (count more : ℕ) (s m t : Bringing) → Brings count s m → Brings more m t
     → (all : ℕ) × Brings all s t
 brings_then count zero s m t first same = (count, subst (λ (b : Bringing). Brings count s b) (sym same) first)

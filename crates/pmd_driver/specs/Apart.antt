@@ -36,8 +36,8 @@ AllLendApart own h (d ∷ doers) [] = ⊤
 AllLendApart own h (d ∷ doers) (n ∷ calls) =
     LendsApart own h d n.event × AllLendApart own (after_call h d n) doers calls
 
--- The calls are those of the two halves and device steps, and take the halves from state `h` to state `k`. Each half
--- lends only what it may.
+-- Each call is made by one of the halves or is a device step. The calls take the halves from state `h` to state `k`,
+-- and each half lends only what it may.
 pub record DrivesApart (own : Blocks) (old : List Call) (h : Halves) (new : List Call) (k : Halves) : Type 0 where
   pub drives : Drives old h new k
   pub apart : AllLendApart own h drives.0 drives.1
@@ -46,7 +46,7 @@ pub record DrivesApart (own : Blocks) (old : List Call) (h : Halves) (new : List
 abbrev pub OwnsSame : Numbers → Numbers → Type 0
 OwnsSame a b = (n : ℕ) → is_own b n ≡ is_own a n
 
--- The calls are those of the two halves and device steps. A half lends only blocks that the arena owns and that the
+-- Each call is made by one of the halves or is a device step. A half lends only blocks that the arena owns and that the
 -- other half hasn't lent; device steps lend none. The arena still owns the same numbers.
 pub record DrivesRings (old : List Call) (r : Running) (new : List Call) (s : Running) : Type 0 where
   pub apart : DrivesApart (is_own r.arena) old (halves_of r) new (halves_of s)
@@ -57,7 +57,7 @@ abbrev pub is_healthy : Halves → Doer → Call → Bool
 is_healthy h Receives n = looking.is_healthy h.receive n.event n.reply
 is_healthy h (Sends m) n = sending.is_healthy m n.reply
 
--- The calls are those of the two halves and device steps, and each half lends only what it may. The last call got a
+-- Each call is made by one of the halves or is a device step, and each half lends only what it may. The last call got a
 -- reply that a healthy queue never sends.
 pub record FindsFault (own : Blocks) (old : List Call) (h : Halves) (new : List Call) : Type 0 where
   pub mid : List Call

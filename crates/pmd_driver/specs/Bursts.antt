@@ -1,5 +1,5 @@
 -- The answer and the resulting state of a running driver that receives or sends several packets in one call. The effect
--- is that of one call for each, but with one tail write for all.
+-- is the same as with one call for each packet, but with one tail write for all.
 use Rattle.std.specs.Prelude.{ℕ, ◌≡◌, ◌⊎◌, ◌-◌, ◌<◌, ◌≤◌, ◌++◌, ◌∷◌, [], ⊤, false, length, drop, map, List, Option, Some, None, Result, Ok, Err, IfOk, IfErr, IfSome, OnErr}
 use Rattle.pmd_access.specs.NicDevice.DmaArena.Block.{Block}
 use Rattle.pmd_access.specs.NicDevice.DmaArena.Numbers.{Numbers, is_own}
@@ -43,7 +43,7 @@ pub record IsReceiveBurst (most : ℕ) (before after : List Packet) (result : Re
   pub none : result ≡ Ok 0 → 0 < most → LooksInVain old r.receive new s.receive
   -- The fault belongs to its receive half. After a refused call, the event is one that this half may make next.
   pub fails : IfErr result (λ f. FailsBy f old r.arena r.receive new s.arena s.receive)
-  -- After `DeviceFault`, the calls are those of the two halves and device steps. The last one got a reply that a
+  -- After `DeviceFault`, each call is made by one of the halves or is a device step. The last call got a reply that a
   -- healthy queue never sends.
   pub finds : IfErr result (λ f. FindsBy f (is_own r.arena) old (halves_of r) new)
   -- After `NoBuffer`, a packet waits for free blocks.
@@ -84,8 +84,8 @@ pub record Accepts (gone : List Packet) (r s : Running) : Type 0 where
   pub layout : s.transmit.layout ≡ r.transmit.layout
   pub receive : s.receive ≡ r.receive
 
--- The calls are those of the two halves and device steps. After them, the refused event is a move that the transmit
--- half may make next. If it lends a block, this half may lend it.
+-- Each call is made by one of the halves or is a device step. After the calls, the refused event is a move that the
+-- transmit half may make next. If it lends a block, this half may lend it.
 pub record AsksApart (own : Blocks) (old : List Call) (h : Halves) (new : List Call) : Type 0 where
   pub there : Halves
   pub move : Move
@@ -191,7 +191,7 @@ pub record IsSendBurst (vacant : ℕ) (given left : List Packet) (result : Resul
   pub count : IfOk result (λ n. n ≡ length gone)
   -- The fault is one that the first remaining packet meets before any event, or one that occurred during events.
   pub fails : IfErr result (λ f. IsLate f ⊎ IsRefusedFirst f s left)
-  -- After `DeviceFault`, the calls are those of the two halves and device steps. The last one got a reply that a
+  -- After `DeviceFault`, each call is made by one of the halves or is a device step. The last call got a reply that a
   -- healthy queue never sends.
   pub finds : IfErr result (λ f. FindsBy f (is_own r.arena) old (halves_of r) new)
   -- Without a fault, the tail has passed everything outstanding.

@@ -31,7 +31,7 @@ pub record IsReceiveCall (result : Result (Option Packet) PmdFault) (old : List 
   pub err : OnErr result (s.receive.handed ≡ r.receive.handed)
   -- The fault belongs to its receive half. After a refused call, the event is one that this half may make next.
   pub fails : IfErr result (λ f. FailsBy f old r.arena r.receive new s.arena s.receive)
-  -- After `DeviceFault`, the calls are those of the two halves and device steps. The last one got a reply that a
+  -- After `DeviceFault`, each call is made by one of the halves or is a device step. The last call got a reply that a
   -- healthy queue never sends.
   pub finds : IfErr result (λ f. FindsBy f (is_own r.arena) old (halves_of r) new)
   -- After `NoBuffer`, a packet waits for free blocks.
@@ -63,7 +63,7 @@ pub record IsSendCall (packet : Packet) (result : Result TxAnswer TxFault) (old 
   -- After a refused call, the event is one that the transmit half may make next. After `DeviceFault`, the last call was
   -- one of that half and got a reply that a healthy queue never sends.
   pub faults : IfErr result (λ failed. FaultsBy failed.fault (outgoing_of packet).blocks old r.transmit new)
-  -- After `DeviceFault`, the calls up to that last one are those of the two halves and device steps.
+  -- After `DeviceFault`, each call up to that last one is made by one of the halves or is a device step.
   pub finds : IfErr result (λ failed. FindsBy failed.fault (is_own r.arena) old (halves_of r) new)
   -- The ring is the same.
   pub layout : s.transmit.layout ≡ r.transmit.layout
@@ -90,7 +90,7 @@ pub record IsReapCall (result : Result Reaped PmdFault) (old : List Call) (r : R
   -- After a refused call, the event is one that the transmit half may make next. After `DeviceFault`, the last call was
   -- one of that half and got a reply that a healthy queue never sends. No packet was accepted.
   pub faults : (blocks : List ℕ) → IfErr result (λ fault. FaultsBy fault blocks old r.transmit new)
-  -- After `DeviceFault`, the calls up to that last one are those of the two halves and device steps.
+  -- After `DeviceFault`, each call up to that last one is made by one of the halves or is a device step.
   pub finds : IfErr result (λ fault. FindsBy fault (is_own r.arena) old (halves_of r) new)
   -- The receive half is unchanged.
   pub receive : s.receive ≡ r.receive

@@ -10,7 +10,7 @@ use Rattle.pmd_tx.specs.Sending as sending
 use Rattle.pmd_tx.specs.Sending.{Sender, Move, Elsewhere}
 use Rattle.pmd_driver.specs.Running.{Running}
 
--- What the halves know of their rings.
+-- What the halves know about their rings.
 pub record Halves : Type 0 where
   pub receive : Receive
   pub transmit : Sender

@@ -26,8 +26,8 @@ use Rattle.pmd_driver.specs.declared.start.StartRefused.{StartRefused}
 abbrev pub is_size : ℕ → Bool
 is_size size = nat_le 8 size && (nat_le size 1024 && size % 8 == 0)
 
--- Whether enough blocks are free: those of its two rings, and one for each slot of the receive ring but one. There must
--- be two runs of consecutive blocks for the rings.
+-- Whether enough blocks are free: the blocks of its two rings, and one for each slot of the receive ring but one. There
+-- must be two runs of consecutive blocks for the rings.
 abbrev pub has_room : Numbers → ℕ → Bool
 has_room a size =
     nat_le (size - 1 + 2 * blocks_for size) (free_count a) && is_some (second_run a (blocks_for size))

@@ -187,8 +187,8 @@ impl Halted {
         // The arena owns the same numbers as before.
         ensures owns { IfOk result (λ home. (n : ℕ) → is_own home.arena n ≡ is_own self.arena n) }
         // If no block is lost, the free numbers are those that were free before and those that the driver had out. If
-        // one is lost, clause `home` defines them: each number is unchanged, except that those in hand and those of
-        // blocks that the device returned are free.
+        // one is lost, clause `home` defines them: each number is unchanged, except that the numbers in hand and the
+        // numbers of blocks that the device returned are free.
         ensures free { IfOk result (λ home. home.lost ≡ 0
             → (n : ℕ) → is_free home.arena n ≡ is_free_or_out self.arena (all_out self) n) }
         ensures failed { IfErr result (λ failed.

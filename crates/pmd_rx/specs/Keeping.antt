@@ -54,7 +54,7 @@ abbrev pub handed_blocks : Result (Option Packet) PmdFault → List ℕ
 handed_blocks (Ok o) = numbers_in o
 handed_blocks (Err fault) = []
 
--- How many slots are vacant besides the one that always is.
+-- How many slots are vacant in addition to the one that is always vacant.
 abbrev pub vacated : Stage → ℕ
 vacated Looks = 0
 vacated Takes = 0

@@ -60,7 +60,7 @@ pub record IsInStep (l : Layout) (posted : ℕ) (seen : List Reported) (held : P
   pub replaced : posted + length (numbers_of_all whole) ≤ length l.blocks
   pub taken : posted + (length (numbers_of_all whole) + length held.bufs) ≤ length l.blocks + vacated s
 
--- The first `handed` records are those of packets handed out; the rest are those of the complete packets.
+-- The first `handed` records belong to packets handed out; the rest belong to the complete packets.
 pub record AreRecords (handed : ℕ) (records : List Kept) (whole : List Packet) : Type 0 where
   pub few : handed ≤ length records
   pub after : drop handed records ≡ records_of whole

@@ -1,4 +1,4 @@
--- Padding a packet with zero bytes to 60.
+-- Zero-padding a packet to 60 bytes.
 use Rattle.std.specs.Prelude.{ℕ, ◌-◌, nat_lt, List, [], ◌∷◌, take, replicate, if◌then◌else◌}
 use Rattle.pmd_access.specs.NicDevice.DmaArena.Block.{Block}
 use Rattle.pmd_access.specs.NicDevice.DmaArena.Memory.{put_bytes}

@@ -41,7 +41,7 @@ impl TransmitRing {
         ensures some { OnErr result ((packets : ℕ) × FreesSome self.old self.new arena.old arena.new packets) }
         ensures out { AreOut arena.new (blocks_of self.new.outstanding) }
         ensures accepted { self.new.accepted ≡ self.old.accepted }
-        // Only the slot of the oldest packet changes in the layout.
+        // In the ring's layout, only the slot of the oldest packet changes.
         ensures layout { self.new.layout ≡ record self.old.layout { next = self.new.layout.next } }
         ensures late { IfErr result (λ fault. IsLate fault) }
         // After `DeviceFault`, the last call was a move of the driver and its reply is one that a healthy queue never

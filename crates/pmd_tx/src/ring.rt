@@ -178,8 +178,8 @@ impl TransmitRing {
         self.limit
     }
 
-    /// Returns whether the ring keeps the block with this number: a block that it occupies, or that of an outstanding
-    /// segment.
+    /// Returns whether the ring keeps the block with this number: a block that it occupies, or an outstanding segment's
+    /// block.
     #[tactic(auto, using(crate::proofs::Outstanding::outstanding))]
     pub fn keeps(&self, block: u32) -> bool
         ensures { result ≡ keeps self.now block }
@@ -271,14 +271,14 @@ impl TransmitRing {
         self.pieces[0].last
     }
 
-    /// The slot after that of the oldest segment.
+    /// The slot after the oldest segment's slot.
     fn following(&self) -> u16
         ensures { result ≡ next_of self.now.layout.size self.now.layout.next }
     {
         next_slot(self.size, self.next)
     }
 
-    /// The slot `after` places past that of the oldest segment.
+    /// The slot `after` places past the oldest segment's slot.
     fn slot(&self, after: u16) -> u16
         requires { after ≤ self.now.layout.size }
         ensures { result ≡ slot_at self.now.layout after }
@@ -286,7 +286,7 @@ impl TransmitRing {
         slot_after(self.size, self.next, after)
     }
 
-    /// The bus address of the descriptor `after` places past that of the oldest segment.
+    /// The bus address of the descriptor `after` places past the oldest segment's descriptor.
     fn descriptor(&self, after: u16) -> u32
         requires { after ≤ self.now.layout.size }
         ensures { result ≡ descriptor_at self.now.layout after }

@@ -259,7 +259,7 @@ module _ {w : Watched} {mine : Blocks} {s : State} {out : List Piece} {sent : Li
         touch_resets Tx w.queue (has_lent h.transmit) s e touches,
       )
 
-  -- Each call keeps the invariants, by the half that made it.
+  -- Each call preserves the invariants, whichever half made it.
   pub doer_goes : (d : Doer) → OwnCall h d (call_of e (reply_to s e))
       → (is_neither d ≡ true → LeavesRegisters w (mode_in s.registers) e × LeavesBlocks mine e)
       → (is_neither d ≡ false → LendsOneOf mine e (reply_to s e))

@@ -134,7 +134,7 @@ module _ {w : Watched} {origin : State} {h : List Entry} (x : IsAlong w origin h
       a.following done rest (append_assoc a.before (e ∷ []) a.following ∙ a.all) all (own_some w.pass a.before e a.own)
       (leads a.before e a.call here.met here.made here.reported p, a.later)).0
 
--- Calls of one kind keep what each of them keeps.
+-- Calls of one kind preserve what each of them preserves.
 pub all_lead : (w : Watched) (origin : State) (h : List Entry) (P : List Entry → Type 0) (Own : Call → Type 0)
     → IsAlong w origin h → KeptOver w origin (lent_by w.pass h) P
     → ((c : Call) → Own c → LeadsOver w origin (lent_by w.pass h) c P P)
@@ -149,7 +149,7 @@ all_lead w origin h P Own x kept leads calls old each some at done rest all is =
     p.front p.back done rest p.both all (λ none. some (sym p.fronts ∙ none))
     (at p.front (p.back ++ rest) (cc (append_assoc p.front p.back rest)) p.fronts, rw p.backs each)).0
 
--- Calls with events of one kind keep what each of these events keeps.
+-- Calls with events of one kind preserve what each of these events preserves.
 pub made_keep : {w : Watched} {origin : State} {h : List Entry} (P : State → Type 0) (K : Event Block → Type 0)
     → IsAlong w origin h → IsKept w (lent_by w.pass h) P
     → ((s : State) (e : Event Block) → IsMet w.queue s → IsEvent e → K e → P s → P (after s e)) → (old new : List Call)
@@ -199,7 +199,7 @@ module _ {w : Watched} {origin : State} {h : List Entry} (x : IsAlong w origin h
       added_before (λ done. P (leads_to origin done)) (state_kept w origin (lent_by w.pass h) P kept) old _ c.event
       c.reply (before, refl, steps) some at
 
-  -- The pass's own calls of a kind keep what each of them keeps.
+  -- The pass's own calls of one kind preserve what each of them preserves.
   module _ (P : State → Type 0) (K : Event Block → Type 0) (kept : IsKept w (lent_by w.pass h) P)
       (own : (s : State) (e : Event Block) → IsMet w.queue s → IsEvent e → K e → P s → P (after s e)) where
     pub made_next : (calls old new : List Call) → new ≡ old ++ calls → Each (λ c. K c.event) calls

@@ -24,7 +24,7 @@ pub mapped : {R S : List Call → List Call → Type 0} {old new : List Call} �
     → ((a b : List Call) → R a b → S a b) → Shifts S old new
 mapped x f = given x.since x.made (λ front. f front (front ++ x.since) (x.following front))
 
--- One after the other.
+-- Two such sequences of calls, one after the other.
 pub joined : {R S T : List Call → List Call → Type 0} {old mid new : List Call} → Shifts R old mid → Shifts S mid new
     → ((a b c : List Call) → R a b → S b c → T a c) → Shifts T old new
 joined {T = T} {old = old} x y join = grind (arith, common_steps)

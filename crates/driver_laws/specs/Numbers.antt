@@ -9,7 +9,7 @@ abbrev pub queue_in : Option (ℕ × ℕ) → ℕ → Option ℕ
 queue_in None number = None
 queue_in (Some queues) number = if nat_lt number queues.1 then Some (queues.0 + number) else None
 
--- The physical function's queues are the device's. A virtual function's queues are those of its pool.
+-- The physical function's queues are the device's. A virtual function's queues are its pool's.
 abbrev pub queue_at : Mode → (vfs : ℕ) → Port → ℕ → Option ℕ
 queue_at mode vfs Pf number = if nat_lt number 128 then Some number else None
 queue_at mode vfs (Vf v) number = if nat_lt v vfs then queue_in (queues_of mode v) number else None

@@ -39,8 +39,9 @@ ghost use Rattle.driver_laws.specs.TimedOut.{TimeoutsPoll};
 ghost use Rattle.driver_laws.specs.Waiting.{WaitingIsNotAll};
 ghost use Rattle.driver_laws.specs.Words.{WordsAreTaken};
 
-/// The numbers that a driver uses at its port name the registers of its queue. At the physical function, this is any of
-/// the device's queues, by its number; at a virtual function, a queue of its pool, counted from the pool's first.
+/// The numbers that a driver uses at its port name the registers of its queue. At the physical function, its queue is
+/// any of the device's queues, by its number; at a virtual function, it is one of the pool's queues, counted from the
+/// pool's first.
 #[tactic(auto, using(crate::proofs::Ground::named_queue_has_the_numbers))]
 pub fn named_queue_has_the_numbers()
     ensures { NamedQueueHasTheNumbers }

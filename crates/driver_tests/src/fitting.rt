@@ -10,8 +10,8 @@ use pmd::{Setup, ThroughLock, frames_fit, pf_setup};
 type Bench = Shared<0, 64>;
 
 /// The length of an arriving frame in bytes, the maximum length of a driver's frames with their check sequence, whether
-/// the frame is accepted, and whether it fits the driver's packets or was dropped. The packets have one block of 2,048
-/// bytes, two or five.
+/// the frame is accepted, and whether it fits the driver's packets or was dropped. The packets have one, two or five
+/// blocks of 2,048 bytes.
 #[rattlefmt::skip]
 const ROWS: [(&str, u16, u16, bool, bool); 8] = [
     ("one block holds it", 2048, 1518, true, true),

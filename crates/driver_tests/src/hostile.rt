@@ -238,7 +238,7 @@ fn drive<N: Nic>(rt: &impl Hand, nic: &mut N, pmd: &mut Pmd) {
     }
 }
 
-/// Lists with the steps of queue 0, with one list of others among them.
+/// Lists with the steps of queue 0, and among them one list of events of others.
 fn schedule_with(rt: &impl Hand, list: Vec<Event>) -> Schedule {
     let mut schedule = empty(rt);
     traffic(rt, &mut schedule, 40);

@@ -1,4 +1,4 @@
-//! Random foreign events, none of which touches queue 0 of a driver or its blocks.
+//! Random foreign events, none of which touches a driver's queue 0 or its blocks.
 
 use crate::bench::frame_of;
 use crate::outcome::{Hand, done, empty, push};

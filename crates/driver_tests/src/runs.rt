@@ -127,7 +127,7 @@ fn workers_one_after_the_other_do_not_meet(rt: HostRuntime) {
     is_counted(&rt, &came, (1, 1, 0));
 }
 
-/// A gate may shut a single point to one worker. The other worker continues, and so do the frames.
+/// A gate may shut a single point to one worker. The other worker continues, and the frame still arrives.
 #[test]
 fn a_point_is_shut_to_one_worker(rt: HostRuntime) {
     for point in 0..3u8 {

@@ -299,8 +299,8 @@ fn differs(rt: &impl Hand, bench: Bench, passes: Vec<Pass>, tag: u8) -> (Bench, 
     (shared, passes)
 }
 
-/// Swaps the passes 1 of two shared devices with the same number. Each device treats the other device's pass as its
-/// own, and refuses it because it has too many calls or too few. Each then closes with its own pass.
+/// Swaps pass 1 between two shared devices with the same number. Each device treats the other device's pass as its own,
+/// and refuses it because it has too many calls or too few. Each then closes with its own pass.
 fn swap_passes_of_namesakes(rt: &impl Hand) {
     let (bench, mut passes) = shared(rt, 1, 2, 100);
     let (namesake, mut others) = shared(rt, 1, 2, 100);

@@ -38,14 +38,14 @@ pub record InHand : Type 0 where
   pub queue : ℕ
   pub calls : List Call
 
--- After one event.
+-- The state after one event.
 abbrev pub after_event : InHand → Event Block → InHand
 after_event h e = record h {
   device = (step_of h.device e).state;
   calls = h.calls ++ call_of e (step_of h.device e).reply ∷ [];
 }
 
--- After a list of events.
+-- The state after a list of events.
 abbrev pub after_events : InHand → List (Event Block) → InHand
 after_events h [] = h
 after_events h (e ∷ es) = after_events (after_event h e) es

@@ -25,7 +25,7 @@ own_calls (c ∷ calls) (false ∷ own) = own_calls calls own
 abbrev pub made_of : Handled → List Call
 made_of h = own_calls h.calls h.own
 
--- After a call's own event.
+-- The state after a call's own event.
 abbrev pub after_own : Handled → Event Block → Handled
 after_own h e = record h {
   device = (step_of h.device e).state;
@@ -33,7 +33,7 @@ after_own h e = record h {
   own = h.own ++ true ∷ [];
 }
 
--- After a foreign event, with its reply kept.
+-- The state after a foreign event, with its reply kept.
 abbrev pub after_foreign : Handled → Event Block → Handled
 after_foreign h e = record {
   device = (step_of h.device e).state;
@@ -42,7 +42,7 @@ after_foreign h e = record {
   foreign = h.foreign ++ (step_of h.device e).reply ∷ [];
 }
 
--- After these foreign events, in order.
+-- The state after these foreign events, in order.
 abbrev pub after_list : Handled → List (Event Block) → Handled
 after_list h [] = h
 after_list h (e ∷ es) = after_list (after_foreign h e) es
@@ -62,14 +62,14 @@ abbrev pub later_lists : List (List (Event Block)) → List (List (Event Block))
 later_lists [] = []
 later_lists (es ∷ lists) = lists
 
--- After the next list, which is then removed.
+-- The state after the next list, which is then removed.
 abbrev pub with_list_made : Scheduled → Scheduled
 with_list_made s = record {
   handled = after_list s.handled (next_list s.lists);
   lists = later_lists s.lists;
 }
 
--- After the next list, followed by the call's own event.
+-- The state after the next list, followed by the call's own event.
 abbrev pub after_call : Scheduled → Event Block → Scheduled
 after_call s e = record {
   handled = after_own (after_list s.handled (next_list s.lists)) e;

@@ -96,7 +96,7 @@ take_may own v zero ns may = tt
 take_may own v (suc k) [] may = tt
 take_may own v (suc k) (n ∷ ns) may = (may.0, take_may own v k ns may.1)
 
--- What the transmit half may send, for segments.
+-- What the transmit half may send, expressed in segments.
 
 module _ (own : Blocks) (v : Receive) where
   abbrev May : List Segment → Type 0

@@ -74,7 +74,7 @@ packet_may q ns out =
     beside_may q ns (rings_out q) out
     (λ n. omega (arith, times-append (blocks_out q.receive) (kept_out q.transmit) n))
 
--- Each call is made by one of the halves.
+-- Each call is made by one of the halves or is a device step.
 
 pub receive_drives : (old new : List Call) (q s : Running) (out : List ℕ) → IsUp q
     → receive.PlaysFrom q.arena old q.receive new s.receive → Keeps q.arena q.receive s.arena s.receive out

@@ -135,7 +135,7 @@ pub record SendsBurst (given left : List Packet) (result : Result ℕ PmdFault) 
   pub waiting : List Packet
   -- The fault met by the next packet or by the last accepted one, if any.
   pub met : Option PmdFault
-  -- The first packets were accepted, as the newest ones, as many as reported.
+  -- The first packets, as many as reported, were accepted as the newest ones.
   pub given_are : given ≡ gone ++ waiting
   pub accepts : Accepts gone r s
   pub count : IfOk result (λ n. n ≡ length gone)
@@ -183,7 +183,7 @@ pub record IsSendBurst (vacant : ℕ) (given left : List Packet) (result : Resul
   pub room : MakesRoom vacant failed old r made there
   pub drives : DrivesRings old r made there
   pub sends : SendsWith failed given left result made there new s
-  -- The first packets were accepted, as the newest ones, as many as reported.
+  -- The first packets, as many as reported, were accepted as the newest ones.
   pub gone : List Packet
   pub waiting : List Packet
   pub given_are : given ≡ gone ++ waiting

@@ -34,7 +34,7 @@ pub record HasPlace (a : Numbers) (ring size : ℕ) : Type 0 where
   pub low : ring + blocks_for size ≤ 65536
   pub free : IsFreeRun a ring (blocks_for size)
 
--- This holds for both rings, and as many more blocks are free as fill the receive ring.
+-- This holds for both rings, and enough further blocks are free to fill the receive ring.
 pub record HasPlaces (a : Numbers) (size frame receive transmit : ℕ) : Type 0 where
   pub sized : is_size size ≡ true
   pub framed : is_frame frame ≡ true

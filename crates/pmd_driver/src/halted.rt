@@ -177,9 +177,9 @@ impl Halted {
     /// Stops the driver: closes the rings, switches both sides of the queue off, and takes all blocks home.
     ///
     /// `Call(OutOfMemory)` before any event if there is no memory to close a ring. After that, `StartTimeout` if a side
-    /// doesn't switch off within the polls, `DeviceFault` if the port has no such register, and `Call` if a call was
-    /// refused. The error returns the driver in its current state, and you can try again: it writes "off" and polls
-    /// again, and continues with the blocks that are still out. A block that the device no longer has is lost.
+    /// doesn't switch off within the permitted polls, `DeviceFault` if the port has no such register, and `Call` if a
+    /// call was refused. The error returns the driver in its current state, and you can try again: it writes "off" and
+    /// polls again, and continues with the blocks that are still out. A block that the device no longer has is lost.
     pub fn stop<N: Nic>(self, alloc: Global, nic: &mut N, queue: &Queue) -> Result<Home, StopFailed>
         // Apart from device steps in between, it makes just these calls: both sides are requested to be off and polled,
         // with fewer than 1,000 polls that show one on, and each block is taken back.

@@ -23,8 +23,8 @@ laid_by Tdh l = Headed
 laid_by Tdt l = Empty
 laid_by other l = l
 
--- The words that may be written: the ring's in their order while the side is off, a request to enable the side only
--- when its ring is empty, and any word of the receive side.
+-- The words that may be written: the ring's words, in their order, while the side is off; a request to enable the side,
+-- only when its ring is empty; and any word of the receive side.
 
 abbrev pub MayRing : RowId → Laid → ℕ → Type 0
 MayRing Tdbal l word = (l ≡ Off) × (word % 128 ≡ 0)

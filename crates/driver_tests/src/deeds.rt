@@ -51,8 +51,8 @@ pub enum Deed {
     Lends(u32, u32),
     /// They fill the eight slots of a ring with one byte value.
     Fills(At, u8),
-    /// They write a descriptor to the eight slots of a ring. It consists of a buffer's place and its second half as a
-    /// word.
+    /// They write a descriptor to the eight slots of a ring. The descriptor consists of a buffer's place and, as a
+    /// word, its second half.
     Names(At, At, u64),
     /// Queue 3 receives a TCP segment through a ring of 8.
     Receives(At),

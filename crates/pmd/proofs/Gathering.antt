@@ -8,7 +8,7 @@ use Rattle.pmd.specs.declared.assignment.Back.{Back}
 use Rattle.pmd.specs.declared.ends.WorkerEnd.{WorkerEnd}
 
 module _ {T : Type 0} where
-  -- The first worker came, and so did the others.
+  -- The first worker came back, and so did the others.
   pub first_come : (cells : List (TaskCell T Back)) (cs : List Collector) (s : TaskCell T Back) (c : Collector)
       → 0 < length cells → HaveCome cells cs → s ≡ slice_index_or cells 0 s → c ≡ slice_index_or cs 0 c
       → (0 < length cs) × HasCome s c × HaveCome (remove cells 0) (remove cs 0)
@@ -23,7 +23,7 @@ module _ {T : Type 0} where
   made_more [] (f ∷ ends) s e made one = absurd made
   made_more (t ∷ cells) [] s e made one = absurd made
 
-  -- Some ends are collected, and the other workers came.
+  -- Some ends are collected, and the other workers came back.
   pub record IsGathered (all cells : List (TaskCell T Back)) (ends : List WorkerEnd) : Type 0 where
     pub before : List (TaskCell T Back)
     pub cells_are : before ++ cells ≡ all

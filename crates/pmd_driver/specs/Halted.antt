@@ -40,7 +40,7 @@ is_out h n = nat_lt 0 (times_in_hand (all_out h) n)
 abbrev pub goes_back : Halted → Packet → Bool
 goes_back h p = are_out h.arena (numbers_of p.bufs) && not (list_any (λ n. is_out h n) (numbers_of p.bufs))
 
--- Whether a number is free in the arena or one of those out.
+-- Whether a number is free in the arena or is the number of a block that is out.
 abbrev pub is_free_or_out : Numbers → List ℕ → ℕ → Bool
 is_free_or_out a out n = is_free a n || nat_lt 0 (times_in_hand out n)
 

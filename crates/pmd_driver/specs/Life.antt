@@ -17,7 +17,7 @@ use Rattle.pmd_driver.specs.declared.start.Rest.{Rest}
 use Rattle.pmd_driver.specs.declared.start.Rest.TheVariants as rest
 use Rattle.pmd_driver.specs.declared.start.StartRefused.{StartRefused}
 
--- If the driver is running, it stays running, and each call made since is made by one of its halves or is a device
+-- If the driver is running, it stays running, and each call since then is made by one of its halves or is a device
 -- step.
 abbrev pub RunsOn : List Call → Rings → List Call → Rings → Type 0
 RunsOn old rings new after = WhereUp rings after (λ r s. DrivesRings old r new s)
@@ -27,7 +27,7 @@ abbrev pub KeepsHalves : Rings → Rings → Type 0
 KeepsHalves rings after = WhereUp rings after (λ r s. (halves_of s ≡ halves_of r) × OwnsSame r.arena s.arena)
 
 -- The driver of this queue is running. After the earlier calls its rings came up, with `size` descriptors each and
--- blocks of this arena. Each call since is made by one of its halves or is a device step.
+-- blocks of this arena. Each call since then is made by one of its halves or is a device step.
 pub record Lives (q : AtPort) (size frame : ℕ) (old : List Call) (a : Numbers) (new : List Call) (r : Running) :
     Type 0 where
   -- The calls made by the time it ran, and the driver at that point.

@@ -23,8 +23,8 @@
 //! Checks of a driver against a closed history: `before.rt` walks the entries up to the driver's first one.
 //! `beginning.rt` decides which queue a port addresses and whether the driver begins well there. `quiet.rt` checks that
 //! nothing tried to enable its queue before, `lending.rt` that nobody else lends its blocks, and `fitting.rt` that the
-//! frames accepted before that fit its packets. `verdict.rt` checks all of this, and that the queue was left alone, in
-//! one call.
+//! frames accepted earlier fit its packets. `verdict.rt` checks all of this, and that the queue was left alone, in one
+//! call.
 #![tactic(auto)]
 
 mod assignment;

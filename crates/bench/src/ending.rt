@@ -31,7 +31,7 @@ pub(crate) fn end_jobs(jobs: Vec<Job>) {
     jobs.destroy_empty();
 }
 
-/// Frees the remains of a driver. A driver that didn't stop is leaked.
+/// Frees a driver's resources. A driver that didn't stop is leaked.
 pub(crate) fn end_rest(rest: Rest) -> Result<(), Refused> {
     match rest {
         Rest::Home(home) => {

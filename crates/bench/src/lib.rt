@@ -1,4 +1,4 @@
-//! The program `nicbench`: each of its commands, over any reader and writer.
+//! The program `nicbench`: each of its commands, with any reader and writer.
 //!
 //! `bench_commands`, which reads the input and writes the answer, is re-exported. With `nicbench threads`, workers
 //! drive queues of one device, each on its own thread. `bench_threads` shares a device, sets it up, lets frames arrive

@@ -46,8 +46,8 @@ fn set_up<R: Wait>(
     }
 }
 
-/// Sets the device up through the last pass, and runs a worker through each of the others while frames arrive. Returns
-/// all passes.
+/// Sets the device up through the last pass, and runs a worker with each other pass while frames arrive. Returns all
+/// passes.
 #[tactic(auto, using(crate::proofs::Counting::ends_count))]
 fn drive<R: Threads + Wait + Sync>(
     rt: &R,
@@ -169,21 +169,21 @@ fn run<R: Threads + Wait + Sync>(
 /// Runs workers on a shared device, one on each of the queues from 0 on, while this many frames arrive. The frames
 /// alternate between TCP over IPv4 and over IPv6, and RSS distributes them among the queues. Each worker sends back the
 /// packets that it receives. Then a summary is written: for each queue a line with the numbers of packets and bytes
-/// that its worker received, then the number of transmitted frames, then that the device's history is legal. The
-/// history also leaves each worker's queue alone (`left_alone`), and each worker's driver starts from a clean state
-/// (`begins_well`). The status is then 0.
+/// that its worker received, then the number of transmitted frames, then a line that says that the device's history is
+/// legal. The history also leaves each worker's queue alone (`left_alone`), and each worker's driver starts from a
+/// clean state (`begins_well`). The status is then 0.
 ///
-/// The clauses state the form of the output, and that the number of transmitted frames is that of such a history. No
-/// clause says that the packets and bytes of a line are those that the worker received in it, which frames arrive, or
-/// that a worker sends back the packets that it receives. The end that `pmd::run_workers` reports for a worker is in
-/// order over each such history, by the clause `order` there: its packets are a prefix of those delivered on its queue,
-/// and the frames transmitted there are a prefix of those that its driver accepted.
+/// The clauses state the format of the output, and that the printed number of transmitted frames is the number in such
+/// a history. No clause says that the packets and bytes in a line are the ones that the worker received in this
+/// history, which frames arrive, or that a worker sends back the packets that it receives. By the clause `order` of
+/// `pmd::run_workers`, the end that it reports for a worker is in order over each such history: its packets are a
+/// prefix of those delivered on its queue, and the frames transmitted there are a prefix of those that its driver
+/// accepted.
 ///
 /// The call waits for locks and for the threads. Nothing is written if something is refused, a worker ends with a
 /// fault, its queue isn't left alone, its driver doesn't start from a clean state, or some frames don't arrive. The
-/// status is then 2 or
-/// 4. No clause says which: 4 is meant for lack of memory and for missing frames. `workers` must be 1 to 8; otherwise
-///    the status is 2. If a write fails, the status is 2.
+/// status is then 2, or 4, which is meant for lack of memory and for missing frames. No clause says which of the two it
+/// is. `workers` must be 1 to 8; otherwise the status is 2. If a write fails, the status is 2.
 pub fn bench_threads<R: Threads + Wait + Sync, W: Write>(
     rt: &R,
     alloc: Global,

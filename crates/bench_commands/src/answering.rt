@@ -80,14 +80,14 @@ fn answer_input<W: Write>(
 /// on whether the bytes are text if the request needs text, and on the contents: a script, debugger commands, hex
 /// lines, an object, an EEPROM text or an image.
 ///
-/// For `debug`, each command prints the machine's view after as many steps as the commands so far lead to, or its
-/// refusal. For a shown register, it prints what a read would return. Three faults refuse a session before anything is
-/// printed, in this order: a faulty script, a faulty command anywhere or a missing `%`, and a device that can't be
+/// For `debug`, each command prints its refusal, or the machine's view after the number of steps to which the commands
+/// so far lead. For a shown register, it prints what a read would return. Three faults refuse a session before anything
+/// is printed, in this order: a faulty script, a faulty command anywhere or a missing `%`, and a device that can't be
 /// created.
 ///
 /// Errors: `Failure::Read`, only if a read failed, or if a million reads were made of a reader with at least as many
-/// bytes; nothing is written. `Failure::OutOfMemory`: a beginning of the answer was written. `Failure::Write`, only if
-/// a write of this call failed; an `Output` writes nothing after a failed write.
+/// bytes; nothing is written. `Failure::OutOfMemory`: a prefix of the answer was written. `Failure::Write`, only if a
+/// write of this call failed; an `Output` writes nothing after a failed write.
 pub fn answer<R: Read, W: Write>(
     alloc: Global,
     input: &mut Input<R>,

@@ -49,7 +49,7 @@ fn end_saying<W: Write>(output: &mut Output<W>, name: &str, status: u8) -> Outco
     }
 }
 
-/// Ends the program after an answer was given up.
+/// Ends the program after an answer that wasn't completed.
 fn end_given_up<W: Write>(output: &mut Output<W>, failure: Failure) -> Outcome
     ensures read { failure ≡ Failure.Read → EndsSaying (W.contents output.old.writer)
         (W.contents output.new.writer) (IsUnwritten output.new) (refused_as (codes "Input")) result }
@@ -116,7 +116,7 @@ fn end_words<W: Write>(output: &mut Output<W>, error: &Error) -> Outcome
 /// After a failed write nothing more is written, and the status is `NO_MEMORY` (4) if the writer ran out of memory,
 /// otherwise `FAILED` (2). A failed read, or a million reads of a reader with at least as many bytes, is reported as
 /// the refusal `Input` with status 2. Lack of memory is reported as the refusal `OutOfMemory` with status 4, after a
-/// beginning of the answer. If the words request `threads`, nothing is read, and nothing is written except for that
+/// prefix of the answer. If the words request `threads`, nothing is read, and nothing is written except for that
 /// refusal.
 pub fn bench<'a, R: Read, W: Write, S: AsStr>(
     alloc: Global,

@@ -1,10 +1,10 @@
-//! Why an answer was given up.
+//! Why an answer wasn't completed.
 ghost use Rattle.std.specs.Prelude.{◌≡◌};
 ghost use Rattle.bench_commands.specs.declared.failure.Failure.TheVariants.{OutOfMemory};
 
 use std::alloc::AllocError;
 
-/// Why an answer was given up before its end.
+/// Why an answer wasn't completed.
 #[derive(Clone, Copy, Debug, PartialEq, Eq)]
 pub enum Failure {
     /// A read failed, or the input didn't end within `READS` reads.

@@ -1,4 +1,4 @@
-//! The program `nicbench`, over any reader and writer.
+//! The program `nicbench`, with any reader and writer.
 //!
 //! `asked` reads the words of a command line with clap. Its contract defines exactly which words request what, and that
 //! all other words are refused. `answer` takes the request of a command line, reads all input and writes the answer.

@@ -94,8 +94,8 @@ impl<W: Write> Output<W> {
         }
     }
 
-    /// Flushes the writer, which keeps everything written to it, and returns the exit status: the given one, or if
-    /// flushing fails the status of that failure, 2 or 4. After a failed write nothing is flushed, and the given status
+    /// Flushes the writer and returns the exit status: the given one, or if flushing fails the status of that failure,
+    /// 2 or 4. The writer keeps everything written to it. After a failed write nothing is flushed, and the given status
     /// is returned.
     pub fn flush(&mut self, status: u8) -> u8
         ensures bytes { self.old.has_failed ≡ false

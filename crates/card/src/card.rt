@@ -49,7 +49,7 @@ fn note_of(reply: Reply) -> ReplyNote
     }
 }
 
-/// Drops the reply to a block that was lent, and returns true.
+/// Drops the reply to the lending of a block, and returns true.
 fn is_lent_by(reply: Reply) -> bool
     requires { IsFalse (hands_out reply) }
     ensures { result ≡ true }

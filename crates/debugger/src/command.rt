@@ -39,7 +39,7 @@ pub struct View {
 }
 
 /// Why a command was refused. The debugger is unchanged, except that a `Step` or `Continue` that runs out of memory has
-/// taken the steps before.
+/// taken the steps before the refused one.
 #[derive(Clone, Copy, Debug, PartialEq, Eq, Error)]
 pub enum DebugRefusal {
     /// The command would go back more steps than were taken.

@@ -88,8 +88,9 @@ impl Debugger {
     /// memory runs out.
     ///
     /// After a refusal the debugger is unchanged, with one exception: a `Step` or `Continue` that runs out of memory
-    /// has taken the steps before, and the next step is one that may take memory. `Back` can run out of memory only if
-    /// at least that many steps were taken. `Break`, `Clear`, `Show` and `ShowVf` never run out of memory.
+    /// has taken the steps before the refused one, and the next step is one that may take memory. `Back` can run out of
+    /// memory only if at least that many steps were taken. `Break`, `Clear`, `Show` and `ShowVf` never run out of
+    /// memory.
     pub fn exec(&mut self, command: Command) -> Result<View, DebugRefusal>
         ensures answer { result ≢ Err DebugRefusal.OutOfMemory → result ≡ (command_of self.old command).answer }
         ensures session { result ≢ Err DebugRefusal.OutOfMemory → self.new ≡ (command_of self.old command).session }

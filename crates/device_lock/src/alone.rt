@@ -1,4 +1,4 @@
-//! Whether a history leaves a queue alone: what others did to the queue after its driver began.
+//! Whether a history leaves a queue alone: what other passes did to the queue after its driver began.
 
 ghost use Rattle.std.specs.Prelude.{◌≡◌, ◌↔◌, ◌==◌, ◌||◌, not, ℕ, IsTrue, IfSome, IfNone, false};
 ghost use Rattle.nic_device.specs.VfMap.declared.mode.Mode.TheVariants.{Off};
@@ -225,9 +225,9 @@ fn lent_by(pass: u8, history: &[Entry]) -> Blocks
 ///
 /// After the first entry of the driver's pass, no entry of another pass may write a register of the queue, or CTRL,
 /// HLREG0, MAXFRS or GCR_EXT. None may reset a pool that contains the queue. None may lend, take or poke a block that
-/// the pass lends anywhere in the history; looking at one is fine. Entries of the pass itself may do all of this. But
-/// after that first entry, no entry of any pass may report that another queue's step wrote into one of these blocks. It
-/// allocates nothing.
+/// the pass lends anywhere in the history; peeking at one is allowed. Entries of the pass itself may do all of this.
+/// But after that first entry, no entry of any pass may report that another queue's step wrote into one of these
+/// blocks. It allocates nothing.
 pub fn left_alone(watched: Watched, history: &[Entry]) -> bool
     ensures { IsTrue result ↔ LeavesAlone watched history.now }
 {

@@ -90,9 +90,9 @@ impl Calls {
         }
     }
 
-    /// Runs a device step only if it is idle, and records its call with those since the last call. Otherwise it does
-    /// nothing. It may also do nothing although the step is idle; no clause says when it runs one. Returns whether it
-    /// ran. It allocates nothing.
+    /// Runs a device step only if it is idle, and records its call with the idle steps since the last call. Otherwise
+    /// it does nothing. It may also do nothing although the step is idle; no clause says when it runs one. Returns
+    /// whether it ran. It allocates nothing.
     #[inline(always)]
     pub fn idle(&mut self, device: &Device, step: &Event) -> bool
         ensures made { result ≡ true → self.new ≡ self.old ++ call_of step.now Idle ∷ [] }

@@ -62,7 +62,7 @@ impl<const VFS: u8, const FIFO: u16> Closed<VFS, FIFO> {
     }
 
     /// Returns whether the history leaves a queue of the device alone, where the queue's driver has the pass with this
-    /// tag. See `left_alone` for the definition. It waits for nobody and allocates nothing.
+    /// tag. See `left_alone` for the definition. It never blocks and allocates nothing.
     pub fn left_alone(&self, pass: u8, queue: u16) -> bool
         ensures { IsTrue result ↔ LeavesAlone (record { vfs = VFS; pass = pass; queue = queue }) self.now.history }
     {
@@ -147,7 +147,7 @@ impl<const VFS: u8, const FIFO: u16> Locked<VFS, FIFO> {
 }
 
 impl<const VFS: u8, const FIFO: u16> Shared<VFS, FIFO> {
-    /// Closes a shared device with its passes. It waits for nobody.
+    /// Closes a shared device with its passes. It never blocks.
     ///
     /// `MissingPass`, with the lowest such tag, exactly if no pass of this bench has some tag. `ForeignPass` exactly if
     /// none is missing and a pass belongs to another bench, has no tag of this one, or has the tag of another pass. Any

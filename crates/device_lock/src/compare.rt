@@ -33,7 +33,7 @@ fn after_call<'a>(history: &'a [Entry], tag: u8, call: &Call) -> Option<&'a [Ent
     None
 }
 
-/// If the step was made, skips past the next entry with this tag, which must be of this event and idle; otherwise skips
+/// If the step ran, skips past the next entry with this tag, which must be of this event and idle; otherwise skips
 /// nothing. Returns the entries after it.
 fn after_step<'a>(
     history: &'a [Entry],
@@ -118,8 +118,8 @@ pub(crate) fn stands(history: &[Entry], tag: u8, calls: &Calls) -> bool
     }
 }
 
-/// Returns whether the passes with a tag have the calls that the history has for it, and whether there is a pass if it
-/// has any.
+/// Returns whether the passes with a tag have the calls that the history has for this tag, and whether there is such a
+/// pass if the history has any of these calls.
 fn tag_stands(history: &[Entry], count: u32, tag: u8, passes: &[Pass]) -> bool
     requires { count ≡ entries_of tag history.now }
     ensures { IsTrue result ↔ TagStands history.now tag passes.now }
@@ -134,7 +134,7 @@ fn is_unused(tag: u8, passes: &[Pass]) -> bool
     passes.iter().all(|pass| pass.tag() != tag)
 }
 
-/// Returns whether the passes with a tag have the calls that the history has for it.
+/// Returns whether the passes with a tag have the calls that the history has for this tag.
 fn own_stand(history: &[Entry], tag: u8, passes: &[Pass]) -> bool
     ensures { IsTrue result ↔ All (λ p. p.tag ≡ tag → StandsIn history.now p) passes.now }
 {

@@ -126,8 +126,8 @@ impl<const VFS: u8, const FIFO: u16> Locked<VFS, FIFO> {
         &self.device
     }
 
-    /// Allocates what a pass needs for the next event, as `ready` does. A block's unchanged bytes are shared between
-    /// this note and that of the history.
+    /// Allocates what a pass needs for the next event, as `ready` does. This note and the history's note share a
+    /// block's unchanged bytes.
     pub(crate) fn ready<T>(
         &mut self,
         alloc: Global,

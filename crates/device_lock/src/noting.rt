@@ -1,6 +1,5 @@
-//! Notes of events and of their replies. A spare vector is kept with a list of calls, with room for anything that a
-//! reply may hand out. A note therefore takes only the memory that its bytes need, and the device's reply always gets a
-//! note.
+//! Notes of events and of their replies. A list of calls keeps a spare vector with room for anything that a reply may
+//! return. A note therefore takes only the memory that its bytes need, and the device's reply always gets a note.
 
 ghost use Rattle.std.specs.Prelude.{◌≡◌, ◌<◌, ◌≤◌, [], true, IfOk, OnOk};
 ghost use Rattle.std.specs.Vec.{vec_len, vec_capacity};
@@ -67,8 +66,8 @@ pub(crate) fn note_of(
     note_alone(alloc, reply, spare)
 }
 
-/// The note of a reply in a new vector, or in the spare one if there is no memory for that. The spare one has room for
-/// it.
+/// The note of a reply in a new vector, or in the spare one if there is no memory for a new one. The spare one has room
+/// for the note.
 #[inline(always)]
 fn note_alone(alloc: Global, reply: &Reply, spare: &mut Vec<u8>) -> ReplyNote
     requires empty { spare.old.items ≡ [] }

@@ -52,7 +52,8 @@ pub fn block_apart()
     ensures read { ReadsItsBlock }
 {}
 
-/// Bytes that are put into a block, where they fit, are there afterwards, and the rest of the block is unchanged.
+/// Bytes that are put into a block at an index where they fit are there afterwards, and the rest of the block is
+/// unchanged.
 pub fn put()
     ensures { PutLaw }
 {}
@@ -75,8 +76,8 @@ pub fn numbers_stay()
 {}
 
 /// If arenas share no number, each block of an arena is in exactly one place: free, owned or lent. This holds at first,
-/// and is kept when a block is taken, given, lent or taken back, when a foreign block is lent and comes back, and when
-/// an arena is split.
+/// and is kept when a block is taken, given, lent or taken back, when a foreign block arrives or returns to its own
+/// arena, and when an arena is split.
 pub fn each_block_once()
     ensures { MovesKeepEachOnce }
 {}

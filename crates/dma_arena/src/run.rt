@@ -9,7 +9,7 @@ use crate::arena::Arena;
 use crate::buf::{Buf, nothing};
 use std::marker::Model;
 
-/// The most blocks that a run can have.
+/// The maximum number of blocks in a run.
 const RUN_BLOCKS: usize = 8;
 
 /// Owned blocks with consecutive numbers, all filled with zeros.

@@ -30,7 +30,7 @@ pub enum Failure {
 }
 
 type Done = Result<(), Failure>;
-/// A device without virtual functions that holds 64 waiting frames.
+/// A device without virtual functions and with room for 64 waiting frames.
 type Bench = Shared<0, 64>;
 
 /// The number of blocks of each worker, and the maximum length of a frame in bytes with its check sequence.
@@ -195,7 +195,7 @@ fn end(rest: Rest, fault: Option<WorkerFault>) -> Done {
     fault.map_or(Ok(()), |it| Err(Failure::Worker(it)))
 }
 
-/// Closes the history and judges both workers' drivers by it.
+/// Closes the history and uses it to judge both workers' drivers.
 fn close(bench: Bench, passes: Vec<Pass>) -> Done {
     let closed = match bench.close(passes) {
         Ok(closed) => closed,
@@ -217,7 +217,8 @@ fn close(bench: Bench, passes: Vec<Pass>) -> Done {
     asked
 }
 
-/// Checks whether the laws apply to a worker's driver by this history: its packets are then in order, and none is lost.
+/// Checks whether the laws apply to a worker's driver, given this history: its packets are then in order, and none is
+/// lost.
 fn ask(closed: &Closed<0, 64>, number: u8) -> Done {
     let queue = u16::from(number);
     let watched = Watched {

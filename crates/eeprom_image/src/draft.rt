@@ -11,7 +11,8 @@ use crate::text::AsmFault;
 use std::alloc::Global;
 use text_format::{Line, Lines};
 
-/// The fewest bytes in a line that defines a word or a register write. The capacity of both lists is computed from it.
+/// The minimum length in bytes of a line that defines a word or a register write. The capacity of both lists is
+/// computed from it.
 const LINE_LENGTH: usize = 8;
 
 /// What the lines read so far define.

@@ -1,4 +1,4 @@
-//! Pointers, the sections that they point to, and the checksum over those.
+//! Pointers, the sections that they point to, and the checksum, which covers these sections.
 
 ghost use Rattle.std.specs.Prelude.{◌≡◌, ◌+◌, ◌*◌, ◌<◌, ◌≤◌, ◌^◌, ◌%◌, IsTrue, sum, take, drop};
 ghost use Rattle.eeprom_image.specs.Section.{is_unused, word_count, section_at, is_inside, pointers};
@@ -17,8 +17,7 @@ const CHECKED_WORDS: u16 = 64;
 /// The sum, modulo 2^16, that the covered words must have.
 pub(crate) const CHECKSUM: u16 = 0xBABA;
 
-/// Whether the word is 0 or 0xFFFF: such a pointer points to nothing, and such a first word says that its section is
-/// empty.
+/// Whether the word is 0 or 0xFFFF: such a pointer points to nothing, and a section with such a first word is empty.
 pub(crate) fn is_unused(word: u16) -> bool
     ensures { result ≡ is_unused word }
 {

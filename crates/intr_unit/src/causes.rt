@@ -156,8 +156,8 @@ impl Causes {
 
     /// Raises causes, for the device (`auto` is false) or for a write of the set register (EICS, PVTEICS). For such a
     /// write, `bits` is the written word without the bits that the address doesn't show, and `auto` comes from
-    /// [`Group::auto_mask_acts`]. With `auto`, the masks of those bits that are in the auto-mask become 1. Bits that
-    /// the group doesn't have are dropped.
+    /// [`Group::auto_mask_acts`]. With `auto`, the masks of the raised bits that are in the auto-mask become 1. Bits
+    /// that the group doesn't have are dropped.
     #[inline]
     pub fn raise(&mut self, bits: u32, auto: bool)
         ensures { self.new ≡ raised self.old bits auto }
@@ -184,8 +184,8 @@ impl Causes {
     }
 
     /// Writes the cause register: the causes that are 1 in `bits` become 0. With `auto`, from
-    /// [`Group::auto_mask_acts`], the masks of those bits that are in the auto-mask become 0. `bits` is the written
-    /// word without the bits that the address doesn't show.
+    /// [`Group::auto_mask_acts`], the masks of the bits that are 1 in `bits` and in the auto-mask become 0. `bits` is
+    /// the written word without the bits that the address doesn't show.
     #[inline]
     pub fn write_one(&mut self, bits: u32, auto: bool)
         ensures { self.new ≡ after_write_one self.old bits auto }
@@ -270,7 +270,7 @@ impl Causes {
         BitSet::of_word(self.group.bits())
     }
 
-    /// Returns those of the bits that are in the auto-mask, if it acts; otherwise none.
+    /// Returns the given bits that are in the auto-mask, if the auto-mask acts; otherwise none.
     #[inline(always)]
     fn auto_masked(&self, bits: BitSet, auto: bool) -> BitSet
         ensures { result ≡ auto_masked self.now bits auto }
@@ -278,7 +278,7 @@ impl Causes {
         bits.intersection(self.auto_mask).when(auto)
     }
 
-    /// Stores these causes and masks, and those of the reported bits that have their cause and mask at 1.
+    /// Stores these causes and masks. Keeps only the reported bits that have their cause and mask at 1.
     #[inline(always)]
     fn settle(&mut self, causes: BitSet, enabled: BitSet, reported: BitSet)
         requires causes { IsSubset causes (group_bits self.old.group) }

@@ -40,7 +40,7 @@ pub fn reads_change_bits()
 {}
 
 /// A write of ones to the cause register, bit by bit: these causes are cleared. If the auto-mask acts, the masks of
-/// those of them that are in it are cleared. Reported bits stay if their cause and mask are 1.
+/// these causes that are in it are cleared. Reported bits stay if their cause and mask are 1.
 pub fn writes_of_ones_change_bits()
     ensures { WritesOfOnesChangeBits }
 {}

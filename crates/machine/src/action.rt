@@ -37,7 +37,7 @@ pub(crate) enum LocalAction {
 
 /// An instruction's action.
 pub(crate) enum Action {
-    /// Makes an event that moves no block, and stores a part of the reply in `acc`.
+    /// Runs an event that moves no block, and stores a part of the reply in `acc`.
     Make(Event, Kept),
     /// Takes the block with this number from the arena and lends it.
     Lend(u16),
@@ -45,7 +45,7 @@ pub(crate) enum Action {
     TakeBack(u16),
     /// A copy of the data string with this number arrives as a frame.
     Arrive(u16),
-    /// Makes no device event.
+    /// Runs no device event.
     Local(LocalAction),
 }
 

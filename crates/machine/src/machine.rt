@@ -37,11 +37,11 @@ pub enum Status {
 /// The result of a machine's step.
 #[derive(Debug, Drop)]
 pub enum StepAnswer {
-    /// The step made a device event, which had this reply.
+    /// The step ran a device event, which had this reply.
     Made(ReplyNote),
-    /// The step executed an instruction that makes no event.
+    /// The step executed an instruction that runs no event.
     Local,
-    /// The step made no event: the block to be lent isn't free in the machine's arena.
+    /// The step ran no event: the block to be lent isn't free in the machine's arena.
     NoBlock,
     /// The step did nothing: the machine has ended or failed, or has counted 2^64 - 1 steps.
     Stopped,
@@ -107,7 +107,7 @@ impl Machine {
         })
     }
 
-    /// Executes one instruction. It makes a device event and stores the word in the reply, or acts without an event, or
+    /// Executes one instruction. It runs a device event and stores the word in the reply, or acts without an event, or
     /// reports that the block to lend isn't free. A machine that isn't running, or has counted 2^64 - 1 steps, returns
     /// `Stopped`, counts no step and stays unchanged. After `OutOfMemory` the machine is unchanged, and you can try the
     /// step again. Only four steps can run out of memory: lending a free block, taking one back, an arrival, and a

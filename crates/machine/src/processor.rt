@@ -136,7 +136,7 @@ impl Processor {
         self.steps += 1;
     }
 
-    /// Executes an action that makes no event.
+    /// Executes an action that runs no event.
     fn act(&mut self, program: &Program, action: LocalAction)
         requires inside { self.old.pc < 4096 }
         requires counts { self.old.steps < 2 ^ 64 - 1 }
@@ -180,7 +180,7 @@ impl Processor {
         }
     }
 
-    /// Makes an event that moves no block, and advances.
+    /// Runs an event that moves no block, and advances.
     fn make(
         &mut self,
         program: &Program,

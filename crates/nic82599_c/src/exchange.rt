@@ -20,8 +20,8 @@ use nic_device::BLOCK_BYTES;
 use std::alloc::Global;
 use std::marker::Model;
 
-/// A handle of a block's 2,048 bytes. In C it is a struct with one pointer. The pointer may be to the caller's memory:
-/// when the heap is asked to free that, the C library skips it.
+/// A handle of a block's 2,048 bytes. In C it is a struct with one pointer. The pointer may be to the caller's memory.
+/// If the heap is told to free that memory, the C library does nothing.
 #[repr(C)]
 pub struct BlockHandle {
     ptr: *mut Opaque,
@@ -47,7 +47,7 @@ impl Model for BlockHandleOut {
 }
 
 impl BlockHandle {
-    /// Returns the parts of the box that the pointer was made from.
+    /// Returns the parts of the box that the pointer was created from.
     fn into_parts(self) -> Parts<[u8; BLOCK_BYTES], Global>
         ensures { result.value ≡ self.bytes }
     {

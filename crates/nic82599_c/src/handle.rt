@@ -50,7 +50,7 @@ impl Handle {
     ghost use Rattle.nic82599_c.specs.contracts.handle.Handle.{the_row as handle_row};
     ghost use types.Logic.{sem};
 
-    /// Returns the parts of the box that the handle was made from.
+    /// Returns the parts of the box that the handle was created from.
     pub fn into_parts(self) -> Parts<Card, Global>
         ensures { result.value ≡ self.card }
     {
@@ -75,7 +75,7 @@ impl KeptHandle {
     ghost use Rattle.nic82599_c.specs.contracts.handle.KeptHandle.{the_row as handle_row};
     ghost use types.Logic.{sem};
 
-    /// Returns the parts of the box that the handle was made from.
+    /// Returns the parts of the box that the handle was created from.
     pub fn into_parts(self) -> Parts<Kept, Global>
         ensures { result.value ≡ self.kept }
     {

@@ -60,7 +60,7 @@ impl Device {
     {
         let all: &[u8] = &*memory;
         prove!(all.len() == BLOCK_BYTES);
-        // Every lent byte must stay a byte; those of the new memory are.
+        // Every lent element must stay below 256, and all of the new memory's elements are.
         Event::are_bytes(all);
         self.engine.exchange(block, memory)
     }

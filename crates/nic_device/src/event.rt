@@ -63,7 +63,7 @@ pub enum Event<B = Buf> {
     Arrive(Octets),
     /// A receive step: the device writes one piece of the oldest frame in the receive list, using one descriptor of the
     /// frame's queue. The reply is `Wrote`, `Dropped` or `Fault`. It is `Idle` if there is no frame, or if there is no
-    /// free descriptor and the queue doesn't drop the frame for that.
+    /// free descriptor and the queue doesn't drop the frame for this reason.
     RxStep,
     /// A transmit step of a queue, 0 to 127: the device fetches one descriptor. The reply is `Advanced`, `Sent`,
     /// `Fault`, `Idle` if the queue can't send, or `NoQueue`.

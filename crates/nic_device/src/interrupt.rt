@@ -26,7 +26,7 @@ impl Engine {
     }
 }
 
-/// Returns the virtual function that a queue belongs to: that of its pool, if the device has it.
+/// Returns the virtual function that a queue belongs to: its pool's function, if the device has that function.
 #[tactic(auto, using(crate::proofs::Functions::few_pools), unfolding(crate::specs::Interrupt::function_of_queue))]
 pub(crate) fn function_of_queue(registers: &RegisterFile, vfs: u8, queue: u16) -> Option<u8>
     ensures function { result ≡ function_of_queue registers.now vfs queue }
@@ -100,8 +100,8 @@ impl Engine {
         }
     }
 
-    /// Whether a group exists. The physical function's always does. A virtual function's does if the device has the
-    /// function and the mode has a pool for it.
+    /// Whether a group exists. The physical function's group always does. A virtual function's group does if the device
+    /// has the function and the mode has a pool for it.
     fn has_group(&self, group: Group) -> bool
         ensures { result ≡ has_group self.now group }
     {

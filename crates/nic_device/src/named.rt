@@ -50,7 +50,7 @@ fn at_address(address: u32) -> Named
     }
 }
 
-/// Returns what an offset of a virtual function refers to, given where the map leads.
+/// Returns what an offset of a virtual function refers to, given the result of the map.
 #[inline(always)]
 fn at_location(located: Located) -> Named
     requires { IsLocatedInRange located }

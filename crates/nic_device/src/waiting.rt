@@ -65,7 +65,8 @@ impl Waiting {
         }
     }
 
-    /// Returns a copy of the frame, with as much of it written. `AllocError` if there is no memory for it.
+    /// Returns a copy of the frame, with equally many bytes marked as written. `AllocError` if there is no memory for
+    /// it.
     pub(crate) fn copy(&self, alloc: Global) -> Result<Waiting, AllocError>
         ensures { IfOk result (λ waiting. waiting ≡ self.now) }
     {
@@ -95,7 +96,7 @@ impl Waiting {
         self.offset != 0
     }
 
-    /// Returns the frame with the part that is left to write.
+    /// Returns the frame with the part that remains to be written.
     pub(crate) fn item(&self) -> Item<'_>
         ensures rest { rest_of result ≡ rest_of_waiting self.now }
         ensures offset { result.offset ≤ length result.frame.now }

@@ -1,4 +1,4 @@
-//! `nicbench`: the program over standard input and standard output.
+//! `nicbench`: the program, on standard input and standard output.
 #![tactic(auto)]
 
 use bench::{FAILED, Input, NO_MEMORY, Outcome, Output, REFUSED_WORDS, bench, bench_threads};

@@ -49,8 +49,7 @@ pub enum Instruction<L = u16, D = u16> {
     RxStep,
     /// `tx`: runs one transmit step of a queue.
     TxStep(u16),
-    /// `int`: sends the next message of an interrupt group: the physical function's, or that of a virtual function, 0
-    /// to 62.
+    /// `int`: sends the next message of an interrupt group: the physical function's, or a virtual function's (0 to 62).
     IntStep(Group),
     /// `qstep`: switches one side of a queue on or off, as its enable bit requests.
     QueueStep(Dir, u16),

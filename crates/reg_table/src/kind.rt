@@ -38,7 +38,7 @@ pub enum Kind {
     /// Causes that stay set until a write clears them. A read returns the word. A write clears each bit that is 1 in
     /// the written word.
     W1c,
-    /// A virtual function's mailbox. A read returns the word and clears the bits that it reports only once: a status,
+    /// A virtual function's mailbox. A read returns the word and clears the bits that are reported only once: a status,
     /// an acknowledgement, a completed reset. A write takes the mailbox if the physical function doesn't hold it, or
     /// releases it, and sends a request or an acknowledgement to the physical function.
     Vfmail,

@@ -214,7 +214,7 @@ fn taken(mail: u32, word: u32) -> u32
     }
 }
 
-/// Returns the mailbox value after a read by the function: the bits that report once are cleared.
+/// Returns the mailbox value after a read by the function: the bits that are reported only once are cleared.
 fn reported_once(mail: u32) -> u32
     ensures { result ≡ reported_once mail }
 {

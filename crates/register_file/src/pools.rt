@@ -18,7 +18,7 @@ use vf_map::{Mode, mode_of, queues_of};
 /// The pools per word of VFRE or VFTE.
 const POOLS_IN_A_WORD: u16 = 32;
 
-/// The PVFMAILBOX bits that a pool reset clears: the function's hold on the mailbox, and what was sent to it.
+/// The PVFMAILBOX bits that a pool reset clears: the function's hold on the mailbox, and what was sent to the function.
 const MAIL_RENEWED: u32 = Pvfmailbox::VFU.0 | Pvfmailbox::PFSTS.0 | Pvfmailbox::PFACK.0;
 
 /// The reset value of PVFMAILBOX.
@@ -41,7 +41,7 @@ impl RegisterFile {
         (word >> (pool % POOLS_IN_A_WORD)) % 2 == 1
     }
 
-    /// Resets pool v, below 64. This covers its virtual function's interrupts and reported bits, PSRTYPE, its mailbox,
+    /// Resets pool v, below 64. This covers its virtual function's interrupts and reported bits, PSRTYPE, the mailbox,
     /// and the function's counters. For the queues that the mode assigns to the pool, it also covers both sides, the
     /// enable requests, and the vectors. If the mode doesn't have the pool, no queues are reset. In the mailbox,
     /// PFMBMEM and all bits of PVFMAILBOX except 2, 4 and 5 are unchanged. Everything that it resets takes its row's

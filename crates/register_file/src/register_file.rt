@@ -43,7 +43,8 @@ impl Model for RegisterFile {
 
 impl RegisterFile {
     /// Returns the registers after a reset. Each has its row's reset value, no side of the 128 queues is enabled or
-    /// requested to be, and no bit is reported for the physical function's group or those of the 64 virtual functions.
+    /// requested to be, and no bit is reported for the physical function's group or the groups of the 64 virtual
+    /// functions.
     pub fn new() -> Self
         ensures { result ≡ reset_registers }
     {

@@ -14,7 +14,7 @@ use intr_unit::Group;
 use reg_table::RowId;
 
 impl RegisterFile {
-    /// Returns the stored value of a row at an index below the row's count. It is one that the row can hold: a group's
+    /// Returns the stored value of a row at an index below the row's count. The row can hold this value: a group's
     /// auto-clear and auto-mask contain only bits of the group.
     #[inline(always)]
     pub(crate) fn cell(&self, row: RowId, index: u16) -> u32

@@ -6,8 +6,8 @@ use crate::tables::{refill_tables, shares};
 use std::marker::Model;
 
 /// The hash key in the registers RSSRK, with tables. For each half byte `k` of an input and each value `v` of it, the
-/// tables contain the exclusive or, over the bits `j` of `v` that are 1, of the 32 key bits from bit `4k + j` on. So a
-/// hash combines only two numbers a byte. In contracts, a hash key is the list of its ten words.
+/// tables contain the exclusive or, over the bits `j` of `v` that are 1, of the 32 key bits from bit `4k + j` on. A
+/// hash therefore combines only two numbers for each byte. In contracts, a hash key is the list of its ten words.
 ///
 /// Intel 82599 datasheet, section on receive side scaling.
 #[derive(Drop)]
@@ -59,7 +59,7 @@ impl HashKey {
     }
 
     /// Returns the Toeplitz hash of an input of at most 36 bytes, without branching on its bits. The shares of high and
-    /// low half bytes are combined separately, so that neither waits for the other.
+    /// low half bytes are combined separately, so neither chain waits for the other.
     pub fn hash(&self, input: &[u8]) -> u32
         requires { length input.now ≤ 36 }
         ensures { result ≡ toeplitz_hash (bytes_of_registers self.now) input.now }

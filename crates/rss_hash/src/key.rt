@@ -5,7 +5,7 @@ ghost use Rattle.rss_hash.specs.Registers.{bytes_of_registers};
 use crate::redirection::register_byte;
 use crate::toeplitz::bit;
 
-/// The hash key: 40 bytes. Bit 0 is the most significant bit of the first.
+/// The hash key: 40 bytes. Bit 0 is the most significant bit of the first byte.
 ///
 /// Intel 82599 datasheet, section on receive side scaling.
 #[derive(Clone, Copy, PartialEq, Eq, Debug)]

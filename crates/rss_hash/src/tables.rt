@@ -7,8 +7,8 @@ ghost use Rattle.rss_hash.specs.Tables.{joined, high_share, low_share, AreItsWin
 use crate::key::Key;
 
 /// Refills the tables of the half bytes that use a bit of the word of the key that was written. Row `n` has, for each
-/// value of half byte `n`, the exclusive or of its windows. It isn't inlined, so that writes of other registers don't
-/// carry it.
+/// value of half byte `n`, the exclusive or of its windows. It isn't inlined, to keep its code out of the writes of
+/// other registers.
 #[inline(never)]
 pub(crate) fn refill_tables(tables: &mut [[u32; 16]; 72], words: &[u32; 10], index: usize)
     requires index { index < 10 }
@@ -29,8 +29,8 @@ pub(crate) fn refill_tables(tables: &mut [[u32; 16]; 72], words: &[u32; 10], ind
     }
 }
 
-/// Returns the exclusive or of each choice of four numbers: entry `v` is that of the numbers at which bits 3 to 0 of
-/// `v` are 1.
+/// Returns the exclusive or of each subset of four numbers: entry `v` combines the numbers at which bits 3 to 0 of `v`
+/// are 1.
 #[inline(always)]
 fn choices(a: u32, b: u32, c: u32, d: u32) -> [u32; 16]
     ensures { result ≡ map (joined a b c d) (range_with_len 0 16) }

@@ -1,8 +1,8 @@
 //! Where a received frame goes: the address filter, the pool, and the queue.
 //!
 //! [`sort`] decides these from the registers: whether the frame's destination address is accepted (RAL and RAH, MTA,
-//! FCTRL), which pool gets it (MPSAR, VT_CTL, VFRE), and which queue, by MRQC and GCR_EXT and the RSS hash of the frame
-//! (RSSRK, RETA). The definitions are in `specs/`. No call allocates. The device core depends on this crate.
+//! FCTRL), which pool gets it (MPSAR, VT_CTL, VFRE), and which queue (MRQC, GCR_EXT, and the frame's RSS hash with
+//! RSSRK and RETA). The definitions are in `specs/`. No call allocates. The device core depends on this crate.
 //!
 //! Source: Intel 82599 datasheet, sections on packet filtering and on receive queue assignment.
 #![tactic(auto)]

@@ -3,7 +3,7 @@
 pub struct Item<'a> {
     /// All bytes of the frame, without its frame check sequence.
     pub frame: &'a [u8],
-    /// The number of bytes that earlier descriptors already took.
+    /// The number of bytes that were already written for earlier descriptors.
     pub offset: usize,
     /// The first half of the descriptor to write back: the packet's types and its RSS hash.
     pub first: u64,

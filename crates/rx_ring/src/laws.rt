@@ -19,30 +19,30 @@ pub fn healthy()
 {}
 
 /// The filled slot is the one at the head, and the head advances to the next slot of the ring. The buffer takes as much
-/// of the frame as it has room for, at least one byte if any is left. The frame ends there exactly when nothing is left
-/// of it.
+/// of the frame as it has room for, at least one byte if any remains. The frame ends there exactly when none of its
+/// bytes remain.
 pub fn piece()
     ensures { PieceLaw }
 {}
 
 /// What a driver reads from a filled slot, if each lent block is whole and the first half is below 2^64. The descriptor
-/// is done, ends the packet exactly when the frame ends, and has the number of bytes and the first half. The buffer has
-/// the bytes, if it shares none with the descriptor.
+/// is done, ends the packet exactly when the frame ends, and contains the number of bytes and the first half. The
+/// buffer contains the bytes, if it shares none with the descriptor.
 pub fn read_back()
     ensures { DriverReads }
 {}
 
-/// The pieces that a driver reads, joined in order, are the frame, up to the bytes that are left of it. In every turn
-/// each lent block is whole and the buffer shares no byte with its descriptor; the first half is below 2^64. A piece
-/// has EOP exactly when the frame is complete with it, and then no piece follows. Each piece reports the same packet.
+/// The pieces that a driver reads, joined in order, are the frame without its remaining bytes. At every fill each lent
+/// block is whole and the buffer shares no byte with its descriptor; the first half is below 2^64. A piece has EOP
+/// exactly when the frame is complete with it, and then no piece follows. Each piece reports the same packet.
 pub fn frames()
     ensures { PiecesMakeFrame }
 {}
 
 /// Filling a slot changes no byte outside the descriptor and the written bytes of the buffer. Whether the slot is
 /// filled or not, the same blocks stay lent and each keeps its length of 2,048 bytes. If the descriptor is within one
-/// block and the bytes are within one, every other block is unchanged; if the two differ, each has just what was
-/// written to it.
+/// block and the bytes are within one, every other block is unchanged; if the two blocks differ, each changes only by
+/// what was written to it.
 pub fn elsewhere()
     ensures bytes { WritesInsideSlot }
     ensures blocks { FillKeepsBlocks }

@@ -1,6 +1,6 @@
 //! The receive rings of the Intel 82599: filling one descriptor.
 //!
-//! [`fill`] takes the slot at the head of a ring. It tests what the queue's registers, the descriptor and the lent
+//! [`fill`] fills the slot at the head of a ring. It tests what the queue's registers, the descriptor and the lent
 //! memory allow. Then it writes the next bytes of a frame into the buffer that the descriptor names, and writes the
 //! descriptor back, all in one call. `specs/Fill.antt` defines what it returns and the memory that it leaves; `laws`
 //! states what a driver can rely on. The ring itself is in `dma_ring`, and the device depends on this crate. No call

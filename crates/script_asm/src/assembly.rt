@@ -62,7 +62,7 @@ fn is_only(word: &str, line: &str) -> bool
     }
 }
 
-/// Reads the lines before the line `end`, and returns whether there is one. The lines after it stay unread.
+/// Reads the lines before the line `end`, and returns whether there is one. The lines after it aren't read.
 fn read_before<'a>(
     alloc: Global,
     lines: &mut Lines<'a>,
@@ -83,8 +83,8 @@ fn read_before<'a>(
     Ok((sheet, false))
 }
 
-/// Assembles the lines before the first line that consists of the word `end` only. The lines after that one stay
-/// unread. Returns `None` if there is no `end` line and all lines form a script.
+/// Assembles the lines before the first line that consists of the word `end` only. The lines after that one aren't
+/// read. Returns `None` if there is no `end` line and all lines form a script.
 ///
 /// Faults are reported as by `assemble`. `OutOfMemory` may be returned in place of any other result.
 pub fn assemble_before(

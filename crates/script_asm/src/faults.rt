@@ -90,7 +90,7 @@ impl From<NumberFault> for LineFault {
 }
 
 impl LineFault {
-    /// The one of a line's two faults that is reported.
+    /// The fault that is reported if a line has these two.
     fn reported_first(self, other: LineFault) -> LineFault
         ensures { result ≡ reported_first self other }
     {

@@ -19,13 +19,13 @@ pub fn first_fault_decides()
 {}
 
 /// If two operands are faulty, the fault that comes first in the order of a line's faults is reported. A line's own
-/// fault is reported before a name that is defined twice, and this before an exceeded limit.
+/// fault is reported before a name that is defined twice, and such a name before an exceeded limit.
 pub fn faults_come_in_order()
     ensures { FaultsComeInOrder }
 {}
 
-/// A name's first label has the number of instructions on the lines before it. A name's first data string has the
-/// number of data strings on the lines before it. A name that no line defines has no number.
+/// The number of a name's first label is the number of instructions on the lines before it. The number of a name's
+/// first data string is the number of data strings on the lines before it. A name that no line defines has no number.
 pub fn names_have_their_places()
     ensures { NamesHaveTheirPlaces }
 {}

@@ -10,8 +10,8 @@ use std::alloc::Global;
 use std::collections::BTreeMap;
 use std::marker::Model;
 
-/// Names with their numbers: that of the instruction after a label, or that of a data string. A lookup takes time
-/// logarithmic in the number of names.
+/// Names with their numbers: a label has the number of the instruction after it, and a data name its data string's
+/// number. A lookup takes time logarithmic in the number of names.
 #[derive(Drop)]
 pub(crate) struct Places<'a> {
     numbers: BTreeMap<&'a str, u16>,

@@ -4,7 +4,7 @@ ghost use Rattle.std.specs.Prelude.{◌≡◌};
 ghost use Rattle.std.specs.List.{list_all};
 ghost use Rattle.text_format.specs.Name.{is_name, begins_name, continues_name};
 
-/// The most bytes in the name of a label or of a data string.
+/// The maximum number of bytes in the name of a label or of a data string.
 pub const NAME_LIMIT: usize = 32;
 
 /// Whether a name may begin with this byte.

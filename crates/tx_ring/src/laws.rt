@@ -24,15 +24,16 @@ pub fn packet()
     ensures { PacketLaw }
 {}
 
-/// What a driver reads from a reported slot, if each lent block is whole: the new head at the head write-back address;
-/// without one, the descriptor with its done bit set and every other bit unchanged.
+/// What a driver reads from a reported slot, if each lent block is whole: the new head at the head write-back address,
+/// or without such an address the descriptor with its done bit set and every other bit unchanged.
 pub fn read_back()
     ensures { DriverReads }
 {}
 
-/// A slot is reported if RS requests it: at the head write-back address; without one, in its descriptor. If the ring's
-/// base is at a multiple of 16 bytes and the head write-back address at a multiple of 4, the bytes written back are
-/// within one block. A done descriptor differs from what it was only in DD, if both of its halves are below 2^64.
+/// A slot is reported if RS requests it: at the head write-back address, or without such an address in its descriptor.
+/// If the ring's base is at a multiple of 16 bytes and the head write-back address at a multiple of 4, the bytes
+/// written back are within one block. A done descriptor differs from its earlier value only in DD, if both of its
+/// halves are below 2^64.
 pub fn reports()
     ensures address { ReportLaw }
     ensures block { ReportsInOneBlock }

@@ -21,7 +21,7 @@ const CONTEXT: u8 = 2;
 /// The type of a data descriptor.
 const DATA: u8 = 3;
 
-/// The fewest bytes in a frame if short frames are padded.
+/// The minimum length of a frame in bytes if short frames are padded.
 const SHORTEST_FRAME: usize = 60;
 
 /// Fetches the slot at the head of a transmit ring. It stages the bytes that the descriptor names, returns the frame at
@@ -30,10 +30,10 @@ const SHORTEST_FRAME: usize = 60;
 /// 65,536 slots.
 ///
 /// Errors, in the order of the tests: `Outside` if the head or the tail isn't a slot; `NotLent` with the descriptor's
-/// address; `Legacy`; `UnknownType`. For a data descriptor they continue: `Offload`; `TooLong` if the staged bytes and
-/// its own exceed the limit; `NotLent` with its buffer's address; `NotLent` with the address of the write-back.
-/// `OutOfMemory` comes only after all tests, and only if more bytes must be stored than before. Each error leaves the
-/// memory and the staged bytes as they were.
+/// address; `Legacy`; `UnknownType`. For a data descriptor, then: `Offload`; `TooLong` if the staged bytes and its own
+/// exceed the limit; `NotLent` with its buffer's address; `NotLent` with the address of the write-back. `OutOfMemory`
+/// comes only after all tests, and only if more bytes must be stored than before. Each error leaves the memory and the
+/// staged bytes as they were.
 ///
 /// Intel 82599 datasheet, section on advanced transmit descriptors.
 #[tactic(auto, unfolding(crate::specs::Fetch::fetch_of, crate::specs::Fetch::fault_of))]
@@ -48,7 +48,7 @@ pub fn fetch(
     requires slots { slots_of ring.now ≤ 65536 }
     ensures fault { (f : RingFault) → (result ≡ Err (TxRefused.Fault f))
         ↔ (fault_of memory.old ring.now tx.now (length staged.old) ≡ Some f) }
-    // For every setting, memory and staged bytes.
+    // The clauses hold for all settings, memory and staged bytes.
     ensures answer { IfOk result (λ f. (fetch_of memory.old staged.old ring.now tx.now).answer ≡ Ok f) }
     ensures memory { OnOk result (memory.new ≡ (fetch_of memory.old staged.old ring.now tx.now).memory) }
     ensures staged { OnOk result (staged.new ≡ (fetch_of memory.old staged.old ring.now tx.now).staged) }

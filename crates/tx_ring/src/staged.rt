@@ -52,7 +52,7 @@ impl Staged {
         self.bytes.clear();
     }
 
-    /// Takes the bytes out, leaving none.
+    /// Moves the bytes out and leaves none.
     fn take(&mut self, alloc: Global) -> Octets
         ensures taken { result ≡ self.old }
         ensures left { self.new ≡ [] }
@@ -60,7 +60,7 @@ impl Staged {
         Octets::of(mem::replace(&mut self.bytes, Vec::new(alloc)))
     }
 
-    /// Takes the staged bytes out as a frame if `end` is set, leaving none.
+    /// Moves the staged bytes out as a frame and leaves none, if `end` is set.
     pub(crate) fn frame(&mut self, alloc: Global, end: bool) -> Option<Octets>
         ensures frame { result ≡ (if end then Some self.old else None) }
         ensures left { self.new ≡ (if end then [] else self.old) }

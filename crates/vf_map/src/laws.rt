@@ -44,7 +44,7 @@ pub fn queue_registers_are_there()
     ensures { QueueRegistersAreThere }
 {}
 
-/// The pool of a queue is the one that has the queue.
+/// A queue's pool is the pool that contains the queue.
 pub fn pool_is_where_the_queue_is()
     ensures { PoolIsWhereTheQueueIs }
 {}

@@ -83,7 +83,7 @@ fn function_place(v: u8, offset: u32) -> Option<Place>
     message_place(v, offset)
 }
 
-/// Returns the register at an offset, among those of which function v has one each.
+/// Returns the register at an offset, if it is one of function v's single registers.
 #[rattlefmt::skip]
 fn own_place(v: u8, offset: u32) -> Option<Place>
     ensures { result ≡ place_at (own_entries v) offset }

@@ -10,7 +10,7 @@ const MODE_MASK: u32 = 0x3;
 /// The number of queues, each with a receive and a transmit side.
 pub const QUEUES: u16 = 128;
 
-/// The most virtual functions that a device can have.
+/// The maximum number of virtual functions of a device.
 pub const MAX_VFS: u8 = 63;
 
 /// Returns the mode in a word of GCR_EXT: its bits 1:0. The other bits are ignored.
@@ -66,7 +66,7 @@ pub fn queue_in(mode: Mode, pool: u16, number: u8) -> u16
     }
 }
 
-/// Whether a queue belongs to a pool. In a mode without pools no queue does; queue 128 and above never do.
+/// Whether a queue belongs to a pool. In a mode without pools no queue does, and queues from 128 on never do.
 pub fn has_queue(mode: Mode, pool: u16, queue: u16) -> bool
     ensures { result ≡ has_queue mode pool queue }
 {

@@ -1,4 +1,4 @@
--- The number of workers' ends.
+-- The number of ends that the workers return.
 use Rattle.std.proofs.Common.{◌≡◌, suc, List, [], ◌∷◌, length, refl, ap}
 use Rattle.pmd.specs.declared.job.Job.{Job}
 use Rattle.pmd.specs.Ends.{AreEnds}

@@ -1,4 +1,4 @@
--- One more line of commands.
+-- Reading one more line of commands.
 use Rattle.std.proofs.Common.{◌≡◌, refl, ap, ◌∙◌, ℕ, List, [], ◌∷◌, append-nil, Result, Ok, Err}
 use Rattle.debugger.specs.declared.Command.{Command}
 use Rattle.text_format.specs.Lines.{NumberedLine}

@@ -1,4 +1,4 @@
--- How the program ends if an answer was given up.
+-- How the program ends if an answer wasn't completed.
 use Rattle.std.proofs.Common.{refl, subst, ◌≡◌, inl, inr, ℕ, List, codes, None, Option, Some, Err, IfSome}
 use Rattle.clap.specs.Words.{HasKind, Kinds, kind_of}
 use Rattle.clap.specs.declared.error.Error.{Error}

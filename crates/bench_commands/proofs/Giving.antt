@@ -1,4 +1,4 @@
--- Lemmas about answers that are given or given up.
+-- Lemmas about answers, completed or not.
 use Rattle.std.proofs.Common.{refl, sym, subst, ap, ◌≡◌, ℕ, Bool, List, [], ◌++◌, append_assoc, ◌∙◌, Option, Result, Ok, Err}
 use Rattle.std.specs.Io.KnownBytes.{Appends}
 use Rattle.bench_commands.specs.Answer.{Answer, Gives, GivesRight, WritesBeginning}
@@ -7,7 +7,8 @@ use Rattle.bench_commands.specs.declared.failure.Failure.TheVariants.{OutOfMemor
 use Rattle.bench_commands.proofs.Appending.{Appends-both, Appends-none}
 
 module _ (old new : Option (List ℕ)) (has_failed : Bool) where
-  -- If an answer is the only right one and it is given, a right answer is given.
+  -- If an answer is the only right one, and the program gives it or doesn't complete it, the same holds for a right
+  -- answer.
   pub gives-right : (r : Result ℕ Failure) (answer : Answer) (IsRight : Answer → Type 0) → IsRight answer
       → ((other : Answer) → IsRight other → other ≡ answer) → Gives r old new has_failed answer
       → GivesRight r old new has_failed IsRight
@@ -21,11 +22,11 @@ module _ (old new : Option (List ℕ)) (has_failed : Bool) where
       → Gives r old new has_failed other
   gives-same r answer other same given = subst (Gives r old new has_failed) same given
 
--- Writing nothing writes the beginning of any text.
+-- Writing nothing writes a prefix of any text.
 pub begins-with-nothing : (old : Option (List ℕ)) (text : List ℕ) → WritesBeginning old old text
 begins-with-nothing old text = record { beginning = []; rest = text; written = Appends-none old; whole = refl }
 
--- An answer that is given after a text was written.
+-- An answer after a text that was already written.
 pub gives-after : (old mid new : Option (List ℕ)) (has_failed : Bool) (r : Result ℕ Failure) (text : List ℕ)
     (answer : Answer) → Appends old mid text
     → Gives r mid new has_failed answer

@@ -1,4 +1,4 @@
--- One more line of inputs.
+-- Hashing one more line of inputs.
 use Rattle.std.proofs.Common.{◌≡◌, refl, sym, ap, ◌∙◌, ℕ, List, [], ◌∷◌, ◌++◌, append-nil, map, Some, Result, Ok, Err, ◌+◌, ◌<◌, codes, length, take, get_or}
 use Rattle.std.specs.List.{flat_map}
 use Rattle.std.proofs.Math.Seq.{take-length}

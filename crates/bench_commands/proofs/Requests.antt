@@ -94,7 +94,7 @@ module _ (request : Request) (old new : Option (List ℕ)) (has_failed : Bool) w
       rw (lt-ltb 8388608 (length input) long)
       (λ answer is. subst (λ (a : Answer). WritesBeginning old new a.text) (sym is) given)
 
-  -- Giving an answer never returns `Failure::Read`.
+  -- Writing an answer never returns `Failure::Read`.
   pub never-unread : (r : Result ℕ Failure) (IsRight : Answer → Type 0) → GivesRight r old new has_failed IsRight
       → r ≡ Err Read → ⊥
   never-unread r IsRight given is = let read : GivesRight (Err Read) old new has_failed IsRight =

@@ -19,7 +19,7 @@ use Rattle.bench_commands.specs.Debug.{session_text}
 use Rattle.bench_commands.specs.View.{answer_line}
 use Rattle.bench_commands.proofs.Appending.{Appends-both}
 
--- Some commands are done and their lines written; the rest are left.
+-- Some commands have run and their lines are written; the rest remain.
 pub record IsDuring (old new : Option (List ℕ)) (start now : Session) (all rest : List Command) : Type 0 where
   pub done : List ℕ
   pub written : Appends old new done
@@ -27,13 +27,13 @@ pub record IsDuring (old new : Option (List ℕ)) (start now : Session) (all res
 
 module _ (old new : Option (List ℕ)) (start now : Session) (all rest : List Command)
     (during : IsDuring old new start now all rest) where
-  -- If no command is left, all lines are written.
+  -- If no command remains, all lines are written.
   pub all-written : rest ≡ [] → Appends old new (session_text start all)
   unfolding session_text
   all-written none = subst (Appends old new) (sym (append-nil during.done)
       ∙ ap (λ rs. during.done ++ session_text now rs) (sym none) ∙ during.whole) during.written
 
-  -- One more command is done and its line written.
+  -- One more command has run, and its line is written.
   pub one-more : (last : Option (List ℕ)) (later : Session) (command : Command) (more : List Command)
       (result : Result View DebugRefusal) → rest ≡ command ∷ more → result ≡ (command_of now command).answer
       → later ≡ (command_of now command).session → Appends new last (answer_line command result)

@@ -28,7 +28,7 @@ no_memory = record { text = refusal_line (codes "OutOfMemory") None; status = 4 
 abbrev pub Writes : Option (List ℕ) → Option (List ℕ) → Answer → ℕ → Type 0
 Writes old new answer status = Appends old new answer.text × (status ≡ answer.status)
 
--- The written text is a beginning of this text, from nothing to all of it.
+-- The written text is a prefix of this text: nothing, part of it, or all of it.
 pub record WritesBeginning (old new : Option (List ℕ)) (text : List ℕ) : Type 0 where
   pub beginning : List ℕ
   pub rest : List ℕ
@@ -39,13 +39,13 @@ pub record WritesBeginning (old new : Option (List ℕ)) (text : List ℕ) : Typ
 abbrev pub FailsToWrite : {T : Type 0} → Result T Failure → Bool → Type 0
 FailsToWrite result has_failed = OnErr result ((result ≡ Err Write) × (has_failed ≡ true))
 
--- An answer was given up because a write failed, or because memory ran out after the answer was begun.
+-- An answer wasn't completed because a write failed, or because memory ran out after a prefix of it was written.
 abbrev pub GivesUp : Failure → Bool → Type 0 → Type 0
 GivesUp Read has_failed IsBegun = ⊥
 GivesUp Write has_failed IsBegun = has_failed ≡ true
 GivesUp OutOfMemory has_failed IsBegun = IsBegun
 
--- The answer was written and its status returned, or it was given up.
+-- The answer was written and its status returned, or it wasn't completed.
 abbrev pub Gives : Result ℕ Failure → Option (List ℕ) → Option (List ℕ) → Bool → Answer → Type 0
 Gives (Ok status) old new has_failed answer = Writes old new answer status
 Gives (Err failure) old new has_failed answer = GivesUp failure has_failed (WritesBeginning old new answer.text)
@@ -54,11 +54,11 @@ Gives (Err failure) old new has_failed answer = GivesUp failure has_failed (Writ
 abbrev pub WritesRight : Option (List ℕ) → Option (List ℕ) → (Answer → Type 0) → ℕ → Type 0
 WritesRight old new IsRight status = (answer : Answer) × IsRight answer × Writes old new answer status
 
--- A beginning of every right answer was written.
+-- A prefix of every right answer was written.
 abbrev pub BeginsRight : Option (List ℕ) → Option (List ℕ) → (Answer → Type 0) → Type 0
 BeginsRight old new IsRight = (answer : Answer) → IsRight answer → WritesBeginning old new answer.text
 
--- A right answer was written and its status returned, or it was given up.
+-- A right answer was written and its status returned, or it wasn't completed.
 abbrev pub GivesRight : Result ℕ Failure → Option (List ℕ) → Option (List ℕ) → Bool → (Answer → Type 0) → Type 0
 GivesRight (Ok status) old new has_failed IsRight = WritesRight old new IsRight status
 GivesRight (Err failure) old new has_failed IsRight = GivesUp failure has_failed (BeginsRight old new IsRight)

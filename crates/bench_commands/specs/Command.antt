@@ -18,7 +18,7 @@ number_said word = result_ok (number_of word)
 abbrev pub target_said : List ℕ → Option ℕ
 target_said word = result_ok (target_of word)
 
--- The number, if it is that of a virtual function, 0 to 62.
+-- The number, if it is a virtual function's, 0 to 62.
 abbrev pub if_function : ℕ → Option ℕ
 if_function number = if nat_lt number 63 then Some number else None
 
@@ -57,13 +57,14 @@ command_said (name ∷ a ∷ []) = looked_up name (table_of_one a)
 command_said (name ∷ a ∷ b ∷ []) = looked_up name (table_of_two a b)
 command_said (name ∷ a ∷ b ∷ c ∷ more) = None
 
--- A line's command, followed by those of the lines after it.
+-- A line's command, followed by the commands of the lines after it.
 abbrev pub command_and : ℕ → Option Command → Result (List Command) ℕ → Result (List Command) ℕ
 command_and number None commands = Err number
 command_and number (Some command) (Ok commands) = Ok (command ∷ commands)
 command_and number (Some command) (Err later) = Err later
 
--- The command of a line with these words, followed by those of the lines after it. A line without words has no command.
+-- The command of a line with these words, followed by the commands of the lines after it. A line without words has no
+-- command.
 abbrev pub words_and : ℕ → List (List ℕ) → Result (List Command) ℕ → Result (List Command) ℕ
 words_and number [] commands = commands
 words_and number (word ∷ words) commands = command_and number (command_said (word ∷ words)) commands

@@ -49,7 +49,7 @@ abbrev pub IsAnswerTo : Request → List ℕ → Answer → Type 0
 IsAnswerTo request input answer =
     MatchResult (bytes_in input) (λ bytes. IsGivenAnswer request bytes answer) (λ refusal. answer ≡ refusal)
 
--- The request was answered, or if memory ran out a beginning of the answer was written.
+-- The request was answered, or memory ran out after a prefix of the answer was written.
 abbrev pub AnswersRequest : Request → Option (List ℕ) → Option (List ℕ) → Option (List ℕ) → Result ℕ Failure → Type 0
 AnswersRequest request remaining old new (Ok status) =
     IfSome remaining (λ input. WritesRight old new (IsAnswerTo request input) status)
@@ -69,7 +69,7 @@ abbrev pub HasStatusOf : Kinds → ℕ → Type 0
 HasStatusOf [] status = ⊥
 HasStatusOf (k ∷ ks) status = (status ≡ words_status k) ⊎ HasStatusOf ks status
 
--- A beginning of the text was written, then the refusal for lack of memory.
+-- A prefix of the text was written, then the refusal for lack of memory.
 pub record StopsForMemory (old new : Option (List ℕ)) (text : List ℕ) : Type 0 where
   pub beginning : List ℕ
   pub rest : List ℕ
@@ -113,7 +113,7 @@ IsLeft options holds (Threads workers frames) =
     (workers ≡ options.workers) × (frames ≡ options.frames) × holds
 
 -- The program ends in one of four ways: with the status of the answer to the input, all of which is written; with 4
--- after a beginning of the answer, if memory ran out; with 2 and the refusal `Input`, if the input couldn't be read; or
+-- after a prefix of the answer, if memory ran out; with 2 and the refusal `Input`, if the input couldn't be read; or
 -- with the status of a failed write.
 abbrev pub EndsAs : Request → Option (List ℕ) → Type 0 → Option (List ℕ) → Option (List ℕ) → (ℕ → Type 0) → Outcome
     → Type 0

@@ -8,12 +8,12 @@ use Rattle.nic_device.specs.RssHash.Toeplitz.{toeplitz_hash}
 use Rattle.bench_commands.specs.Answer.{Answer, refused_at}
 use Rattle.text_format.specs.Word.{word_text}
 
--- The bytes of a line, if it has one word and that spells whole bytes in hex.
+-- The bytes of a line, if it consists of one word that spells whole bytes in hex.
 abbrev pub bytes_said : List (List ℕ) → Option (List ℕ)
 bytes_said (word ∷ []) = hex_bytes_of word
 bytes_said other = None
 
--- The bytes, if they can be a key: it has 40 bytes, and an input has at most 36.
+-- The bytes, if they can be a key, of 40 bytes (`if_key`), or an input, of at most 36 (`if_input`).
 abbrev pub if_key : Option (List ℕ) → Option (List ℕ)
 if_key (Some bytes) = if length bytes == 40 then Some bytes else None
 if_key None = None
@@ -22,13 +22,14 @@ abbrev pub if_input : Option (List ℕ) → Option (List ℕ)
 if_input (Some bytes) = if nat_lt 36 (length bytes) then None else Some bytes
 if_input None = None
 
--- An input, followed by those of the lines after it.
+-- An input, followed by the inputs of the lines after it.
 abbrev pub input_and : ℕ → Option (List ℕ) → Result (List (List ℕ)) ℕ → Result (List (List ℕ)) ℕ
 input_and number None inputs = Err number
 input_and number (Some input) (Ok inputs) = Ok (input ∷ inputs)
 input_and number (Some input) (Err later) = Err later
 
--- The input of a line with these words, followed by those of the lines after it. A line without words has no input.
+-- The input of a line with these words, followed by the inputs of the lines after it. A line without words has no
+-- input.
 abbrev pub line_and : ℕ → List (List ℕ) → Result (List (List ℕ)) ℕ → Result (List (List ℕ)) ℕ
 line_and number [] inputs = inputs
 line_and number (word ∷ words) inputs = input_and number (if_input (bytes_said (word ∷ words))) inputs
@@ -68,7 +69,7 @@ hash_answer text = lines_answer (lines_of text)
 abbrev pub words_answer : List ℕ → Answer
 words_answer words = record { text = flat_map word_line words; status = 0 }
 
--- These hashes, followed by those of the inputs.
+-- These hashes, followed by the hashes of the inputs.
 abbrev pub hashed : List ℕ → List ℕ → Result (List (List ℕ)) ℕ → Result (List ℕ) ℕ
 hashed key before (Ok inputs) = Ok (before ++ map (toeplitz_hash key) inputs)
 hashed key before (Err number) = Err number

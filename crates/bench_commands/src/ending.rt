@@ -36,8 +36,8 @@ pub enum Outcome {
     },
 }
 
-/// Writes a refusal by its name and ends with this status. If the refusal can't be written, ends with the status of a
-/// failed write.
+/// Writes the refusal with this name and ends with this status. If the refusal can't be written, ends with the status
+/// of a failed write.
 fn end_saying<W: Write>(output: &mut Output<W>, name: &str, status: u8) -> Outcome
     ensures { EndsSaying (W.contents output.old.writer) (W.contents output.new.writer)
         (IsUnwritten output.new) (record { text = refusal_line name.now None; status = status })

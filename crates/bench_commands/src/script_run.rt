@@ -60,7 +60,7 @@ fn run_program<W: Write>(
     }
 }
 
-/// Runs a script, and writes each step's line as the step is taken.
+/// Runs a script, and writes each step's line when the step has run.
 pub(crate) fn run_script<W: Write>(
     alloc: Global,
     text: &str,

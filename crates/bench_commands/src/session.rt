@@ -39,7 +39,7 @@ fn line_count(text: &str) -> usize
     count
 }
 
-/// Executes commands in order and writes each one's line.
+/// Executes commands in order and writes the line of each.
 fn do_commands<W: Write>(
     debugger: &mut Debugger,
     commands: &[Command],

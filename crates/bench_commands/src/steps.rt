@@ -34,7 +34,7 @@ fn write_answer<W: Write>(
     }
 }
 
-/// Takes the steps of a new machine up to the limit, and writes each one's line.
+/// Runs a new machine's steps up to the limit, and writes the line of each.
 fn write_steps<W: Write>(
     machine: &mut Machine,
     limit: u64,

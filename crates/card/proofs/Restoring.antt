@@ -111,7 +111,7 @@ restored-is s d a b count all is left =
     ∙ ap (λ k. blocks_not_lent k s.memory) (left-count s.memory b count new) in
     rw (is, blocks) refl
 
--- A card whose device goes back keeps its arena.
+-- A card whose device is restored keeps its arena.
 
 is_free-not_lent : (m : Memory) (a : Numbers) (n : ℕ) (own : Bool) → AreShared m a → has_block m n ≡ false
     → is_own a n ≡ own → is_free a n ≡ own

@@ -23,7 +23,7 @@ run_on-early p c n steps counted within =
     run_on-plain p c n (steps - n) counted ∙ ap (λ k. (machine_at p c k).steps) whole
     ∙ sym (run_on-plain p c 0 steps refl)
 
--- The same for a machine that was run on.
+-- The same holds for a machine that has run on.
 pub replayed-early : (config : Config) (machine later : Course) (b : List ℕ) (left steps reported : ℕ)
     → machine.config ≡ config → machine.state ≡ machine_at machine.program config machine.state.steps
     → machine.state.steps ≤ steps → reported ≡ machine.state.steps → left ≡ steps - reported → b ≡ []
@@ -59,14 +59,14 @@ stay-more machine before snapshot is m same all =
     } in
     All-append (IsOf m) before (snapshot ∷ []) all (All-cons (IsOf m) snapshot [] of (All-nil (IsOf m)))
 
--- Keeping the snapshots across two stages of a run.
+-- The snapshots are kept across two stages of a run.
 pub stay-on : (start now : Course) (first second third : List Course) → now.program ≡ start.program
     → now.config ≡ start.config → StayOf start first second → StayOf now second third → StayOf start first third
 stay-on start now first second third program config before more m same all =
     let like : IsOf now m = record { program = same.program ∙ sym program; config = same.config ∙ sym config } in
     more m like (before m same all)
 
--- Keeping the snapshots across one more step.
+-- The snapshots are kept across one more step.
 pub stay-step : (start now later : Course) (first second third : List Course)
     → now ≡ record start { state = machine_at start.program start.config now.state.steps }
     → later ≡ record now { state = (machine_step now.program now.state).state }
@@ -108,7 +108,7 @@ stay-pushed machine before after snapshot true is pushed =
 stay-pushed machine before after snapshot false is pushed =
     λ m same all. subst (λ (xs : List Course). AreOf m xs) (sym pushed) all
 
--- The same if only the permanent snapshots stay with it.
+-- The same holds if it is kept with only the permanent snapshots.
 pub stay-replaced : (machine : Course) (stay : ℕ) (before first after : List Course) (snapshot : Course) (ok : Bool)
     → snapshot ≡ machine → first ≡ take stay before → after ≡ (if ok then first ++ snapshot ∷ [] else first)
     → StayOf machine before after
@@ -127,7 +127,7 @@ before-is machine snapshot snapshots kept at reported steps all same inside is c
   early = omega (arith, count, early);
 }
 
--- It can be run on in place of a machine from the start.
+-- It can run on in place of a machine that runs from the start.
 early-by : (object : List ℕ) (config : Config) (snapshots : List Course) (snapshot : Course) (steps : ℕ)
     (read : Result Listing ObjectFault) → read_of object ≡ read → IsOk read → AreReplayed object config snapshots
     → ((m : Course) → AreOf m snapshots → IsBefore m snapshot steps)

@@ -61,7 +61,7 @@ module _ (start now : Course) (b : List ℕ) (limit made : ℕ) (ran : RanOn sta
   all-ran is = sym (ap (run_on start.program start.config b now.state.steps)
       (let none : limit - made ≡ 0 = omega arith in none)) ∙ ran.left
 
-  -- If the next step may take memory, it is one of the steps left.
+  -- If the next step may take memory, it is one of the remaining steps.
   short : made < limit → StepTakesMemory now.program now.state
       → now.state.steps < run_on start.program start.config b start.state.steps limit
   short within takes =
@@ -109,7 +109,7 @@ module _ (start now : Course) (b : List ℕ) (limit made : ℕ) (ran : RanOn sta
         (stops-is true (sym stopped)))
         ∙ ap (run_on start.program start.config b now.state.steps) one ∙ ran.left
 
-    -- The case of a machine that goes on.
+    -- The case of a machine that continues.
     next-steps : is_stopped (machine_step now.program now.state).answer ≡ false
         → later.state.steps ≡ suc now.state.steps
     next-steps going = ap (λ (m : Course). m.state.steps) step ∙ counts now.program now.state going

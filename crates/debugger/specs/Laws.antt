@@ -52,7 +52,7 @@ RunsEndFirst = (program : Listing) (config : Config) (breakpoints : List ℕ) (n
     → EndsFirst program config breakpoints n limit (run_on program config breakpoints n limit)
 
 -- Going back a number of steps and then forward by the same number leads to the same position, if the session's machine
--- has counted all of its steps and the number isn't larger.
+-- has counted all of its steps and has at least this many.
 abbrev pub BackAndOnAgain : Type 0
 BackAndOnAgain = (s : Session) (count : ℕ) → IsCounted s → count ≤ s.steps
     → run_on s.program s.config [] (s.steps - count) count ≡ s.steps

@@ -13,7 +13,7 @@ pub record IsOf (machine other : Course) : Type 0 where
 abbrev pub AreOf : Course → List Course → Type 0
 AreOf machine snapshots = All (λ s. IsOf machine s) snapshots
 
--- If all snapshots before were of a machine like this one, all snapshots after are.
+-- If all snapshots in the first list are of a machine like this one, so are all snapshots in the second.
 abbrev pub StayOf : Course → List Course → List Course → Type 0
 StayOf machine before after = (m : Course) → IsOf machine m → AreOf m before → AreOf m after
 

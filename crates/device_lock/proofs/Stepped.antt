@@ -22,7 +22,7 @@ use Rattle.device_lock.specs.Resting.{after_calls}
 use Rattle.device_lock.specs.Stepping.{AreMade, StepsAndMakes, StopsMaking, StopsStepping, calls_made, events_in, steps_of_queue, with_calls}
 use Rattle.device_lock.proofs.Histories.{leads_to-snoc, legal_more}
 
--- Calls after calls.
+-- Calls that follow other calls.
 
 with_both : (t : PassValue) (a b : List Call) → with_calls (with_calls t a) b ≡ with_calls t (a ++ b)
 with_both t a b =
@@ -60,7 +60,7 @@ events_made : (s : State) (es : List (Event Block)) → events_in (calls_made s 
 events_made s [] = refl
 events_made s (e ∷ es) = ap (λ (l : List (Event Block)). e ∷ l) (events_made (step_of s e).state es)
 
--- Events made one after the other.
+-- Events that run one after the other.
 
 pub one_made : (h then : Held) (old new : PassValue) (e : Event Block) (x : Reply Block) → then ≡ after_call h old.tag e
     → x ≡ (step_of h.device e).reply → new ≡ with_call old e x → AreMade h old (e ∷ []) then new
@@ -114,7 +114,7 @@ pub none_stopped : (h then : Held) (old new : PassValue) (queue : ℕ) → (then
     → StopsMaking queue h old then new
 none_stopped h then old new queue same = (0, none_made h then old new same)
 
--- The steps stop after `count` of them, and nothing else happens.
+-- The steps stop after `count` steps, and nothing else happens.
 pub stopped : (h i then : Held) (old mid new : PassValue) (queue count : ℕ)
     → AreMade h old (take count (steps_of_queue queue)) i mid → (then ≡ i) × (new ≡ mid)
     → StopsMaking queue h old then new

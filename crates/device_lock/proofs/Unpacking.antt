@@ -1,4 +1,4 @@
--- Lemmas: entries as stored, one more of them, and the first one separately.
+-- Lemmas: entries as stored, with one more entry, and with the first entry separate.
 use Rattle.std.proofs.Common.{◌≡◌, ℕ, ◌+◌, ◌≤◌, List, [], ◌∷◌, ◌++◌, length, refl, sym, ap, ◌∙◌, append_assoc, append-nil, length-append}
 use Rattle.nic_device.specs.DmaArena.Block.{Block}
 use Rattle.nic_device.specs.declared.event.Event.{Event}

@@ -1,4 +1,4 @@
--- What it means to leave a queue of a shared device alone: what others don't do to it after its driver has begun.
+-- What it means to leave a queue of a shared device alone: what other passes don't do to it after its driver has begun.
 use Rattle.std.specs.Prelude.{ℕ, ◌≡◌, ◌≢◌, ◌+◌, ◌/◌, ◌==◌, ◌<◌, ◌≤◌, nat_lt, Bool, true, false, ◌&&◌, ◌||◌, ⊤, IsTrue, IsFalse, List, [], ◌∷◌, ◌++◌, Option, Some, None, if◌then◌else◌}
 use Rattle.nic_device.specs.RegTable.Place.{place_among}
 use Rattle.nic_device.specs.RegTable.Rows.{row_of}
@@ -102,8 +102,8 @@ WritesOutside queue mine (Advanced on slot (Some back)) = on ≢ queue → IsFal
 WritesOutside queue mine (Sent on len (Some back)) = on ≢ queue → IsFalse (mine (back / 2048))
 WritesOutside queue mine other = ⊤
 
--- The entry leaves the queue alone, given how the mode divides the queues. An entry of another pass leaves the
--- registers and these blocks alone by its event; an entry of any pass reports no write by another queue's step into the
+-- The entry leaves the queue alone, given how the mode divides the queues. The event in another pass's entry leaves the
+-- registers and these blocks alone. The reply in any pass's entry reports no write by another queue's step into the
 -- blocks.
 pub record EntryLeavesAlone (w : Watched) (mine : Blocks) (mode : Mode) (e : Entry) : Type 0 where
   pub registers : e.pass ≢ w.pass → LeavesRegisters w mode e.event

@@ -25,8 +25,8 @@ pub record IsFull (vfs fifo : ℕ) : Type 0 where
   pub legal : IsLegal (new_state vfs fifo) held.history
   pub full : length held.history ≡ held.limit
 
--- From a state that a legal history of a new device led to, these events were made as calls of the pass. The pass
--- gained exactly their calls, each with the device's reply, and the history with their entries added is legal too.
+-- From a state that a legal history of a new device led to, these events ran as calls of the pass. The pass gained
+-- exactly their calls, each with the device's reply, and the history with their entries added is legal too.
 pub record AreAnswered (vfs fifo : ℕ) (old : PassValue) (events : List (Event Block)) (new : PassValue) : Type 0 where
   pub held : Held
   pub legal : IsLegal (new_state vfs fifo) held.history

@@ -26,12 +26,12 @@ StandsIn h p = calls_of p.tag h ≡ p.calls
 abbrev pub AllThere : ℕ → ℕ → List PassValue → Type 0
 AllThere bench count ps = (tag : ℕ) → tag < count → 0 < tag_count bench tag ps
 
--- The passes are those of the bench, one for each tag.
+-- The passes are the bench's passes, one for each tag.
 pub record AreAll (bench count : ℕ) (ps : List PassValue) : Type 0 where
   pub own : All (IsOwn bench count) ps
   pub once : (tag : ℕ) → tag < count → tag_count bench tag ps ≡ 1
 
--- The passes with a tag have the calls that the history has for it. If no pass has the tag, neither does any entry.
+-- The passes with a tag have the calls that the history has for this tag. If no pass has the tag, no entry has it.
 pub record TagStands (h : List Entry) (tag : ℕ) (ps : List PassValue) : Type 0 where
   pub own : All (λ p. p.tag ≡ tag → StandsIn h p) ps
   pub none : All (λ p. p.tag ≢ tag) ps → entries_of tag h ≡ 0

@@ -27,8 +27,8 @@ usual_frames = record { jumbo = false; longest = 1518 }
 abbrev pub first_settings : Settings
 first_settings = record { mode = Off; frames = usual_frames }
 
--- How long frames may be after a write. HLREG0 bit 2 says whether MAXFRS applies, MAXFRS bits 31 to 16 contain the
--- maximum frame length, and a device reset undoes both.
+-- How long frames may be after a write. HLREG0 bit 2 determines whether MAXFRS applies, MAXFRS bits 31 to 16 contain
+-- the maximum frame length, and a device reset undoes both.
 abbrev pub frames_set : Frames → RowId → ℕ → Frames
 frames_set f Hlreg0 word = record f { jumbo = has_bit 2 word }
 frames_set f Maxfrs word = record f { longest = word / 2 ^ 16 % 2 ^ 16 }

@@ -21,7 +21,7 @@ idle_calls events = map (λ (e : Event Block). call_of e Idle) events
 abbrev pub idle_entries : ℕ → List (Event Block) → List Entry
 idle_entries tag events = map (λ (e : Event Block). entry_of tag e Idle) events
 
--- The event, if it was made.
+-- The event, if it ran.
 abbrev pub step_if : Bool → Event Block → List (Event Block)
 step_if true e = e ∷ []
 step_if false e = []
@@ -38,7 +38,7 @@ abbrev pub AreIdle : State → List (Event Block) → Type 0
 AreIdle s [] = ⊤
 AreIdle s (e ∷ events) = IsIdle s e × AreIdle s events
 
--- After some calls of one pass.
+-- The data under the lock after some calls of one pass.
 abbrev pub after_calls : Held → ℕ → List (Event Block) → Held
 after_calls h tag [] = h
 after_calls h tag (e ∷ events) = after_calls (after_call h tag e) tag events

@@ -25,7 +25,7 @@ with_calls p calls = record p { calls = p.calls ++ calls }
 abbrev pub events_in : List Call → List (Event Block)
 events_in calls = map (λ (c : Call). c.event) calls
 
--- The pass made these events, with any replies.
+-- The pass ran these events, with any replies.
 abbrev pub AreStepped : PassValue → PassValue → List (Event Block) → Type 0
 AreStepped old new events =
     (steps : List Call) × (events_in steps ≡ events) × (new ≡ with_calls old steps)
@@ -40,13 +40,13 @@ StepsAndMakes queue old new event reply =
     (steps : List Call) × (events_in steps ≡ steps_of_queue queue)
     × (new ≡ with_calls old (steps ++ call_of event reply ∷ []))
 
--- The calls of these events, made from a state on, each with the device's reply.
+-- The calls of these events, which run from a state on, each with the device's reply.
 abbrev pub calls_made : State → List (Event Block) → List Call
 calls_made s [] = []
 calls_made s (event ∷ events) = call_of event (step_of s event).reply ∷ calls_made (step_of s event).state events
 
--- These events were made to the device held, as calls of the pass. They alone advance the data held, and the pass
--- gained exactly their calls, each with the device's reply.
+-- These events ran on the device held, as calls of the pass. Only they advance the data held, and the pass gained
+-- exactly their calls, each with the device's reply.
 pub record AreMade (held : Held) (old : PassValue) (events : List (Event Block)) (then : Held) (new : PassValue)
     : Type 0 where
   pub under : then ≡ after_calls held old.tag events

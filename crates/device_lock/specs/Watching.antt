@@ -64,8 +64,8 @@ leaves_alone w mine mode e =
     ((e.pass == w.pass) || (leaves_registers w mode e.event && leaves_blocks mine e.event))
     && writes_outside w.queue mine e.reply
 
--- Whether the remaining entries leave the queue alone, given the mode after the earlier ones and whether those include
--- an entry of the pass.
+-- Whether the remaining entries leave the queue alone, given the mode after the earlier entries and whether these
+-- include an entry of the pass.
 abbrev pub rest_leaves_alone : Watched → Blocks → Mode → Bool → List Entry → Bool
 rest_leaves_alone w mine mode begun [] = true
 rest_leaves_alone w mine mode begun (e ∷ es) =

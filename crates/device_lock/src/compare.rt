@@ -53,8 +53,8 @@ fn after_step<'a>(
     }
 }
 
-/// Skips past the next entries with this tag, if they are those of these idle device steps. Returns the entries after
-/// them.
+/// Skips past the next entries with this tag, if they are the entries of these idle device steps. Returns the entries
+/// after them.
 fn after_rested<'a>(history: &'a [Entry], tag: u8, rested: IdleSteps) -> Option<&'a [Entry]>
     ensures some { IfSome result (λ rest. calls_of tag history.now ≡ rested_calls rested ++ calls_of tag rest.now) }
     ensures none { IfNone result ((more : List Call) → calls_of tag history.now ≢ rested_calls rested ++ more) }
@@ -76,7 +76,7 @@ fn after_rested<'a>(history: &'a [Entry], tag: u8, rested: IdleSteps) -> Option<
     after_step(rest, tag, rested.receiving, Event::RxStep)
 }
 
-/// Skips past the next entries with this tag, if they are those of a call and of the steps before it. Returns the
+/// Skips past the next entries with this tag, if they are the entries of a call and of the steps before it. Returns the
 /// entries after them.
 fn after_made<'a>(history: &'a [Entry], tag: u8, made: &Made) -> Option<&'a [Entry]>
     ensures some { IfSome result
@@ -171,7 +171,7 @@ pub(crate) fn lowest_missing(bench: u64, count: u8, passes: &[Pass]) -> Option<u
     None
 }
 
-/// Returns whether the passes are those of the bench, one for each tag.
+/// Returns whether the passes are the bench's passes, one for each tag.
 pub(crate) fn are_all(bench: u64, count: u8, passes: &[Pass]) -> bool
     ensures { IsTrue result ↔ AreAll bench count passes.now }
 {

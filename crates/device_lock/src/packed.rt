@@ -64,8 +64,8 @@ pub struct Packed {
 const LEAST_ROOM: u32 = 131_072;
 
 /// Makes room for `count` separate entries, if the history may have that many. Returns whether there is memory for
-/// them. It makes more room if possible, because room that grows in small steps is moved, and therefore touched, before
-/// anything is stored in it.
+/// them. It reserves more room if possible, because room that grows in small steps is moved each time, and so touched
+/// before anything is stored in it.
 #[inline(always)]
 pub(crate) fn hold_room(whole: &mut Vec<Entry>, count: u32, limit: u32) -> bool
     ensures same { whole.new.items ≡ whole.old.items }

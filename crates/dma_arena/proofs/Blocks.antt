@@ -97,7 +97,7 @@ pub is_lent_in : (m : Memory) (a n q at : ℕ) → has_block m q ≡ true → a 
 is_lent_in m a n q at has e h =
     is_lent_of_each m a n (λ c low high. let block : c / 2048 ≡ q = omega arith in rw block has)
 
--- All of this, for one lent block.
+-- All of these facts, for one lent block.
 pub InsideBlock-of_get : (m : Memory) (q at : ℕ) (xs : List ℕ) → IsWhole m → map.get m q ≡ Some xs
     → InsideBlock m q at xs
 InsideBlock-of_get m q at xs whole is =

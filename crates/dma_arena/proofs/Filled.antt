@@ -227,7 +227,7 @@ module _ {s : List (Option Block)} {f e n : ℕ} (table : IsTable s f e n) {m : 
       (λ r ne. get_or-set_other s q r (Some c) None ne)
       ∙ ap (λ (k : Memory). fin.insert k q c.bytes) view)
 
-  -- A block gets other bytes, and its former bytes are known.
+  -- A block gets other bytes, and its old bytes are known.
 
   pub shown-exchanged : (q : ℕ) (c : Block) (bytes : List ℕ) → has_block m q ≡ true → c.bytes ≡ bytes
       → shown (set s q (Some c)) ≡ fin.insert m q bytes
@@ -242,7 +242,7 @@ module _ {s : List (Option Block)} {f e n : ℕ} (table : IsTable s f e n) {m : 
   got-there q b bytes is e =
       ap (λ bs. Some bs) e ∙ sym (ap (λ (k : Memory). fin.get k q) (sym view) ∙ get-shown s q ∙ rw is refl)
 
-  -- Places are added up to that of a number that isn't lent.
+  -- Places are added up to the place of a number that isn't lent.
   module _ (q : ℕ) (small : q < 65536) (free : has_block m q ≡ false) {t : List (Option Block)}
       (made : t ≡ s ++ replicate (q + 1 - length s) None) where
     pub within_made : q < length t

@@ -15,7 +15,7 @@ use Rattle.dma_arena.proofs.Runs.{found_free, next_free, is_own-without_run, is_
 
 -- The lowest run.
 
--- If not all numbers are free, one isn't.
+-- If not all numbers are free, there is one that isn't.
 pub one_taken : (a : Numbers) (first count : ℕ) (free : Bool) → is_free a first ≡ free → are_free a first count ≡ false
     → IsNoRun a first count
 unfolding are_free
@@ -33,7 +33,7 @@ none_outside a number count some foreign =
     let e : number + 0 ≡ number = omega arith in
     (0, some, rw e (not_free a number (is_free a number) refl foreign))
 
--- Where the search passes by, not all numbers are free.
+-- If the search passes over a place for a run, not all of that run's numbers are free.
 passed : (a : Numbers) (count number left first q : ℕ) (free : Bool) → are_free a number count ≡ free
     → run_from a count number left ≡ Some first → number ≤ q → q < first → are_free a q count ≡ false
 unfolding run_from
@@ -88,7 +88,7 @@ none_found a count number some none =
     nowhere a count a.first (a.first + count_of a - a.first) number (are_free a a.first count) refl none
     (own_within a number own).0 (omega (arith, (own_within a number own).1)))
 
--- Numbers can't both be a free run and contain one that isn't free.
+-- A free run doesn't contain a number that isn't free.
 torn : (a : Numbers) (first count : ℕ) → IsFreeRun a first count → IsNoRun a first count → ⊥
 torn a first count free none = let h : true ≡ false = sym (free none.0 none.1) ∙ none.2 in cc
 

@@ -80,7 +80,8 @@ BlockLaw =
     (m : Memory) (number at : ℕ) (block : List ℕ) → IsWhole m → map.get m number ≡ Some block
     → InsideBlock m number at block
 
--- Bytes that are put into a block, where they fit, are there afterwards, and the rest of the block is unchanged.
+-- Bytes that are put into a block at an index where they fit are there afterwards, and the rest of the block is
+-- unchanged.
 abbrev pub PutLaw : Type 0
 PutLaw =
     (block : List ℕ) (at : ℕ) (bytes : List ℕ) → at + length bytes ≤ length block
@@ -117,8 +118,8 @@ pub record PartsNumbers (a : Numbers) (at : ℕ) : Type 0 where
 abbrev pub CutLaw : Type 0
 CutLaw = (a : Numbers) (at : ℕ) → IsInside a at → PartsNumbers a at
 
--- What the count of free numbers says: it is 0 exactly when none is free, and changes by one with each number taken or
--- given. All numbers are free exactly when each owned one is. Each free number is owned.
+-- The count of free numbers is 0 exactly when none is free, and changes by one with each number taken or given. All
+-- numbers are free exactly when each owned one is. Each free number is owned.
 pub record CountsFree (a : Numbers) : Type 0 where
   pub none : (free_count a ≡ 0) ↔ NoneFree a
   pub all : (are_all_free a ≡ true) ↔ ((number : ℕ) → is_own a number ≡ true → is_free a number ≡ true)

@@ -23,7 +23,7 @@ get_or-words_of (low ∷ high ∷ bytes) (suc i) d h =
     let twice : 2 * suc i ≡ suc (suc (2 * i)) = omega arith in
     get_or-words_of bytes i d (omega arith) ∙ ap (λ n. little_number 2 (drop n (low ∷ high ∷ bytes))) (sym twice)
 
--- Words that are read one by one are those of the file.
+-- Words that are read one by one are the words of the file.
 pub words_of-from_read : (bytes words : List ℕ) → length bytes ≡ 2 * length words → IsRead little_number 2 bytes words
     → words ≡ words_of bytes
 words_of-from_read bytes words whole read =

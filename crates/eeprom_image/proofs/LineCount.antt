@@ -13,7 +13,7 @@ one_line : (empty : Bool) (part : List ℕ) → length (cond empty [] (part ∷ 
 one_line true part = omega arith
 one_line false part = omega arith
 
--- One more byte of another kind adds at most one line.
+-- One more byte other than a newline adds at most one line.
 at_other : (byte : ℕ) (parts : List (List ℕ))
     → length (lines_of_parts (onto_first byte parts)) ≤ length (lines_of_parts parts) + 1
 at_other byte [] = omega arith

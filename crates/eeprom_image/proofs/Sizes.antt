@@ -7,7 +7,7 @@ use Rattle.std.proofs.lemmas.List.Sums.{length-filter, count_by-le-length}
 use Rattle.std.proofs.Math.Pow.{pow-lt}
 use Rattle.eeprom_image.specs.Image.{is_size, doublings}
 
--- What holds for each size holds for any one of them.
+-- A property of all nine sizes holds for any valid size.
 of_any : (P : ℕ → Type 0) (size : ℕ) (ss : List ℕ) → list_any (λ s. size == 64 * 2 ^ s) ss ≡ true
     → AllByRecursion (λ s. P (64 * 2 ^ s)) ss → P size
 of_any P size [] h all = absurd (let no : ⊥ = cc in no)

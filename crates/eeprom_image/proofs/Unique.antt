@@ -50,7 +50,7 @@ one_of_image content a b ha hb =
     (eqb-true (checked_sum b % 65536) 0xBABA hb.image.checksum) in
     same ∙ ap (λ n. set b 63 n) checksum ∙ set-get_or b 63 65535
 
--- Laid-out words are those of an image, except for the checksum.
+-- Laid-out words are the words of an image, except for the checksum.
 pub image_of_laid_out : (content : Content) (words : List ℕ) → IsContent content → content_fault content ≡ None
     → IsLaidOut content words → IsImageOf content (with_checksum words)
 image_of_laid_out content words right none laid =

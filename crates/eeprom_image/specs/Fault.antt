@@ -44,7 +44,7 @@ fits content = list_all (λ given. nat_lt given.0 content.size) content.words
 abbrev pub triple_words : ℕ × ℕ → List ℕ
 triple_words triple = triple.0 / 4 % 65536 ∷ triple.1 % 65536 ∷ triple.1 / 65536 ∷ []
 
--- The CSR section: the number of words that follow, then those of each triple.
+-- The CSR section: the number of words that follow, then the words of each triple.
 abbrev pub csr_section : List (ℕ × ℕ) → List ℕ
 csr_section triples = 3 * length triples ∷ flat_map triple_words triples
 
@@ -77,7 +77,8 @@ points_inside content =
     list_all (is_right_pointer content)
     (map (plain_word content) (3 ∷ 4 ∷ 5 ∷ 6 ∷ 7 ∷ 8 ∷ 9 ∷ 10 ∷ 11 ∷ 12 ∷ 13 ∷ 14 ∷ []))
 
--- The fault of the lowest index that is defined twice; otherwise that of the lowest reserved index that is defined.
+-- The fault of the lowest index that is defined twice; otherwise the fault of the lowest reserved index that is
+-- defined.
 abbrev pub index_fault : Option ℕ → Option ℕ → Option AsmFault
 index_fault (Some twice) reserved = Some (TwoValues twice)
 index_fault None (Some reserved) = Some (Reserved reserved)

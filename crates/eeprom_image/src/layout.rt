@@ -36,7 +36,7 @@ fn push_triple(section: &mut Vec<u16>, triple: (u32, u32)) -> Result<(), AllocEr
     section.extend_from_slice(&words)
 }
 
-/// Returns the CSR section: the number of words that follow, then those of each register write.
+/// Returns the CSR section: the number of words that follow, then the words of each register write.
 fn csr_section(alloc: Global, triples: &[(u32, u32)]) -> Result<Vec<u16>, AllocError>
     requires { 3 * length triples.now < 65536 }
     ensures { IfOk result (λ section. section.items ≡ csr_section triples.now) }

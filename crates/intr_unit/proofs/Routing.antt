@@ -5,7 +5,7 @@ use Rattle.intr_unit.specs.declared.group.Group.TheVariants.{Pf, Vf}
 use Rattle.intr_unit.specs.BitSet.{contains, bits_below, bits_where, union, when, only}
 use Rattle.intr_unit.specs.Group.{vector_of, other_vector, timer_vector, routed_bits}
 
--- The same, for any vector of the other causes and of the TCP timer.
+-- The same holds for any vector of the other causes and of the TCP timer.
 by_vectors : (other timer : Option ℕ) →
     union (union 0xFFFF (when (is_some other) 0x3FFF0000)) (when (is_some timer) (only 30))
     ≡ bits_where (λ bit. is_some (

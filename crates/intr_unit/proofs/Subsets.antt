@@ -59,7 +59,7 @@ unfolding when
 IsSubset-when true set outer p = p
 IsSubset-when false set outer p = IsSubset-no_bits outer
 
--- For changes that keep the words within the group's bits.
+-- The rules for changes that keep the words within the group's bits.
 pub ruleset subsets = (
   IsSubset-no_bits,
   IsSubset-itself,

@@ -103,7 +103,7 @@ no-lowest set empty =
     sym (find-none (contains set) 32 0
     (λ i _. ap (λ n. eqb (bit_at n i) 1) empty ∙ ap (λ d. eqb d 1) (bit_at-zero i)))
 
--- For set operations.
+-- The rules for set operations.
 pub ruleset word_operations = (
   bit_or-is,
   bit_and-is,

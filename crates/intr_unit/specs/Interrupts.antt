@@ -58,7 +58,7 @@ settled s causes enabled reported =
 abbrev pub auto_masked : Interrupts → BitSet → Bool → BitSet
 auto_masked s bits auto = when auto (intersection bits s.auto_mask)
 
--- After a raise: these causes are set, and the auto-mask sets the masks of those that are in it.
+-- After a raise: these causes are set, and the auto-mask sets the masks of the causes that are in it.
 abbrev pub raised : Interrupts → BitSet → Bool → Interrupts
 raised s bits auto =
     settled s
@@ -74,7 +74,7 @@ after_read s ocd auto =
     (difference s.enabled (when auto s.auto_mask))
     s.reported
 
--- After a write of ones: these causes are cleared, and the auto-mask clears the masks of those that are in it.
+-- After a write of ones: these causes are cleared, and the auto-mask clears the masks of the causes that are in it.
 abbrev pub after_write_one : Interrupts → BitSet → Bool → Interrupts
 after_write_one s bits auto =
     settled s (difference s.causes bits) (difference s.enabled (auto_masked s bits auto)) s.reported
@@ -122,7 +122,7 @@ after_telling s eiame bit =
     (difference s.enabled (auto_masked s (only bit) eiame))
     (union s.reported (only bit))
 
--- After a message for this bit; unchanged without a bit.
+-- The group after a message for this bit; unchanged without a bit.
 abbrev pub after_message_of : Interrupts → Bool → Option ℕ → Interrupts
 after_message_of s eiame None = s
 after_message_of s eiame (Some bit) = after_telling s eiame bit

@@ -59,8 +59,8 @@ pub record Bits : Type 0 where
   pub mask : ℕ → Bool
   pub mark : ℕ → Bool
 
--- A call leaves these causes and masks. It leaves those of the marks that have their cause and mask at 1. The
--- auto-clear and the auto-mask are unchanged.
+-- A call leaves these causes and masks. It keeps only the marks that have their cause and mask at 1. The auto-clear and
+-- the auto-mask are unchanged.
 pub record Leaves (before left : Interrupts) (bits : Bits) : Type 0 where
   pub causes : (bit : ℕ) → bit < 32 → contains left.causes bit ≡ bits.cause bit
   pub masks : (bit : ℕ) → bit < 32 → contains left.enabled bit ≡ bits.mask bit
@@ -97,7 +97,7 @@ ReadsChangeBits =
     })
 
 -- A write of ones to the cause register, bit by bit: these causes are cleared. If the auto-mask acts, the masks of
--- those of them that are in it are cleared. Reported bits stay if their cause and mask are 1.
+-- these causes that are in it are cleared. Reported bits stay if their cause and mask are 1.
 abbrev pub WritesOfOnesChangeBits : Type 0
 WritesOfOnesChangeBits =
     (s : Interrupts) (ones : BitSet) (auto : Bool) → Leaves s (after_write_one s ones auto)

@@ -63,7 +63,7 @@ leads-step program config s here =
     ∙ ap (machine_at program config) (sym counts))
     (counts_or_stays program s (next_instruction program s))
 
--- The same for a step that may have run out of memory.
+-- The same holds for a step that may have run out of memory.
 pub leads-tried : {A E : Type 0} (program : Listing) (config : Config) (s after : MachineState) (result : Result A E)
     → IsWhereStepsLead program config s
     → OnOk result (after ≡ (machine_step program s).state) → OnErr result (after ≡ s)

@@ -87,7 +87,7 @@ acc_after Nothing reply acc = acc
 acc_after Word reply acc = word_read reply acc
 acc_after (Part word) reply acc = word_peeked word reply acc
 
--- The step that makes a device event and leaves these blocks free.
+-- The step that runs a device event and leaves these blocks free.
 abbrev pub made : Listing → MachineState → Kept → Numbers → Outcome → Step
 made program s kept arena outcome = record {
   answer = answer.Made outcome.reply;
@@ -109,7 +109,7 @@ acted program s (act.JumpUnlessEqual word target) = moved_to program s (if s.acc
 acted program s (act.Jump target) = moved_to program s target
 acted program s act.Halt = stopped_as s Ended
 
--- The device event of an action, if it makes one.
+-- The device event of an action, if it runs one.
 abbrev pub events_of : Listing → MachineState → Action → List (Event Block)
 events_of program s (Make event kept) = event ∷ []
 events_of program s (Lend block) = if is_free s.arena block then event.Lend (zero_block block) ∷ [] else []
@@ -153,7 +153,7 @@ unfoldable pub machine_at : Listing → Config → ℕ → MachineState
 machine_at program config zero = start_of program config
 machine_at program config (suc n) = (machine_step program (machine_at program config n)).state
 
--- The device event of a step, if it makes one.
+-- The device event of a step, if it runs one.
 abbrev pub events_if_some : Listing → MachineState → Option (Instruction ℕ ℕ) → List (Event Block)
 events_if_some program s None = []
 events_if_some program s (Some instruction) = events_of program s (action_of program instruction)

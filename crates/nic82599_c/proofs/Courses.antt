@@ -70,13 +70,13 @@ over-done ended n m e = eqb-true ended 0 (over (ended == 0) n m e)
 
 -- Memory runs out.
 
--- The steps that are left, after some that ran and led to the current course.
+-- The remaining steps, after some that ran and led to the current course.
 pub record SoFar (room : ℕ) (steps left : List Step) (before now : Course) : Type 0 where
   pub done : List Step
   pub whole : steps ≡ done ++ left
   pub leads : now ≡ walked room before done
 
--- Steps after other steps.
+-- Steps that follow other steps.
 walked-append : (room : ℕ) (c : Course) (first more : List Step)
     → walked room c (first ++ more) ≡ walked room (walked room c first) more
 unfolding walked

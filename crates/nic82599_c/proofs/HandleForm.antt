@@ -1,5 +1,5 @@
 -- What handles and C's places for them have in common, whatever they point to: each owns what a box of its value owns.
---     Form           a struct whose record is that of a box under another name: of a value, or of one if any
+--     Form           a struct with the record of a box under another name: a box of a value or of an option
 --     E, R, B        the box, the value and the struct as rows.        with_value     the struct with another value
 use mathlib.Core.Path.{◌≡◌}
 use mathlib.Core.List.{List, [], ◌∷◌}

@@ -10,7 +10,7 @@ use Rattle.nic_device.specs.EepromImage.declared.text.AsmFault.{AsmFault}
 use Rattle.nic_device.specs.EepromImage.declared.text.AsmFault.TheVariants.{OutOfMemory}
 use Rattle.nic82599_c.specs.Images.{text_status, text_line, text_fault_status, line_of, content_status, content_line}
 
--- The answer and the line match what the text gives.
+-- The answer and the line match the text's result.
 pub record IsAnswered (meant : Result Content AsmFault) (answer place : ℕ) : Type 0 where
   pub status : answer ≡ content_status meant
   pub line : place ≡ content_line meant

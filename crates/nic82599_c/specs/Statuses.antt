@@ -1,4 +1,4 @@
--- The statuses of calls that run no event, or one with an unreported reply, and what else those calls return.
+-- The statuses of calls that run no event, or an event whose reply isn't reported, and what else those calls return.
 use Rattle.std.specs.Prelude.{ℕ, Bool, Option, Some, None, if◌then◌else◌}
 use Rattle.nic_device.specs.DmaArena.Memory.{has_block}
 use Rattle.nic_device.specs.DmaArena.Numbers.{is_free}

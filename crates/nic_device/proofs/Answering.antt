@@ -118,7 +118,7 @@ out_suits : (s t : State) (out : List (ℕ × List ℕ)) → t.out ≡ out
 out_suits s t [] is = record { fits = refl; room = omega arith }
 out_suits s t (frame ∷ others) is = record { fits = refl; room = rw is (omega arith) }
 
--- The reply to each event suits it, if the device is sound.
+-- If the device is sound, the reply to each event is possible for it, and its note fits.
 pub step_suits : (s : State) (e : Event Block) → IsSound s → IsEvent e → Suits s e (step_of s e).reply
 unfolding step_of
 step_suits s (event.Read port n) h is = read_suits s port n (named s port n)

@@ -1,4 +1,4 @@
--- What fetching a slot leaves in memory and staged.
+-- The memory and the staged bytes after a slot is fetched.
 use Rattle.std.proofs.Common.{◌≡◌, ◌<◌, ◌≤◌, ◌+◌, ◌-◌, ℕ, Bool, true, false, cond, List, [], ◌++◌, length, length-append, subst, inl, inr, arith, Option, Some, None, Ok}
 use Rattle.std.specs.Prelude.{All, IfSome, replicate}
 use Rattle.std.specs.Int.{w32}
@@ -54,7 +54,7 @@ length-more : (m : Memory) (staged descriptor : List ℕ)
     → length (staged ++ buffer_bytes m descriptor) ≡ length staged + (command_in descriptor).len
 length-more m staged descriptor = simp (length-append, length-read_at)
 
--- They stay within it with those of a descriptor's buffer added.
+-- They stay within it after the bytes of a descriptor's buffer are added.
 IsStaged-more : (m : Memory) (staged descriptor : List ℕ) (limit : ℕ) → AreBlocks m → IsStaged staged
     → limit ≤ 65535 → length staged + (command_in descriptor).len ≤ limit
     → IsStaged (staged ++ buffer_bytes m descriptor)

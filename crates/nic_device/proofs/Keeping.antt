@@ -79,7 +79,7 @@ AreStaged-set staged queue bytes h short = record {
   each = All-set IsStaged staged queue bytes short h.each;
 }
 
--- A queue with dropped bytes has none.
+-- A queue whose bytes were dropped has none.
 pub dropped-none : (staged : List (List ℕ)) (i : ℕ) → get_or (slice_set staged i []) i [] ≡ []
 dropped-none [] i = refl
 dropped-none (x ∷ xs) zero = refl

@@ -70,7 +70,7 @@ left-more before after m n bytes left none free =
           ];
     }
 
--- Blocks that have left are away.
+-- Blocks that have left belong to the arena and aren't free there.
 pub away-left : (before after : Numbers) (m : Memory) → HaveLeft before after m → AreAway after m
 away-left before after m left n has =
     let lent = left.lent n has in
@@ -119,7 +119,7 @@ same-numbers a b first count same =
     ap (λ f. record a { first = f }) first
     ∙ ap (λ xs. let c : Numbers = record { first = b.first; free = xs } in c) free
 
--- When no block is left to return, the arena is unchanged from the start.
+-- When no block remains to be returned, the arena is as it was at the start.
 pub left-none : (before after : Numbers) → HaveLeft before after map.empty → after ≡ before
 left-none before after left =
     same-numbers after before left.first left.count (λ n. left.others n (has-empty n))

@@ -7,7 +7,7 @@ use Rattle.rx_ring.specs.Fill.{Rest, fill_of}
 use Rattle.rx_ring.specs.declared.filled.Filled.{Filled}
 use Rattle.rx_ring.proofs.Fills.{takes_piece}
 
--- A piece is no longer than what is left.
+-- A piece is no longer than the rest of the frame.
 pub piece_fits : (m : Memory) (r : Ring) (srrctl : ℕ) (rest : Rest) (f : Filled)
     → (fill_of m r srrctl rest).answer ≡ Ok f → f.len ≤ length rest.bytes
 piece_fits m r srrctl rest f e = rw (takes_piece m r srrctl rest f e).len (omega arith)

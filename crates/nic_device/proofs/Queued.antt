@@ -41,7 +41,7 @@ pub AreWaiting-joined : (ws : List Waiting) (w : Waiting) → IsUnbegun w → Ar
 AreWaiting-joined [] w new h = (new.waits, All-nil IsUnbegun)
 AreWaiting-joined (v ∷ ws) w new h = (h.0, All-push IsUnbegun ws w h.1 new)
 
--- A frame that isn't begun needs no enabled side.
+-- A frame of which nothing is written needs no enabled side.
 pub begun-unbegun : (r : Registers) (ws : List Waiting) → All IsUnbegun ws → All (IsBegunWhileOn r) ws
 begun-unbegun r ws h =
     All-weaker IsUnbegun (IsBegunWhileOn r) (λ w is some. let none = is.none in absurd (omega arith)) ws h
@@ -91,7 +91,7 @@ AreWaiting-without_part queue [] h = tt
 AreWaiting-without_part queue (w ∷ others) h =
     either_way AreWaiting (w.queue == queue && not (w.offset == 0)) others (w ∷ others) (AreWaiting-others w others h) h
 
--- A frame begun on a queue other than the one being disabled.
+-- A partly written frame for a queue other than the one being disabled.
 pub begun-without_part : (r s : Registers) (queue : ℕ)
     → ((other : ℕ) → (queue ≡ other → ⊥) → is_on s Rx other ≡ is_on r Rx other) → (ws : List Waiting)
     → AreWaiting ws → All (IsBegunWhileOn r) ws → All (IsBegunWhileOn s) (without_part queue ws)

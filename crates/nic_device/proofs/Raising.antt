@@ -26,14 +26,14 @@ use Rattle.nic_device.proofs.Cases.{either_way}
 use Rattle.nic_device.proofs.SidesOn.{KeepsSides, of_move, on_stays, sides_kept, spares-counts, spares-move}
 use Rattle.nic_device.proofs.Coming.{covers-first, covers-second, Comes, IsCounter, then_within, raised, counted_in, raised_by_queue}
 
--- What a step of a side changes: the side, counters and causes.
+-- What a step changes for a side: the side, counters and causes.
 abbrev pub of_step : Dir → ℕ → Footprint
 of_step dir queue = either (of_side dir queue) counts_and_causes
 
 covers-side : (dir : Dir) (queue : ℕ) → Covers (of_step dir queue) (of_side dir queue)
 covers-side dir queue = covers-first (of_side dir queue) counts_and_causes
 
--- `counts_and_causes` covers the counters, those of the functions, and pending causes.
+-- `counts_and_causes` covers the counters, the functions' counters, and pending causes.
 pub have_counters : Covers counts_and_causes counters
 have_counters =
     covers-trans _ _ _ (covers-first (either counters function_counts) any_pending)

@@ -53,7 +53,7 @@ AreBlocks-fill m r srrctl rest h small =
     (AreBlocks-write_at m f.at _ h (All-take (λ byte. byte < 256) f.len rest.bytes small))
     (of_halves-small rest.first (written_back f.len f.end)))
 
--- The first frame waits for its queue, and no other is begun.
+-- The first frame waits for its queue, and no other frame is partly written.
 waits_first : (s : State) (w : Waiting) (others : List Waiting) → s.waiting ≡ w ∷ others → IsSound s
     → AreWaiting (w ∷ others)
 waits_first s w others e h = subst AreWaiting e h.waiting
@@ -92,7 +92,7 @@ module _ (s : State) (w : Waiting) (others : List Waiting) (e : s.waiting ≡ w 
   abbrev memory : Memory
   memory = (filled_by s w).memory
 
-  -- If a frame doesn't end, some of it is left.
+  -- If a frame doesn't end, some of it remains.
   some_left : AreWaiting (w ∷ others) → f.end ≡ false → w.offset + f.len < length w.frame
   some_left first more =
       let fits = piece_fits _ _ _ (rest_of w) f is in
@@ -163,7 +163,7 @@ on_leads s first = received_cases (λ (o : Outcome). IsFirstOn s → Leads s eve
   filled = λ w others e f is on. filled_leads s w others e f is (on w others e);
 }) first
 
--- It is disabled, and the frame is dropped.
+-- The side is disabled, and the frame is dropped.
 off_leads : (s : State) (w : Waiting) (others : List Waiting) → s.waiting ≡ w ∷ others
     → is_on s.registers Rx w.queue ≡ false → Leads s event.RxStep (received s)
 off_leads s w others e off =

@@ -45,7 +45,7 @@ apart_switched : (r : Registers) (dir : Dir) (queue other : ℕ) → (queue ≡ 
 apart_switched r Rx queue other apart = others_switched r Rx Rx queue other (rw (ne_eqb queue other apart) refl)
 apart_switched r Tx queue other apart = others_switched r Tx Tx queue other (rw (ne_eqb queue other apart) refl)
 
--- A side that is disabled loses what it has begun.
+-- A side that is disabled loses its partly written frame or its staged bytes.
 switched_off_sound : (s : State) (dir : Dir) (queue : ℕ) → IsSound s
     → IsSound (record (emptied s dir queue) { registers = switched s.registers dir queue })
 switched_off_sound s Rx queue h =

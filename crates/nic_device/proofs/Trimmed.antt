@@ -78,7 +78,7 @@ module _ (kept : List ℕ) (zeros : ℕ) (trimmed : kept_len kept ≡ length kep
   after : kept_len (kept ++ replicate zeros 0) ≡ length kept
   after = kept-zeros_after kept zeros ∙ trimmed
 
-  -- What is kept of kept bytes followed by zeros.
+  -- Of kept bytes followed by zeros, the same bytes are kept.
   pub kept_of_all : take (kept_len (kept ++ replicate zeros 0)) (kept ++ replicate zeros 0) ≡ kept
   kept_of_all =
       ap (λ (n : ℕ). take n (kept ++ replicate zeros 0)) after ∙ take_at kept (replicate zeros 0) (length kept) refl

@@ -56,7 +56,7 @@ may_receive (reply.Wrote queue slot end desc at len) = true
 may_receive (reply.Fault queue fault) = true
 may_receive other = false
 
--- Whether a transmit step can get the reply: a queue in the reply is the step's own.
+-- Whether a transmit step can get the reply: a queue in the reply is the step's queue.
 abbrev pub may_transmit : ℕ → Reply Block → Bool
 may_transmit own reply.NoQueue = true
 may_transmit own reply.Idle = true
@@ -109,7 +109,7 @@ may_answer event.EepromStep r = may_answer_eeprom r
 may_answer (event.Link up) r = may_link r
 may_answer event.Collect r = may_collect r
 
--- How many bytes of a reply its note copies: those of a block or of a frame.
+-- How many bytes of a reply its note copies: the bytes of a block or of a frame.
 abbrev pub note_length : Reply Block → ℕ
 note_length (reply.Buf block) = kept_len block.bytes
 note_length (reply.Twice block) = kept_len block.bytes

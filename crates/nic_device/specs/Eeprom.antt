@@ -14,7 +14,7 @@ use Rattle.nic_device.specs.PoolReset.{written_below_reset}
 use Rattle.nic_device.specs.State.{State, cleared}
 use Rattle.nic_device.specs.declared.event.Reply.TheVariants.{Done, Idle}
 
--- Whether the image's writes to a register are skipped: those to CTRL, which would reset the device, and to EERD.
+-- Whether the image's writes to a register are skipped: to CTRL, because they could reset the device, and to EERD.
 abbrev pub is_stepped_over : RowId → Bool
 is_stepped_over Ctrl = true
 is_stepped_over Eerd = true

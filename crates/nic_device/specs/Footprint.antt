@@ -133,12 +133,12 @@ function_counts =
       reported = λ g. false;
     }
 
--- What counting and raising causes change.
+-- The counters and the causes that a step may change.
 abbrev pub counts_and_causes : Footprint
 counts_and_causes = either (either counters function_counts) any_pending
 
--- A receive step: the receive side of the queue that the oldest frame is for, what counting and raising causes change,
--- the blocks that the frame's bytes go to, and the receive list. Without a frame, nothing changes.
+-- A receive step: the receive side of the queue that the oldest frame is for, the counters and the causes, the blocks
+-- that the frame's bytes go to, and the receive list. Without a frame, nothing changes.
 abbrev pub receive_reach : List Waiting → Reply Block → Reach
 receive_reach [] reply = nowhere
 receive_reach (w ∷ others) reply = record nowhere {
@@ -158,8 +158,8 @@ abbrev pub back_into : Option ℕ → ℕ → ℕ → Bool
 back_into (Some back) len number = has_some_of number back len
 back_into None len number = false
 
--- A transmit step: its transmit side with the staged bytes, what counting and raising causes change, the blocks that it
--- writes back to, and the transmitted frames.
+-- A transmit step: its transmit side with the staged bytes, the counters and the causes, the blocks that it writes back
+-- to, and the transmitted frames.
 abbrev pub transmit_reach : State → ℕ → Reply Block → Reach
 transmit_reach s queue reply = record nowhere {
   registers = either (of_side Tx queue) counts_and_causes;

@@ -36,7 +36,7 @@ device_raised r cause = causes_raised r Pf cause
 abbrev pub side_failed : Registers → Dir → ℕ → Registers
 side_failed r dir queue = device_raised (shut r dir queue) fault_cause
 
--- The virtual function that a queue belongs to: that of its pool, if the device has it.
+-- The virtual function that a queue belongs to: its pool's function, if the device has that function.
 abbrev pub function_in : (vfs : ℕ) → Option ℕ → Option ℕ
 function_in vfs None = None
 function_in vfs (Some pool) = if nat_lt pool vfs then Some pool else None
@@ -44,7 +44,7 @@ function_in vfs (Some pool) = if nat_lt pool vfs then Some pool else None
 unfoldable pub function_of_queue : Registers → (vfs queue : ℕ) → Option ℕ
 function_of_queue r vfs queue = function_in vfs (pool_of (mode_in r) queue)
 
--- The group that a queue raises in: that of its virtual function, or the physical function's if there is none.
+-- The group that a queue raises in: its virtual function's group, or the physical function's group if there is none.
 abbrev pub group_of : Option ℕ → Group
 group_of None = Pf
 group_of (Some v) = Vf v
@@ -61,8 +61,8 @@ function_counted r (Some v) row = counted_wrapping r row v
 unfoldable pub raised_by : Registers → (vfs : ℕ) → Dir → ℕ → Registers
 raised_by r vfs dir queue = queue_raised r (group_of_queue r vfs queue) dir queue
 
--- Whether a group exists. The physical function's always does. A virtual function's does if the device has the function
--- and the mode has a pool for it.
+-- Whether a group exists. The physical function's group always does. A virtual function's group does if the device has
+-- the function and the mode has a pool for it.
 abbrev pub has_group : State → Group → Bool
 has_group s Pf = true
 has_group s (Vf v) = nat_lt v s.vfs && is_some (queues_of (mode_in s.registers) v)

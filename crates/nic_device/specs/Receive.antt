@@ -39,12 +39,12 @@ packet_of w =
       hash = w.hash;
     }
 
--- The part of a frame that is left to write.
+-- The part of a frame that remains to be written.
 abbrev pub rest_of : Waiting → Rest
 rest_of w = record { bytes = drop w.offset w.frame; first = reported_of (packet_of w) }
 
--- The registers after a queue's frame is dropped because there is no slot, and after one is written to its end. The
--- latter counts for the queue and for its virtual function.
+-- The registers after a queue's frame is dropped because there is no slot (`slotless_counted`), and after a frame is
+-- completely written (`frame_counted`), which counts for the queue and for its virtual function.
 abbrev pub slotless_counted : Registers → ℕ → Registers
 slotless_counted r queue = counted r Qprdc (counter_of r Rx queue)
 
@@ -71,7 +71,7 @@ without_slot s w others =
 abbrev pub after_piece : Waiting → List Waiting → Filled → List Waiting
 after_piece w others f = if f.end then others else record w { offset = w.offset + f.len } ∷ others
 
--- The slot at the queue's head was filled, or hit a fault. A fault drops the frame and disables the queue's receive
+-- The slot at the queue's head was filled, or had a fault. A fault drops the frame and disables the queue's receive
 -- side.
 abbrev pub slot_done : State → Waiting → List Waiting → Result Filled RingFault → Memory → Outcome
 slot_done s w others (Ok f) memory =

@@ -20,7 +20,7 @@ abbrev pub none_waits : List Waiting → Bool
 none_waits [] = true
 none_waits (w ∷ others) = false
 
--- A side of a queue is in the state that its enable request asks for.
+-- A side of a queue is in the state that its enable request specifies.
 abbrev pub is_settled : State → Dir → ℕ → Bool
 is_settled s dir queue = beq (is_wanted s.registers dir queue) (is_on s.registers dir queue)
 

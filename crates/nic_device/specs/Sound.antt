@@ -30,8 +30,8 @@ pub record AreBlocks (m : Memory) : Type 0 where
 abbrev pub IsTypeNumber : ℕ → Type 0
 IsTypeNumber number = (type : RssType) × (code_of type ≡ number)
 
--- A frame in the receive list. It has at least 60 bytes and at most the maximum frame limit, and some are left to
--- write. Its queue is below 128, its RSS type exists, and its hash is a 32-bit word, 0 if the type is 0.
+-- A frame in the receive list. It has at least 60 bytes and at most the maximum frame limit, and some remain to be
+-- written. Its queue is below 128, its RSS type exists, and its hash is a 32-bit word, 0 if the type is 0.
 pub record IsWaiting (w : Waiting) : Type 0 where
   pub bytes : AreBytes w.frame
   pub least : 60 ≤ length w.frame

@@ -53,7 +53,7 @@ abbrev pub slot_reported : Registers → (vfs : ℕ) → ℕ → Fetched → Reg
 slot_reported r vfs queue f =
     if f.rs then raised_by (slot_counted r vfs queue f f.frame) vfs Tx queue else slot_counted r vfs queue f f.frame
 
--- The slot at the queue's head was fetched, or hit a fault. A fault drops the staged bytes and disables the transmit
+-- The slot at the queue's head was fetched, or had a fault. A fault drops the staged bytes and disables the transmit
 -- side.
 abbrev pub slot_done : State → ℕ → Result Fetched RingFault → Memory → List ℕ → Outcome
 slot_done s queue (Ok f) memory staged =

@@ -40,7 +40,8 @@ impl Device {
                 rest: events,
             });
         };
-        // Reverses the list so that `pop` takes the events in order and a refused one goes back without memory.
+        // Reverses the list so that `pop` returns the events in order and a refused one can be put back without an
+        // allocation.
         events.reverse();
         while let Some(event) = events.pop() {
             match self.step(event) {

@@ -108,7 +108,7 @@ none_of : (o : Option ℕ) → is_some o ≡ false → o ≡ None
 none_of None e = refl
 none_of (Some x) e = cc
 
--- A message made in place is a message of the registers.
+-- A message sent in place is a message of the registers.
 pub messaged : (a : Inside) (r : Registers) (g : Group) (eiame : Bool) (misc : ℕ) (one : Interrupts) (new : AllGroups)
     → registers_of a ≡ r → index_of g < 64 → length a.groups.vf ≡ 64 → one ≡ at_group a.groups g → IsOwn g one
     → new ≡ with_group a.groups g (after_message (at_group a.groups g) eiame misc)
@@ -132,7 +132,7 @@ messaged a r g eiame misc one new is b all there owned steps =
           ap (λ gs. registers_of (record a { groups = gs })) same ∙ is ∙ sym (cond-false test reported r f)
     ]
 
--- A message made in place has the vector that the registers show.
+-- A message sent in place has the vector that the registers show.
 pub vector_shown : (a : Inside) (r : Registers) (g : Group) (misc : ℕ) (one : Interrupts) → registers_of a ≡ r
     → index_of g < 64 → length a.groups.vf ≡ 64 → one ≡ at_group a.groups g → IsOwn g one
     → next_vector (at_group a.groups g) misc ≡ next_vector (interrupts_of r g) misc

@@ -48,7 +48,7 @@ vf_mask : (v : ℕ) → 7 ≡ group_bits (Vf v)
 unfolding group_bits bits_from_to bits_where bits_below
 vf_mask v = refl
 
--- A word of a row is still one after bits of the row's mask are stored in it.
+-- A valid word of a row stays valid after bits of the row's mask are stored in it.
 pub still_word : (row : RowId) (index view old word : ℕ) → IsWordOf row index old
     → IsWordOf row index (merged (bit_and (row_of row).mask view) old word)
 still_word Eiac index view old word h = stored_within old _ word 0x7FFFFFFF view (group_bits Pf) pf_mask h

@@ -12,7 +12,7 @@ pub record AllGroups : Type 0 where
   pub pf : Interrupts
   pub vf : List Interrupts
 
--- The interrupts of a group, and all groups with those of one replaced.
+-- The interrupts of a group, and all groups with the interrupts of one group replaced.
 abbrev pub at_group : AllGroups → Group → Interrupts
 at_group s Pf = s.pf
 at_group s (Vf v) = slice_index_or s.vf v (reset_of (Vf v))

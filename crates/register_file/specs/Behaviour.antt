@@ -70,7 +70,8 @@ kept =
 abbrev pub plain : Behaviour
 plain = record kept { written = stored; by_write = the_word; bits = λ mask. mask }
 
--- A write changes the interrupts of the place's group, according to the written ones that the address shows.
+-- A write changes the interrupts of the place's group, according to the bits that are written as 1 and that the address
+-- shows.
 abbrev pub acting : (Registers → Group → ℕ → Registers) → Behaviour
 acting change =
     record inert {
@@ -93,7 +94,8 @@ interrupts change =
 -- length and head of a queue's ring while its side is enabled. A write to its enable register requests bit 25 but
 -- leaves that bit as it is; a switch step sets it. CTRL with bit 3 or bit 26 requests a device reset, and PVFCTRL with
 -- bit 26 a pool reset. A write of EERD clears bit 1, DONE, and the data that was read. PFMAILBOX stores no word: it
--- shows and writes that of PVFMAILBOX. A write of CTRL_EXT with bit 14 reports to all functions that a reset is done.
+-- shows and writes the word of PVFMAILBOX. A write of CTRL_EXT with bit 14 reports to all functions that a reset is
+-- done.
 abbrev pub behaviour_of : Kind → Behaviour
 behaviour_of kind.Rw = plain
 behaviour_of kind.Ro = kept

@@ -22,13 +22,13 @@ abbrev pub set_if : Bool → (bit word : ℕ) → ℕ
 set_if condition bit word = if condition then bit_set bit word else word
 
 -- The mailbox's word after a write by the function. With bit 2 it takes the mailbox unless the physical function holds
--- it; without bit 2 it gives the mailbox up.
+-- it; without bit 2 it releases the mailbox.
 abbrev pub function_wrote : (mail word : ℕ) → ℕ
 function_wrote mail word =
     if has_bit 2 word then (if has_bit 3 mail then mail else bit_set 2 mail) else bit_cleared 2 mail
 
 -- The word after a write by the physical function. Bit 4 takes the mailbox from the function. Then bit 3 takes it for
--- the physical function unless the function holds it; without bit 3 the physical function gives it up. Bit 0 sends a
+-- the physical function unless the function holds it; without bit 3 the physical function releases it. Bit 0 sends a
 -- status, bit 1 an acknowledgement.
 abbrev pub released : (mail word : ℕ) → ℕ
 released mail word = if has_bit 4 word then bit_cleared 2 mail else mail
@@ -106,7 +106,7 @@ done_reported r v = with_mail r v (reset_reported (mail_of r v))
 unfoldable pub resets_reported : Registers → Registers
 resets_reported r = fold done_reported r (range_with_len 0 64)
 
--- What a read of a function's mailbox may change: the bits of its word that report once.
+-- What a read of a function's mailbox may change: the bits of its word that are reported only once.
 abbrev pub by_mail_read : ℕ → Footprint
 by_mail_read v = the_bits (place Pvfmailbox v) (λ bit. bit == 4 || bit == 5 || bit == 7)
 

@@ -15,7 +15,7 @@ row_words words row = slice_index_or words (number_of row) []
 abbrev pub word_at : Words → Place → ℕ
 word_at words p = slice_index (row_words words p.row) p.index
 
--- The words with the one at a place replaced.
+-- The words with the word at a place replaced.
 abbrev pub put : Words → Place → ℕ → Words
 put words p word = slice_set words (number_of p.row) (slice_set (row_words words p.row) p.index word)
 

@@ -83,8 +83,8 @@ impl RegisterFile {
     ///
     /// Reading a clear-on-read counter resets it to 0. Reading a group's causes clears them; with GPIE bit 5 set, a
     /// read of EICR clears bits 29 to 16 only. Where the auto-mask acts on reads, it also clears the masks that it
-    /// selects. A reported bit is forgotten if its cause or mask is then 0. Reading PVFMAILBOX clears its bits 4, 5 and
-    /// 7. Nothing else changes.
+    /// selects. A reported bit is forgotten if its cause or mask is then 0. Reading PVFMAILBOX clears bits 4, 5 and 7
+    /// of it. Nothing else changes.
     #[inline(always)]
     pub fn read(&mut self, around: Surroundings, place: Place) -> u32
         requires { place.index < (row_of place.row).count }

@@ -36,7 +36,7 @@ packet_of-ethernet to from type packet are =
     sym (drop-drop 2 12 (to ++ from ++ rest))
     ∙ ap (drop 2) (drop_at (to ++ from) rest 12 (length-addresses to from are))
 
--- A frame of a known type is classified as its packet is.
+-- A frame of a known type is classified like its packet.
 pub flow_of-ipv4 : (to from packet : List ℕ) → AreStations to from → is_ipv4 packet ≡ true →
     flow_of (ethernet to from 0x0800 packet) ≡ ipv4_flow packet
 unfolding flow_of

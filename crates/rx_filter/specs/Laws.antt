@@ -128,8 +128,8 @@ HasNoPool r frame =
     ((i : ℕ) → i < 128 → IsFalse (matches r frame i))
     ⊎ ((i : ℕ) × (IsFirstMatch r frame i × ((pool : ℕ) → pool < 64 → IsFalse (selects r i pool))))
 
--- A frame's pool is the lowest pool of the first address that equals its destination. Without one, it is VT_CTL bits 12
--- to 7, or none if VT_CTL bit 29, DIS_DEF_POOL, is 1.
+-- A frame's pool is the lowest pool of the first address that equals its destination. Without such a pool, it is VT_CTL
+-- bits 12 to 7, or none if VT_CTL bit 29, DIS_DEF_POOL, is 1.
 pub record PoolOfAFrame : Type 0 where
   pub matched : (r : Registers) (frame : List ℕ) (i pool : ℕ) → IsFirstMatch r frame i → IsLowestPool r i pool →
       selected_pool r frame ≡ Some pool
@@ -169,8 +169,8 @@ pub record QueuesByMode : Type 0 where
   pub pools_16 : (r : Registers) (frame : List ℕ) (pool : ℕ) (t : Target) → GoesToPool r frame pool t →
       mode_in r ≡ mode.Pools16 → queue_mode_of (word_of r Mrqc 0) ≡ Vmdq64 → t.queue ≡ 8 * pool
 
--- The pool has no queues: it is above 15 with 16 pools by GCR_EXT and a code for pools in MRQC, or above 31 without
--- those 16 and with MRQC's code for 32.
+-- The pool has no queues: it is above 15 if GCR_EXT selects 16 pools and MRQC has a code for pools, or above 31 if
+-- GCR_EXT doesn't select 16 pools and MRQC has the code for 32.
 abbrev pub IsBeyond : Registers → ℕ → Type 0
 IsBeyond r pool =
     ((mode_in r ≡ mode.Pools16) × (has_pools (queue_mode_of (word_of r Mrqc 0)) ≡ true) × (15 < pool))
@@ -184,7 +184,7 @@ PoolsBeyondGetNone =
     selected_pool r frame ≡ Some pool → IsBeyond r pool → sorted r frame ≡ Err NoPool
 
 -- If GCR_EXT selects 16 pools, frames are distributed among pools and MRQC has a code for pools, a frame that reaches a
--- queue reaches one of its pool's virtual function.
+-- queue reaches a queue of its pool's virtual function.
 abbrev pub FunctionsGetTheirs : Type 0
 FunctionsGetTheirs =
     (r : Registers) (frame : List ℕ) (pool : ℕ) (t : Target) → mode_in r ≡ mode.Pools16 →

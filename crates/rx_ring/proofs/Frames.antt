@@ -9,7 +9,7 @@ use Rattle.rx_ring.specs.Fill.{Rest}
 use Rattle.rx_ring.specs.Frames.{Turn, turn_of, IsSound, Piece, piece_at, rest_after, pieces_from, pieces_of, joined, IsPieceOf, MakeFrame, PiecesMakeFrame}
 use Rattle.rx_ring.proofs.Fills.{takes_piece, driver_reads}
 
--- An empty list of pieces has none in it.
+-- An empty list contains no piece.
 none_before : (before : List Piece) (p : Piece) (after : List Piece) → [] ≡ before ++ p ∷ after → ⊥
 none_before [] p after e = cc
 none_before (q ∷ qs) p after e = cc

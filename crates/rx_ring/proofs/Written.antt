@@ -93,7 +93,7 @@ IsWhole-memory_with m rest f whole =
     IsWhole-write_at (write_at m f.at (bytes_of rest f)) f.desc (descriptor_of rest f)
     (IsWhole-write_at m f.at (bytes_of rest f) whole)
 
--- Block by block.
+-- The memory, block by block.
 
 pub FillsBlocks-memory_with : (m : Memory) (rest : Rest) (f : Filled) (ring buffer : ℕ)
     → IsWhole m → f.len ≤ length rest.bytes → LiesIn ring f.desc 16 → LiesIn buffer f.at f.len

@@ -1,4 +1,4 @@
--- What a receive queue's control word, SRRCTL, says about its buffers.
+-- How a receive queue's control word, SRRCTL, describes its buffers.
 use Rattle.std.specs.Prelude.{ℕ, ◌*◌, ◌/◌, ◌%◌, ◌^◌}
 
 -- The descriptor type, in bits 27:25. Type 1 is the advanced one with one buffer.

@@ -31,11 +31,11 @@ head_address r = descriptor_address r r.head
 abbrev pub buffer_address : Memory → Ring → ℕ
 buffer_address m r = buffer_of (first_half (read_at m (head_address r) 16))
 
--- The number of bytes that go into a buffer of `size` bytes: as many as are left and fit.
+-- The number of bytes that go into a buffer of `size` bytes: as many of the remaining ones as fit.
 abbrev pub piece_length : ℕ → Rest → ℕ
 piece_length size rest = min size (length rest.bytes)
 
--- The result of the slot at the head taking `len` bytes into the buffer at an address.
+-- The result of filling the slot at the head with `len` bytes in the buffer at an address.
 abbrev pub filled_of : Ring → Rest → ℕ → ℕ → Filled
 filled_of r rest at len = record {
   slot = r.head;

@@ -1,4 +1,4 @@
--- What a driver reads of a frame that successive fills write.
+-- What a driver reads of a frame that is written by successive fills.
 use Rattle.std.specs.Prelude.{ℕ, ◌≡◌, ◌↔◌, ◌<◌, ◌^◌, Bool, if◌then◌else◌, IsTrue, List, [], ◌∷◌, ◌++◌, drop, All, Result, Ok, Err}
 use Rattle.dma_arena.specs.Memory.{Memory, read_at, IsWhole, AreApart}
 use Rattle.dma_ring.specs.declared.ring.Ring.{Ring}
@@ -64,16 +64,16 @@ pub record IsPieceOf (frame : Rest) (before : List Piece) (p : Piece) (after : L
   pub end : IsTrue p.end ↔ (joined before ++ p.bytes ≡ frame.bytes)
   pub last : IsTrue p.end → after ≡ []
 
--- The joined pieces are the frame, up to the bytes that are left of it.
+-- The joined pieces are a prefix of the frame.
 pub record MakeFrame (frame : Rest) (pieces : List Piece) : Type 0 where
   pub bytes : (left : List ℕ) × (joined pieces ++ left ≡ frame.bytes)
   pub each :
       (before : List Piece) (p : Piece) (after : List Piece) → pieces ≡ before ++ p ∷ after
       → IsPieceOf frame before p after
 
--- The pieces that a driver reads, joined in order, are the frame, up to the bytes that are left of it. In every turn
--- each lent block is whole and the buffer shares no byte with its descriptor; the first half is below 2^64. A piece has
--- EOP exactly when the frame is complete with it, and then no piece follows. Each piece reports the same packet.
+-- The pieces that a driver reads, joined in order, are a prefix of the frame. At every fill each lent block is whole
+-- and the buffer shares no byte with its descriptor; the first half is below 2^64. A piece has EOP exactly when the
+-- frame is complete with it, and then no piece follows. Each piece reports the same packet.
 abbrev pub PiecesMakeFrame : Type 0
 PiecesMakeFrame =
     (turns : List Turn) (frame : Rest) → All IsSound turns → frame.first < 2 ^ 64

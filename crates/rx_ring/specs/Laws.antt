@@ -52,7 +52,7 @@ FaultWritesNothing =
     → (fill_of m r srrctl rest).answer ≡ Err fault
     → (fill_of m r srrctl rest).memory ≡ m
 
--- A slot that is set up, with its descriptor and its whole buffer lent: 2,048 bytes if SRRCTL says 2 KB.
+-- A slot that is set up, with its descriptor and its whole buffer lent: 2,048 bytes if SRRCTL selects 2 KB.
 pub record IsHealthy (m : Memory) (r : Ring) (srrctl : ℕ) : Type 0 where
   pub set_up : IsSetUp r srrctl
   pub descriptor : HasDescriptor m r
@@ -67,7 +67,7 @@ HealthyIsFilled =
     (filled_of r rest (buffer_address m r) (piece_length (buffer_size_of srrctl) rest))
 
 -- The filled slot is the one at the head, and the head advances to the next slot. The buffer takes as much of the rest
--- of the frame as it has room for. The frame ends there exactly when nothing is left of it.
+-- of the frame as it has room for. The frame ends there exactly when none of its bytes remain.
 pub record TakesPiece (m : Memory) (r : Ring) (srrctl : ℕ) (rest : Rest) (f : Filled) : Type 0 where
   pub slot : f.slot ≡ r.head
   pub head : f.head ≡ next_of (slots_of r) r.head
@@ -87,8 +87,8 @@ PieceLaw =
     (m : Memory) (r : Ring) (srrctl : ℕ) (rest : Rest) (f : Filled) → (fill_of m r srrctl rest).answer ≡ Ok f
     → TakesPiece m r srrctl rest f
 
--- What a driver reads from a filled slot. Its descriptor is done, ends the packet if the frame ends, and has the number
--- of bytes and the given first half. Its buffer has the bytes, unless the descriptor overlaps them.
+-- What a driver reads from a filled slot. Its descriptor is done, ends the packet if the frame ends, and contains the
+-- number of bytes and the given first half. Its buffer contains the bytes, unless the descriptor overlaps them.
 pub record ShowsPiece (m : Memory) (rest : Rest) (f : Filled) : Type 0 where
   pub done : IsTrue (is_done (second_half (read_at m f.desc 16)))
   pub end : ends_packet (second_half (read_at m f.desc 16)) ≡ f.end
@@ -120,7 +120,7 @@ FillKeepsBlocks =
     → SameLent (fill_of m r srrctl rest).memory m × (IsWhole m → IsWhole (fill_of m r srrctl rest).memory)
 
 -- The descriptor is within one block and the written bytes are within one block. Every other block is unchanged. If the
--- two differ, each of them has just what was written to it.
+-- two blocks differ, each changes only by what was written to it.
 pub record FillsBlocks (old new : Memory) (rest : Rest) (f : Filled) (ring buffer : ℕ) : Type 0 where
   pub others : (number : ℕ) → number ≢ ring → number ≢ buffer → map.get new number ≡ map.get old number
   pub bytes :

@@ -29,7 +29,7 @@ any-next : {X : Type 0} (p : X → Bool) (x : X) (xs : List X) → p x ≡ false
 any-next p x xs is = rw is refl
 
 module _ (end : List ℕ) (lines : List NumberedLine) where
-  -- If no line is left, all lines before the end are read.
+  -- If no line remains, all lines before the end are read.
   pub before-none : (outline : Outline) → lines ≡ []
       → with_lines outline (before_first (is_end end) lines) ≡ Ok outline
   before-none outline none = with_lines-ended outline _ (ap (before_first (is_end end)) none)

@@ -30,7 +30,7 @@ unfolding with_lines
 with_lines-stopped before fault lines line more first e =
     rw first (stopped (with_line before line) fault (λ o. with_lines o more) e)
 
--- If no line is left, everything is read.
+-- If no line remains, everything is read.
 pub with_lines-ended : (before : Outline) (lines : List NumberedLine) → lines ≡ [] → with_lines before lines ≡ Ok before
 unfolding with_lines
 with_lines-ended before lines none = rw none refl

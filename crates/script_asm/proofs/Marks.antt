@@ -6,7 +6,7 @@ use Rattle.script_asm.specs.Laws.{strings_in, drafts_in, label_from, data_from}
 use Rattle.script_asm.specs.declared.statements.Statement.{Statement}
 use Rattle.script_asm.specs.declared.statements.Statement.TheVariants.{Empty, Label, Data, Instruction}
 
--- The first value if there is one, else the second.
+-- The first value if there is one, otherwise the second.
 abbrev pub or_else : Option ℕ → Option ℕ → Option ℕ
 or_else (Some x) other = Some x
 or_else None other = other

@@ -10,13 +10,13 @@ pub then-IfOk : {A B E : Type 0} (P : B → Type 0) (r : Result A E) (f : A → 
 then-IfOk P (Ok x) f h = h x
 then-IfOk P (Err e) f h = tt
 
--- The same if the second step needs a property of the first step's value.
+-- The same holds if the second step needs a property of the first step's value.
 pub then-IfOk_of : {A B E : Type 0} (P : B → Type 0) (Q : A → Type 0) (r : Result A E) (f : A → Result B E) → IfOk r Q
     → ((x : A) → Q x → IfOk (f x) P) → IfOk (r then f) P
 then-IfOk_of P Q (Ok x) f is h = h x is
 then-IfOk_of P Q (Err e) f is h = tt
 
--- The same for three steps, the second of which can't be refused.
+-- The same holds for three steps, the second of which can't be refused.
 pub then_then-IfOk : {A B C E : Type 0} (P : C → Type 0) (Q : A → Type 0) (r : Result A E) (f : A → B)
     (g : B → Result C E) → IfOk r Q → ((x : A) → Q x → IfOk (g (f x)) P) → IfOk ((r then λ x. Ok (f x)) then g) P
 then_then-IfOk P Q (Ok x) f g is h = h x is
@@ -54,7 +54,7 @@ pub stepped : {A B E : Type 0} (r : Result A E) (f : A → Result B E) (y : B) �
 stepped (Ok x) f y e = (x, refl, e)
 stepped (Err fault) f y e = cc
 
--- The same for three steps, the second of which can't be refused.
+-- The same holds for three steps, the second of which can't be refused.
 pub stepped_on : {A B C E : Type 0} (r : Result A E) (f : A → B) (g : B → Result C E) (y : C)
     → ((r then λ x. Ok (f x)) then g) ≡ Ok y → (x : A) × (r ≡ Ok x) × (g (f x) ≡ Ok y)
 stepped_on (Ok x) f g y e = (x, refl, e)

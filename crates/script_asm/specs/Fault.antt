@@ -8,7 +8,7 @@ use Rattle.script_asm.specs.declared.faults.LineFault.TheVariants as line
 use Rattle.script_asm.specs.declared.faults.ScriptFault.{ScriptFault}
 use Rattle.script_asm.specs.declared.faults.ScriptFault.TheVariants.{Syntax, UnknownName, Range, TooLong, OutOfMemory}
 
--- The one of a line's two faults that is reported.
+-- The fault that is reported if a line has these two.
 abbrev pub reported_first : LineFault → LineFault → LineFault
 reported_first line.Syntax other = line.Syntax
 reported_first line.UnknownName line.Syntax = line.Syntax

@@ -15,7 +15,7 @@ frame-held_of false pad bytes = refl
 frame-held_of true true bytes = refl
 frame-held_of true false bytes = ap Some (append-nil bytes)
 
--- The number of bytes held is that of the packet and its padding.
+-- The number of bytes held is the length of the packet with its padding.
 pub length-bytes_held : (end pad : Bool) (bytes : List ℕ)
     → length (unwrap_or (if end then Some (frame_of pad bytes) else None) (if end then [] else bytes)) ≡ length bytes +
     (if end && pad then 60 - length bytes else 0)

@@ -92,7 +92,7 @@ context_outcome m staged r = record {
   staged = staged;
 }
 
--- A data descriptor's bytes are staged. At the end of the packet they go out as its frame. If RS is 1, the descriptor
+-- A data descriptor's bytes are staged. At the end of the packet they are sent as its frame. If RS is 1, the descriptor
 -- is reported.
 abbrev pub data_outcome : Memory → List ℕ → Ring → Tx → List ℕ → Outcome
 data_outcome m staged r tx descriptor = record {
@@ -118,7 +118,7 @@ outcome_of m staged r tx None =
 unfoldable pub fetch_of : Memory → List ℕ → Ring → Tx → Outcome
 fetch_of m staged r tx = outcome_of m staged r tx (fault_of m r tx (length staged))
 
--- The bytes that the queue needs memory for: those of the frame that goes out, otherwise those that are staged.
+-- The bytes that the queue needs memory for: the bytes of the frame that is sent, or the staged bytes if none is.
 abbrev pub bytes_held : Outcome → List ℕ
 bytes_held o = held_in o.staged o.answer
   where

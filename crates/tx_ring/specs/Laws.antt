@@ -133,8 +133,8 @@ PacketLaw =
     → (frame ≡ frame_of last.tx.pad (pieces_of turns ++ piece_of last))
     × ((turn_of last (staged_after turns [])).staged ≡ [])
 
--- What a driver reads at the write-back address: the new head at the head write-back address; without one, the
--- descriptor with its done bit set.
+-- What a driver reads at the write-back address: the new head at the head write-back address, or without such an
+-- address the descriptor with its done bit set.
 pub record ShowsReport (old new : Memory) (r : Ring) (tx : Tx) (f : Fetched) : Type 0 where
   pub head : (a : ℕ) → tx.writeback ≡ Some a → (f.back ≡ Some a) × (read_at new a 4 ≡ to_le_bytes w32 f.head)
   pub descriptor :
@@ -170,8 +170,8 @@ FetchKeepsBlocks =
     (m : Memory) (staged : List ℕ) (r : Ring) (tx : Tx)
     → SameLent (fetch_of m staged r tx).memory m × (IsWhole m → IsWhole (fetch_of m staged r tx).memory)
 
--- Where a slot is reported: nowhere if RS is 0; otherwise at the head write-back address, TDWBAH and TDWBAL; without
--- one, in the descriptor.
+-- Where a slot is reported: nowhere if RS is 0; otherwise at the head write-back address, TDWBAH and TDWBAL, or without
+-- such an address in the descriptor.
 pub record ReportsAt (r : Ring) (tx : Tx) (f : Fetched) : Type 0 where
   pub none : IsFalse f.rs → f.back ≡ None
   pub head : (a : ℕ) → tx.writeback ≡ Some a → IsTrue f.rs → f.back ≡ Some a
@@ -195,7 +195,7 @@ ReportsInOneBlock =
     (m : Memory) (staged : List ℕ) (r : Ring) (tx : Tx) (f : Fetched) (at : ℕ) → IsAligned r tx
     → (fetch_of m staged r tx).answer ≡ Ok f → f.back ≡ Some at → LiesIn (at / 2048) at (report_length tx.writeback)
 
--- A done descriptor differs from what it was only in DD, if both of its halves are below 2^64.
+-- A done descriptor differs from its earlier value only in DD, if both of its halves are below 2^64.
 abbrev pub DoneChangesDoneAlone : Type 0
 DoneChangesDoneAlone =
     (descriptor : List ℕ) → first_half descriptor < 2 ^ 64 → second_half descriptor < 2 ^ 64

@@ -15,7 +15,7 @@ head_address r = descriptor_address r r.head
 abbrev pub new_head : Ring → ℕ
 new_head r = next_of (slots_of r) r.head
 
--- The address of a report: the head write-back address; without one, that of the descriptor.
+-- The address of a report: the head write-back address, or without one the descriptor's address.
 abbrev pub report_address : Ring → Tx → ℕ
 report_address r tx = unwrap_or tx.writeback (head_address r)
 
@@ -23,7 +23,7 @@ report_address r tx = unwrap_or tx.writeback (head_address r)
 abbrev pub done_descriptor : List ℕ → List ℕ
 done_descriptor descriptor = of_halves (first_half descriptor) (with_done (second_half descriptor))
 
--- The bytes of a report: the new head as 4 bytes; without a head write-back address, the 16 bytes of the done
+-- The bytes of a report: the new head as 4 bytes, or without a head write-back address the 16 bytes of the done
 -- descriptor.
 abbrev pub report_bytes : Ring → Option ℕ → List ℕ → List ℕ
 report_bytes r (Some address) descriptor = to_le_bytes w32 (new_head r)

@@ -18,7 +18,7 @@ use Rattle.vf_map.proofs.Whole.{located_beyond, located_none, located_some}
 is_sound : Mode → (v offset : ℕ) → Place → Bool
 is_sound mode v o p = (o % 4 == 0) && nat_lt p.index (row_of p.row).count && (is_of_pool mode v p || is_shared p)
 
--- Whether all entries of a function are.
+-- Whether this holds for all entries of a function.
 all_sound : Mode → (v : ℕ) → Bool
 all_sound mode v = list_all (λ e. is_sound mode v e.0 e.1) (entries v (v * queues_each mode) (queues_each mode))
 
@@ -59,7 +59,7 @@ located_place : (m : Option Place) (p : Place) → located_at m ≡ Register p �
 located_place None p e = cc
 located_place (Some q) p e = cc
 
--- A located offset is that of an entry, and the function has a pool.
+-- A located offset is an entry's offset, and the function has a pool.
 located_entry : (mode : Mode) (vfs v o : ℕ) (p : Place) → located mode vfs v o ≡ Register p →
     (v < pools_in mode) × (place_at (entries v (v * queues_each mode) (queues_each mode)) o ≡ Some p)
 located_entry mode vfs v o p e =

@@ -22,13 +22,13 @@ use Rattle.vf_map.specs.Map.{located, mapped, mapped_to, at_address}
 use Rattle.vf_map.specs.Laws.{IsInRange}
 use Rattle.vf_map.proofs.Owners.{located_aligned, located_in_range, located_owner}
 
--- What is located has an index of its row.
+-- A located place has an index of its row.
 pub in_range : (m : Located) (mode : Mode) (vfs v o : ℕ) → m ≡ located mode vfs v o → IsInRange m
 in_range Located.Absent mode vfs v o e = tt
 in_range Located.Hole mode vfs v o e = tt
 in_range (Register p) mode vfs v o e = located_in_range mode vfs v o p (sym e)
 
--- The address of what is located.
+-- The address of a located place.
 pub reads_back : (mode : Mode) (vfs v o : ℕ) (p : Place) → located mode vfs v o ≡ Register p →
     (a : ℕ) × (mapped mode vfs v o ≡ Pf a) × (place_among runs a ≡ Some p) × (view_among runs a ≡ 0xFFFFFFFF)
 reads_back mode vfs v o p e =
@@ -88,7 +88,7 @@ apart mode vfs v w o r p d e f =
       ]
     ]
 
--- If nothing is mapped, a hole is located.
+-- If an offset isn't mapped, it is a hole.
 
 hole_from : (m : Located) → IsInRange m → mapped_to m ≡ mapped_as.Hole → m ≡ Located.Hole
 hole_from Located.Absent inside e = cc

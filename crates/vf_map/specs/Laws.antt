@@ -85,6 +85,6 @@ pub record QueueRegistersAreThere : Type 0 where
       queues_of mode v ≡ Some (first, count) → x < count / 2 →
       located mode vfs v (0x120 + 4 * x) ≡ Register (record { row = Pvtivar; index = first / 2 + x })
 
--- The pool of a queue is the one that has the queue.
+-- A queue's pool is the pool that contains the queue.
 abbrev pub PoolIsWhereTheQueueIs : Type 0
 PoolIsWhereTheQueueIs = (mode : Mode) (v queue : ℕ) → (pool_of mode queue ≡ Some v) ↔ IsAmong (queues_of mode v) queue

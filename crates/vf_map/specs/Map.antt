@@ -51,7 +51,7 @@ receive_rows = filter is_receive rows
 abbrev pub transmit_rows : List RowId
 transmit_rows = filter is_transmit rows
 
--- The distance from the first register of one row to that of another.
+-- The distance from the first register of one row to the first register of another.
 abbrev pub distance : (first row : RowId) → ℕ
 distance first row = (first_of row).first - (first_of first).first
 

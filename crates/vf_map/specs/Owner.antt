@@ -40,7 +40,7 @@ is_of_pool mode v p = is_of_pool_by (row_of p.row).bank mode v p.index
 abbrev pub is_shared : Place → Bool
 is_shared p = (number_of p.row == number_of Status) || (number_of p.row == number_of Links)
 
--- Whether a bank or row is of a queue's receive side (`is_receive`) or transmit side (`is_transmit`).
+-- Whether a bank or row belongs to a queue's receive side (`is_receive`) or transmit side (`is_transmit`).
 abbrev pub is_receive_bank : Bank → Bool
 is_receive_bank bank.Device = false
 is_receive_bank bank.Counters = false

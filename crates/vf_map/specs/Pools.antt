@@ -23,7 +23,7 @@ queues_each Pools16 = 8
 queues_each Pools32 = 4
 queues_each Pools64 = 2
 
--- The most queues that a pool has in any mode.
+-- The maximum number of queues in a pool, in any mode.
 abbrev pub most_queues : ℕ
 most_queues = 8
 

@@ -3,7 +3,7 @@ use Rattle.std.proofs.Common.{[], ◌∷◌, inl, inr}
 use Rattle.clap.specs.Kinds.{HasKind, Kinds, or_else}
 use Rattle.clap.specs.declared.error.Error.{Error}
 
--- An error with one of these kinds keeps it when other kinds stand in for an empty list.
+-- An error with one of these kinds still has one of the kinds after other kinds replace the list if it is empty.
 pub HasKind-or_else : (kinds others : Kinds) (e : Error) → HasKind kinds e → HasKind (or_else kinds others) e
 HasKind-or_else [] others e (inl memory) = inl memory
 HasKind-or_else [] others e (inr among) = absurd among

@@ -118,8 +118,8 @@ pub(crate) fn stands(history: &[Entry], tag: u8, calls: &Calls) -> bool
     }
 }
 
-/// Returns whether the passes with a tag have the calls that the history has for this tag, and whether there is such a
-/// pass if the history has any of these calls.
+/// Returns whether the passes with a tag have the calls that the history has for this tag. If there are such calls,
+/// there must also be such a pass.
 fn tag_stands(history: &[Entry], count: u32, tag: u8, passes: &[Pass]) -> bool
     requires { count ≡ entries_of tag history.now }
     ensures { IsTrue result ↔ TagStands history.now tag passes.now }

@@ -21,7 +21,7 @@ use std::alloc::Global;
 use std::marker::Model;
 
 /// A handle of a block's 2,048 bytes. In C it is a struct with one pointer. The pointer may be to the caller's memory.
-/// If the heap is told to free that memory, the C library does nothing.
+/// A request to free that memory has no effect in the C library.
 #[repr(C)]
 pub struct BlockHandle {
     ptr: *mut Opaque,

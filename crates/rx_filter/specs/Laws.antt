@@ -169,8 +169,8 @@ pub record QueuesByMode : Type 0 where
   pub pools_16 : (r : Registers) (frame : List ℕ) (pool : ℕ) (t : Target) → GoesToPool r frame pool t →
       mode_in r ≡ mode.Pools16 → queue_mode_of (word_of r Mrqc 0) ≡ Vmdq64 → t.queue ≡ 8 * pool
 
--- The pool has no queues: it is above 15 if GCR_EXT selects 16 pools and MRQC has a code for pools, or above 31 if
--- GCR_EXT doesn't select 16 pools and MRQC has the code for 32.
+-- The pool has no queues, in one of two cases. It is above 15, GCR_EXT selects 16 pools, and MRQC has a code for pools.
+-- Or it is above 31, GCR_EXT doesn't select 16 pools, and MRQC has the code for 32.
 abbrev pub IsBeyond : Registers → ℕ → Type 0
 IsBeyond r pool =
     ((mode_in r ≡ mode.Pools16) × (has_pools (queue_mode_of (word_of r Mrqc 0)) ≡ true) × (15 < pool))
@@ -183,8 +183,8 @@ PoolsBeyondGetNone =
     (r : Registers) (frame : List ℕ) (pool : ℕ) → IsTrue (passes r frame) → IsTrue (uses_pools r) →
     selected_pool r frame ≡ Some pool → IsBeyond r pool → sorted r frame ≡ Err NoPool
 
--- If GCR_EXT selects 16 pools, frames are distributed among pools and MRQC has a code for pools, a frame that reaches a
--- queue reaches a queue of its pool's virtual function.
+-- If GCR_EXT selects 16 pools, frames are distributed among pools and MRQC has a code for pools, a frame reaches only
+-- queues of its pool's virtual function.
 abbrev pub FunctionsGetTheirs : Type 0
 FunctionsGetTheirs =
     (r : Registers) (frame : List ℕ) (pool : ℕ) (t : Target) → mode_in r ≡ mode.Pools16 →

@@ -60,8 +60,8 @@ pub fn pools_beyond_get_none()
     ensures { PoolsBeyondGetNone }
 {}
 
-/// If GCR_EXT selects 16 pools, VT_CTL bit 0 is 1 and MRQC has a code for pools, a frame that reaches a queue reaches a
-/// queue of its pool's virtual function.
+/// If GCR_EXT selects 16 pools, VT_CTL bit 0 is 1 and MRQC has a code for pools, a frame reaches only queues of its
+/// pool's virtual function.
 pub fn functions_get_theirs()
     ensures { FunctionsGetTheirs }
 {}

@@ -22,7 +22,7 @@ use Rattle.vf_map.specs.Map.{located, mapped, mapped_to, at_address}
 use Rattle.vf_map.specs.Laws.{IsInRange}
 use Rattle.vf_map.proofs.Owners.{located_aligned, located_in_range, located_owner}
 
--- A located place has an index of its row.
+-- A located place's index is below its row's count.
 pub in_range : (m : Located) (mode : Mode) (vfs v o : ℕ) → m ≡ located mode vfs v o → IsInRange m
 in_range Located.Absent mode vfs v o e = tt
 in_range Located.Hole mode vfs v o e = tt
@@ -88,7 +88,7 @@ apart mode vfs v w o r p d e f =
       ]
     ]
 
--- If an offset isn't mapped, it is a hole.
+-- Only a hole is mapped to a hole.
 
 hole_from : (m : Located) → IsInRange m → mapped_to m ≡ mapped_as.Hole → m ≡ Located.Hole
 hole_from Located.Absent inside e = cc

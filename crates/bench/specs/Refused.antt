@@ -8,7 +8,7 @@ abbrev pub status_of : Refused → ℕ
 status_of OutOfMemory = 4
 status_of Other = 2
 
--- Whether two results are both done. If either was refused for lack of memory, so is the combination.
+-- Two results combined: done if both are done, otherwise refused, for lack of memory if either was.
 abbrev pub both_done : Result (Unit {0}) Refused → Result (Unit {0}) Refused → Result (Unit {0}) Refused
 both_done (Ok done) second = second
 both_done (Err OutOfMemory) second = Err OutOfMemory

@@ -56,7 +56,7 @@ pub record HasItsQueue (worker : ℕ) (history : List Entry) : Type 0 where
   pub alone : LeavesAlone (watched_of worker) history
   pub begins : BeginsWell (watched_of worker) 0 (given_of worker) history
 
--- This holds for each of this many workers.
+-- This holds for every worker below `workers`.
 abbrev pub HaveTheirQueues : ℕ → List Entry → Type 0
 HaveTheirQueues workers history = (worker : ℕ) → worker < workers → HasItsQueue worker history
 

@@ -17,7 +17,7 @@ pub(crate) struct Gathered {
 }
 
 impl Gathered {
-    /// Adds the result of one worker. Refused if it ended with a fault, or if some of its blocks aren't free again.
+    /// Adds the result of one worker. Refused if it ended with a fault, or if not all of its blocks are free again.
     fn take(&mut self, end: WorkerEnd) -> Result<(), Refused>
         ensures { OnOk result (vec_len self.new.reports ≡ vec_len self.old.reports + 1) }
     {

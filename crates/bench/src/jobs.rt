@@ -43,7 +43,7 @@ pub(crate) fn setup(workers: u8) -> Setup {
     }
 }
 
-/// The job of a worker, on the queue with the worker's number. It polls twice per frame and two more times.
+/// The job of a worker, on the queue with the worker's number. It polls twice per frame, plus two more times.
 fn job(alloc: Global, pass: Pass, worker: u8, frames: u8) -> Result<Job, AllocError> {
     let Ok(arena) = Arena::new(alloc, BLOCKS * u32::from(worker), BLOCKS) else {
         return Err(AllocError);

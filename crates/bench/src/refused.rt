@@ -28,7 +28,7 @@ impl Refused {
     }
 }
 
-/// Whether two results are both done. If either was refused for lack of memory, so is the combination.
+/// Combines two results: done if both are done, otherwise refused, for lack of memory if either was.
 pub(crate) fn both(first: Result<(), Refused>, second: Result<(), Refused>) -> Result<(), Refused>
     ensures { result ≡ both_done first second }
 {

@@ -1,4 +1,4 @@
-//! A run: from its options to an exit status.
+//! Runs the workers: from the options to an exit status.
 
 ghost use Rattle.std.specs.Prelude.{◌≡◌, ◌≢◌, ◌+◌, ◌≤◌, ◌<◌, ◌⊎◌, ◌↔◌, IsTrue, IfOk, true, vec_len};
 ghost use Rattle.bench.specs.Summary.{HasItsQueue, HaveTheirQueues, IsReported, Tells};
@@ -109,7 +109,7 @@ fn has_its_queue(closed: &Closed<0, 64>, worker: u8) -> bool
     closed.left_alone(worker, queue) && begins_well(watched, 0, given, closed.history())
 }
 
-/// Whether `has_its_queue` holds for each of this many workers.
+/// Whether `has_its_queue` holds for every worker below `workers`.
 fn have_their_queues(closed: &Closed<0, 64>, workers: u8) -> bool
     ensures { IsTrue result ↔ HaveTheirQueues workers closed.now.history }
 {
@@ -169,9 +169,9 @@ fn run<R: Threads + Wait + Sync>(
 /// Runs workers on a shared device, one on each of the queues from 0 on, while this many frames arrive. The frames
 /// alternate between TCP over IPv4 and over IPv6, and RSS distributes them among the queues. Each worker sends back the
 /// packets that it receives. Then a summary is written: for each queue a line with the numbers of packets and bytes
-/// that its worker received, then the number of transmitted frames, then a line that says that the device's history is
-/// legal. The history also leaves each worker's queue alone (`left_alone`), and each worker's driver starts from a
-/// clean state (`begins_well`). The status is then 0.
+/// that its worker received, then the number of transmitted frames, then `history legal`. The device's history is
+/// legal. It also leaves each worker's queue alone (`left_alone`), and each worker's driver starts from a clean state
+/// (`begins_well`). The status is then 0.
 ///
 /// The clauses state the format of the output, and that the printed number of transmitted frames is the number in such
 /// a history. No clause says that the packets and bytes in a line are the ones that the worker received in this

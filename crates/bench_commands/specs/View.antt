@@ -26,7 +26,8 @@ abbrev pub shown_text : ℕ → Option ℕ → List ℕ
 shown_text address (Some word) = address_text address ++ (codes " " ++ word_text word)
 shown_text address None = address_text address ++ codes " stray"
 
--- The line of an executed command: a show prints what was requested, and any other command prints the machine's state.
+-- The line of an executed command: a show command prints what was requested, and any other command prints the machine's
+-- state.
 abbrev pub done_text : Command → View → List ℕ
 done_text (Show address) view = shown_text address view.shown
 done_text (ShowVf function offset) view = shown_text offset view.shown

@@ -76,9 +76,9 @@ fn answer_input<W: Write>(
 /// Reads all input, writes the answer to a request and returns the exit status. No write to the output may have failed
 /// before.
 ///
-/// The output and the status are those of the request for all bytes of the input. They depend on the number of bytes,
-/// on whether the bytes are text if the request needs text, and on the contents: a script, debugger commands, hex
-/// lines, an object, an EEPROM text or an image.
+/// The output and the status are the request's answer to all bytes of the input. They depend on the number of bytes, on
+/// whether the bytes are text if the request needs text, and on the contents: a script, debugger commands, hex lines,
+/// an object, an EEPROM text or an image.
 ///
 /// For `debug`, each command prints its refusal, or the machine's view after the number of steps to which the commands
 /// so far lead. For a shown register, it prints what a read would return. Three faults refuse a session before anything

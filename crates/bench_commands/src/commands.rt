@@ -56,7 +56,7 @@ fn function(word: &str) -> Option<u8>
     }
 }
 
-/// The command with one operand.
+/// The command with this name and one operand.
 fn with_one(name: &str, a: &str) -> Option<Command>
     ensures { result ≡ looked_up name.now (table_of_one a.now) }
 {
@@ -71,7 +71,7 @@ fn with_one(name: &str, a: &str) -> Option<Command>
     }
 }
 
-/// The command with two operands.
+/// The command with this name and two operands.
 fn with_two(name: &str, a: &str, b: &str) -> Option<Command>
     ensures { result ≡ looked_up name.now (table_of_two a.now b.now) }
 {

@@ -1,4 +1,4 @@
-//! The commands `nicbench asm` and `nicbench dis`: a script to an object, and back.
+//! The commands `nicbench asm` and `nicbench dis`: from a script to an object, and back.
 ghost use Rattle.std.specs.Prelude.{◌≡◌, ◌≢◌, MatchOption};
 ghost use Rattle.bench_commands.specs.Answer.{Gives, refused};
 ghost use Rattle.bench_commands.specs.Objects.{asm_answer, dis_answer, object_refused};

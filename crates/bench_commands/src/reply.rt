@@ -136,7 +136,7 @@ fn group(group: Group) -> Part<'static>
     }
 }
 
-/// The line of a reply in parts, ready to print.
+/// The parts of a reply's line, ready to print.
 fn line_of(reply: &ReplyNote) -> Line<'_>
     ensures { line_text result ≡ reply_text reply.now }
 {

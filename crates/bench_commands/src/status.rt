@@ -3,7 +3,7 @@
 /// The complete answer is written.
 pub const DONE: u8 = 0;
 
-/// A script's machine still runs after the limit's steps, or an `expect` failed.
+/// The script's machine was still running at the step limit, or an `expect` failed.
 pub const NOT_ENDED: u8 = 1;
 
 /// The input was refused, or a read or a write failed.

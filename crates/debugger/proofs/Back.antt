@@ -19,7 +19,7 @@ use Rattle.debugger.proofs.Counted.{counted-before, run_on-plain}
 abbrev seen : Course → List ℕ → Session
 seen m b = record { program = m.program; config = m.config; steps = m.state.steps; breakpoints = b }
 
--- A machine that has counted n steps has counted every smaller number on the way.
+-- A machine that has counted n steps has counted each smaller number of steps before.
 replayed : (p : Listing) (c : Config) (n target : ℕ) → (machine_at p c n).steps ≡ n → target ≤ n
     → run_on p c [] 0 target ≡ target
 unfolding machine_at

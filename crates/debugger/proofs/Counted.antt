@@ -50,7 +50,7 @@ takes-goes p s takes = go (next_instruction p s) takes
     go None never = absurd never
     go (Some instruction) takes = done-goes p s instruction
 
--- One more step counts at most one more.
+-- One more step adds at most one to the count.
 one_more : (p : Listing) (c : Config) (n : ℕ) (stopped : Bool) → stops_at p c n ≡ stopped
     → ((machine_at p c n).steps ≤ (machine_at p c (suc n)).steps)
     × ((machine_at p c (suc n)).steps ≤ (machine_at p c n).steps + 1)
@@ -59,7 +59,7 @@ one_more p c n true is = let same = ap (λ (s : MachineState). s.steps) (stays p
     (omega (arith, same), omega (arith, same))
 one_more p c n false is = let more = counts p (machine_at p c n) is in (omega (arith, more), omega (arith, more))
 
--- k more steps count at most k more.
+-- k more steps add at most k to the count.
 pub more : (p : Listing) (c : Config) (n k : ℕ)
     → ((machine_at p c n).steps ≤ (machine_at p c (n + k)).steps)
     × ((machine_at p c (n + k)).steps ≤ (machine_at p c n).steps + k)

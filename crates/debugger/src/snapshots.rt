@@ -16,7 +16,7 @@ const SNAPSHOT_LIMIT: usize = 64;
 /// The step of the last permanent snapshot.
 const FIRST_STEPS: u64 = SNAPSHOT_LIMIT as u64 * SNAPSHOT_STEPS;
 
-/// Snapshots of one machine, earliest first: the permanent ones, then one that later ones replace.
+/// Snapshots of one machine, earliest first: the permanent ones, then a temporary one that later ones replace.
 #[derive(Drop)]
 pub(crate) struct Snapshots {
     pub(crate) kept: Vec<MachineSnapshot>,

@@ -235,7 +235,7 @@ pub fn left_alone(watched: Watched, history: &[Entry]) -> bool
     are_left_alone(watched, &blocks, history)
 }
 
-/// `left_alone` with the blocks that the pass lends already known.
+/// `left_alone`, given the blocks that the pass lends.
 fn are_left_alone(watched: Watched, blocks: &Blocks, history: &[Entry]) -> bool
     ensures { result ≡ rest_leaves_alone watched (marked blocks.now) Off false history.now }
 {

@@ -74,7 +74,7 @@ impl<const VFS: u8, const FIFO: u16> Model for Locked<VFS, FIFO> {
 }
 
 impl<const VFS: u8, const FIFO: u16> Locked<VFS, FIFO> {
-    /// Creates a new device with an empty history that may have `limit` entries.
+    /// Creates a new device with an empty history of at most `limit` entries.
     pub fn new(alloc: Global, limit: u32) -> Result<Self, AllocError>
         requires device { (VFS ≤ 63) × (0 < FIFO) × (FIFO ≤ 4096) }
         requires limit { limit ≤ 1000000 }

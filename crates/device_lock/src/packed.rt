@@ -1,5 +1,5 @@
 //! A history as stored under the lock. Entries of idle device steps of a queue take no extra room. Room for every entry
-//! is reserved, so each can be made separate without an allocation.
+//! is reserved, so all entries can be separated without an allocation.
 
 ghost use Rattle.std.specs.Prelude.{◌≡◌, ◌+◌, ◌++◌, ◌∷◌, ◌<◌, ◌≤◌, [], true, IfSome, length, List};
 ghost use Rattle.std.specs.Vec.{vec_len, vec_capacity};

@@ -1,4 +1,4 @@
-//! What a history's entries say about the device's settings.
+//! The device's settings, according to a history's entries.
 
 ghost use Rattle.std.specs.Prelude.{◌≡◌};
 ghost use Rattle.device_lock.specs.Reported.{first_settings, frames_set, frames_written, limit_of, settings_after, usual_frames};
@@ -16,7 +16,7 @@ const USUAL_LIMIT: u16 = 1514;
 /// The size in bytes of a frame's check sequence.
 const FRAME_CHECK: u16 = 4;
 
-/// How long frames may be.
+/// The settings that limit the length of frames.
 #[derive(Clone, Copy, PartialEq, Eq, Debug)]
 pub struct Frames {
     /// Whether MAXFRS applies: HLREG0 bit 2.
@@ -30,7 +30,7 @@ pub struct Frames {
 pub struct Settings {
     /// How the queues are divided into pools.
     pub mode: Mode,
-    /// How long frames may be.
+    /// The settings that limit the length of frames.
     pub frames: Frames,
 }
 

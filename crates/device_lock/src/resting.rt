@@ -14,7 +14,7 @@ use nic_device::{Dir, Event, EventNote, Reply};
 /// The number of device steps before a call.
 pub(crate) const STEPS: usize = 4;
 
-/// Which device steps of a queue ran in a row, all of them idle.
+/// The idle device steps of a queue that ran in a row.
 #[derive(Clone, Copy, Debug)]
 pub struct IdleSteps {
     /// The number of the queue.

@@ -41,8 +41,8 @@ pub(crate) fn nothing(slot: Option<Buf>)
 
 /// A block of packet memory that the program owns.
 ///
-/// In contracts, a block is its number and its bytes. It can't be cloned or dropped, so each block is in one place: in
-/// the end it is given to an arena or lent.
+/// In contracts, a block is its number and its bytes. It can't be cloned or dropped, so each block is in exactly one
+/// place, and finally it is given to an arena or lent.
 ///
 /// A block also stores an index from which on all of its bytes are still 0, as they are when it is taken from an arena.
 pub struct Buf {

@@ -5,7 +5,7 @@ ghost use Rattle.std.specs.Prelude.{◌≡◌};
 use std::mem::ManuallyDrop;
 
 /// Abandons a value that can't be dropped and couldn't be ended, for example an arena with a missing block, and returns
-/// the failure. The process loses what the value owns: use this only when it is about to exit with a nonzero status.
+/// the failure. The process leaks what the value owns: use this only when it is about to exit with a nonzero status.
 pub fn leave<T, F>(value: T, failure: F) -> F
     ensures { result ≡ failure }
 {

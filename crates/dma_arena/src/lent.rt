@@ -66,7 +66,7 @@ impl LentMemory {
         if self.blocks.has(buf.block()) {
             return Err(LendRefused::Twice(buf));
         }
-        // The invariant needs this block to be whole, which the contract of `bytes` says.
+        // The invariant needs this block to be whole, which follows from the contract of `bytes`.
         let _ = buf.bytes();
         match self.blocks.insert(buf) {
             Ok(()) => Ok(()),

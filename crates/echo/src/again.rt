@@ -1,4 +1,4 @@
-//! A driver that is started repeatedly, on one device and one arena. Each life's data are freed at its end.
+//! A driver that is started repeatedly, on one device and one arena. The data of each life are freed when it ends.
 
 use nic_device::{Arena, Config, Device, Mode, Parts, Port};
 use pmd::{Direct, Home, Packet, Pmd, PmdFault, Setup, StartRefused, StopRefused, leave};

@@ -9,7 +9,7 @@ use Rattle.eeprom_image.specs.Image.{is_size}
 use Rattle.eeprom_image.specs.declared.line.TextLine.{TextLine}
 use Rattle.eeprom_image.specs.declared.line.TextLine.TheVariants.{Empty, Size, Word, Csr, Malformed}
 
--- The number that a word writes.
+-- The number that a word spells.
 abbrev pub number_in : List ℕ → Option ℕ
 number_in word = result_ok (number_of word)
 

@@ -21,7 +21,7 @@ pub(crate) enum TextLine {
     Malformed,
 }
 
-/// Returns the number that a word writes, if it writes one.
+/// Returns the number that a word spells, if it spells one.
 fn number_in(word: &str) -> Option<u32>
     ensures { result ≡ number_in word.now }
 {

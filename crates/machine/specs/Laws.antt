@@ -10,7 +10,7 @@ use Rattle.machine.specs.declared.machine.StepAnswer.TheVariants.{Stopped}
 use Rattle.program.specs.Listing.{Listing, IsListing}
 use Rattle.program.specs.declared.instruction.Instruction.TheVariants as instr
 
--- A step that returns `Stopped` leaves the machine unchanged. Any other step counts one.
+-- A step that returns `Stopped` leaves the machine unchanged. Any other step adds one to the count of steps.
 pub record StepsCount : Type 0 where
   pub stays : (program : Listing) (s : MachineState) → (machine_step program s).answer ≡ Stopped
       → (machine_step program s).state ≡ s

@@ -2,7 +2,7 @@
 
 ghost use Rattle.machine.specs.Laws.{StepsCount, RunningMachinesStep, StoppedMachinesStay, MachinesRunTheirDevice, JumpsGo};
 
-/// A step that returns `Stopped` leaves the machine unchanged. Any other step counts one.
+/// A step that returns `Stopped` leaves the machine unchanged. Any other step adds one to the count of steps.
 pub fn steps_count()
     ensures { StepsCount }
 {}

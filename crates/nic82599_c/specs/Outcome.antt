@@ -101,7 +101,7 @@ abbrev pub with_back : Outcome → Option ℕ → Outcome
 with_back outcome (Some at) = record outcome { at = at; back = 1 }
 with_back outcome None = outcome
 
--- 1 for true.
+-- 1 for true, 0 for false.
 abbrev pub bit_of : Bool → ℕ
 bit_of b = if b then 1 else 0
 

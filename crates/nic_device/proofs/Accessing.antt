@@ -1,4 +1,4 @@
--- Register accesses stay sound and within their reach.
+-- Register accesses leave the device sound and stay within their reach.
 use Rattle.std.proofs.Common.{ap, ◌≡◌, ℕ, cond, true, refl}
 use Rattle.std.proofs.lemmas.Bool.{cond_both}
 use Rattle.register_file.specs.RegTable.Rows.{row_of}

@@ -19,7 +19,7 @@ use Rattle.nic_device.specs.declared.event.Why.TheVariants.{LinkDown, Off, Short
 abbrev pub let_in : List ℕ → Target → Waiting
 let_in frame t = record { frame = frame; queue = t.queue; hash = t.hash; rss = t.rss; offset = 0 }
 
--- The state after a counter of the whole device counts one more.
+-- The state after a counter of the whole device is incremented.
 abbrev pub with_count : State → RowId → State
 with_count s counter = record s { registers = counted s.registers counter 0 }
 

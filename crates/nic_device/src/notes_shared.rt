@@ -8,8 +8,8 @@ use rx_ring::{Buf, Octets};
 use std::alloc::{AllocError, Global};
 use std::sync::Arc;
 
-/// The number of blocks for which the last note's bytes are remembered. Blocks with equal numbers modulo this share a
-/// place.
+/// The number of blocks for which the last note's bytes are remembered. Blocks whose numbers are equal modulo this
+/// number share a place.
 const PLACES: usize = 256;
 
 /// The bytes of the last notes of blocks. A driver that takes a block, lends it and takes it again usually finds it

@@ -7,11 +7,11 @@ use Rattle.register_file.specs.Registers.{Registers, word_of, with_word}
 use Rattle.dma_ring.specs.declared.dir.Dir.{Dir}
 use Rattle.dma_ring.specs.declared.dir.Dir.TheVariants.{Rx, Tx}
 
--- The registers after a counter, a row's register at an index, counts one more. It saturates at the largest word.
+-- The registers after a counter, the register of a row at an index, is incremented. It saturates at 0xFFFFFFFF.
 abbrev pub counted : Registers → RowId → ℕ → Registers
 counted r row index = with_word r row index (bumped (word_of r row index))
 
--- The registers after a counter that wraps to 0 counts one more.
+-- The registers after a counter that wraps to 0 is incremented.
 abbrev pub counted_wrapping : Registers → RowId → ℕ → Registers
 counted_wrapping r row index = with_word r row index ((word_of r row index + 1) % 2 ^ 32)
 

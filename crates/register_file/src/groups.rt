@@ -60,7 +60,7 @@ impl Groups {
         self.vf[usize::from(v)] = Causes::new(Group::Vf(v));
     }
 
-    /// Lends a group's interrupts. They are consistent, and each of their words has 32 bits.
+    /// Borrows a group's interrupts. They are consistent, and each of their words has 32 bits.
     #[inline(always)]
     pub(crate) fn of(&self, group: Group) -> &Causes
         requires { index_of group < 64 }

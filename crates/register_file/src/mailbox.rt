@@ -104,7 +104,7 @@ impl RegisterFile {
         self.set_word(RowId::Pvfmailbox, v, reset_reported(mail));
     }
 
-    /// Adds what a function sends to the physical function to PFMBICR.
+    /// Sets the bits of PFMBICR for what a function sends to the physical function.
     fn add_requests(&mut self, v: u16, word: u32)
         requires { v < 64 }
         ensures { self.new ≡ with_requests self.old v word }

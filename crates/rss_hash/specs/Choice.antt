@@ -1,4 +1,4 @@
--- What the register MRQC selects to hash of a flow.
+-- The part of a flow that the register MRQC selects for hashing.
 use Rattle.std.specs.Prelude.{ℕ, ◌==◌, ◌&&◌, Bool, true, List, [], ◌∷◌, take, find, unwrap_or, if◌then◌else◌}
 use Rattle.rss_hash.specs.Mrqc.{enables, queue_mode_of, is_hashing}
 use Rattle.rss_hash.specs.declared.flow.Flow.{Flow}

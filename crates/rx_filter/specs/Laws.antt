@@ -110,7 +110,7 @@ OffPoolsGetNone =
     has_pools (queue_mode_of (word_of r Mrqc 0)) ≡ true → sorted r frame ≡ Ok t →
     takes_frames r (pool_of_queue (queue_mode_of (word_of r Mrqc 0)) (mode_in r) t.queue) ≡ true
 
--- Address i is valid and equals the frame's destination, and no lower address does both.
+-- Address i is valid and equals the frame's destination, and the same holds for no lower address.
 pub record IsFirstMatch (r : Registers) (frame : List ℕ) (i : ℕ) : Type 0 where
   pub within : i < 128
   pub matched : IsTrue (matches r frame i)

@@ -19,7 +19,7 @@ abbrev pub direction_in : List ℕ → Result Dir LineFault
 direction_in word = if bytes_eq word (codes "rx") then Ok Rx else if bytes_eq word (codes "tx")
     then Ok Tx else Err Syntax
 
--- Whether a word names an established link.
+-- The link state that a word names: true for `up`, false for `down`.
 abbrev pub link_in : List ℕ → Result Bool LineFault
 link_in word = if bytes_eq word (codes "up") then Ok true else if bytes_eq word (codes "down")
     then Ok false else Err Syntax

@@ -151,7 +151,7 @@ fn link(up: bool) -> Operand
     Operand::Named(if up { "up" } else { "down" })
 }
 
-/// An instruction's line in parts, ready to print.
+/// The parts of an instruction's line, ready to print.
 fn line_of(instruction: &Instruction) -> Line
     ensures { line_text result ≡ instruction_text instruction.now }
 {

@@ -8,7 +8,7 @@ use Rattle.std.proofs.lemmas.List.{take_more}
 use Rattle.std.proofs.lemmas.List.Splits.{slice_split_first}
 use Rattle.text_format.proofs.Parts.{HasFirst, slice_split-whole, slice_split-HasFirst}
 
--- A nonempty line whose last byte is a carriage return is a front part followed by that carriage return.
+-- A nonempty line whose last byte is a carriage return is some text followed by a carriage return.
 ended : (byte : ℕ) (line : List ℕ) → get_or (byte ∷ line) (length (byte ∷ line) - 1) 0 ≡ 13
     → byte ∷ line ≡ take (length (byte ∷ line) - 1) (byte ∷ line) ++ 13 ∷ []
 ended byte line last =

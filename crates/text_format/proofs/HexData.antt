@@ -1,4 +1,4 @@
--- `hex` decodes a word to exactly the bytes that it writes.
+-- `hex` decodes a word to exactly the bytes that it spells.
 use Rattle.std.proofs.Common.{◌≢◌, ◌⊎◌, refl, sym, ◌∙◌, ap, ◌≡◌, ℕ, ◌+◌, ◌*◌, ◌%◌, ◌==◌, Bool, true, false, List, [], ◌∷◌, length, Option, Some, None, Result, Ok, Err, arith, cond, inl, inr}
 use Rattle.std.proofs.lemmas.Bool.{eqb-true}
 use Rattle.std.specs.Result.{result_ok}

@@ -2,7 +2,7 @@
 use Rattle.std.specs.Prelude.{ℕ, ◌+◌, ◌*◌, List, [], ◌∷◌, Option, Some, None}
 use Rattle.hex.specs.Hex.{hex_digit_value}
 
--- The byte that two digits write, the high digit first; `None` if either digit is missing.
+-- The byte that two digits represent, the high digit first; `None` if either digit is missing.
 abbrev pub byte_of : Option ℕ → Option ℕ → Option ℕ
 byte_of (Some high) (Some low) = Some (high * 16 + low)
 byte_of (Some high) None = None
@@ -14,7 +14,7 @@ onto (Some byte) (Some bytes) = Some (byte ∷ bytes)
 onto (Some byte) None = None
 onto None bytes = None
 
--- The bytes that a word writes, two hex digits a byte; `None` if the word isn't whole bytes of hex.
+-- The bytes that a word spells, two hex digits per byte; `None` if the word isn't whole bytes of hex.
 unfoldable pub hex_bytes_of : List ℕ → Option (List ℕ)
 hex_bytes_of [] = Some []
 hex_bytes_of (digit ∷ []) = None

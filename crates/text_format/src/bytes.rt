@@ -7,7 +7,7 @@ use std::{fmt, str};
 /// The number of bytes formatted in one write.
 const CHUNK: usize = 256;
 
-/// Displays bytes as lower-case hex, two digits a byte, with no separator.
+/// Displays bytes as lower-case hex, two digits per byte, without separators.
 #[derive(Clone, Copy)]
 pub struct BytesText<'a>(
     /// The bytes to print, in order.

@@ -30,7 +30,7 @@ fn fault_of(error: FromHexError) -> HexFault
     }
 }
 
-/// Returns the bytes that a word writes in hex: two digits of either case a byte, the high one first.
+/// Returns the bytes that a word spells in hex: two digits of either case per byte, the high digit first.
 ///
 /// Returns `Malformed` exactly when the word isn't whole bytes of hex; `OutOfMemory` may replace any result.
 pub fn hex_bytes(alloc: Global, word: &str) -> Result<Vec<u8>, HexFault>

@@ -63,7 +63,7 @@ fn digit_of(radix: u8, byte: u8) -> u8
     }
 }
 
-/// Returns the number that the leading digits of the radix write, capped at 2^32, and the bytes after them.
+/// Returns the number that the leading digits of the radix represent, capped at 2^32, and the bytes after them.
 #[inline(always)]
 fn split_numeral(radix: u8, bytes: &[u8]) -> (u64, &[u8])
     requires low { 2 ≤ radix }
@@ -84,7 +84,7 @@ fn split_numeral(radix: u8, bytes: &[u8]) -> (u64, &[u8])
     (value, rest)
 }
 
-/// Returns the number that digits of the radix write, capped at 2^32. `None` if another character is among them.
+/// Returns the number that digits of the radix represent, capped at 2^32. `None` if another character is among them.
 fn capped_numeral(radix: u8, digits: &[u8]) -> Option<u64>
     requires low { 2 ≤ radix }
     requires high { radix ≤ 36 }
@@ -96,7 +96,7 @@ fn capped_numeral(radix: u8, digits: &[u8]) -> Option<u64>
     }
 }
 
-/// Returns the number that digits of the radix write.
+/// Returns the number that digits of the radix represent.
 fn numeral(radix: u8, word: &str) -> Result<u32, NumberFault>
     requires low { 2 ≤ radix }
     requires high { radix ≤ 36 }
@@ -112,7 +112,7 @@ fn numeral(radix: u8, word: &str) -> Result<u32, NumberFault>
     }
 }
 
-/// Returns the number that a word writes: decimal digits, or `0x` and hex digits of either case. Any number of digits
+/// Returns the number that a word spells: decimal digits, or `0x` and hex digits of either case. Any number of digits
 /// is accepted; a sign, `_` and `0X` aren't.
 ///
 /// Returns `Malformed` for any other form, and `TooLarge` for a number from 2^32 on.

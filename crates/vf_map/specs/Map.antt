@@ -23,7 +23,7 @@ Entry = ℕ × Place
 abbrev pub entry : (offset : ℕ) → RowId → (index : ℕ) → Entry
 entry offset row index = (offset, record { row = row; index = index })
 
--- The registers of which a virtual function has one each.
+-- The registers that exist once per virtual function.
 abbrev pub own_entries : ℕ → List Entry
 own_entries vf =
     entry 0x0000 Pvfctrl vf ∷ entry 0x0008 Status 0 ∷ entry 0x0010 Links 0 ∷

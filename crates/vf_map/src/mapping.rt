@@ -83,7 +83,7 @@ fn function_place(v: u8, offset: u32) -> Option<Place>
     message_place(v, offset)
 }
 
-/// Returns the register at an offset, if it is one of function v's single registers.
+/// Returns the register at an offset, among the registers that exist once per virtual function.
 #[rattlefmt::skip]
 fn own_place(v: u8, offset: u32) -> Option<Place>
     ensures { result ≡ place_at (own_entries v) offset }
@@ -179,7 +179,7 @@ fn queue_register(row: Option<RowId>, queue: u16) -> Option<Place>
     }
 }
 
-/// Returns the receive register at this distance, in bytes, from a queue's first.
+/// Returns the receive register at this distance, in bytes, from a queue's first register.
 #[rattlefmt::skip]
 #[tactic(auto, unfolding(reg_table::specs::Rows::rows))]
 fn receive_row(bytes: u32) -> Option<RowId>
@@ -197,7 +197,7 @@ fn receive_row(bytes: u32) -> Option<RowId>
     }
 }
 
-/// Returns the transmit register at this distance, in bytes, from a queue's first.
+/// Returns the transmit register at this distance, in bytes, from a queue's first register.
 #[rattlefmt::skip]
 #[tactic(auto, unfolding(reg_table::specs::Rows::rows))]
 fn transmit_row(bytes: u32) -> Option<RowId>

@@ -1,4 +1,4 @@
--- The lines of a session so far, and those of the commands to come.
+-- The lines of a session so far, and the lines of the remaining commands.
 use Rattle.std.proofs.Common.{◌≡◌, ◌+◌, ap, refl, sym, subst, ◌∙◌, ℕ, false, List, [], ◌∷◌, ◌++◌, append-nil, append_assoc, codes, length, Option, Result, Ok, Err}
 use Rattle.std.specs.Io.KnownBytes.{Appends}
 use Rattle.std.specs.Result.{IsOk}

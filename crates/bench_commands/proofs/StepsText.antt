@@ -1,4 +1,4 @@
--- The lines of the steps so far, and those of the steps to come.
+-- The lines of the steps so far, and the lines of the remaining steps.
 use Rattle.std.proofs.Common.{arith, subst, sym, ◌∙◌, ap, ◌≡◌, ◌≤◌, ℕ, zero, suc, ◌+◌, ◌-◌, List, [], ◌++◌, append-nil, append_assoc, Option, add-zero, add-suc, add-one}
 use Rattle.std.specs.Io.KnownBytes.{Appends}
 use Rattle.nic_device.specs.declared.Config.{Config}

@@ -18,7 +18,7 @@ use Rattle.bench_commands.specs.View.{answer_line}
 abbrev pub new_session : Config → Listing → Session
 new_session config program = record { program = program; config = config; steps = 0; breakpoints = [] }
 
--- The lines of a session's commands. Each command is executed in the session that the ones before it left.
+-- The lines of a session's commands. Each command is executed in the session after the commands before it.
 unfoldable pub session_text : Session → List Command → List ℕ
 session_text session [] = []
 session_text session (command ∷ more) =

@@ -64,7 +64,7 @@ words_status kind.DisplayHelp = 0
 words_status kind.DisplayVersion = 0
 words_status _ = 3
 
--- The status is that of one of the kinds.
+-- The status is the status of one of the kinds.
 abbrev pub HasStatusOf : Kinds → ℕ → Type 0
 HasStatusOf [] status = ⊥
 HasStatusOf (k ∷ ks) status = (status ≡ words_status k) ⊎ HasStatusOf ks status

@@ -195,7 +195,7 @@ written-shared s t a true bus bytes h written kept =
 written-shared s t a false bus bytes h written kept =
     subst (λ (u : State). AreShared u.memory a) (sym (kept refl)) h
 
--- A lent block gets other memory.
+-- The memory of a lent block is replaced.
 
 exchanged_has : (m : Memory) (n q : ℕ) (bytes : List ℕ) → has_block m n ≡ true
     → has_block (map.insert m n bytes) q ≡ has_block m q

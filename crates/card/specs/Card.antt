@@ -52,7 +52,7 @@ abbrev pub reply_of_write : (stray : Bool) → Reply Block
 reply_of_write true = Stray 0
 reply_of_write false = Done
 
--- A write gets no other reply.
+-- No other reply to a write is possible.
 abbrev pub IsOfWrite : Reply Block → Type 0
 IsOfWrite (Stray word) = word ≡ 0
 IsOfWrite Done = ⊤

@@ -275,7 +275,8 @@ impl Card {
     }
 
     #[tactic(auto, unfolding(crate::specs::Card::lent_below))]
-    /// Lends the free blocks in order. After `AllocError` the blocks below the one that memory ran out for are lent.
+    /// Lends the free blocks in order. After `AllocError` the blocks below the first block that memory ran out for are
+    /// lent.
     pub fn lend_all(&mut self) -> Result<(), AllocError>
         ensures lent { OnOk result (self.new ≡ lent_below self.old (count_of self.old.arena)) }
         ensures stopped { OnErr result ((block : ℕ) × (block < count_of self.old.arena)
@@ -304,7 +305,7 @@ impl Card {
         self.device.next_out()
     }
 
-    /// Installs an EEPROM image and drops the former one.
+    /// Installs an EEPROM image and drops the old one.
     pub fn install(&mut self, image: Image)
         ensures { self.new ≡ with_image self.old image }
     {

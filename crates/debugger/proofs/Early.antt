@@ -49,7 +49,7 @@ at-early machine config reported same count at =
     at ∙ ap (λ n. machine_at machine.program machine.config n) count
     ∙ ap (λ c. machine_at machine.program c machine.state.steps) same
 
--- Adding a snapshot of the machine keeps all of them snapshots of one machine.
+-- If a snapshot of the machine is added, all are still snapshots of one machine.
 pub stay-more : (machine : Course) (before : List Course) (snapshot : Course) → snapshot ≡ machine
     → StayOf machine before (before ++ snapshot ∷ [])
 stay-more machine before snapshot is m same all =

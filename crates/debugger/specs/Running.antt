@@ -7,7 +7,7 @@ use Rattle.machine.specs.declared.machine.StepAnswer.TheVariants as answer
 use Rattle.program.specs.Listing.{Listing}
 use Rattle.debugger.specs.Breakpoints.{has_break}
 
--- Whether the answer says that no step was taken.
+-- Whether the answer means that no step was taken.
 abbrev pub is_stopped : StepAnswer → Bool
 is_stopped (answer.Made reply) = false
 is_stopped answer.Local = false

@@ -30,11 +30,11 @@ pub struct View {
     pub steps: u64,
     /// The number of the next instruction, from 0, or of the instruction at which the machine stopped.
     pub pc: u16,
-    /// The accumulator: the last word that was read or peeked, with each later `and` applied.
+    /// The accumulator: the last value that was read or peeked, with each later `and` applied.
     pub acc: u32,
     /// Whether the machine runs, has ended, or has failed.
     pub status: Status,
-    /// The word that a show command requested. `None` if there is no register, and after other commands.
+    /// The value that a show command requested. `None` if there is no register, and after other commands.
     pub shown: Option<u32>,
 }
 

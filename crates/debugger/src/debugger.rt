@@ -52,7 +52,7 @@ impl Model for Debugger {
 impl Debugger {
     /// A debugger of a program at step 0, on a new device of this configuration, without breakpoints.
     ///
-    /// Errors: those of `Device::new`, each returned exactly if `Device::new` returns it for the configuration:
+    /// Errors: the errors of `Device::new`, each returned exactly if `Device::new` returns it for the configuration:
     /// `TooManyVfs`, then `Fifo`. Each returns the program.
     pub fn new(alloc: Global, program: Program, config: Config) -> Result<Debugger, NewRefused>
         ensures made { IfOk result

@@ -173,8 +173,8 @@ impl Calls {
     }
 
     /// Runs a device step under the lock, for the pass with this tag. It does so if the step is idle, it comes after
-    /// those recorded since the last call, and the history has room for its entry. Otherwise it does nothing. Returns
-    /// whether it ran.
+    /// the steps recorded since the last call, and the history has room for its entry. Otherwise it does nothing.
+    /// Returns whether it ran.
     #[inline(always)]
     pub(crate) fn idle_locked<const VFS: u8, const FIFO: u16>(
         &mut self,

@@ -203,9 +203,9 @@ impl<const VFS: u8, const FIFO: u16> Locked<VFS, FIFO> {
         }
     }
 
-    /// Appends the entry of an idle device step for the pass with this tag. It does so if the step comes after those
-    /// recorded since the last call, the history has room for it, and there is memory. Returns whether it appended the
-    /// entry.
+    /// Appends the entry of an idle device step for the pass with this tag. It does so if the step comes after the
+    /// steps recorded since the last call, the history has room for it, and there is memory. Returns whether it
+    /// appended the entry.
     #[inline(always)]
     pub(crate) fn idle(&mut self, tag: u8, step: &EventNote) -> bool
         requires tag { tag < 64 }

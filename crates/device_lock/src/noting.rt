@@ -1,5 +1,6 @@
 //! Notes of events and of their replies. A list of calls keeps a spare vector with room for anything that a reply may
-//! return. A note therefore takes only the memory that its bytes need, and the device's reply always gets a note.
+//! return. A note therefore takes only the memory that its bytes need, and there is always a note of the device's
+//! reply.
 
 ghost use Rattle.std.specs.Prelude.{◌≡◌, ◌<◌, ◌≤◌, [], true, IfOk, OnOk};
 ghost use Rattle.std.specs.Vec.{vec_len, vec_capacity};

@@ -1,4 +1,4 @@
--- Lemmas: a list without blocks, and which blocks a list says are free.
+-- Lemmas: a list without blocks, and which blocks are free according to a list.
 use Rattle.std.proofs.Common.{◌≡◌, ◌≢◌, ℕ, zero, suc, ◌+◌, ◌-◌, ◌<◌, ◌≤◌, inl, inr, Option, Some, None, List, ◌∷◌, ◌++◌, length, get_or, set, map, replicate, Bool, true, false, refl, sym, ap, ◌∙◌, arith}
 use Rattle.std.specs.Prelude.{is_some, count_by}
 use Rattle.std.proofs.lemmas.Bool.{cases_eq}

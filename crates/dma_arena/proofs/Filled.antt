@@ -227,7 +227,7 @@ module _ {s : List (Option Block)} {f e n : ℕ} (table : IsTable s f e n) {m : 
       (λ r ne. get_or-set_other s q r (Some c) None ne)
       ∙ ap (λ (k : Memory). fin.insert k q c.bytes) view)
 
-  -- A block gets other bytes, and its old bytes are known.
+  -- A block's bytes are replaced, and its old bytes are known.
 
   pub shown-exchanged : (q : ℕ) (c : Block) (bytes : List ℕ) → has_block m q ≡ true → c.bytes ≡ bytes
       → shown (set s q (Some c)) ≡ fin.insert m q bytes

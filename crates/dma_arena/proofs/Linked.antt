@@ -6,7 +6,7 @@ use Rattle.dma_arena.specs.Links.{Nodes, list_end, IsRing, Comes}
 use Rattle.dma_arena.specs.declared.links.Links.{Links}
 use Rattle.dma_arena.proofs.Ring.{same}
 
--- A rank above that of the first place.
+-- A rank above the first place's rank.
 abbrev pub above : (ℕ → ℕ) → ℕ → ℕ → ℕ → ℕ
 above rank p first r = cond (eqb r p) (suc (rank first)) (rank r)
 

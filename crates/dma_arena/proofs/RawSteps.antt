@@ -70,7 +70,7 @@ module _ (R Z : RattleType) (L : Laws Z) (g : Ghosts Z.Denot) where
         fpack t (Valss (RawPtr ∷ Z ∷ [])) (within (shape (C.the_type R Z g)) (block_ptr b o, (a, tt)) (v ∷ []))
         (vptr b o ∷ [], (h ∷ [], tt)) $ fjoin t $ s)
 
-  -- What a shared borrow of the fields says about the address.
+  -- What follows for the address from a shared borrow of the fields.
   module _ {M : Type 1} {𝓤 : Ura M} (𝓛 : Logic 𝓤) (κ : Lft) (b o : ℕ) (d : Row.Denot) where
     abbrev Words : RattleType
     Words = Struct (shape (C.the_type R Z g))

@@ -40,7 +40,7 @@ impl Run {
         self.first
     }
 
-    /// Returns the number of blocks left.
+    /// Returns the number of remaining blocks.
     pub fn count(&self) -> u32
         ensures count { result ≡ self.now.count }
         // At most 8.
@@ -49,7 +49,7 @@ impl Run {
         self.count
     }
 
-    /// Takes out the block with the highest number, filled with zeros. Returns `None` exactly when no block is left.
+    /// Takes out the block with the highest number, filled with zeros. Returns `None` exactly when the run is empty.
     /// The other blocks stay in the run; an empty run is unchanged.
     pub fn pop(&mut self) -> Option<Buf>
         ensures none { IsNone result ↔ (self.old.count ≡ 0) }
@@ -64,7 +64,7 @@ impl Run {
         self.slots[self.count as usize].take()
     }
 
-    /// Ends the run. The error returns it unchanged, exactly when a block is left.
+    /// Ends the run. The error returns it unchanged, exactly when it still has a block.
     pub fn finish(self) -> Result<(), Run>
         ensures ok { IsOk result ↔ (self.count ≡ 0) }
         ensures back { IfErr result (λ r. r ≡ self) }

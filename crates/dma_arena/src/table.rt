@@ -118,8 +118,8 @@ impl Table {
 
     /// Inserts a block at its number, which must not be lent.
     ///
-    /// If there isn't enough memory for the slots up to its own, the error returns the block, and the set of lent
-    /// blocks is unchanged.
+    /// If there isn't enough memory for the slots up to the block's slot, the error returns the block, and the set of
+    /// lent blocks is unchanged.
     pub(crate) fn insert(&mut self, buf: Buf) -> Result<(), Buf>
         requires { has_block self.old buf.number ≡ false }
         ensures lent { OnOk result (self.new ≡ map.insert self.old buf.number buf.bytes) }
@@ -138,7 +138,7 @@ impl Table {
     }
 
     /// Removes the block with this number. Returns `None` if it isn't lent. If it had the lowest number and other
-    /// blocks are left, the next number is searched for, starting after the slots that are known to be empty.
+    /// blocks remain, the next number is searched for, starting after the slots that are known to be empty.
     pub(crate) fn remove(&mut self, number: u32) -> Option<Buf>
         ensures taken { result ≡ block_at self.old number }
         ensures left { self.new ≡ map.remove self.old number }

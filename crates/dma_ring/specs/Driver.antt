@@ -23,7 +23,7 @@ hash_in first = first / 2 ^ 32
 abbrev pub data_word : ℕ → Bool → ℕ → ℕ
 data_word len last payload = (if last then DATA + LAST else DATA) + len + 2 ^ PAYLEN * payload
 
--- The buffer that the device takes from a posted word is the one that the driver posted, if its address is even.
+-- From a posted word, the device reads the buffer address that the driver posted, if that address is even.
 abbrev pub PostedIsTheBuffer : Type 0
 PostedIsTheBuffer = (address : ℕ) → address % 2 ≡ 0 → buffer_of (posted address) ≡ address
 

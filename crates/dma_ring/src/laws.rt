@@ -38,10 +38,10 @@ pub fn transmit_fields()
     ensures done { DoneIsSet }
 {}
 
-/// A driver and the device read what the other wrote. The buffer that the device takes from a posted word is the one
-/// that the driver posted, if its address is even. The driver reads the RSS type and the hash that the device reported,
-/// if they are below 16 and 2^32. The device reads the command of a data descriptor for fewer than 65,536 bytes of a
-/// packet of fewer than 2^18 bytes; this descriptor isn't done, its IFCS is 1, and PAYLEN is in its bits.
+/// A driver and the device read what the other wrote. From a posted word, the device reads the buffer address that the
+/// driver posted, if that address is even. The driver reads the RSS type and the hash that the device reported, if they
+/// are below 16 and 2^32. The device reads the command of a data descriptor for fewer than 65,536 bytes of a packet of
+/// fewer than 2^18 bytes; this descriptor isn't done, its IFCS is 1, and PAYLEN is in its bits.
 pub fn driver_and_device_agree()
     ensures posted { PostedIsTheBuffer }
     ensures reported { ReportedIsRead }

@@ -5,25 +5,25 @@
 ghost use Rattle.std.specs.Prelude.{◌≡◌, ◌<◌, ◌^◌};
 ghost use Rattle.dma_ring.specs.Receive.{buffer_of, reported_of, written_back};
 
-/// The bit of a written-back first half that says that the packet is IPv4. The RSS type is in bits 3:0.
+/// The bit of a written-back first half that is 1 if the packet is IPv4. The RSS type is in bits 3:0.
 const IPV4: u32 = 4;
 
-/// The bit of the first half that says that the packet is IPv6.
+/// The bit of the first half that is 1 if the packet is IPv6.
 const IPV6: u32 = 6;
 
-/// The bit of the first half that says that the packet is TCP.
+/// The bit of the first half that is 1 if the packet is TCP.
 const TCP: u32 = 8;
 
-/// The bit of the first half that says that the packet is UDP.
+/// The bit of the first half that is 1 if the packet is UDP.
 const UDP: u32 = 9;
 
 /// The lowest bit of the packet's RSS hash in the first half.
 const HASH: u32 = 32;
 
-/// The bit of a written-back second half that says that the descriptor is done.
+/// The bit of a written-back second half that is 1 if the descriptor is done.
 const DD: u32 = 0;
 
-/// The bit of the second half that says that the packet ends in this buffer.
+/// The bit of the second half that is 1 if the packet ends in this buffer.
 const EOP: u32 = 1;
 
 /// The lowest bit, in the second half, of the number of bytes in this buffer.

@@ -2,7 +2,7 @@
 //! and the words and register writes in an image.
 //!
 //! An [`Image`] is a list of 64 to 16,384 words of 16 bits. Its sections are inside it, and its checksum is correct.
-//! [`assemble`] returns the one image that a text describes, and [`load`] the one with the given bytes as its file.
+//! [`assemble`] returns the one image that a text describes, and [`load`] the image whose file has the given bytes.
 //! Otherwise each returns the first fault in its list. The device reads an image with `word` and, at a reset, with
 //! `triples`.
 #![tactic(auto)]

@@ -6,7 +6,7 @@ use Rattle.intr_unit.specs.BitSet.{BitSet, no_bits, contains, bits_where, union,
 use Rattle.intr_unit.specs.BitSet.{lowest_of, IsSubset}
 use Rattle.intr_unit.specs.Group.{group_bits, bits_cleared_by_read, vector_of}
 
--- The words of a group as sets of bits, and the reported bits: those that a message reported.
+-- The words of a group as sets of bits, and the bits that a message reported.
 pub record Interrupts : Type 0 where
   pub group : Group
   pub causes : BitSet

@@ -64,7 +64,7 @@ pub record Step : Type 0 where
   pub answer : StepAnswer
   pub state : MachineState
 
--- The word in `acc` after a read, including a stray one.
+-- The value in `acc` after a read, including a stray one.
 abbrev pub word_read : Reply Block → ℕ → ℕ
 word_read (reply.Word word) acc = word
 word_read (reply.Stray word) acc = word
@@ -76,12 +76,12 @@ word_in bytes word =
     slice_index bytes (4 * word) + 2 ^ 8 * slice_index bytes (4 * word + 1) + 2 ^ 16 * slice_index bytes
     (4 * word + 2) + 2 ^ 24 * slice_index bytes (4 * word + 3)
 
--- The word in `acc` after a peek.
+-- The value in `acc` after a peek.
 abbrev pub word_peeked : ℕ → Reply Block → ℕ → ℕ
 word_peeked word (reply.Bytes bytes) acc = word_in bytes word
 word_peeked word other acc = acc
 
--- The word in `acc` after a reply of which this part is stored.
+-- The value in `acc` after this part of a reply is stored.
 abbrev pub acc_after : Kept → Reply Block → ℕ → ℕ
 acc_after Nothing reply acc = acc
 acc_after Word reply acc = word_read reply acc

@@ -10,9 +10,9 @@ use program::{Instruction, Program};
 /// The part of the device's reply that an instruction stores in `acc`.
 #[derive(Clone, Copy)]
 pub(crate) enum Kept {
-    /// Nothing: `acc` keeps its word.
+    /// Nothing: `acc` keeps its value.
     Nothing,
-    /// The word that was read, even if the read reached no register.
+    /// The value that was read, even if the read reached no register.
     Word,
     /// One of the four words of the 16 bytes that were read, 0 to 3.
     Part(u8),
@@ -21,13 +21,13 @@ pub(crate) enum Kept {
 /// An instruction's action without the device.
 #[derive(Clone, Copy)]
 pub(crate) enum LocalAction {
-    /// The machine fails unless `acc` equals this word in the bits of this mask.
+    /// The machine fails unless `acc` equals this value in the bits of this mask.
     Expect(u32, u32),
-    /// Clears the bits of `acc` that are 0 in this word.
+    /// Clears the bits of `acc` that are 0 in this value.
     And(u32),
-    /// Jumps to this instruction if `acc` equals this word.
+    /// Jumps to this instruction if `acc` equals this value.
     JumpIfEqual(u32, u16),
-    /// Jumps to this instruction unless `acc` equals this word.
+    /// Jumps to this instruction unless `acc` equals this value.
     JumpUnlessEqual(u32, u16),
     /// Jumps to this instruction.
     Jump(u16),

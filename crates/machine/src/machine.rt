@@ -23,13 +23,13 @@ pub enum Status {
     Running,
     /// The program has executed `halt`, or has reached its end.
     Ended,
-    /// An `expect` instruction found a different word in `acc`.
+    /// An `expect` instruction found a different value in `acc`.
     Failed {
         /// The number of the `expect` instruction, from 0.
         pc: u16,
-        /// The word in `acc`, limited to the bits of the mask.
+        /// The value in `acc`, limited to the bits of the mask.
         have: u32,
-        /// The expected word.
+        /// The expected value.
         want: u32,
     },
 }
@@ -84,7 +84,7 @@ impl Model for Machine {
 impl Machine {
     /// A machine before its first step, on a new device of this configuration, with all 256 blocks free.
     ///
-    /// Errors: those of `Device::new`, each returned exactly if `Device::new` returns it for the configuration:
+    /// Errors: the errors of `Device::new`, each returned exactly if `Device::new` returns it for the configuration:
     /// `TooManyVfs`, then `Fifo`. Each returns the program.
     pub fn new(alloc: Global, program: Program, config: Config) -> Result<Machine, NewRefused>
         ensures made { IfOk result
@@ -107,7 +107,7 @@ impl Machine {
         })
     }
 
-    /// Executes one instruction. It runs a device event and stores the word in the reply, or acts without an event, or
+    /// Executes one instruction. It runs a device event and stores the value in the reply, or acts without an event, or
     /// reports that the block to lend isn't free. A machine that isn't running, or has counted 2^64 - 1 steps, returns
     /// `Stopped`, counts no step and stays unchanged. After `OutOfMemory` the machine is unchanged, and you can try the
     /// step again. Only four steps can run out of memory: lending a free block, taking one back, an arrival, and a
@@ -138,7 +138,7 @@ impl Machine {
         self.processor.pc
     }
 
-    /// The accumulator: the last word that was read or peeked, even if the read reached no register, with each later
+    /// The accumulator: the last value that was read or peeked, even if the read reached no register, with each later
     /// `and` applied. It is 0 before the first.
     pub fn acc(&self) -> u32
         ensures { result ≡ self.now.state.acc }

@@ -25,7 +25,7 @@ pub(crate) struct Processor {
     pub(crate) steps: u64,
 }
 
-/// The word in `acc` after a read.
+/// The value in `acc` after a read.
 fn word_read(reply: &ReplyNote, acc: u32) -> u32
     ensures { result ≡ word_read reply.now acc }
 {
@@ -43,7 +43,7 @@ fn word_in(bytes: &[u8; 16], word: u8) -> u32
     LittleEndian::read_u32(&bytes[4 * usize::from(word)..])
 }
 
-/// The word in `acc` after a peek.
+/// The value in `acc` after a peek.
 fn word_peeked(word: u8, reply: &ReplyNote, acc: u32) -> u32
     requires { word < 4 }
     ensures { result ≡ word_peeked word reply.now acc }
@@ -54,7 +54,7 @@ fn word_peeked(word: u8, reply: &ReplyNote, acc: u32) -> u32
     }
 }
 
-/// The word in `acc` after a reply of which this part is stored.
+/// The value in `acc` after this part of a reply is stored.
 fn acc_after(kept: Kept, reply: &ReplyNote, acc: u32) -> u32
     requires { IsPart kept }
     ensures { result ≡ acc_after kept reply.now acc }

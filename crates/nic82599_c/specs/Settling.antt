@@ -65,7 +65,7 @@ pub record Course : Type 0 where
   pub outcome : List Outcome
   pub ended : ℕ
 
--- Whether a status says that nothing was done.
+-- Whether a status means that nothing was done.
 abbrev pub is_quiet : ℕ → Bool
 is_quiet status = status == 2 || status == 18 || status == 19
 

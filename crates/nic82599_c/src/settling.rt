@@ -1,4 +1,4 @@
-//! The device's own steps, run in rounds until there is nothing left to do.
+//! The device's own steps, run in rounds until none has anything to do.
 
 ghost use Rattle.std.specs.Prelude.{◌≡◌, ◌≢◌, ◌<◌, ◌≤◌, length};
 ghost use Rattle.nic_device.specs.Step.{TakesMemory};
@@ -70,7 +70,7 @@ fn named(outcome: Outcome, step: Step) -> Outcome
     }
 }
 
-/// Whether a status says that nothing was done.
+/// Whether a status means that nothing was done.
 fn is_quiet(status: u8) -> bool
     ensures { result ≡ is_quiet status }
 {

@@ -9,7 +9,7 @@ use Rattle.nic_device.specs.declared.event.Event.TheVariants as event
 use Rattle.nic_device.specs.declared.event.Reply.{Reply}
 use Rattle.nic_device.specs.declared.event.Reply.TheVariants as reply
 
--- Whether a register access can get the reply.
+-- Whether the reply to a register access can be this one.
 abbrev pub may_read : Reply Block → Bool
 may_read (reply.Word word) = true
 may_read (reply.Stray word) = true
@@ -20,13 +20,13 @@ may_write reply.Done = true
 may_write (reply.Stray word) = true
 may_write other = false
 
--- Whether lending a block can get the reply: it succeeds, or a block with its number is returned.
+-- Whether the reply to lending a block can be this one: it succeeds, or a block with its number is returned.
 abbrev pub may_lend : ℕ → Reply Block → Bool
 may_lend number reply.Done = true
 may_lend number (reply.Twice block) = block.number == number
 may_lend number other = false
 
--- Whether taking a block can get the reply: a returned block has the requested number.
+-- Whether the reply to taking a block can be this one: a returned block has the requested number.
 abbrev pub may_take : ℕ → Reply Block → Bool
 may_take number (reply.Buf block) = block.number == number
 may_take number reply.NotLent = true
@@ -56,7 +56,7 @@ may_receive (reply.Wrote queue slot end desc at len) = true
 may_receive (reply.Fault queue fault) = true
 may_receive other = false
 
--- Whether a transmit step can get the reply: a queue in the reply is the step's queue.
+-- Whether the reply to a transmit step can be this one: a queue in the reply is the step's queue.
 abbrev pub may_transmit : ℕ → Reply Block → Bool
 may_transmit own reply.NoQueue = true
 may_transmit own reply.Idle = true
@@ -92,7 +92,7 @@ may_collect reply.Idle = true
 may_collect (reply.Frame queue bytes) = true
 may_collect other = false
 
--- Whether an event can get the reply, whatever the state.
+-- Whether the reply to an event can be this one, whatever the state.
 abbrev pub may_answer : Event Block → Reply Block → Bool
 may_answer (event.Read port address) r = may_read r
 may_answer (event.Write port address word) r = may_write r

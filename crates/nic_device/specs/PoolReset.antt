@@ -10,12 +10,12 @@ use Rattle.register_file.specs.PoolReset.{pool_reset}
 use Rattle.register_file.specs.Pools.{mode_in}
 use Rattle.nic_device.specs.State.{State, Waiting}
 
--- The staged bytes after those of this many queues, starting with queue `first`, are dropped.
+-- What remains staged after this many queues, starting with queue `first`, drop their staged bytes.
 abbrev pub unstaged : List (List ℕ) → (first count : ℕ) → List (List ℕ)
 unstaged staged first zero = staged
 unstaged staged first (suc count) = slice_set (unstaged staged first count) (first + count) []
 
--- The staged bytes after those of a pool's queues are dropped.
+-- What remains staged after a pool's queues drop their staged bytes.
 abbrev pub pool_unstaged : List (List ℕ) → Option (ℕ × ℕ) → List (List ℕ)
 pool_unstaged staged None = staged
 pool_unstaged staged (Some queues) = unstaged staged queues.0 queues.1

@@ -36,7 +36,7 @@ abbrev pub fetched_reply : ℕ → Fetched → Option (List ℕ) → Reply Block
 fetched_reply queue f (Some frame) = Sent queue (length frame) f.back
 fetched_reply queue f None = Advanced queue f.slot f.back
 
--- The transmitted frames, with the one that a slot may have completed.
+-- The transmitted frames, with the frame that a slot may have completed.
 abbrev pub with_frame : List (ℕ × List ℕ) → ℕ → Option (List ℕ) → List (ℕ × List ℕ)
 with_frame out queue (Some frame) = out ++ (queue, frame) ∷ []
 with_frame out queue None = out

@@ -69,7 +69,7 @@ impl Device {
         Ok(Device { engine })
     }
 
-    /// Installs an EEPROM image and returns the former one. EEC shows the new image's size immediately, and the next
+    /// Installs an EEPROM image and returns the old one. EEC shows the new image's size immediately, and the next
     /// EEPROM step reads its words; an answer already in EERD stays. While the image is installed, each reset performs
     /// the register writes that it contains, except those to CTRL, to EERD or to an address without a register.
     pub fn install(&mut self, image: Image) -> Image
@@ -108,7 +108,7 @@ impl Device {
     /// has at most 65,535 bytes.
     ///
     /// Registers are sound if each place of the table exists, and the following holds. A word has only bits of its
-    /// row's reset value and bits that can become 1 there. The latter are the mask's bits if the register is written,
+    /// row's reset value and bits that can become 1 there. These bits are the mask's bits if the register is written,
     /// also bit 25 in an enable register, all bits in a counter and in EERD, bits 2 to 7 in PVFMAILBOX, and none in
     /// PFMAILBOX or in a register that only acts or is calculated. A bit is reported only while its cause and its mask
     /// are 1. PVFMAILBOX has at most one of bits 2 and 3 set, and at most one of bits 6 and 7.

@@ -11,7 +11,7 @@ use register_file::{RowId, resolve};
 use std::mem;
 
 impl Engine {
-    /// Installs an image and returns the former one.
+    /// Installs an image and returns the old one.
     pub(crate) fn install(&mut self, image: Image) -> Image
         ensures former { result ≡ self.old.image }
         ensures installed { self.new ≡ record self.old { image = image } }

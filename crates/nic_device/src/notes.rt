@@ -59,7 +59,7 @@ impl Note {
     }
 }
 
-/// Returns how many zero bytes of a block follow those that its note stores.
+/// Returns how many zero bytes of a block follow the bytes that its note stores.
 fn zeros_after(buf: &Buf, kept: usize) -> u16
     requires { kept ≡ kept_len buf.now.bytes }
     ensures { result ≡ length buf.now.bytes - kept }

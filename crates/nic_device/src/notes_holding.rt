@@ -1,4 +1,4 @@
-//! The contents of a note. Its bytes are its own or shared with other notes.
+//! The contents of a note. A note owns its bytes or shares them with other notes.
 
 ghost use Rattle.std.specs.Prelude.{◌≡◌, ◌↔◌, IsTrue};
 

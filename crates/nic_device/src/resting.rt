@@ -39,21 +39,21 @@ impl Engine {
             && self.none_waits()
     }
 
-    /// Whether a side of a queue is in the state that its enable bit requests, so that its enable step is idle.
+    /// Whether a side of a queue is in the state that its enable bit requests. Its enable step is then idle.
     fn is_side_idle(&self, dir: Dir, queue: u16) -> bool
         ensures { IsTrue result → IsIdle self.now (Event.QueueStep dir queue) }
     {
         queue < QUEUES && self.is_settled(dir, queue)
     }
 
-    /// Whether a queue currently can't send, so that its transmit step is idle.
+    /// Whether a queue currently can't send. Its transmit step is then idle.
     fn is_sending_idle(&self, queue: u16) -> bool
         ensures { IsTrue result → IsIdle self.now (Event.TxStep queue) }
     {
         queue < QUEUES && self.is_silent(queue)
     }
 
-    /// Whether the receive list is empty, so that a receive step is idle.
+    /// Whether the receive list is empty. A receive step is then idle.
     fn is_receiving_idle(&self) -> bool
         ensures { IsTrue result → IsIdle self.now Event.RxStep }
     {

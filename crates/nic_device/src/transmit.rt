@@ -35,7 +35,7 @@ impl Engine {
         self.fetch_slot(queue)
     }
 
-    /// Whether a queue currently can't send, so that its transmit step would be idle.
+    /// Whether a queue currently can't send. Its transmit step is then idle.
     pub(crate) fn is_silent(&self, queue: u16) -> bool
         requires { queue < 128 }
         ensures { result ≡ is_silent self.now queue (transmit_queue_of self.now.registers queue) }

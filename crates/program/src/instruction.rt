@@ -9,9 +9,9 @@ use std::alloc::AllocError;
 
 /// One instruction of a program, or of a script text during assembly.
 ///
-/// `L` is the type of a jump's target, and `D` that of a data string. In a program both are numbers, counted from 0: of
-/// an instruction and of a data string. Addresses and words have 32 bits; block and queue numbers have 16. Reads and
-/// peeks load a word into the accumulator `acc`, which starts as 0.
+/// `L` is the type of a jump's target, and `D` the type of a data string. In a program both are numbers, counted from
+/// 0: of an instruction and of a data string. Addresses and words have 32 bits; block and queue numbers have 16. Reads
+/// and peeks load a word into the accumulator `acc`, which starts as 0.
 #[derive(Copy, Debug, Drop, PartialEq, Eq)]
 pub enum Instruction<L = u16, D = u16> {
     /// `w`: writes a register through the physical function. The operands are its address and the new word.

@@ -18,7 +18,7 @@ pub data Fact : Type 0 where
   NoWords : ℕ → ℕ → Fact
   NoSteps : ℕ → ℕ → ℕ → ℕ → ℕ → Fact
 
--- What the fact says about accesses.
+-- The meaning of the fact for accesses.
 abbrev pub Says : Fact → Type 0
 Says (Words r low high) = (a : ℕ) → low ≤ a → a < high → a % 4 ≡ 0 → access_at a ≡ Some (access_in r a)
 Says (Steps r low high) =
@@ -50,7 +50,7 @@ said (Steps r low high) e =
 said (NoWords low high) e = λ a. no_words_at low high a e
 said (NoSteps m x y low high) e = λ a. no_steps_at m x y low high a e
 
--- What all facts of a list say.
+-- The meaning of all facts of a list.
 abbrev pub AllSay : List Fact → Type 0
 AllSay [] = Unit {0}
 AllSay (f ∷ fs) = Says f × AllSay fs

@@ -2,8 +2,8 @@ use Rattle.std.specs.Prelude.{ℕ, List}
 use Rattle.reg_table.specs.declared.bank.Bank.{Bank}
 use Rattle.reg_table.specs.declared.kind.Kind.{Kind}
 
--- What the table says about a row: its name, the number of its registers, what an access does, the part of the device
--- that it belongs to, the bits that a write can change, and the word after a reset.
+-- The table's entry for a row: its name, the number of its registers, what an access does, the part of the device that
+-- it belongs to, the bits that a write can change, and the word after a reset.
 pub record Row : Type 0 where
   pub name : List ℕ
   pub count : ℕ

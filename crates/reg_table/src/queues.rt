@@ -1,4 +1,4 @@
-//! The registers of the queues, and those that control transmission.
+//! The registers of the queues, and the registers that control transmission.
 
 ghost use Rattle.std.specs.Prelude.{⊤, ◌≡◌, [], ◌∷◌, codes};
 

@@ -67,7 +67,7 @@ cell_of Psrtype _ _ _ _ _ _ _ _ _ _ _ _ _ _ _ _ _ _ _ _ _ _ _ _ _ _ _ _ _ _ _ _ 
 cell_of Eec _ _ _ _ _ _ _ _ _ _ _ _ _ _ _ _ _ _ _ _ _ _ _ _ _ _ _ _ _ _ _ _ _ _ _ _ _ _ _ _ _ _ n = absurd (n refl)
 cell_of other _ _ _ _ _ _ _ _ _ _ _ _ _ _ _ _ _ _ _ _ _ _ _ _ _ _ _ _ _ _ _ _ _ _ _ _ _ _ _ _ _ _ _ = refl
 
--- A cell's words are those of its field.
+-- A cell's words are the words of its field.
 pub cell_row : (a : Inside) (row : RowId) → is_cell row ≡ true → row_words (rows_of a) row ≡ cells_of a.cells row
 cell_row a Status h = absurd cc
 cell_row a Pvfctrl h = absurd cc

@@ -13,7 +13,7 @@ use Rattle.register_file.specs.Registers.{Registers, word_of, with_word, with_wa
 use Rattle.dma_ring.specs.declared.dir.Dir.{Dir}
 use Rattle.dma_ring.specs.declared.dir.Dir.TheVariants.{Rx, Tx}
 
--- The bits of a row's words that a pool reset affects: all of them, or those of a mask.
+-- The bits of a row's words that a pool reset affects: all of them, or the bits of a mask.
 pub record Renewal : Type 0 where
   pub row : RowId
   pub whole : Bool

@@ -48,7 +48,7 @@ share-xor (suc zero) (suc zero) n p q = sym (xor_self n)
 share-xor (suc (suc a)) b n p q = absurd (omega arith)
 share-xor a (suc (suc b)) n p q = absurd (omega arith)
 
--- If the bits of `c` are the sums of the bits of `a` and `b`, the exclusive or over `c` is the sum of those over `a`
+-- If the bits of `c` are the sums of the bits of `a` and `b`, the exclusive or over `c` is the sum of the two over `a`
 -- and `b`.
 pub xor_where-sum : (f a b c : ℕ → ℕ) → ((k : ℕ) → a k < 2) → ((k : ℕ) → b k < 2) → ((k : ℕ) → c k ≡ (a k + b k) % 2)
     → (ks : List ℕ) → xor_where f c ks ≡ bit_xor (xor_where f a ks) (xor_where f b ks)

@@ -35,7 +35,7 @@ is_enabled mrqc Ipv6 = enables mrqc 20
 is_enabled mrqc UdpIpv4 = enables mrqc 22
 is_enabled mrqc UdpIpv6 = enables mrqc 23
 
--- The types in order of precedence: those that hash ports come before those that hash only addresses.
+-- The types in order of precedence: types that hash ports come before types that hash only addresses.
 abbrev pub by_precedence : List RssType
 by_precedence = TcpIpv4 ∷ UdpIpv4 ∷ TcpIpv6 ∷ UdpIpv6 ∷ Ipv4 ∷ Ipv6 ∷ []
 

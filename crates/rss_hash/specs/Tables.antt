@@ -10,7 +10,7 @@ use Rattle.rss_hash.specs.Toeplitz.{xor_of}
 abbrev pub where_one : (bit number : ℕ) → ℕ
 where_one bit number = if bit == 1 then number else 0
 
--- The exclusive or of those of four numbers at which bits 3 to 0 of `v` are 1.
+-- The exclusive or of a subset of four numbers: the numbers at which bits 3 to 0 of `v` are 1.
 abbrev pub joined : (a b c d v : ℕ) → ℕ
 joined a b c d v =
     bit_xor (bit_xor (bit_xor (where_one (bit_at v 3) a) (where_one (bit_at v 2) b)) (where_one (bit_at v 1) c))

@@ -43,8 +43,7 @@ pub fn other_packets_over_ipv6_are_addresses()
     ensures { OthersOverIpv6 flow_of }
 {}
 
-/// A frame with an EtherType other than those of IPv4 and IPv6, tagged frames included, is no flow, whatever it
-/// carries.
+/// A frame whose EtherType is neither IPv4's nor IPv6's, tagged frames included, is no flow, whatever it carries.
 pub fn other_types_are_no_flow()
     ensures { OtherTypesAreNoFlow flow_of }
 {}

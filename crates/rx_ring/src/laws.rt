@@ -4,9 +4,8 @@
 ghost use Rattle.rx_ring.specs.Laws.{TestLaw, FaultWritesNothing, HealthyIsFilled, PieceLaw, DriverReads, WritesInsideSlot, FillKeepsBlocks, FillsTwoBlocks};
 ghost use Rattle.rx_ring.specs.Frames.{PiecesMakeFrame};
 
-/// The first test that fails determines the fault. The tests are, in order: head or tail outside the ring, descriptor
-/// type, buffer size, descriptor not lent, bytes of the buffer not lent. If none fails, the slot is filled. A fault
-/// writes no memory.
+/// The first test that fails determines the fault. The tests are, in order: head and tail in the ring, descriptor type,
+/// buffer size, descriptor lent, bytes of the buffer lent. If none fails, the slot is filled. A fault writes no memory.
 pub fn faults()
     ensures order { TestLaw }
     ensures memory { FaultWritesNothing }

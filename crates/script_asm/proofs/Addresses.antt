@@ -18,7 +18,7 @@ use Rattle.script_asm.proofs.RowNames.{row-IsGood, no_bracket, bracket, before_b
 row_in-name : (r : RowId) → row_in (row_of r).name ≡ Ok r
 row_in-name r = ap (λ o. ok_or o UnknownName) (found_by_name r (row_of r).name refl)
 
--- A place's first address is the one that `register_address` returns.
+-- A place's first address is the address that `register_address` returns.
 register_address-first : (p : Place) (a : ℕ) → p.index < (row_of p.row).count → unwrap_or (address_among runs p) 0 ≡ a
     → register_address p.row p.index ≡ Ok a
 register_address-first p a below is = rw (lt-ltb p.index (row_of p.row).count below) (ap Ok is)

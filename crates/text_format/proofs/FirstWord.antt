@@ -53,7 +53,8 @@ ends hash blank byte = hash byte || blank byte
 abbrev pub end_in : (ℕ → Bool) → (ℕ → Bool) → List ℕ → ℕ
 end_in hash blank text = position_or_len (ends hash blank) text
 
--- The first part ends where the first word ends; the remaining nonempty parts are those of the rest of the text.
+-- The first part ends where the first word ends; the remaining nonempty parts are the nonempty parts of the rest of the
+-- text.
 abbrev FirstPart : (ℕ → Bool) → (ℕ → Bool) → List ℕ → Type 0
 FirstPart hash blank text = (others : List (List ℕ))
     × (parts_of hash blank text ≡ take (end_in hash blank text) text ∷ others)

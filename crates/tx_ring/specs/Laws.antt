@@ -101,7 +101,7 @@ pub record Turn : Type 0 where
 abbrev pub turn_of : Turn → List ℕ → Outcome
 turn_of t staged = fetch_of t.memory staged t.ring t.tx
 
--- The bytes that a turn adds to a packet: those that a data descriptor names.
+-- The bytes that a turn adds to a packet: the bytes that a data descriptor names.
 abbrev pub piece_of : Turn → List ℕ
 piece_of t =
     if is_context (command_at t.memory t.ring) then [] else buffer_bytes t.memory (descriptor_of t.memory t.ring)

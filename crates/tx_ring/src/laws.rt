@@ -3,9 +3,9 @@
 
 ghost use Rattle.tx_ring.specs.Laws.{TestLaw, FaultChangesNothing, SlotLaw, PacketLaw, DriverReads, WritesInsideReport, FetchKeepsBlocks, ReportLaw, ReportsInOneBlock, DoneChangesDoneAlone};
 
-/// The first test that fails determines the fault. The tests are, in order: head or tail outside the ring, descriptor
-/// not lent, legacy descriptor, unknown type. A data descriptor has four more: offload, frame above the limit, its
-/// bytes not lent, write-back's bytes not lent. If none fails, the descriptor is completed. A fault changes neither the
+/// The first test that fails determines the fault. The tests are, in order: head and tail in the ring, descriptor lent,
+/// advanced format, known type. A data descriptor has four more: no offload, frame within the limit, the descriptor's
+/// bytes lent, the write-back's bytes lent. If none fails, the descriptor is completed. A fault changes neither the
 /// memory nor the staged bytes.
 pub fn faults()
     ensures order { TestLaw }
@@ -40,8 +40,8 @@ pub fn reports()
     ensures done { DoneChangesDoneAlone }
 {}
 
-/// Fetching a slot changes no byte outside those that were written back. Whether the slot is fetched or not, the same
-/// blocks stay lent and each keeps its length of 2,048 bytes.
+/// Fetching a slot changes only bytes that were written back. Whether the slot is fetched or not, the same blocks stay
+/// lent and each keeps its length of 2,048 bytes.
 pub fn elsewhere()
     ensures bytes { WritesInsideReport }
     ensures blocks { FetchKeepsBlocks }

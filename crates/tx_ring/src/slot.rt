@@ -30,10 +30,10 @@ const SHORTEST_FRAME: usize = 60;
 /// 65,536 slots.
 ///
 /// Errors, in the order of the tests: `Outside` if the head or the tail isn't a slot; `NotLent` with the descriptor's
-/// address; `Legacy`; `UnknownType`. For a data descriptor, then: `Offload`; `TooLong` if the staged bytes and its own
-/// exceed the limit; `NotLent` with its buffer's address; `NotLent` with the address of the write-back. `OutOfMemory`
-/// comes only after all tests, and only if more bytes must be stored than before. Each error leaves the memory and the
-/// staged bytes as they were.
+/// address; `Legacy`; `UnknownType`. For a data descriptor, then: `Offload`; `TooLong` if the staged bytes and the
+/// descriptor's bytes exceed the limit; `NotLent` with its buffer's address; `NotLent` with the address of the
+/// write-back. `OutOfMemory` is returned only after all tests, and only if more bytes must be stored than before. Each
+/// error leaves the memory and the staged bytes as they were.
 ///
 /// Intel 82599 datasheet, section on advanced transmit descriptors.
 #[tactic(auto, unfolding(crate::specs::Fetch::fetch_of, crate::specs::Fetch::fault_of))]

@@ -60,7 +60,7 @@ among_within mode v queue a =
           absurd (subst (λ o. IsAmong o queue) is a)
     ]
 
--- A queue's pool is the one that has the queue.
+-- A queue's pool is the pool that contains the queue.
 pub inverse : (mode : Mode) (v queue : ℕ) → (pool_of mode queue ≡ Some v) ↔ IsAmong (queues_of mode v) queue
 inverse mode v queue = (
   λ e. within_among mode v queue (pool_within mode v queue e),

@@ -36,7 +36,7 @@ own_entries vf =
 abbrev pub message_entries : ℕ → List Entry
 message_entries vf = map (λ x. entry (0x200 + 4 * x) Pfmbmem (16 * vf + x)) (range_with_len 0 16)
 
--- All registers of the function except those of its queues.
+-- All registers of the function except its queues' registers.
 abbrev pub function_entries : ℕ → List Entry
 function_entries vf = own_entries vf ++ message_entries vf
 
@@ -55,7 +55,7 @@ transmit_rows = filter is_transmit rows
 abbrev pub distance : (first row : RowId) → ℕ
 distance first row = (first_of row).first - (first_of first).first
 
--- The registers of one side of a queue, from an offset on, with the distances that they have in the device.
+-- The registers of one side of a queue, from an offset on, with the same distances as in the device.
 abbrev pub side_entries : (offset : ℕ) → (first : RowId) → List RowId → (queue : ℕ) → List Entry
 side_entries offset first rows queue = map (λ row. entry (offset + distance first row) row queue) rows
 

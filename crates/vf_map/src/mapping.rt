@@ -73,7 +73,7 @@ fn place(v: u8, first: u8, count: u8, offset: u32) -> Option<Place>
     queue_place(first, count, offset)
 }
 
-/// Returns the register at an offset of function v, except those of its queues and vectors.
+/// Returns the register at an offset of function v, except the registers of its queues and vectors.
 fn function_place(v: u8, offset: u32) -> Option<Place>
     ensures { result ≡ place_at (function_entries v) offset }
 {

@@ -46,7 +46,7 @@ summary_text reports sent = queue_lines 0 reports
 abbrev pub watched_of : ℕ → Watched
 watched_of worker = record { vfs = 0; pass = worker; queue = worker }
 
--- Its driver starts on that queue, at the physical function's port.
+-- The worker's driver starts on the worker's queue, at the physical function's port.
 abbrev pub given_of : ℕ → Given
 given_of worker = record { port = Pf; queue = worker; frame = 1518 }
 

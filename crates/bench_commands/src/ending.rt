@@ -25,9 +25,9 @@ use std::io::{Read, Write};
 /// How the program ends.
 #[derive(Clone, Copy, Debug, PartialEq, Eq)]
 pub enum Outcome {
-    /// It has ended with this exit status: `DONE`, `NOT_ENDED`, `FAILED`, `REFUSED_WORDS` or `NO_MEMORY`.
+    /// The program has ended with this exit status: `DONE`, `NOT_ENDED`, `FAILED`, `REFUSED_WORDS` or `NO_MEMORY`.
     Ended(u8),
-    /// It hasn't ended: the words request `threads`, which the caller has to run. Nothing was read or written.
+    /// The program hasn't ended: the words request `threads`, which the caller has to run. Nothing was read or written.
     Threads {
         /// The number of workers, 1 to 8.
         workers: u8,

@@ -60,7 +60,7 @@ fn run_program<W: Write>(
     }
 }
 
-/// Runs a script, and writes each step's line when the step has run.
+/// Runs a script, and writes each step's line right after the step.
 pub(crate) fn run_script<W: Write>(
     alloc: Global,
     text: &str,

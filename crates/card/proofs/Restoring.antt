@@ -64,7 +64,7 @@ new-free count n small = is_free-all_free 0 count n ∙ is_own-all_free 0 count 
 pub new-unused : (count : ℕ) → are_all_free (all_free 0 count) ≡ true
 new-unused count = (CountsFree-numbers (all_free 0 count)).all.1 (λ n own. is_free-all_free 0 count n ∙ own)
 
--- So no lent block keeps a device from being restored.
+-- Therefore no lent block keeps a device from being restored.
 pub never-taken : (m : Memory) (count n : ℕ) → AreShared m (blocks_not_lent count m)
     → IsLowestTaken (all_free 0 count) m n → true ≡ false
 never-taken m count n h is = sym (new-free count n (lent-few m count n h is.lent)) ∙ is.taken

@@ -4,7 +4,7 @@ use Rattle.std.specs.List.{range_with_len}
 use Rattle.nic_device.specs.DmaArena.Memory.{Memory, has_block}
 use Rattle.nic_device.specs.DmaArena.Numbers.{Numbers}
 
--- This many blocks, numbered from 0. Those that aren't lent are free.
+-- This many blocks, numbered from 0. Blocks that aren't lent are free.
 abbrev pub blocks_not_lent : ℕ → Memory → Numbers
 blocks_not_lent count memory =
     record { first = 0; free = map (λ number. not (has_block memory number)) (range_with_len 0 count) }

@@ -75,7 +75,7 @@ impl Kept {
 
     /// Puts the kept contents into a card. After `AllocError` nothing has changed. The card keeps its packet memory if
     /// it has as many blocks and all blocks to be lent are lent already; otherwise it gets new packet memory. No clause
-    /// says which.
+    /// says which of the two it is.
     pub fn restore(&self, alloc: Global, card: &mut Card) -> Result<(), AllocError>
         ensures restored { OnOk result (card.new ≡ self.now) }
         ensures unchanged { OnErr result (card.new ≡ card.old) }

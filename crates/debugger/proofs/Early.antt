@@ -127,7 +127,7 @@ before-is machine snapshot snapshots kept at reported steps all same inside is c
   early = omega (arith, count, early);
 }
 
--- It can run on in place of a machine that runs from the start.
+-- The snapshot that is found can run on in place of a machine that runs from the start.
 early-by : (object : List ℕ) (config : Config) (snapshots : List Course) (snapshot : Course) (steps : ℕ)
     (read : Result Listing ObjectFault) → read_of object ≡ read → IsOk read → AreReplayed object config snapshots
     → ((m : Course) → AreOf m snapshots → IsBefore m snapshot steps)

@@ -10,7 +10,7 @@ use Rattle.device_lock.specs.Kept.{entries_of}
 use Rattle.device_lock.specs.Pass.{PassValue, IsOwn}
 use Rattle.device_lock.specs.Closing.{Answers, AreAll, Closes, IsMissing, IsSurplus, TagStands}
 
--- If no tag from this number on has an entry, all tags are below it.
+-- If no tag from this number on has an entry, all tags are below this number.
 all_below : (count : ℕ) (h : List Entry) → AllBelow 64 h
     → ((tag : ℕ) → count ≤ tag → tag < 64 → entries_of tag h ≡ 0) → AllBelow count h
 all_below count [] below none = tt
@@ -63,7 +63,7 @@ tag_in ForeignPass = 0
 tag_in (Mismatch tag) = tag
 tag_in OutOfMemory = 0
 
--- A tag is reported as missing exactly if it is the lowest missing one.
+-- A tag is reported as missing exactly if it is the lowest missing tag.
 pub missing_exactly : (bench count : ℕ) (h : List Entry) (ps : List PassValue) (fault : CloseFault) (tag : ℕ)
     → Answers bench count h ps (Some fault) → (fault ≡ MissingPass tag) ↔ IsMissing bench count ps tag
 unfolding tag_in

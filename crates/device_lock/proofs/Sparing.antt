@@ -37,7 +37,7 @@ or_else on queue b P i = (
 no_more : (b c : Bool) → b ≡ c → (not b ≡ true) ↔ (c ≡ false)
 no_more b c same = ((λ h. sym same ∙ not-true b h), λ h. not_from_false b (same ∙ h))
 
--- If one holds, the other doesn't.
+-- If one condition holds, the other doesn't.
 excludes : (a b : Bool) → (not (a && b) ≡ true) ↔ (IsTrue a → IsFalse b)
 excludes a b = (
   (λ h is. elim (and_cases a b (not-true _ h))

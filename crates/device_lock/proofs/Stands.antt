@@ -6,7 +6,7 @@ use Rattle.device_lock.specs.declared.entry.Call.{Call}
 use Rattle.device_lock.specs.declared.resting.IdleSteps.{IdleSteps}
 use Rattle.device_lock.specs.Calls.{rested_calls, made_calls, calls_in}
 
--- Stored calls, up to one of them and from it on.
+-- Stored calls, split at one of them.
 
 made-append : (a b : List Made) → made_calls (a ++ b) ≡ made_calls a ++ made_calls b
 made-append [] b = refl
@@ -53,7 +53,7 @@ made_differ made i m d rested lt is all rest are none same =
     none (made_calls (drop (i + 1) made) ++ rested_calls rested)
     (append_cancel_left (made_calls (take i made)) rest _ (sym are ∙ same ∙ made_parts made i m d rested lt is))
 
--- They also differ if the idle steps after the last call are missing.
+-- The lists also differ if the idle steps after the last call are missing.
 pub rest_differs : (made : List Made) (rested : IdleSteps) (all rest : List Call) → all ≡ made_calls made ++ rest
     → ((more : List Call) → rest ≢ rested_calls rested ++ more) → all ≢ calls_in made rested
 rest_differs made rested all rest are none same =

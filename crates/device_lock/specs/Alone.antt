@@ -75,7 +75,7 @@ pub record Spares (queue : ℕ) (mode : Mode) (p : Place) (word : ℕ) : Type 0 
   pub transmit : IsTrue (is_transmit p.row) → p.index ≢ queue
   pub pool : IsTrue (asks_pool_reset (row_of p.row).kind word) → IsFalse (has_queue mode p.index queue)
 
--- The event writes no register that the queue relies on, under any name.
+-- The event writes no register that the queue relies on, at whatever address.
 abbrev pub SparesIfSome : ℕ → Mode → Option Place → ℕ → Type 0
 SparesIfSome queue mode None word = ⊤
 SparesIfSome queue mode (Some p) word = Spares queue mode p word

@@ -33,7 +33,7 @@ fn after_call<'a>(history: &'a [Entry], tag: u8, call: &Call) -> Option<&'a [Ent
     None
 }
 
-/// If the step ran, skips past the next entry with this tag, which must be of this event and idle; otherwise skips
+/// If the step ran, skips past the next entry with this tag, which must be idle and for this event; otherwise skips
 /// nothing. Returns the entries after it.
 fn after_step<'a>(
     history: &'a [Entry],
@@ -141,7 +141,7 @@ fn own_stand(history: &[Entry], tag: u8, passes: &[Pass]) -> bool
     passes.iter().all(|pass| stands_as(history, tag, pass))
 }
 
-/// Returns whether the pass, if it has this tag, has the calls that the history has for it.
+/// Returns whether the pass, if it has this tag, has the calls that the history has for this tag.
 fn stands_as(history: &[Entry], tag: u8, pass: &Pass) -> bool
     ensures { IsTrue result ↔ (pass.now.tag ≡ tag → StandsIn history.now pass.now) }
 {

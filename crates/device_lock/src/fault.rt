@@ -42,11 +42,11 @@ impl<E> CallFault<E> {
 /// Why a shared device stays open.
 #[derive(Clone, Copy, PartialEq, Eq, Debug)]
 pub enum CloseFault {
-    /// No pass with this tag, the lowest such tag, was returned.
+    /// No pass with this tag was returned. No lower tag is missing.
     MissingPass(u8),
     /// A pass belongs to another bench, has no tag of this one, or occurs twice.
     ForeignPass,
-    /// The calls of the pass with this tag, the lowest such tag, aren't the history's entries with it.
+    /// The calls of the pass with this tag aren't the history's entries with the tag. This is the lowest such tag.
     Mismatch(u8),
     /// Memory ran out. Closing allocates nothing, so this is never returned.
     OutOfMemory,

@@ -41,7 +41,7 @@ IsLinked-empty n small = record {
   };
 }
 
--- A list that leads from its end straight to its end has no block.
+-- A list whose end leads straight back to itself has no block.
 not_free : (e : Links) (s : List (Option Links)) → IsLinked e s → e.next ≡ list_end → (p : ℕ) (o : Option Links)
     → get_or s p None ≡ o → is_some o ≡ false
 not_free e s linked first p None at = refl

@@ -25,7 +25,7 @@ module _ (nodes : Nodes) (rank : ℕ → ℕ) (ring : IsRing nodes rank) (p : �
   pub first_other : e.next ≢ p
   first_other = let m = ring.next list_end e end_at in linked_other e.next m.0 m.1
 
-  -- The place that has the end before it is the first.
+  -- The place right after the end is the first.
   after_end : (r : ℕ) (x : Links) → nodes r ≡ Some x → x.prev ≡ list_end → r ≡ e.next
   after_end r x there is =
       let m = ring.prev r x there in

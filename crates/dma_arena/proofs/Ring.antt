@@ -33,7 +33,7 @@ module _ (nodes : Nodes) (rank : ℕ → ℕ) (ring : IsRing nodes rank) where
       let it : l ≡ m.0 = same (nodes p) l m.0 at (ap nodes (sym e) ∙ m.1) in
       ap (λ (y : Links). y.next) it ∙ m.2
 
-  -- A list that leads from its end straight to its end has no block.
+  -- A list whose end leads straight back to itself has no block.
   pub no_block : (e : Links) → nodes list_end ≡ Some e → e.next ≡ list_end
       → (n p : ℕ) (l : Links) → rank p < n → p ≢ list_end → nodes p ≡ Some l → ⊥
   no_block e at first zero p l lt ne there = absurd (omega arith)

@@ -61,7 +61,7 @@ pub struct SplitRefused {
 
 impl Arena {
     /// Creates an arena of the block numbers `first` to `first + count - 1`, all of them free. It allocates 2,048 bytes
-    /// a block.
+    /// per block.
     ///
     /// Errors, in this order: `Empty` if `count` is 0; `TooMany` if a number would be above 65,535; `OutOfMemory`.
     pub fn new(alloc: Global, first: u32, count: u32) -> Result<Arena, ArenaFault>
@@ -92,7 +92,7 @@ impl Arena {
         u32::from(self.first)
     }
 
-    /// Returns how many block numbers this arena has, counted from its first.
+    /// Returns the number of this arena's block numbers, which are counted from its first.
     pub fn count(&self) -> u32
         ensures { result ≡ count_of self.now }
     {

@@ -59,7 +59,7 @@ impl Ring {
         slot + 1
     }
 
-    /// Returns the bus address of a slot's descriptor: the base plus 16 bytes a slot, modulo 2^64.
+    /// Returns the bus address of a slot's descriptor: the base plus 16 bytes per slot, modulo 2^64.
     pub fn descriptor(&self, slot: u16) -> u64
         ensures { result ≡ descriptor_address self.now slot }
     {

@@ -1,4 +1,4 @@
--- Lemmas: the words after everything that a text defines is written to them.
+-- Lemmas: the words of an image, after everything that a text defines is written to them.
 use Rattle.std.proofs.Common.{◌≡◌, ◌≢◌, ℕ, ◌+◌, ◌<◌, ◌≤◌, false, nat_le, List, [], ◌∷◌, length, set, fold, refl, sym, ap, ◌∙◌, inl, inr, arith, length-set, get_or-set_same, get_or-set_other, replicate}
 use Rattle.std.proofs.lemmas.List.{length-replicate, get_or-replicate}
 use Rattle.std.proofs.lemmas.Bool.{lt-leb}
@@ -9,7 +9,7 @@ use Rattle.eeprom_image.specs.Fault.{plain_word, given_word, csr_section, sectio
 use Rattle.eeprom_image.specs.Layout.{put_word, with_section, with_csr, IsLaidOut}
 use Rattle.eeprom_image.proofs.Layouts.{length-put_words, length-with_section, no_section, section_end-is, value_after, word_at-put_words, word_at-with_section}
 
--- The words after the CSR section and its pointer are written among the defined ones.
+-- The words, after the CSR section and its pointer are written among the defined words.
 pub laid_with_triples : (content : Content) (words : List ℕ) (triple : ℕ × ℕ) (triples : List (ℕ × ℕ))
     → content.triples ≡ triple ∷ triples
     → length words ≡ content.size → section_end content.triples ≤ content.size

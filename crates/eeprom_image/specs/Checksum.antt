@@ -6,6 +6,6 @@ use Rattle.eeprom_image.specs.Section.{section_at, pointers}
 abbrev pub checked_sum : List ℕ → ℕ
 checked_sum words = sum (take 64 words) + sum_by (λ pointer. sum (section_at words pointer)) (pointers words)
 
--- Whether the sum is 0xBABA, modulo 2^16; word 0x3F is chosen to make it so.
+-- Whether the sum is 0xBABA, modulo 2^16. Word 0x3F is chosen accordingly.
 abbrev pub is_checked : List ℕ → Bool
 is_checked words = (checked_sum words % 65536) == 0xBABA

@@ -25,10 +25,10 @@ pub record IsImageOf (content : Content) (words : List ℕ) : Type 0 where
   pub image : IsImage words
   pub pointers : IsTrue (list_all is_past (pointers words))
   pub size : length words ≡ content.size
-  -- It has the defined words, and 0xFFFF in each other word that isn't reserved.
+  -- The image has the defined words, and 0xFFFF in each other word that isn't reserved.
   pub given : (index : ℕ) → index < content.size → IsFalse (is_reserved (section_end content.triples) index)
       → word_at words index ≡ given_word content.words index
-  -- It has the defined triples, at 0x40 if there are any.
+  -- The image has the defined triples, at 0x40 if there are any.
   pub pointer : word_at words 0x0D ≡ csr_pointer content.triples
   pub triples : triples_of words ≡ content.triples
 

@@ -16,7 +16,7 @@ by_parts : (a b c x y z : Bool) → a ≡ x → b ≡ y → c ≡ z → (a && (b
 by_parts true b c x y z p q r = rw (← p, q, r)
 by_parts false b c x y z p q r = rw (← p)
 
--- A call that settles these words leaves the bits in them.
+-- After a call that stores these words, the group's bits are the bits of these words.
 pub leaves-settled : (s : Interrupts) (causes enabled reported : BitSet) (bits : Bits) →
     ((bit : ℕ) → bit < 32 → contains causes bit ≡ bits.cause bit) →
     ((bit : ℕ) → bit < 32 → contains enabled bit ≡ bits.mask bit) →

@@ -33,7 +33,7 @@ pub extern "C" fn nic_snapshot(alloc: Global, nic: &mut Handle, kept: &mut KeptH
 
 /// Returns the card to the snapshot's state. The snapshot is kept, and may be of another card. The card keeps its
 /// packet memory if it has as many blocks as the snapshot and all blocks lent in the snapshot are lent now. Otherwise
-/// its packet memory is replaced; no clause says which.
+/// its packet memory is replaced. No clause says which of the two it is.
 ///
 /// Returns DONE, or OUT_OF_MEMORY, which leaves the card unchanged.
 #[unsafe(no_mangle)]

@@ -54,7 +54,7 @@ length-more : (m : Memory) (staged descriptor : List ℕ)
     → length (staged ++ buffer_bytes m descriptor) ≡ length staged + (command_in descriptor).len
 length-more m staged descriptor = simp (length-append, length-read_at)
 
--- They stay within it after the bytes of a descriptor's buffer are added.
+-- Staged bytes stay within the limit after the bytes of a descriptor's buffer are added.
 IsStaged-more : (m : Memory) (staged descriptor : List ℕ) (limit : ℕ) → AreBlocks m → IsStaged staged
     → limit ≤ 65535 → length staged + (command_in descriptor).len ≤ limit
     → IsStaged (staged ++ buffer_bytes m descriptor)

@@ -12,7 +12,7 @@ pub piece_fits : (m : Memory) (r : Ring) (srrctl : ℕ) (rest : Rest) (f : Fille
     → (fill_of m r srrctl rest).answer ≡ Ok f → f.len ≤ length rest.bytes
 piece_fits m r srrctl rest f e = rw (takes_piece m r srrctl rest f e).len (omega arith)
 
--- So it ends inside the frame.
+-- A piece therefore ends inside the frame.
 pub piece_inside : (m : Memory) (r : Ring) (srrctl : ℕ) (rest left : Rest) (offset length_of : ℕ) (f : Filled)
     → (fill_of m r srrctl rest).answer ≡ Ok f → rest ≡ left → length left.bytes + offset ≡ length_of
     → offset + f.len ≤ length_of

@@ -42,7 +42,7 @@ KeepsOn r s = (dir : Dir) (queue : ℕ) → is_on r dir queue ≡ true → is_on
 pub on_kept : (r s : Registers) → KeepsSides r s → KeepsOn r s
 on_kept r s kept dir queue on = kept dir queue ∙ on
 
--- So a disabled side was disabled before.
+-- A side that is disabled afterwards was disabled before.
 pub was_off : (r s : Registers) → KeepsOn r s → (dir : Dir) (queue : ℕ) → is_on s dir queue ≡ false
     → is_on r dir queue ≡ false
 was_off r s kept dir queue off = elim (cases_Bool (is_on r dir queue)) as (λ _. is_on r dir queue ≡ false) [

@@ -48,7 +48,7 @@ Chosen-pool r frame =
     either_way (Chosen (parting_in r)) (uses_pools r) (checked_pool r (selected_pool r frame)) (Ok 0)
     (Chosen-checked r (selected_pool r frame)) (has_first (parting_in r))
 
--- So its queue is below 128.
+-- The frame's queue is below 128.
 queue-lt : (c : QueueMode) (m : Mode) (pool entry : ℕ) → has_queues (parting c m) pool ≡ true → entry < 16
     → queue_of c m pool entry < 128
 queue-lt code.Single m pool entry has small = omega arith

@@ -7,7 +7,7 @@ use Rattle.nic_device.specs.State.{State}
 use Rattle.nic_device.specs.Outcome.{Outcome, gives}
 use Rattle.nic_device.specs.declared.event.Reply.TheVariants.{Done, Bytes, Buf, Twice, NotLent, Misaligned}
 
--- A block is lent under its number, unless one with that number already is.
+-- A block is lent under its number, unless a block with that number is already lent.
 abbrev pub lent : State → Block → Outcome
 lent s block =
     if has_block s.memory block.number then gives (Twice block) s

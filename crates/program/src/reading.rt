@@ -187,8 +187,8 @@ fn instructions_after(
 
 /// Decodes an object into the program that it encodes, or returns its first fault.
 ///
-/// It accepts only the exact object of the program that it returns, with unused fields 0. It takes time linear in the
-/// number of bytes, which no clause says. `OutOfMemory` may be returned in place of any other result.
+/// The call accepts only the exact object of the program that it returns, with unused fields 0. It takes time linear in
+/// the number of bytes, which no clause says. `OutOfMemory` may be returned in place of any other result.
 #[tactic(auto, unfolding(crate::specs::Object::read_of))]
 pub fn read(alloc: Global, bytes: &[u8]) -> Result<Program, ObjectFault>
     ensures exact { Gives (λ program. program) result (read_of bytes.now) }

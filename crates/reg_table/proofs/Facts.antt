@@ -9,9 +9,9 @@ use Rattle.reg_table.proofs.Standing.{stands, access_in}
 use Rattle.reg_table.proofs.Reached.{covers, words_at, steps_at}
 use Rattle.reg_table.proofs.Missed.{misses, no_words_at, no_steps_at}
 
--- A fact about the words from a low address up to a high one, high excluded. `Words`: one run has all of them. `Steps`:
--- one run has those in step with it. `NoWords`: no run has any of them. `NoSteps`: no run has one whose remainder,
--- modulo the first number, is from the second number up to the third.
+-- A fact about the words from a low address up to a high address, which is excluded. `Words`: one run has all of these
+-- words. `Steps`: one run has the words that are in step with it. `NoWords`: no run has any of them. `NoSteps`: no run
+-- has a word whose address has a remainder, modulo the first number, from the second number up to the third.
 pub data Fact : Type 0 where
   Words : Run → ℕ → ℕ → Fact
   Steps : Run → ℕ → ℕ → Fact

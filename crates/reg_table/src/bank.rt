@@ -20,7 +20,7 @@ pub enum Bank {
     /// The interrupt vectors of the virtual functions' queues. The pool mode and the register's index determine which
     /// queues.
     Vectors,
-    /// The mailbox memory, for messages between the physical function and the virtual functions: 16 words a virtual
+    /// The mailbox memory, for messages between the physical function and the virtual functions: 16 words per virtual
     /// function.
     Messages,
 }

@@ -2,6 +2,6 @@
 use Rattle.rss_hash.specs.Tables.{AreItsWindows}
 use Rattle.rss_hash.specs.declared.hash_key.HashKey.TheInside.{Inside}
 
--- The tables contain the windows of the key in the words.
+-- The tables contain the windows of the key that the words contain.
 pub record HasItsTables (key : Inside) : Type 0 where
   pub windows : AreItsWindows key.tables key.words

@@ -1,10 +1,10 @@
 /// Why a frame is dropped before it joins a queue.
 #[derive(Clone, Copy, PartialEq, Eq, Debug)]
 pub enum Unwanted {
-    /// Its destination address isn't accepted.
+    /// The frame's destination address isn't accepted.
     Filter,
-    /// No pool is selected for it, or its pool has no queues.
+    /// No pool is selected for the frame, or its pool has no queues.
     NoPool,
-    /// Its pool has reception disabled in VFRE.
+    /// The frame's pool has reception disabled in VFRE.
     PoolOff,
 }

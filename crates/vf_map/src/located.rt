@@ -7,6 +7,6 @@ pub enum Located {
     Absent,
     /// The function has no register at the offset. A read returns 0.
     Hole,
-    /// This register of the device.
+    /// The offset reaches this register of the device.
     Register(Place),
 }

@@ -8,7 +8,8 @@ abbrev pub status_of : Refused → ℕ
 status_of OutOfMemory = 4
 status_of Other = 2
 
--- Two results combined: done if both are done, otherwise refused, for lack of memory if either was.
+-- Two results combined: done if both are done, otherwise refused, for lack of memory if either was refused for that
+-- reason.
 abbrev pub both_done : Result (Unit {0}) Refused → Result (Unit {0}) Refused → Result (Unit {0}) Refused
 both_done (Ok done) second = second
 both_done (Err OutOfMemory) second = Err OutOfMemory

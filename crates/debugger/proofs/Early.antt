@@ -108,7 +108,7 @@ stay-pushed machine before after snapshot true is pushed =
 stay-pushed machine before after snapshot false is pushed =
     λ m same all. subst (λ (xs : List Course). AreOf m xs) (sym pushed) all
 
--- The same holds if it is kept with only the permanent snapshots.
+-- The same holds if the new snapshot is kept with only the permanent ones.
 pub stay-replaced : (machine : Course) (stay : ℕ) (before first after : List Course) (snapshot : Course) (ok : Bool)
     → snapshot ≡ machine → first ≡ take stay before → after ≡ (if ok then first ++ snapshot ∷ [] else first)
     → StayOf machine before after

@@ -126,7 +126,7 @@ impl<const VFS: u8, const FIFO: u16> Locked<VFS, FIFO> {
         &self.device
     }
 
-    /// Allocates what a pass needs for the next event, as `ready` does. This note and the history's note share a
+    /// Allocates what a pass needs for the next event, as `ready` does. The pass's note and the history's note share a
     /// block's unchanged bytes.
     pub(crate) fn ready<T>(
         &mut self,

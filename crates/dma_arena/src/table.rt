@@ -198,7 +198,7 @@ fn make_places(places: &mut Vec<Option<Buf>>, number: u32) -> Result<(), AllocEr
     Ok(())
 }
 
-/// Returns a bound below which no block after the lowest is lent, once the block with this number is inserted.
+/// Returns a bound below which no block after the lowest is lent, after the block with this number is inserted.
 fn next_with(first: u32, next: u32, number: u32) -> u32
     ensures below { number < first → result ≡ first }
     ensures above { first ≤ number → result ≤ number }

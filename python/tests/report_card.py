@@ -41,7 +41,7 @@ NO_RESET = "no reset of the device (NICD_SHARED_DEVICE)"
 
 # For each class of card_drivers.py, the row that fails and a pattern of its message.
 WRONG = {
-    "SlotWithoutDd": ("receive-empty", "check: receive returned true, but no frame came"),
+    "SlotWithoutDd": ("receive-empty", "check: receive returned true, but no frame arrived"),
     "StopThatDoesNotWait": ("close-during-frames", "queue 0 is on although the driver is closed"),
     "IdleReportedEarly": ("send-wrap", r"check: reclaim reports all of queue 0 as transmitted, but frame \d+ .*isn't"),
     "LengthBeforeDd": ("receive-one", "check: a frame of 0 bytes is delivered from queue 0"),
@@ -55,7 +55,7 @@ WRONG = {
     "TakesEveryException": ("receive-one", "misuse: receive0 continues after its schedule has ended"),
     "Recurses": ("receive-one", "check: RecursionError: "),
     "OpenAnswersNone": ("receive-one", "TypeError: open returned NoneType, not True or False"),
-    "CountsInTwoSteps": ("stats-receive", "check: stats: rx_frames is 1 and rx_bytes 0, of frames of 60 bytes"),
+    "CountsInTwoSteps": ("stats-receive", "check: stats: rx_frames is 1 and rx_bytes 0 for frames of 60 bytes"),
     "StatsAnswersText": ("stats-send", "check: TypeError: stats returned str, not Stats"),
     "ReceiveAnswersText": ("receive-one", "check: TypeError: receive returned str, not bytes"),
     "ReclaimAnswersBelowZero": ("send-one", "check: TypeError: reclaim returned -1, not a number"),

@@ -43,20 +43,20 @@ WRONG(RING_RESIZE_JUMBO, "resize-during-chains", "frame \\d of 5000 bytes is del
       "Half a frame is left over when a ring is replaced")
 WRONG(TRANSMIT_WATCHDOG, "send-one", "sent frame 0 was transmitted a second time",
       "A watchdog resends transmitted frames before the queue is off")
-WRONG(SLOT_WITHOUT_DD, "receive-empty", "receive returned true, but no frame came", "A slot is taken without DD")
-WRONG(SLOT_TAKEN_TWICE, "receive-one", "frame 0 is delivered a second time", "A slot is taken twice")
+WRONG(SLOT_WITHOUT_DD, "receive-empty", "receive returned true, but no frame arrived", "A slot is processed without DD")
+WRONG(SLOT_TAKEN_TWICE, "receive-one", "frame 0 is delivered a second time", "A slot is processed twice")
 WRONG(ACCEPTED_AND_DROPPED, "send-full", "never transmitted|reclaim reports all of queue 0",
-      "With a full ring, the frame is accepted but dropped")
+      "send accepts a frame although the ring is full, and drops it")
 WRONG(IDLE_REPORTED_EARLY, "send-wrap",
       "reclaim reports all of queue 0 as transmitted, but frame \\d in slot \\d isn't",
       "All frames are reported as transmitted after the first")
 WRONG(CAUSE_READ_AWAY, "setup-cause-read", "a read of EICR clears the causes 0x0001 of queues",
       "A handler reads EICR to clear it, which the card doesn't do with MSI-X")
 WRONG(EIMS_OF_ALL_QUEUES, "interrupt-rearm-alone", "rearm of queue 0 enables the cause of queue 1 too",
-      "One queue's poll enables the causes of all")
+      "One queue's poll enables the causes of all queues")
 WRONG(IVAR_BYTE_LOST, "interrupt-two-queues",
       "frame \\d is in slot \\d of queue 0 but never reached the caller: its IVAR byte isn't valid",
-      "The vector of one queue overwrites the other's")
+      "One queue's vector overwrites the vector of the other queue")
 WRONG(FIRST_DD_OF_A_CHAIN, "receive-4096", "frame 0 of 4096 bytes is delivered with 2048",
       "Only the first DD of a frame in several buffers is checked")
 WRONG(HEAD_CACHED_OVER_A_WRAP, "send-wrap",
@@ -114,7 +114,7 @@ WRONG(FILTER_BY_STOP, "promiscuous-during-traffic", "to its own address wasn't r
       "Reception is off while the filter is changed")
 WRONG(RETA_CHANGED_BY_HALF, "rss-changed", "arrived in queue \\d instead of \\d",
       "Only the first half of a new table is written")
-WRONG(COUNTED_IN_TWO_STEPS, "stats-receive", "stats: rx_frames is \\d and rx_bytes \\d+, of frames of 60 bytes",
+WRONG(COUNTED_IN_TWO_STEPS, "stats-receive", "stats: rx_frames is \\d and rx_bytes \\d+ for frames of 60 bytes",
       "A frame and its bytes are counted in two steps, with a read of the statistics in between")
 WRONG(LINK_TOGGLED, "link-flap", "the link is (up|down), but the driver reports it as (up|down)",
       "A handler toggles the link state on each interrupt, but two changes raise only one")

@@ -234,10 +234,9 @@ static const char *judge_rings(void)
 }
 
 static const char reset_rule[] =
-    "A reset ends all queues, masks and filters: software sets all up again, and throws away "
-    "what was on its way";
+    "A reset clears all queues, masks and filters; software sets them up again and discards frames in flight";
 static const char resize_rule[] =
-    "While a queue is on, its base and length don't change, and the device owns its memory";
+    "While a queue is on, its base and length must not change, and the device owns its memory";
 
 const struct scenario nicd_link[] = {
     ROW("link-down", "the link goes down, and the driver reports it", "A link change raises LSC; LINKS shows the state",
@@ -262,9 +261,9 @@ const struct scenario nicd_resets[] = {
         .takes = true, .sends = 3, .comes = 4, .late = 2),
     ROW("reset-twice", "two resets, then traffic", reset_rule, "Software Reset", RECEIVES | RESET,
         .ways = LOSSY | DROPS, .control = reset_twice, .takes = true, .comes = 3, .late = 2, .see = nicd_see_held),
-    ROW("reset-during-chains", "a reset during frames with several buffers",
-        "A frame that lost its end in a reset is dropped", "Software Reset", RECEIVES | RESET, .ways = LOSSY | DROPS,
-        .setup = {.frame = 5000}, .control = reset_during_frame, .takes = true, .comes = 2, .late = 2, .length = 5000),
+    ROW("reset-during-chains", "a reset during frames with several buffers", "A frame cut short by a reset is dropped",
+        "Software Reset", RECEIVES | RESET, .ways = LOSSY | DROPS, .setup = {.frame = 5000},
+        .control = reset_during_frame, .takes = true, .comes = 2, .late = 2, .length = 5000),
     ROW("reset-memory", "three resets and a close leave nothing allocated",
         "A reset that allocates memory frees what it replaces", "reset of the adapter", RESET, .ways = LOSSY | DROPS,
         .control = reset_and_count, .takes = true, .comes = 2),
@@ -286,10 +285,10 @@ const struct scenario nicd_changes[] = {
         RECEIVES | RESIZE, .ways = LOSSY | DROPS, .control = make_rings_longer, .takes = true, .sends = 3, .comes = 4,
         .late = 12, .end = judge_rings, .see = nicd_see_held),
     ROW("resize-during-chains", "new rings during frames with several buffers",
-        "A frame that lost its end with the old ring is dropped", "Dynamic Disabling of Receive Queues",
+        "A frame cut short by the end of the old ring is dropped", "Dynamic Disabling of Receive Queues",
         RECEIVES | RESIZE, .ways = LOSSY | DROPS, .setup = {.frame = 5000}, .control = make_rings_longer, .takes = true,
         .comes = 2, .late = 2, .length = 5000, .end = judge_rings, .see = nicd_see_held),
-    ROW("resize-refused", "new rings, but no memory for them",
+    ROW("resize-refused", "new rings are requested, but memory is refused",
         "A call that returns false changes nothing: traffic continues on the old rings", "resize of the adapter",
         RECEIVES | RESIZE, .ways = LOSSY | DROPS, .control = refuse_one, .takes = true, .sends = 3, .comes = 3,
         .late = 3, .see = nicd_see_held),

@@ -20,7 +20,7 @@ static void judge_direction(const struct direction *it)
     if (frames < before)
         nicd_failed("stats: %s_frames is %llu but was %llu before: a count never decreases", it->name, frames, before);
     if (bytes != frames * LENGTH)
-        nicd_failed("stats: %s_frames is %llu and %s_bytes %llu, of frames of %u bytes: the two weren't read together",
+        nicd_failed("stats: %s_frames is %llu and %s_bytes %llu for frames of %u bytes: the two weren't read together",
                     it->name, frames, it->name, bytes, LENGTH);
 }
 
@@ -98,8 +98,8 @@ static void read_link(void)
     }
 }
 
-static const char rule[] = "A thread reads statistics beside all others: frames and bytes are of one moment, no count "
-                           "goes back, and none is lost";
+static const char rule[] = "A thread may read statistics at any time: its frame and byte counts belong together, no "
+                           "count decreases, and none is lost";
 
 const struct scenario nicd_counts[] = {
     ROW("stats-receive", "statistics are read while frames are received", rule, "stats of the adapter",

@@ -142,10 +142,10 @@ const struct scenario nicd_filters[] = {
                "A multicast frame is accepted if a receive address or MTA matches", "Multicast Table Array"),
     FILTER_ROW("filter-second", "a second unicast address", let_second_in,
                "Each of the 128 receive addresses is active if its AV is 1", "Receive Address"),
-    FILTER_ROW("filter-no-longer", "all frames were accepted, then no longer", let_in_and_out,
+    FILTER_ROW("filter-no-longer", "all frames are accepted, then only those to its own address", let_in_and_out,
                "Addresses no longer requested are removed from the filters", "filter of the adapter"),
-    FILTER_ROW("filter-multicast-no-longer", "multicast addresses were accepted, then no longer", let_multicast_out,
-               "What is no longer wanted is taken out of the table, and a receive address that held it is the next "
-               "one's",
-               "Multicast Table Array"),
+    FILTER_ROW(
+        "filter-multicast-no-longer", "multicast addresses are accepted, then removed", let_multicast_out,
+        "Addresses no longer requested are removed from MTA, and their receive addresses become available to others",
+        "Multicast Table Array"),
     {0}};

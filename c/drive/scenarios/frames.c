@@ -16,14 +16,14 @@ static void go_mixed(void)
         nicd_send_frames(0, 1, lengths[k]);
 }
 
-static const char length_rule[] = "PKT_LEN is how many bytes of the frame are in this buffer; a frame that is longer "
-                                  "than a buffer goes on in the next descriptor, and EOP marks the last one";
+static const char length_rule[] = "PKT_LEN is the number of the frame's bytes in this buffer; a frame longer than its "
+                                  "buffer continues in the next descriptor, and EOP marks the last one";
 static const char send_rule[] =
     "A frame may have several descriptors: DTALEN is the length of each buffer, and EOP marks the last";
 
 #define RECEIVE(bytes, most)                                                                                           \
-    ROW("receive-" #bytes, "frames of " #bytes " bytes come", length_rule, "Receive Descriptor Write-Back", RECEIVES,  \
-        .setup = {.frame = most}, .takes = true, .comes = 3, .length = bytes)
+    ROW("receive-" #bytes, "frames of " #bytes " bytes arrive", length_rule, "Receive Descriptor Write-Back",          \
+        RECEIVES, .setup = {.frame = most}, .takes = true, .comes = 3, .length = bytes)
 #define SEND(bytes, most)                                                                                              \
     ROW("send-" #bytes, "frames of " #bytes " bytes are sent", send_rule, "Advanced Transmit Data Descriptor", SENDS,  \
         .setup = {.frame = most}, .sends = 3, .length = bytes)

@@ -337,7 +337,7 @@ const struct scenario nicd_functions[] = {
         "A queue being disabled may receive and send until ENABLE reads 0; only then does software own its memory",
         "Dynamic Disabling of Receive Queues", FUNCTIONS | RECEIVES, .ways = LOSSY | DROPS, .setup = {.port = PORT},
         .control = close_it, .takes = true, .sends = 4, .comes = 5, .see = see_foreign),
-    ROW("function-reset-under-it", "its host resets its pool during traffic",
+    ROW("function-reset-under-it", "the host resets the function's pool during traffic",
         "A pool reset disables its queues; the function sets them up again", "Virtual Function Reset",
         FUNCTIONS | RECEIVES | RESET, .ways = LOSSY | DROPS, .setup = {.port = PORT}, .control = be_reset,
         .begin = begin_host, .takes = true, .comes = 3, .late = 2, .see = see_foreign),

@@ -51,36 +51,34 @@ static void rearm_one(void)
     nicd_go_on();
 }
 
-static const char message_rule[] =
-    "A frame that comes between the last look at a ring and the enabling of its cause raises "
-    "that cause, and it has to be seen";
-static const char late_rule[] =
-    "With an interval in EITR one message tells of many frames, so a poll takes all; the bench throttles "
-    "nothing, and the card calls the handler late";
+static const char message_rule[] = "A frame that arrives between the last check of a ring and the unmasking of its "
+                                   "cause still raises the cause, and the driver must not miss it";
+static const char late_rule[] = "With an interval in EITR, one message covers many frames, so a poll receives all of "
+                                "them; the bench doesn't throttle, so the report card calls the handler late";
 
 const struct scenario nicd_interrupts[] = {
-    ROW("interrupt-receive", "interrupts announce received frames", message_rule, "Interrupt Causes",
-        RECEIVES | INTERRUPTS, .setup = {.interrupts = true}, .takes = true, .comes = 4),
+    ROW("interrupt-receive", "interrupts for received frames", message_rule, "Interrupt Causes", RECEIVES | INTERRUPTS,
+        .setup = {.interrupts = true}, .takes = true, .comes = 4),
     ROW("interrupt-both-ways", "interrupts for received and sent frames", message_rule, "Interrupt Causes",
         RECEIVES | SENDS | INTERRUPTS, .setup = {.interrupts = true}, .takes = true, .sends = 4, .comes = 3),
     ROW("interrupt-two-queues", "two queues, each with its own vector",
         "IVAR has a byte for each queue and direction, each with a valid bit", "Interrupt Vector Allocation",
         RECEIVES | INTERRUPTS, .setup = {.queues = 2, .interrupts = true}, .begin = come_by_flows, .takes = true),
     ROW("interrupt-spurious", "the handler is called without a new frame",
-        "A call of the handler doesn't mean that something happened", "interrupt of the adapter", RECEIVES | INTERRUPTS,
+        "The handler may be called although nothing happened", "interrupt of the adapter", RECEIVES | INTERRUPTS,
         .setup = {.interrupts = true}, .begin = come_spurious),
     ROW("interrupt-late", "the handler is called only when the ring is full", late_rule, "Extended Interrupt Throttle",
         RECEIVES | INTERRUPTS, .ways = LATE, .setup = {.interrupts = true}, .takes = true, .rings = 2, .comes = 3),
-    ROW("interrupt-late-both-ways", "the same for sent frames", late_rule, "Extended Interrupt Throttle",
-        RECEIVES | SENDS | INTERRUPTS, .ways = LATE, .setup = {.interrupts = true}, .takes = true, .sends = 4,
-        .comes = 3),
+    ROW("interrupt-late-both-ways", "the handler is called late during traffic both ways", late_rule,
+        "Extended Interrupt Throttle", RECEIVES | SENDS | INTERRUPTS, .ways = LATE, .setup = {.interrupts = true},
+        .takes = true, .sends = 4, .comes = 3),
     ROW("interrupt-often", "the handler is called more often than the interval allows",
-        "An interval in EITR keeps nothing apart: a low latency interrupt comes before it is over, and a poll may "
-        "take longer than that",
+        "An interval in EITR guarantees no minimum gap: a low-latency interrupt may arrive before it ends, and a poll "
+        "may take longer",
         "Extended Interrupt Throttle", RECEIVES | INTERRUPTS, .ways = OFTEN, .setup = {.interrupts = true},
         .takes = true, .comes = 4),
     ROW("interrupt-rearm-alone", "only one queue's cause is enabled",
-        "A write of EIMS enables every cause written as 1; a queue being polled stays masked",
+        "A write to EIMS enables every cause written as 1; the cause of a queue being polled stays masked",
         "Extended Interrupt Mask Set", PULLS | INTERRUPTS, .setup = {.queues = 2, .interrupts = true},
         .control = rearm_one),
     {0}};

@@ -162,7 +162,7 @@ static const char *judge_ring(uint16_t number)
 
 static const struct setting settings[SETTINGS] = {
     {"filter",
-     "all frames were accepted, then no longer",
+     "only its own address is accepted again",
      FILTER,
      {0},
      let_own_in,
@@ -291,9 +291,10 @@ static const struct change {
     const char *name, *what;
     const nicd_filter *old, *wanted;
 } changes[CHANGES] = {
-    {"filter-during-traffic", "all frames were accepted, then no longer, while they arrive", &promiscuous, &own_alone},
+    {"filter-during-traffic", "the filter stops accepting all frames while frames arrive", &promiscuous, &own_alone},
     {"list-during-traffic", "new addresses are accepted while frames arrive", &own_alone, &listed},
-    {"promiscuous-during-traffic", "all frames become accepted while they arrive", &own_alone, &promiscuous},
+    {"promiscuous-during-traffic", "the filter starts to accept all frames while frames arrive", &own_alone,
+     &promiscuous},
 };
 
 static const struct change *change;

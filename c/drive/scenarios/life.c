@@ -153,28 +153,26 @@ static void rest_for_long(void)
 }
 
 static const char stop_rule[] =
-    "A queue that is asked to go off may receive and send until ENABLE reads 0; only then is "
-    "its memory software's";
+    "A queue being disabled may receive and send until ENABLE reads 0; only then does software own its memory";
 
 const struct scenario nicd_life[] = {
     ROW("open-close", "open and close leave nothing allocated or enabled",
         "close restores the state before open: queues off, causes masked, memory freed", "close of the adapter", 0,
         .ways = OPENS, .control = open_and_close),
-    ROW("open-during-frames", "frames arrive while it opens", "RXEN is set last", "Receive Initialization", RECEIVES,
+    ROW("open-during-frames", "frames arrive during open", "RXEN is set last", "Receive Initialization", RECEIVES,
         .ways = OPENS | LOSSY | DROPS, .control = open_with_frames, .takes = true, .comes = 3, .late = 2),
-    ROW("open-during-interrupts", "the same with interrupts: each accepted frame is delivered",
-        "A frame that comes once reception is on raises its cause, so vectors are there before, or EICS raises the "
-        "causes "
-        "once all is",
+    ROW("open-during-interrupts", "frames arrive during open, with interrupts: each accepted frame is delivered",
+        "A frame that arrives after reception is enabled raises its cause, so vectors are set before that, or EICS "
+        "raises the causes at the end",
         "Interrupt Causes", RECEIVES | INTERRUPTS, .ways = OPENS | DROPS, .setup = {.interrupts = true},
         .control = open_alone, .takes = true, .late = ONCE_RECEPTION_IS_ON, .see = see_reception),
-    ROW("close-during-frames", "frames arrive while it closes", stop_rule, "Dynamic Disabling of Receive Queues",
-        RECEIVES, .ways = LOSSY | DROPS, .control = close_all, .takes = true, .comes = 5),
-    ROW("close-during-sends", "frames are being sent while it closes", stop_rule,
-        "Dynamic Disabling of Transmit Queues", SENDS, .ways = LOSSY | DROPS, .control = close_all, .sends = 5),
-    ROW("close-during-all", "both directions, with interrupts", stop_rule, "Dynamic Disabling of Receive Queues",
-        RECEIVES | SENDS | INTERRUPTS, .ways = LOSSY | DROPS, .setup = {.interrupts = true}, .control = close_all,
-        .takes = true, .sends = 3, .comes = 3),
+    ROW("close-during-frames", "frames arrive during close", stop_rule, "Dynamic Disabling of Receive Queues", RECEIVES,
+        .ways = LOSSY | DROPS, .control = close_all, .takes = true, .comes = 5),
+    ROW("close-during-sends", "frames are being sent during close", stop_rule, "Dynamic Disabling of Transmit Queues",
+        SENDS, .ways = LOSSY | DROPS, .control = close_all, .sends = 5),
+    ROW("close-during-all", "traffic both ways during close, with interrupts", stop_rule,
+        "Dynamic Disabling of Receive Queues", RECEIVES | SENDS | INTERRUPTS, .ways = LOSSY | DROPS,
+        .setup = {.interrupts = true}, .control = close_all, .takes = true, .sends = 3, .comes = 3),
     ROW("close-two-queues", "a driver with two queues closes while both receive", stop_rule,
         "Dynamic Disabling of Receive Queues", RECEIVES, .ways = LOSSY | DROPS, .setup = {.queues = 2},
         .control = close_all, .begin = come_by_two, .sends = 3),
@@ -183,8 +181,9 @@ const struct scenario nicd_life[] = {
         RECEIVES, .ways = OPENS | LOSSY | DROPS, .control = three_lives, .takes = true, .comes = 4, .late = 4,
         .see = nicd_see_held),
     ROW("memory-refused", "each allocation fails once",
-        "An open that fails for lack of memory keeps none, and the next open succeeds", "open of the adapter", RECEIVES,
-        .ways = OPENS | LOSSY | DROPS, .points = 60000, .control = refuse_each, .takes = true, .comes = 2, .late = 2),
+        "An open that fails for lack of memory leaves nothing allocated, and the next open succeeds",
+        "open of the adapter", RECEIVES, .ways = OPENS | LOSSY | DROPS, .points = 60000, .control = refuse_each,
+        .takes = true, .comes = 2, .late = 2),
     ROW("suspend", "suspend and resume during traffic", stop_rule, "suspend of the adapter", RECEIVES | SENDS | SUSPEND,
         .ways = LOSSY | DROPS, .control = rest_and_go_on, .takes = true, .sends = 3, .comes = 3, .late = 2,
         .see = nicd_see_held),

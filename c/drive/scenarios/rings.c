@@ -31,7 +31,7 @@ static void look_at_nothing(void)
 {
     for (unsigned k = 0; k < 3; k++) {
         nicd_frame *frame = &nicd.room[0].frame;
-        nicx_check(!nicd.driver->receive(0, frame), "receive returned true, but no frame came");
+        nicx_check(!nicd.driver->receive(0, frame), "receive returned true, but no frame arrived");
         nicd_reach(LOOKED);
     }
 }
@@ -74,11 +74,10 @@ static void send_too_long(void)
 }
 
 static const char tail_rule[] =
-    "Head and tail that are equal mean that the device has no descriptor, so software leaves "
-    "one slot of the ring free";
-static const char done_rule[] = "Software owns a descriptor again only after the device set DD in it";
-static const char reuse_rule[] = "A buffer is the device's from the write of the tail until its descriptor is reported "
-                                 "as done";
+    "If head and tail are equal, the device owns no descriptor, so software leaves one slot of the ring free";
+static const char done_rule[] = "Software owns a descriptor again only after the device has set DD in it";
+static const char reuse_rule[] =
+    "The device owns a buffer from the tail write until its descriptor is reported as done";
 
 const struct scenario nicd_rings[] = {
     ROW("receive-one", "one frame is received", done_rule, "Receive Descriptor Write-Back", RECEIVES, .takes = true,
@@ -87,33 +86,33 @@ const struct scenario nicd_rings[] = {
         .control = look_at_nothing),
     ROW("receive-burst", "as many frames arrive as the ring has room for", tail_rule, "Receive Descriptor Ring",
         RECEIVES, .takes = true, .rings = 1, .comes = -1),
-    ROW("receive-wrap", "frames in every slot of the ring, more than twice",
-        "After the last slot the device wraps to the first; a tail is a slot of the ring", "Receive Descriptor Ring",
-        RECEIVES, .takes = true, .rings = 2, .comes = 2),
-    ROW("receive-wrap-16", "the same with a ring of 16 slots",
-        "Software sets the length of a ring, in steps of 128 bytes", "Receive Descriptor Length", RECEIVES,
+    ROW("receive-wrap", "every slot of the ring receives frames, more than twice",
+        "After the last slot the device wraps to the first; a tail is a slot number within the ring",
+        "Receive Descriptor Ring", RECEIVES, .takes = true, .rings = 2, .comes = 2),
+    ROW("receive-wrap-16", "every slot of a ring of 16 receives frames, more than twice",
+        "Software sets the length of a ring, in multiples of 128 bytes", "Receive Descriptor Length", RECEIVES,
         .setup = {.slots = 16}, .takes = true, .rings = 2, .comes = 2),
-    ROW("receive-wrap-24", "the same with a ring of 24 slots, not a power of two",
-        "Software sets the length of a ring, in steps of 128 bytes", "Receive Descriptor Length", RECEIVES,
+    ROW("receive-wrap-24", "every slot of a ring of 24, not a power of two, receives frames",
+        "Software sets the length of a ring, in multiples of 128 bytes", "Receive Descriptor Length", RECEIVES,
         .setup = {.slots = 24}, .takes = true, .rings = 1, .comes = 10),
-    ROW("receive-full", "the ring is full before the first frame is taken", tail_rule, "Receive Descriptor Ring", PULLS,
-        .ways = UNPOLLED, .control = take_late, .rings = 1, .comes = 4),
+    ROW("receive-full", "the ring is full before the first call of receive", tail_rule, "Receive Descriptor Ring",
+        PULLS, .ways = UNPOLLED, .control = take_late, .rings = 1, .comes = 4),
     ROW("send-one", "one frame is sent", reuse_rule, "Transmit Descriptor Write-Back", SENDS, .sends = 1),
-    ROW("send-wrap", "frames in every slot of the ring, more than twice", reuse_rule, "Transmit Descriptor Ring", SENDS,
-        .rings = 2, .sends = 2),
-    ROW("send-wrap-16", "the same with a ring of 16 slots", reuse_rule, "Transmit Descriptor Ring", SENDS,
-        .setup = {.slots = 16}, .rings = 2, .sends = 2),
-    ROW("send-wrap-24", "the same with a ring of 24 slots, not a power of two", reuse_rule, "Transmit Descriptor Ring",
-        SENDS, .setup = {.slots = 24}, .rings = 1, .sends = 10),
+    ROW("send-wrap", "every slot of the ring sends frames, more than twice", reuse_rule, "Transmit Descriptor Ring",
+        SENDS, .rings = 2, .sends = 2),
+    ROW("send-wrap-16", "every slot of a ring of 16 sends frames, more than twice", reuse_rule,
+        "Transmit Descriptor Ring", SENDS, .setup = {.slots = 16}, .rings = 2, .sends = 2),
+    ROW("send-wrap-24", "every slot of a ring of 24, not a power of two, sends frames", reuse_rule,
+        "Transmit Descriptor Ring", SENDS, .setup = {.slots = 24}, .rings = 1, .sends = 10),
     ROW("send-full", "frames are sent until the ring is full, then more", tail_rule, "Transmit Descriptor Ring", SENDS,
         .control = fill_up),
-    ROW("send-too-long", "a frame above the agreed length",
+    ROW("send-too-long", "a frame longer than agreed",
         "The device doesn't send a frame above MAXFRS, so the driver refuses it", "Maximum Frame Size", SENDS,
         .control = send_too_long),
     ROW("send-two-threads", "two threads send on one queue", "A slot of a ring has one writer at a time",
         "NICD_SHARED_SEND", SENDS | SHARED_SEND, .begin = send_by_two),
     ROW("both-ways", "frames are received and sent at the same time", "A queue's two rings are independent",
         "Descriptor Rings", RECEIVES | SENDS, .takes = true, .sends = 6, .comes = 6),
-    ROW("two-queues", "two queues on separate threads, both ways", "Queues share only the device's registers",
+    ROW("two-queues", "two queues on separate threads, traffic both ways", "Queues share only the device's registers",
         "Multiple Queues", RECEIVES | SENDS, .setup = {.queues = 2, .slots = 16}, .begin = use_two_queues),
     {0}};

@@ -145,12 +145,11 @@ static void change_table(void)
     nicd_go_on();
 }
 
-static const char rule[] =
-    "The low seven bits of a frame's hash name the entry of RETA that names its queue; MRQC says "
-    "which types are hashed";
+static const char rule[] = "The low seven bits of a frame's hash select the RETA entry that selects its queue; MRQC "
+                           "selects the types that are hashed";
 
 #define TYPE(row, what, of)                                                                                            \
-    ROW(row, "flows of " what " over the queues", rule, "Receive Side Scaling", RECEIVES | RSS,                        \
+    ROW(row, "flows of " what " spread over the queues", rule, "Receive Side Scaling", RECEIVES | RSS,                 \
         .setup = {.queues = 2, .slots = 16}, .begin = come_of_type, .takes = true, .type = of, .end = judge_queues)
 
 const struct scenario nicd_rss_rows[] = {
@@ -169,7 +168,8 @@ const struct scenario nicd_rss_rows[] = {
         RECEIVES | RSS | INTERRUPTS, .setup = {.queues = 4, .interrupts = true}, .begin = come_of_type, .takes = true,
         .type = NIC_RSS_UDP_IPV4, .end = judge_queues),
     ROW("rss-changed", "a new key and table while frames arrive",
-        "A write of RETA takes effect at no particular frame: each is delivered from the queue where it arrived",
+        "A write to RETA doesn't take effect at a particular frame; each frame is delivered from the queue where it "
+        "arrived",
         "Redirection Table", RECEIVES | RSS, .setup = {.queues = 2, .slots = 16}, .control = change_table,
         .begin = come_before_and_after, .takes = true, .type = NIC_RSS_TCP_IPV4, .end = judge_changed),
     {0}};

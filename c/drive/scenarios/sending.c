@@ -27,10 +27,9 @@ static unsigned fetched(unsigned queue)
 static void judge_end(unsigned slot)
 {
     if (frame.payload != frame.length)
-        nicd_note(
-            "slot %u has PAYLEN %u for a frame of %u bytes in slots %u to %u: the bench doesn't read it, the card "
-            "does",
-            frame.first, (unsigned)frame.payload, (unsigned)frame.length, frame.first, slot);
+        nicd_note("slot %u has PAYLEN %u for a frame of %u bytes in slots %u to %u: the card reads PAYLEN, but the "
+                  "bench doesn't",
+                  frame.first, (unsigned)frame.payload, (unsigned)frame.length, frame.first, slot);
     frame.is_partial = false;
 }
 
@@ -52,7 +51,7 @@ static void see_descriptor(const nicxo_step *step, bool is_drivers)
     }
     frame.length += (uint32_t)nic_desc_field(second, NIC_TXD_DTALEN);
     if ((slot == frame.first || second & NIC_TXD_EOP) && !(second & NIC_TXD_IFCS))
-        nicd_note("slot %u has no IFCS: the card sends the frame without a frame check sequence; the bench has none",
+        nicd_note("slot %u has no IFCS: the card sends the frame without a frame check sequence; the bench models none",
                   slot);
     if (second & NIC_TXD_EOP)
         judge_end(slot);
@@ -141,21 +140,21 @@ static void send_and_reclaim(void)
 
 const struct scenario nicd_descriptors[] = {
     ROW("send-descriptor", "the contents of transmit descriptors",
-        "PAYLEN is the length of the whole frame, in its first descriptor, and IFCS has the card append the check "
+        "PAYLEN in the first descriptor is the length of the whole frame, and IFCS makes the card append the check "
         "sequence; the bench reads neither",
         "Advanced Transmit Data Descriptor", SENDS | PHYSICAL, .setup = {.frame = 1514}, .control = send_short_and_long,
         .begin = forget_frame, .see = see_descriptor),
-    ROW("send-descriptor-chain", "the same for frames in several buffers",
-        "PAYLEN is the length of the whole frame, in its first descriptor, and IFCS has the card append the check "
+    ROW("send-descriptor-chain", "the transmit descriptors of frames in several buffers",
+        "PAYLEN in the first descriptor is the length of the whole frame, and IFCS makes the card append the check "
         "sequence; the bench reads neither",
         "Advanced Transmit Data Descriptor", SENDS | PHYSICAL, .setup = {.frame = 9014}, .control = send_short_and_long,
         .begin = forget_frame, .see = see_descriptor),
     {0}};
 
 const struct scenario nicd_write_back[] = {
-    ROW("send-write-back", "how reclaim knows that a frame was transmitted",
-        "TDH moves as descriptors are fetched, before their buffers are read: only DD, or the head that the device "
-        "writes, says that a buffer is software's again; on the bench TDH moves in the same step",
+    ROW("send-write-back", "how reclaim detects that a frame was transmitted",
+        "TDH moves when descriptors are fetched, before their buffers are read, so only DD or a head write-back shows "
+        "that software owns a buffer again; on the bench TDH moves in the same step",
         "Transmit Descriptor Write-Back", SENDS | RECLAIMS | PHYSICAL, .control = send_and_reclaim,
         .see = see_write_back),
     {0}};

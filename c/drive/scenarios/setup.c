@@ -126,7 +126,8 @@ static void see_high_half(const nicxo_step *step)
             seen.highs[side] |= 1u << queue;
         if (is_of_queue(step->address, sides[side].control, &queue) && step->word & NIC_RXDCTL_ENABLE &&
             !(seen.highs[side] >> queue & 1))
-            nicd_note("queue %u is enabled before %s(%u) was written: it is undefined on the card, 0 on the bench",
+            nicd_note("queue %u is enabled before %s(%u) was written: the register is undefined on the card but 0 on "
+                      "the bench",
                       queue, sides[side].name, queue);
     }
 }
@@ -206,7 +207,7 @@ static void see_moderation(const nicxo_step *step, bool is_drivers)
 static void see_alignment(const nicxo_step *step, bool is_drivers)
 {
     if (is_drivers && step->kind >= STEP_READ && step->kind <= STEP_VF_WRITE && step->address % 4)
-        nicd_note("0x%05x isn't a multiple of 4, so it isn't a register", (unsigned)step->address);
+        nicd_note("0x%05x isn't a multiple of 4, so it isn't a register's address", (unsigned)step->address);
 }
 
 /* --- values, checked after open --- */
@@ -278,7 +279,7 @@ static void check_length(void)
     uint32_t most = nic_field(nicd_peek(NIC_MAXFRS), NIC_MAXFRS_MFS);
     nicx_check(nicd_peek(NIC_HLREG0) & NIC_HLREG0_JUMBOEN, "HLREG0.JUMBOEN is 0, but longer frames were requested");
     if (most < nicd.setup.frame + 4)
-        nicd_failed("MAXFRS.MFS is %u, but frames of %u bytes have 4 more on the wire", (unsigned)most,
+        nicd_failed("MAXFRS.MFS is %u, but frames of %u bytes have 4 bytes more on the wire", (unsigned)most,
                     (unsigned)nicd.setup.frame);
 }
 
@@ -315,7 +316,7 @@ static void check_drop(void)
 {
     for (unsigned queue = 0; queue < nicd.setup.queues; queue++)
         if (!(nicd_peek(NIC_SRRCTL(queue)) & NIC_SRRCTL_DROP_EN))
-            nicd_failed("SRRCTL(%u).DROP_EN is 0: when that queue is full, no other gets a frame", queue);
+            nicd_failed("SRRCTL(%u).DROP_EN is 0: if that queue is full, no other queue receives a frame", queue);
 }
 
 static void open_and_check(void)
@@ -359,22 +360,21 @@ const struct scenario nicd_setup_rows[] = {
            .queues = 1),
     CHECKS("setup-masked-polling", PULLS | PHYSICAL, "a polling driver enables no cause", check_masks,
            "EIMS enables only causes that have a handler", "open of the adapter", .queues = 1),
-    SEES(
-        "setup-ring-values", RECEIVES | PHYSICAL, "addresses, lengths and tails of rings", see_ring,
-        "A ring begins at a multiple of 128 and has a multiple of 128 bytes; the bench drops the low bits. Both halves "
-        "of its address are written: what a reset leaves there is undefined",
-        "Receive Descriptor Base Address"),
-    SEES("setup-buffer-values", RECEIVES | PHYSICAL, "the kind and size of receive buffers", see_buffers,
-         "DESCTYPE 1 is the advanced descriptor with one buffer; BSIZEPACKET is the buffer's size in KB",
+    SEES("setup-ring-values", RECEIVES | PHYSICAL, "addresses, lengths and tails of rings", see_ring,
+         "A ring's address and length are multiples of 128; the bench drops the low bits. Software writes both halves "
+         "of the address, which are undefined after a reset",
+         "Receive Descriptor Base Address"),
+    SEES("setup-buffer-values", RECEIVES | PHYSICAL, "the type of receive descriptors and the size of their buffers",
+         see_buffers, "DESCTYPE 1 is the advanced descriptor with one buffer; BSIZEPACKET is the buffer's size in KB",
          "Split Receive Control"),
     SEES("setup-address-values", PHYSICAL, "reserved bits of the receive addresses", see_address,
          "Bits 30:16 of RAH are reserved and written as 0; the bench keeps them", "Receive Address High"),
     SEES("setup-thresholds", SENDS | PHYSICAL, "thresholds of transmit descriptors", see_thresholds,
-         "PTHRESH above 0 wants HTHRESH of 1 at least, and a head that is written back wants WTHRESH 0; no threshold "
-         "has an effect on the bench",
+         "PTHRESH above 0 requires HTHRESH of at least 1, and head write-back requires WTHRESH 0; the thresholds have "
+         "no effect on the bench",
          "Transmit Descriptor Control"),
-    SEES("setup-alignment", 0, "registers are words", see_alignment, "A register's address is a multiple of 4",
-         "Register Conventions"),
+    SEES("setup-alignment", 0, "accesses of registers are aligned", see_alignment,
+         "A register's address is a multiple of 4", "Register Conventions"),
     ROW("setup-enables-polled", "open waits for its queues",
         "ENABLE becomes 1 some time after it is written, and software polls it", "Receive Descriptor Control", PHYSICAL,
         .ways = OPENS, .control = open_and_check, .begin = forget, .links = OTHERS_ACT, .opened = check_enables),
@@ -384,9 +384,9 @@ const struct scenario nicd_setup_rows[] = {
     CHECKS("setup-rdrxctl", RECEIVES | PHYSICAL, "the bits of RDRXCTL that software must set", check_fixes,
            "Software sets RSCACKC and FCOE_WRFIX after each reset; RDRXCTL has no effect on the bench",
            "Receive DMA Control", .queues = 1),
-    CHECKS("setup-gpie", INTERRUPTS | PHYSICAL, "the mode for MSI-X", check_mode,
-           "GPIE.MULTIPLE_MSIX is 1 for a message of each vector; the bench has them whatever GPIE is. With MSI-X EIAM "
-           "masks as a message goes out where EIAME is 1",
+    CHECKS("setup-gpie", INTERRUPTS | PHYSICAL, "GPIE's settings for MSI-X", check_mode,
+           "GPIE.MULTIPLE_MSIX must be 1 so that each vector has its message; the bench sends them whatever GPIE is. "
+           "With MSI-X, EIAM masks a cause when its message is sent only if EIAME is 1",
            "General Purpose Interrupt Enable", .interrupts = true),
     CHECKS("setup-vectors", INTERRUPTS | RECEIVES | PHYSICAL, "each receive queue has a vector", check_vectors,
            "An IVAR byte is used only if its valid bit is 1", "Interrupt Vector Allocation", .interrupts = true),
@@ -399,14 +399,14 @@ const struct scenario nicd_setup_rows[] = {
         INTERRUPTS | PHYSICAL, .ways = OPENS, .setup = {.queues = 1, .interrupts = true}, .control = open_and_check,
         .begin = forget, .opened = check_moderation, .see = see_moderation),
     ROW("setup-cause-read", "reads don't clear causes of queues",
-        "With MSI-X a queue's cause is cleared by EIAC or by a write of EICR; on the bench a read clears it too, "
+        "With MSI-X a queue's cause is cleared by EIAC or by a write to EICR; on the bench a read clears it too, "
         "unless GPIE.OCD is 1",
         "Extended Interrupt Cause", RECEIVES | INTERRUPTS | PHYSICAL, .setup = {.interrupts = true}, .takes = true,
         .comes = 3, .see = see_cause_read),
     ROW("setup-tails-in-use", "tails stay within the ring, also after a wrap",
-        "A tail is a slot of the ring; the last slot is followed by slot 0", "Receive Descriptor Tail",
+        "A tail is a slot number within the ring; the last slot is followed by slot 0", "Receive Descriptor Tail",
         RECEIVES | PHYSICAL, .takes = true, .rings = 1, .sends = 2, .comes = 2, .see = see_ring),
-    CHECKS("setup-long-frames", PHYSICAL, "the limit for longer frames", check_length,
+    CHECKS("setup-long-frames", PHYSICAL, "the limits for longer frames", check_length,
            "Frames above 1,518 bytes on the wire need HLREG0.JUMBOEN; MAXFRS includes the check sequence",
            "Maximum Frame Size", .frame = 4096),
     CHECKS("setup-hash", PHYSICAL, "the descriptor holds the hash", check_hash,

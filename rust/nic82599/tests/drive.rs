@@ -453,7 +453,7 @@ fn what_it_never_does_is_reported(_folder: &Path) {
 /// A faulty driver fails in the row that names its fault. A forbidden action is reported, and another row passes.
 fn what_is_wrong_is_reported(folder: &Path) {
     let faults = [
-        (SLOT_WITHOUT_DD, "receive-empty", "check: receive returned true, but no frame came"),
+        (SLOT_WITHOUT_DD, "receive-empty", "check: receive returned true, but no frame arrived"),
         (STOP_THAT_DOES_NOT_WAIT, "close-during-frames", "queue 0 is on although the driver is closed"),
         (IDLE_REPORTED_EARLY, "send-wrap", "check: reclaim reports all of queue 0 as transmitted, but "),
         (LENGTH_BEFORE_DD, "receive-one", "check: a frame of 0 bytes is delivered from queue 0"),

@@ -55,14 +55,14 @@ PATIENT = ["--seconds", 1800, "--hang", 600]
 REFUSALS = {
     "": "which driver\\?",
     "/nowhere.c": "/nowhere.c: there is no such file",
-    "{source} --rows nothing": "there is no row and no family nothing; the families are setup, rings, frames",
-    "{source} --rows ,": "--rows: it names no row",
-    "{source} --jobs 0": "are above 0",
-    "{source} --cc /nowhere": "/nowhere: it can't be run",
-    "{source} --libraries /nowhere": "there is no such file: `make -C c` makes it",
-    "{broken}": "it doesn't compile",
-    "/bin/true": "tells no scenarios: does its main call nicd_main\\?",
-    "--compare /nowhere /nowhere": "it is no card",
+    "{source} --rows nothing": "no row or family is named nothing; the families are setup, rings, frames",
+    "{source} --rows ,": "--rows: no row is named",
+    "{source} --jobs 0": "must be above 0",
+    "{source} --cc /nowhere": "/nowhere: can't be run",
+    "{source} --libraries /nowhere": "there is no such file: `make -C c` builds it",
+    "{broken}": "the driver doesn't compile",
+    "/bin/true": "prints no scenarios: does its main call nicd_main\\?",
+    "--compare /nowhere /nowhere": "not a card",
 }
 
 
@@ -274,8 +274,8 @@ def check_blind(kit: Kit, wrong: Path, how: list[object]) -> None:
     lame.chmod(0o755)
     for words, wanted in {
         (wrong, "--no-accesses"): "--no-accesses\n",
-        (wrong, "--flags", "-fsanitize=undefined -fno-sanitize=all"): "--flags has another sanitizer\n",
-        (wrong, "--cc", lame): ".*lame-cc can't compile and link for it: cc: no sanitizer\n",
+        (wrong, "--flags", "-fsanitize=undefined -fno-sanitize=all"): "--flags selects another sanitizer\n",
+        (wrong, "--cc", lame): ".*lame-cc can't compile and link with -fsanitize=thread: cc: no sanitizer\n",
         (other,): "plain_word.o: compile with -fsanitize=thread\n",
         (kit.build(HERE / "corpus/pages.c"),): "compile it with .*, and link with @nic82599_drive.opts\n",
     }.items():
@@ -560,7 +560,7 @@ IDLE = {
     "setup-thresholds": "TXDCTL.ENABLE was never written",
     "setup-alignment": "no register was accessed",
     "setup-moderation": "EITR was never written",
-    "setup-hash": "MRQC never asked for a hash",
+    "setup-hash": "MRQC never requested a hash",
     "interrupt-rearm-alone": "all queues share one vector",
     "open-during-frames": "no frame arrived in queue 0; no frame was being received during open",
     "close-during-frames": "no frame arrived in queue 0; no frame was being received during close",
@@ -604,7 +604,7 @@ EDITS = {
             "interrupt-two-queues": "not reached: no frame arrived in queue 1; no message was sent for queue 1",
         },
     ),
-    "no rss": Edit(NO_RSS, dict.fromkeys(("two-queues", "interrupt-two-queues"), "all frames came to queue 0")),
+    "no rss": Edit(NO_RSS, dict.fromkeys(("two-queues", "interrupt-two-queues"), "all frames arrived in queue 0")),
     "mtu does nothing": Edit(
         {"static bool mtu(uint32_t frame)\n{": "static bool mtu(uint32_t frame)\n{ if (frame) return true;",
          "        .send = send,\n": ""},
@@ -698,7 +698,7 @@ def check_reached(kit: Kit, each: int = 1) -> str:
     check_not_reached_files(own.folder / "card-idle")
     for name, edit in list(EDITS.items())[::each]:
         check_edit(own, name, edit)
-    return f"{len(IDLE)} rows without traffic and {len(list(EDITS)[::each])} drivers that don't come to what is tried"
+    return f"{len(IDLE)} rows without traffic and {len(list(EDITS)[::each])} drivers that don't reach what is tried"
 
 
 # The texts reported if a setting was lost.
@@ -727,7 +727,7 @@ command.draw_all([Row("a", "b", "", "c", "d", "e", state=FAILED)], Path())
 def check_pages() -> str:
     """The command announces that it compiles ./nicbench for the pages, but only if it does."""
     folders = ", ".join(repr(str(path)) for path in (HERE, C.parent / "python"))
-    notice = "nicdrive: compiling ./nicbench for the pages, once, some minutes\n"
+    notice = "nicdrive: compiling ./nicbench for the pages (only once, takes some minutes)\n"
     for there, wanted in (("/nowhere", notice), ("/", "")):
         words = [sys.executable, "-B", "-c", PAGES.replace("FOLDERS", folders), there]
         made = subprocess.run(words, capture_output=True, text=True, check=False)
@@ -755,7 +755,7 @@ def check_patience() -> str:
     for hang, seconds in ((1, 81), (3, 81), (60, 1221)):
         words = [sys.executable, "-B", "-c", PATIENCE.replace("FOLDERS", folders), hang]
         said = ran([str(word) for word in words])
-        if f"nothing came of it in {seconds} s: " not in said or not said.endswith("the machine is busy (--hang)\n"):
+        if f"no result in {seconds} s: " not in said or not said.endswith("the machine is busy (--hang)\n"):
             raise Wrong(f"--hang {hang}: a row that takes too long says {said}")
     return "how long a row may take"
 
@@ -799,8 +799,8 @@ def check_files(kit: Kit) -> str:
     if deep or not any("at small.c:" in line for line in lines):
         raise Wrong(f"the stack of a step doesn't end at the adapter: {deep[:1] or lines[:9]}")
     said = nicdrive(kit.folder, ["--compare", before, after], 1)
-    wanted_lines = ("fails now:\n  receive-one: ", "passes now:\n  setup-crc: it failed by", "now:\n  send-one: passed")
-    for wanted in wanted_lines:
+    changes = ("fails now:\n  receive-one: ", "passes now:\n  setup-crc: it failed with", "now:\n  send-one: passed")
+    for wanted in changes:
         if wanted not in said:
             raise Wrong(f"--compare doesn't tell \"{wanted}\":\n{said}")
     nicdrive(kit.folder, ["--compare", before, before], 0)
@@ -816,9 +816,9 @@ def check_foreign_cards(kit: Kit, card: Path) -> None:
     if "\x1b" in said or "before: \\x1b]0;title\\x07: " not in said:
         raise Wrong(f"--compare prints what acts on the terminal:\n{said!r}")
     for text, wanted in {
-        "[" * 200_000: "it is no card: it is nested too deep\n$",
-        json.dumps(data | {"rows": [data["rows"][0] | {"name": [1]}]}): "it is no card: name of a row is no str\n$",
-        json.dumps(data | {"budget": []}): "it is no card: .* must be a mapping, not list\n$",
+        "[" * 200_000: "not a card: nested too deeply\n$",
+        json.dumps(data | {"rows": [data["rows"][0] | {"name": [1]}]}): "not a card: name of a row isn't a str\n$",
+        json.dumps(data | {"budget": []}): "not a card: .* must be a mapping, not list\n$",
     }.items():
         bad.write_text(text)
         must_print(nicdrive(kit.folder, ["--compare", bad, card], 2), f"^nicdrive: .*{wanted}", text[:40])

@@ -45,14 +45,14 @@ def scenarios(rows: Sequence[Row]) -> str:
         rule = "the same" if row.rule == last else row.rule
         lines.append([f"`{row.name}`", row.title, f"{rule} ({row.source})", row.reaches])
         last = row.rule
-    return table(["Row", "What is tried", "What it stands for", "What must come up"], *lines)
+    return table(["Row", "What is tried", "Rule", "What must happen"], *lines)
 
 
 def with_counts(page: Path, text: str, count: int) -> str:
     """Returns the page's text with the number of rows updated in each place."""
     for place in COUNTS.get(page, ()):
         if len(re.findall(place, text)) != 1:
-            raise Unplaced(f"{page.name}: '{place}' isn't there once")
+            raise Unplaced(f"{page.name}: '{place}' doesn't occur exactly once")
         text = re.sub(place, lambda it: it[0].replace(it[1], str(count)), text)
     for passed, failed in RESULT.findall(text):
         known = f"{passed} passed, {failed} failed"

@@ -49,14 +49,15 @@ class Fault:
         elif found := re.fullmatch(r"(row|cause|memory|missed|what): (.+)", line):
             setattr(self, found[1], found[2])
         elif line:
-            raise Unplanted(f"{TABLE.name}: {self.name} has a line that is none: {line}")
+            raise Unplanted(f"{TABLE.name}: {self.name} has a malformed line: {line}")
 
     def source(self) -> str:
         """Returns the driver's source with the planted fault."""
         text = DRIVERS[self.driver].read_text()
         for old, new in self.hunks:
             if text.count("\n".join(old)) != 1:
-                raise Unplanted(f"{self.name}: this doesn't stand once in {self.driver}:\n" + "\n".join(old))
+                said = f"{self.name}: these lines don't occur exactly once in {self.driver}:\n"
+                raise Unplanted(said + "\n".join(old))
             text = text.replace("\n".join(old), "\n".join(new))
         return text.replace('"bugs.h"', f'"{HERE}/corpus/bugs.h"')
 

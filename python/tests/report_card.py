@@ -67,7 +67,7 @@ WRONG = {
     "EndsTheProcess": ("receive-one", "crash: the process exited with status 0"),
     "AbortsInClose": ("open-close", "crash: the process was killed by signal 6"),
     "PieceLeft": ("open-close", "1 allocation of nicd_alloc wasn't freed"),
-    "FromAThread": ("receive-one", "a call comes from a thread that the driver made itself"),
+    "FromAThread": ("receive-one", "a call comes from a thread that the driver created itself"),
     "StateLeft": ("receive-wrap", "misuse: begin doesn't initialize all of the driver's state"),
 }
 # Drivers that fail each row before the first schedule, so no row passes.

@@ -1,6 +1,6 @@
 """Builds a driver's program from what the author provides: sources, objects, a Python file, or the program itself.
 
-Sources are compiled with -fsanitize=thread and linked with the form of the explorer that handles its calls, so that
+Sources are compiled with -fsanitize=thread and linked with the variant of the explorer that handles its calls, so that
 each access of the driver's own memory is observed. If the compiler or linker can't do that, they are compiled plainly.
 """
 
@@ -50,7 +50,7 @@ def found(folder: Path, names: tuple[str, ...]) -> list[Path]:
     paths = [folder / name for name in names]
     for path in paths:
         if not path.exists():
-            raise Refused(f"{path}: there is no such file{': `make -C c` makes it' if where.clone() else ''}")
+            raise Refused(f"{path}: there is no such file{': `make -C c` builds it' if where.clone() else ''}")
     return paths
 
 
@@ -76,7 +76,7 @@ def made(words: list[object]) -> str:
     try:
         done = subprocess.run(given, capture_output=True, text=True, check=False)
     except OSError as fault:
-        raise Refused(f"{given[0]}: it can't be run: {fault.strerror}") from fault
+        raise Refused(f"{given[0]}: can't be run: {fault.strerror}") from fault
     return (done.stderr.rstrip() or f"status {done.returncode}") if done.returncode else ""
 
 
@@ -118,12 +118,12 @@ def compile_all(given: list[Path], program: Path, words: Words) -> str:
     built."""
     blind = "--no-accesses" if not words.sees else ""
     if not blind and "-fsanitize=" in words.flags:
-        blind = "--flags has another sanitizer"
+        blind = "--flags selects another sanitizer"
     if not blind and not (fault := seen(given, program, words)):
         return unseen(given)
     if failed := plainly(given, program, words):
-        raise Refused(f"it doesn't compile:\n{failed}")
-    return blind or f"{words.compiler} can't compile and link for it: {fault.splitlines()[0]}"
+        raise Refused(f"the driver doesn't compile:\n{failed}")
+    return blind or f"{words.compiler} can't compile and link with -fsanitize=thread: {fault.splitlines()[0]}"
 
 
 def is_program(given: list[Path]) -> bool:
@@ -133,7 +133,7 @@ def is_program(given: list[Path]) -> bool:
 def build(given: list[Path], folder: Path, words: Words) -> Built:
     """Returns the program for the given files. Raises Refused with the compiler's message if it can't be built."""
     if len(given) == 1 and given[0].name.partition(":")[0].endswith(".py"):
-        return Built(of_python(given[0], folder), "in Python a call is a point, and so is self.point()")
+        return Built(of_python(given[0], folder), "in Python only calls and self.point() are points")
     for path in given:
         if not path.exists():
             raise Refused(f"{path}: there is no such file")

@@ -1,10 +1,10 @@
 """Makes a driver's report card: runs each scenario under many orders of steps and judges it by what the device did.
 
     nicdrive my_driver.c                compiles, links, searches, and writes card/card.html
-    nicdrive ./my_driver                the same with a program that is linked already
-    nicdrive --list                     the rows, each with what is tried in it
-    nicdrive --compare OLD NEW          two cards: what passes now, and what no longer does
-    nicdrive my_driver.c --require FILE the rows that a file lists, with points: whether they pass
+    nicdrive ./my_driver                does the same for a program that is already linked
+    nicdrive --list                     lists the rows, each with what it tries
+    nicdrive --compare OLD NEW          compares two cards: what passes now and what no longer does
+    nicdrive my_driver.c --require FILE runs the rows that a file lists, and counts their points
 
 A driver is a source file that names its functions in a struct (nic82599_drive.h) and calls nicd_main; or several
 sources, objects, or a program. The card's folder receives card.html, card.txt, card.json and, for CI, card.xml in JUnit
@@ -22,8 +22,8 @@ A file of --require lists rows, one per line, each with its points (1 by default
 rows and the rows of --rows run. The points are printed, and written to points.txt and, as JUnit, to points.xml. A row
 that isn't applicable earns no points.
 
-Exit status: 0 each row that applies passed, with --require each row of its files; 1 one didn't, or with --compare one
-that passed no longer does; 2 the driver or the words can't be taken, and one line says why.
+Exit status: 0 if each applicable row passed, with --require each row of its files; 1 if one didn't, or with --compare
+one that passed no longer does; 2 if the driver or the arguments can't be used, with the reason in one line.
 """
 
 from __future__ import annotations
@@ -62,35 +62,35 @@ def words() -> argparse.Namespace:
     add_version(parser, "nicdrive")
     given = "sources and objects of the driver, or its program"
     parser.add_argument("driver", nargs="*", type=Path, metavar="DRIVER", help=given)
-    folder = "the folder of the card (card)"
+    folder = "folder for the card (card)"
     parser.add_argument("-o", "--out", type=Path, default=Path("card"), metavar="FOLDER", help=folder)
-    rows = "these rows alone, with commas between: names or families, or what names begin with"
+    rows = "only these rows: names, families or prefixes of names, separated by commas"
     parser.add_argument("--rows", metavar="NAMES", help=rows)
-    wanted = "a file of rows that have to pass, with their points; may be given several times"
+    wanted = "a file that lists rows that must pass, with their points; may be repeated"
     parser.add_argument("--require", type=Path, action="append", default=[], metavar="FILE", help=wanted)
-    every = "tells the rows, and makes none; with a driver also which of them aren't applicable"
+    every = "lists the rows without running them; with a driver, also which of them aren't applicable"
     parser.add_argument("--list", action="store_true", help=every)
-    runs = "schedules by chance of a row (%(default)s)"
+    runs = "random schedules for each row (%(default)s)"
     parser.add_argument("--runs", type=int, default=Budget.runs, metavar="N", help=runs)
-    seconds = "at most so long (%(default)s)"
+    seconds = "time limit for each row's random schedules, in seconds (%(default)s)"
     parser.add_argument("--seconds", type=float, default=Budget.seconds, metavar="S", help=seconds)
-    every = "schedules of the exhaustive search (%(default)s)"
+    every = "at most N schedules of the exhaustive search for each row (%(default)s)"
     parser.add_argument("--every", type=int, default=Budget.every, metavar="N", help=every)
-    hang = "so long the driver may act without a call of the card's, by the clock, before it hangs (%(default)s)"
+    hang = "elapsed seconds without a call to the card, after which the driver counts as hung (%(default)s)"
     parser.add_argument("--hang", type=int, default=Budget.hang, metavar="S", help=hang)
-    parser.add_argument("--seed", type=int, default=1, metavar="N", help="what chance begins with (1)")
-    memory = "weak: stores to DMA memory may be late where no barrier orders them, and loads old (strong)"
+    parser.add_argument("--seed", type=int, default=1, metavar="N", help="seed of the random choices (1)")
+    memory = "weak: without a barrier, stores to DMA memory may be late and loads may be old (strong)"
     parser.add_argument("--memory", choices=("strong", "weak"), default="strong", help=memory)
-    jobs = "rows at a time (one for each core)"
+    jobs = "rows to run at a time (one for each core)"
     parser.add_argument("--jobs", type=int, default=os.cpu_count() or 1, metavar="N", help=jobs)
     parser.add_argument("--cc", default=os.environ.get("CC", "cc"), metavar="CC", help="the compiler (cc)")
-    parser.add_argument("--flags", default="", metavar="WORDS", help="more words for it, in quotes")
-    blind = "the driver's own memory isn't looked at: compiled without -fsanitize=thread, it takes less time"
+    parser.add_argument("--flags", default="", metavar="WORDS", help="more arguments for the compiler, in quotes")
+    blind = "don't observe the driver's own memory: faster, because compiled without -fsanitize=thread"
     parser.add_argument("--no-accesses", action="store_true", help=blind)
-    archives = "the folder of the archives (c/out of a clone, else where they are installed)"
+    archives = "folder of the libraries (c/out in a clone, otherwise where they are installed)"
     parser.add_argument("--libraries", type=Path, default=where.libraries(), metavar="FOLDER", help=archives)
-    parser.add_argument("--no-pages", action="store_true", help="no page of the run of a failed row")
-    parser.add_argument("--compare", nargs=2, type=Path, metavar=("OLD", "NEW"), help="two cards that were made")
+    parser.add_argument("--no-pages", action="store_true", help="write no pages of failed rows' runs")
+    parser.add_argument("--compare", nargs=2, type=Path, metavar=("OLD", "NEW"), help="two cards to compare")
     return parser.parse_args(joined(sys.argv[1:]))
 
 
@@ -104,10 +104,10 @@ def chosen(rows: list[Row], names: str | None) -> list[Row]:
         found = found or [row.name for row in rows if row.name.startswith(name)]
         if not found:
             families = ", ".join(dict.fromkeys(row.family for row in rows))
-            raise Refused(f"--rows: there is no row and no family {name}; the families are {families}")
+            raise Refused(f"--rows: no row or family is named {name}; the families are {families}")
         wanted.update(found)
     if not wanted:
-        raise Refused("--rows: it names no row")
+        raise Refused("--rows: no row is named")
     return [row for row in rows if row.name in wanted]
 
 
@@ -139,7 +139,8 @@ def draw(row: Row, folder: Path) -> None:
 def draw_all(rows: list[Row], folder: Path) -> None:
     """Writes the pages of all failed rows' runs. The first may have to wait until ./nicbench is compiled."""
     if any(row.state == FAILED for row in rows) and shutil.which("rt") and not any(map(Path.exists, NICBENCH)):
-        print("nicdrive: compiling ./nicbench for the pages, once, some minutes", file=sys.stderr, flush=True)
+        notice = "nicdrive: compiling ./nicbench for the pages (only once, takes some minutes)"
+        print(notice, file=sys.stderr, flush=True)
     for row in rows:
         draw(row, folder)
 
@@ -176,7 +177,7 @@ def mark(results: list[require.Result], folder: Path) -> int:
     """Prints and writes the points. Returns the exit status: whether each row of each list passed."""
     require.write(results, folder)
     print(require.text(results), end="")
-    print(f"the points are {folder / 'points.txt'}, for a gate points.xml")
+    print(f"the points are in {folder / 'points.txt'}, and for CI in points.xml")
     return ONE_FAILED if any(result.missed for result in results) else ALL_PASSED
 
 
@@ -186,7 +187,7 @@ def make(given: argparse.Namespace) -> int:
     try:
         folder.mkdir(parents=True, exist_ok=True)
     except OSError as fault:
-        raise Refused(f"{folder}: it can't be made: {fault.strerror}") from fault
+        raise Refused(f"{folder}: can't be created: {fault.strerror}") from fault
     built = build(given.driver, folder, how_of(given))
     program = built.program
     rows = asked_for(listed(program.resolve()), given, milestones)
@@ -206,7 +207,7 @@ def make(given: argparse.Namespace) -> int:
     report.write_junit(card, folder / "card.xml")
     (folder / "card.html").write_text(page.page(card))
     print(report.summary(card))
-    print(f"the card is {folder / 'card.html'}, as text card.txt, for a gate card.xml")
+    print(f"the card is {folder / 'card.html'}; card.txt is its text, card.xml is for CI")
     if milestones:
         return mark(require.results(milestones, rows), folder)
     return ONE_FAILED if card.count(FAILED) or card.count(NOT_REACHED) else ALL_PASSED
@@ -226,9 +227,9 @@ def _command(given: argparse.Namespace) -> int:
         if given.list and not given.driver:
             return list_all(given)
         if not given.driver:
-            raise Refused("which driver? a source, objects, or a program (--help)")
+            raise Refused("name a driver: sources, objects, or a program (--help)")
         if min(given.jobs, given.runs, given.every, given.hang) < 1 or given.seconds <= 0:
-            raise Refused("--jobs, --runs, --every, --hang and --seconds are above 0")
+            raise Refused("--jobs, --runs, --every, --hang and --seconds must be above 0")
         return make(given)
     except Refused as fault:
         print(f"nicdrive: {fault}", file=sys.stderr)

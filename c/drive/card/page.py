@@ -60,7 +60,7 @@ def failure(row: Row) -> str:
     links = [f'<a href="{escape(page)}">{words}</a>' for page, words in pages if page]
     if links:
         parts.append(f"<p>{'; '.join(links)}</p>")
-    for summary, text in (("the schedule as text", row.schedule), ("the command that makes it again", row.again)):
+    for summary, text in (("the schedule as text", row.schedule), ("the command that replays it", row.again)):
         if text.strip():
             parts.append(f"<details><summary>{summary}</summary><pre>{escape(text.strip())}</pre></details>")
     return "".join(parts)
@@ -103,7 +103,8 @@ def chips(names: dict[str, int]) -> str:
 
 def untried(rules: list[str]) -> str:
     items = "".join(f"<li>{escape(rule)}</li>" for rule in rules)
-    return f"<details><summary>{len(rules)} not tried, for want of functions</summary><ul>{items}</ul></details>"
+    summary = f"{len(rules)} not tried, because the driver lacks functions"
+    return f"<details><summary>{summary}</summary><ul>{items}</ul></details>"
 
 
 def coverage(card: Card) -> str:
@@ -113,8 +114,8 @@ def coverage(card: Card) -> str:
     for row in card.rows:
         rules[row.rule] = rules.get(row.rule, False) or row.state != NOT_APPLICABLE
     return (
-        f"<h2>Registers of the table that the driver touched: {sum(map(bool, registers.values()))} of {len(registers)}"
-        f"</h2>{chips(registers)}<h2>Replies of the device that came up: {sum(map(bool, replies.values()))} of "
+        f"<h2>Registers of the table that the driver accessed: {sum(map(bool, registers.values()))} of {len(registers)}"
+        f"</h2>{chips(registers)}<h2>Different replies of the device: {sum(map(bool, replies.values()))} of "
         f"{len(replies)}</h2>{chips(replies)}<h2>Rules that were tried: {sum(rules.values())} of {len(rules)}</h2>"
         + untried([rule for rule, is_tried in rules.items() if not is_tried])
     )

@@ -91,9 +91,9 @@ def read(path: Path) -> Card:
         spent = float(data["seconds"]), float(data.get("processor", 0))
         return Card(str(data["driver"]), rows, Budget(**data["budget"]), *spent, str(data.get("blind", "")))
     except RecursionError:
-        raise Refused(f"{path}: it is no card: it is nested too deep") from None
+        raise Refused(f"{path}: not a card: nested too deeply") from None
     except (OSError, ValueError, KeyError, TypeError, AttributeError) as fault:
-        raise Refused(f"{path}: it is no card: {shortened(str(fault), 160)}") from fault
+        raise Refused(f"{path}: not a card: {shortened(str(fault), 160)}") from fault
 
 
 def checked(row: Row) -> Row:
@@ -101,7 +101,7 @@ def checked(row: Row) -> Row:
     for part in fields(Row):
         kind = str(part.type).partition("[")[0]
         if type(getattr(row, part.name)).__name__ not in ((kind, "int") if kind == "float" else (kind,)):
-            raise TypeError(f"{part.name} of a row is no {kind}")
+            raise TypeError(f"{part.name} of a row isn't a {kind}")
     return row
 
 
@@ -157,9 +157,9 @@ def text(card: Card) -> str:
     touched = [name for name, (reads, writes) in registers.items() if reads or writes]
     seen = [name for name, count in replies.items() if count]
     lines += [
-        f"registers of the table that the driver touched: {len(touched)} of {len(registers)}",
-        f"replies of the device that came up: {len(seen)} of {len(replies)}",
-        "never came up: " + ", ".join(name for name, count in replies.items() if not count),
+        f"registers of the table that the driver accessed: {len(touched)} of {len(registers)}",
+        f"different replies of the device: {len(seen)} of {len(replies)}",
+        "replies that never occurred: " + ", ".join(name for name, count in replies.items() if not count),
     ]
     return "\n".join(lines) + "\n"
 
@@ -197,7 +197,7 @@ def compare(old: Card, new: Card) -> tuple[str, bool]:
         "no longer reached": [],
         "passes now": [],
         "fails as before": [],
-        "fails otherwise": [],
+        "fails differently": [],
         "not reached now": [],
         "no longer applicable": [],
         "applicable now": [],
@@ -209,7 +209,7 @@ def compare(old: Card, new: Card) -> tuple[str, bool]:
         if former is None:
             kinds["new"].append(f"{name}: {row.state}")
         elif row.state == former.state == FAILED:
-            kind = "fails as before" if row.cause == former.cause else "fails otherwise"
+            kind = "fails as before" if row.cause == former.cause else "fails differently"
             kinds[kind].append(f"{name}: {row.cause}")
         elif row.state == NOT_REACHED and former.state == PASSED:
             kinds["no longer reached"].append(f"{name}: {row.cause}")
@@ -224,7 +224,7 @@ def compare(old: Card, new: Card) -> tuple[str, bool]:
         elif former.state == NOT_APPLICABLE:
             kinds["applicable now"].append(f"{name}: {row.state}")
         else:
-            was = "it failed by " if former.state == FAILED else "it was "
+            was = "it failed with " if former.state == FAILED else "it was "
             kinds["passes now"].append(f"{name}: {was}{former.cause}")
     lines = [f"before: {summary(old)}", f"now:    {summary(new)}"]
     for kind, rows in kinds.items():

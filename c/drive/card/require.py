@@ -85,7 +85,7 @@ def _wanted(place: str, number: int, text: str) -> Wanted:
     found = LINE.fullmatch(text)
     points = int(found[2] or 1) if found else 0
     if not found or not 1 <= points <= MOST_POINTS:
-        say = f"a line is a row's name and its points, 1 to {MOST_POINTS:,} (1 where they are left out)"
+        say = f"a line is a row's name and its points, 1 to {MOST_POINTS:,} (1 by default)"
         raise Refused(f"{place}: malformed line: {shortened(repr(text), 80)}: {say}")
     return Wanted(found[1], points, number)
 
@@ -99,7 +99,7 @@ def read(path: Path) -> Milestone:
             continue
         one = _wanted(f"{path}:{number}", number, text)
         if one.row in wanted:
-            raise Refused(f"{path}:{number}: row twice: {one.row} already stands in line {wanted[one.row].line}")
+            raise Refused(f"{path}:{number}: row twice: {one.row} is already in line {wanted[one.row].line}")
         wanted[one.row] = one
     if not wanted:
         raise Refused(f"{path}: no rows: write a row's name on each line (`nicdrive --list` prints the rows)")

@@ -77,14 +77,14 @@ def listed(program: Path) -> list[Row]:
     try:
         made = ran([program, "--list"], LIST_SECONDS)
     except OSError as fault:
-        raise Refused(f"{program}: it can't be run: {fault.strerror}") from fault
+        raise Refused(f"{program}: can't be run: {fault.strerror}") from fault
     except TooLong as fault:
-        raise Refused(f"{program} --list makes no end: does its main call nicd_main?") from fault
+        raise Refused(f"{program} --list doesn't end: does its main call nicd_main?") from fault
     if made.status:
         raise Refused((made.errors.strip() or f"{program} --list ends with status {made.status}").splitlines()[0])
     lines = [line.split("\t") for line in made.printed.splitlines()]
     if not lines or any(len(line) != 7 for line in lines):
-        raise Refused(f"{program} --list tells no scenarios: does its main call nicd_main?")
+        raise Refused(f"{program} --list prints no scenarios: does its main call nicd_main?")
     return [Row(line[0], line[1], "" if line[2] == "-" else line[2], *line[3:6], reaches=line[6]) for line in lines]
 
 
@@ -92,7 +92,7 @@ def name_of(program: Path) -> str:
     try:
         return ran([program, "--name"], LIST_SECONDS).printed.strip() or program.name
     except TooLong as fault:
-        raise Refused(f"{program} --name makes no end: does its main call nicd_main?") from fault
+        raise Refused(f"{program} --name doesn't end: does its main call nicd_main?") from fault
 
 
 def accesses_of(program: Path) -> bool:
@@ -130,8 +130,8 @@ class Runner:
         try:
             made = ran(self.words(row, more), limit)
         except TooLong:
-            before = "a call that the card makes before the first schedule has no end"
-            fail(row, f"hang: nothing came of it in {limit:.0f} s: {before}, or the machine is busy (--hang)")
+            before = "a call before the first schedule doesn't return"
+            fail(row, f"hang: no result in {limit:.0f} s: {before}, or the machine is busy (--hang)")
             return False
         self.read_seen(row)
         self.read_junit(row)
@@ -139,7 +139,7 @@ class Runner:
         if made.status == 1:
             self.read_failure(row, made.printed)
         elif made.status == 4:
-            row.state, row.lack = NOT_APPLICABLE, row.lack or "something that it needs"
+            row.state, row.lack = NOT_APPLICABLE, row.lack or "the driver lacks something that the row needs"
         elif made.status < 0:
             fail(row, f"crash: before the first schedule: {signal.strsignal(-made.status)}")
         elif made.status == 5:

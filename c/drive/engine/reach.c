@@ -41,7 +41,7 @@ static const struct {
     [WRITES_ADDRESS] = {"RAH was written", "RAH was never written", ONCE},
     [WRITES_EITR] = {"EITR was written", "EITR was never written", ONCE},
     [WRITES_EIMS] = {"EIMS enabled a queue's cause", "EIMS never enabled a queue's cause", ONCE},
-    [HASHES] = {"MRQC asked for a hash", "MRQC never asked for a hash", ONCE},
+    [HASHES] = {"MRQC requested a hash", "MRQC never requested a hash", ONCE},
     [LOOKED] = {"receive found no frame", "receive never returned", ONCE},
     [TAKEN] = {"frames of queue %u were delivered", "no frame arrived in queue %u", QUEUES},
     [TAKEN_0] = {"frames of queue %u were delivered", "no frame arrived in queue %u", ONCE},
@@ -385,7 +385,7 @@ static void write_one(FILE *file, enum reach reach, unsigned number)
     filled(did, nicd.reached, words[reach].did, number);
     filled(never, nicd.reached, words[reach].never, number);
     if (is_excused(reach, number))
-        fprintf(file, "excused all frames came to queue 0\n");
+        fprintf(file, "excused all frames arrived in queue 0\n");
     if (reach == TAKEN && counts->came[number] && !counts->reached[reach][number])
         snprintf(never, sizeof never, "no frame of queue %u was delivered", number);
     fprintf(file, "reached %" PRIu32 " %s | %s\n", counts->reached[reach][number], did, never);

@@ -685,7 +685,7 @@ def check_not_reached_files(card: Path) -> None:
     before.write_text(json.dumps(data))
     said = nicdrive(card, ["--compare", before, card], 1)
     if "no longer reached:\n  setup-transmit-order: not reached: TXDCTL" not in said:
-        raise Wrong(f"--compare doesn't tell what is no longer reached:\n{said}")
+        raise Wrong(f"--compare doesn't print what is no longer reached:\n{said}")
 
 
 def check_reached(kit: Kit, each: int = 1) -> str:
@@ -802,7 +802,7 @@ def check_files(kit: Kit) -> str:
     changes = ("fails now:\n  receive-one: ", "passes now:\n  setup-crc: it failed with", "now:\n  send-one: passed")
     for wanted in changes:
         if wanted not in said:
-            raise Wrong(f"--compare doesn't tell \"{wanted}\":\n{said}")
+            raise Wrong(f"--compare doesn't print \"{wanted}\":\n{said}")
     nicdrive(kit.folder, ["--compare", before, before], 0)
     check_foreign_cards(kit, before)
     return "text, JUnit, page, and two cards compared"

@@ -180,7 +180,7 @@ def check_corpus(kit: Kit, runs: int, preemptions: int, each: int = 1) -> str:
 
 # How each bug of these drivers must be reported.
 OUTSIDE = {
-    "interrupt_moderation": "end: a frame wasn't taken",
+    "interrupt_moderation": "end: a frame wasn't received",
     "mailbox_withdrawn_request": "end: the function never learned its address",
     "ring_resize_jumbo": "check: a frame is incomplete",
     "rss_rebalance": "end: the frames of a flow are out of order",
@@ -263,7 +263,7 @@ FAULTS = {
 # Notes printed in addition, with the search's status.
 NOTES = {
     "stray": (0, r"note: \d+ access(es)? to addresses without a register, the first by faulty: r 0x1f000 .*\(stray"),
-    "beyond": (1, r"note: queue 5 isn't below \.queues, so it never goes on"),
+    "beyond": (1, r"note: queue 5 isn't below \.queues, so it never turns on"),
     "left": (1, "it doesn't fail by itself: to find it again, use the same options"),
 }
 
@@ -376,7 +376,7 @@ def must_print(text: str, wanted: str, what: str) -> None:
 def check_faults(kit: Kit) -> str:
     """Each fault is reported on its own, with a schedule and as JUnit."""
     out = kit.out("faults")
-    program = replace(kit, flags=[*kit.flags, "-g"]).build(HERE / "tests/faulty.c")  # (reports name lines)
+    program = replace(kit, flags=[*kit.flags, "-g"]).build(HERE / "tests/faulty.c")  # (so reports contain lines)
     for mode, wanted in FAULTS.items():
         junit = out / "result.xml"
         words = [program, mode, "--quiet", "--jobs", 2, "--out", out, "--junit", junit]
@@ -967,7 +967,7 @@ POINTS = {
 
 
 def check_points(kit: Kit) -> str:
-    """A thread that acts just before a call takes effect is found; the twins have no failing schedule."""
+    """A bug that needs another thread to act just before a call takes effect is found; the twins pass each schedule."""
     source, out = HERE / "tests/points.c", kit.out("points")
     words = ["--quiet", "--jobs", 2, "--out", out, "--no-shrink"]
     wrong, right = (kit.build_form(source, *defines, of_memory=True) for defines in ([], ["FIXED"]))
@@ -1076,7 +1076,7 @@ def check_program(kit: Kit, runs: int) -> str:
 # --- other threads of the process ---
 
 THREAD = ["-g", "-O1", "-fsanitize=thread"]
-# Maps what searches map, a room of a gigabyte each time. On arm64 the thread sanitizer ends a program with memory
+# Maps as much memory as searches do, a gigabyte each time. On arm64 the thread sanitizer ends a program with memory
 # outside its ranges. QEMU's user emulation leaves these ranges after some gigabytes.
 ROOMS = """#include <stddef.h>
 #include <sys/mman.h>

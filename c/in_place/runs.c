@@ -2,7 +2,8 @@
 
 #include "step.h"
 
-/* The root of a tree has the smallest height number; no two blocks have equal numbers. */
+/* Returns a block's height in its tree, a hash of its number. The root has the smallest height, and no two blocks have
+   the same. */
 static uint32_t height_of(uint32_t block)
 {
     block = (block ^ block >> 16) * UINT32_C(0x85ebca6b);

@@ -9,8 +9,8 @@
 
 enum { SPACE = 0x20000 };
 
-/* One more than the run of the word at each address, or 0. Filled at the first lookup, because a recording looks up
-   every access. */
+/* For the word at each address, the index of its run plus 1, or 0 without a register. Filled at the first lookup,
+   because a recording looks up every access. */
 static uint8_t register_at[SPACE / 4], offset_at[SPACE / 4];
 
 static void fill(uint8_t *places, const struct run *list, size_t count)

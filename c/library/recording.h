@@ -52,8 +52,8 @@ void nicl_add_number(struct recording *it, const char *before, uint64_t number, 
 void nicl_add(struct recording *it, const char *format, ...) __attribute__((format(printf, 2, 3)));
 void nicl_add_hex(struct recording *it, const uint8_t *bytes, size_t length);
 /* Adds a line that names bytes, before the line that uses them, and returns the number in the name. Data in a script
-   has at least one byte: empty data gets one byte and a comment that says so. Both are dropped as frames, for the same
-   reason. */
+   has at least one byte: empty data gets one byte and a comment that says so. The device drops a frame of no bytes and
+   one of one byte for the same reason. */
 uint32_t nicl_add_data(struct recording *it, const uint8_t *bytes, size_t length);
 /* Adds `poke 0x00010 d3`: these bytes at a bus address. */
 void nicl_add_poke(struct recording *it, uint64_t bus, uint32_t name);

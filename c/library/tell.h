@@ -13,7 +13,7 @@
 /* Returns whether the environment requested it when the first controller was made. */
 bool nicl_is_telling(void);
 
-/* A controller was made; a controller ends; and all end, with the process. */
+/* Called when a controller is made, when one ends, and when the process ends. */
 void nicl_tell_begin(const nic *n);
 void nicl_tell_end(const nic *n);
 void nicl_tell_all_ends(void);

@@ -8,14 +8,14 @@
 #include "../in_place/by_device.h"
 
 struct dropped {
-    struct nicl_of of; /* free in the pool if its device is null */
+    struct nicl_of of; /* an unused entry of the pool if its device is null */
     struct nicl_drops drops;
 };
 
 /* Held to change or read the drops of any controller. */
 static pthread_mutex_t lock = PTHREAD_MUTEX_INITIALIZER;
 static struct nicl_by_device all;
-/* Number of entries. The end of each controller reads it. */
+/* Number of entries. Each controller that ends reads it. */
 static size_t all_count;
 
 /* This many controllers that drop frames need no allocation, so their counts are right even if memory runs out. */

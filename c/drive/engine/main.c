@@ -218,7 +218,7 @@ static int search(int argc, char **argv, const char *coverage)
     scenario.stack = STACK;
     scenario.allowed = it->ways & FAULTY ? NICX_FAULTS | NICX_NOT_LENT : 0;
     if (!nicd_coverage_open()) {
-        fprintf(stderr, "%s: there is no memory\n", it->name);
+        fprintf(stderr, "%s: out of memory\n", it->name);
         return REFUSED;
     }
     signal(SIGALRM, give_up);

@@ -58,7 +58,7 @@ static void begin(void)
 
 static const char *end(void)
 {
-    return driver.got == FRAMES ? NULL : driver.got > FRAMES ? "a frame was taken twice" : "a frame is lost";
+    return driver.got == FRAMES ? NULL : driver.got > FRAMES ? "a frame was received twice" : "a frame is lost";
 }
 
 DRIVER(.name = "unmasked_before_last_look")

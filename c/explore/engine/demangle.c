@@ -61,7 +61,7 @@ static size_t take_decimal(struct names *it)
     return number;
 }
 
-/* Takes this many bytes. Returns null if there aren't as many. */
+/* Consumes this many bytes. Returns null if fewer remain. */
 static const char *take_bytes(struct names *it, size_t length)
 {
     const char *from = it->symbol + it->at;

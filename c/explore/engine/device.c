@@ -30,7 +30,7 @@ bool nicxi_refuses_memory(const nic *n)
     if (nicxi.phase == CLOSED || (n->device != nicxi.device.device && !nicxi_heap_has(n->device)))
         return false;
     nicxi_failed(NICX_MISUSE,
-                 "%s calls nic_lend_memory, but the search can't see stores to memory lent so: use nicx_lend",
+                 "%s calls nic_lend_memory, but the search can't see stores to memory lent this way: use nicx_lend",
                  nicxi.self ? nicxi.self->name : "the scenario");
     nicxi_leave();
     return true;

@@ -117,8 +117,8 @@ struct thread {
     bool is_timed;   /* its wait may end without its condition if no actor can run */
     unsigned rested; /* number of timeouts and pauses since the last change */
     uint64_t rested_at;
-    uint64_t own;          /* the number of its own acts */
-    uint64_t seen, looked; /* others' acts when it last returned from a wait; when from a wait or a pause */
+    uint64_t own;          /* how often it has acted */
+    uint64_t seen, looked; /* how often others had acted when it last returned from a wait; from a wait or a pause */
     bool (*condition)(void *);
     void *condition_argument;
     nicx_mutex *lock;

@@ -228,7 +228,7 @@ static const struct row {
     condition *holds; /* null: always independent */
     const char *name, *law;
 } rows[] = {
-    {BY(LOCAL) | BY(VALUE), DEVICE, NULL, "own step, step of the device", "no event: the device isn't asked"},
+    {BY(LOCAL) | BY(VALUE), DEVICE, NULL, "own step, step of the device", "no event: the device isn't involved"},
     /* memory accesses */
     {BY(PEEK), BY(RX) | BY(TX), writes_elsewhere, "peek, rx or tx that writes elsewhere",
      "dev: memory_call_leaves_the_rest, receiving_leaves_the_rest, transmitting_leaves_the_rest (blocks)"},
@@ -287,7 +287,7 @@ static const struct row {
     {BY(EEPROM), BY(RX) | BY(TX) | ENABLES | FROM_LINK, NULL, "eestep, another step but int",
      "dev: eeprom_step_gives_the_word (rest), event_stays_within_its_reach"},
     /* two steps of the driver without conflicting accesses of its own memory */
-    {BY(LOCAL), DRIVER, are_other_locks, "own step, step of the driver", "no event: the device isn't asked"},
+    {BY(LOCAL), DRIVER, are_other_locks, "own step, step of the driver", "no event: the device isn't involved"},
     {READS | WRITES, MEMORY, NULL, "access of a register, peek or poke",
      "dev: memory_call_leaves_the_rest, access_leaves_the_rest (write), read_changes_nothing"},
     {BY(PEEK), BY(PEEK), NULL, "two peeks", "dev: memory_call_leaves_the_rest"},

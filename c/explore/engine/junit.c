@@ -89,7 +89,7 @@ static void put_case(FILE *file, const struct junit *junit, bool is_vacuous)
 {
     begin_case(file, junit, 0);
     if (is_vacuous) {
-        fputs("\n    <failure type=\"vacuous\" message=\"something of the scenario never ran\">", file);
+        fputs("\n    <failure type=\"vacuous\" message=\"part of the scenario never ran\">", file);
         nicxi_never(&junit->totals->coverage, put_line, file);
         fputs("</failure>\n  ", file);
     }

@@ -133,7 +133,7 @@ static int show_merged(const struct options *options, struct merged *merged, con
     const struct junit junit = {options,  &merged->sum.totals, merged->sum.distinct != NULL, "merged",
                                 reported, merged->cause_count};
     if (!paths || !reported)
-        fault = "there is no memory";
+        fault = "out of memory";
     if (fault || !write_junit(&junit))
         status = fault ? refuse(nicxi.scenario, fault) : REFUSED;
     free(paths);

@@ -143,7 +143,7 @@ static const char *add_result(struct merged *merged, char *path, struct options 
         if (one.distinct && merged->sum.distinct)
             add_distinct(merged->sum.distinct, one.distinct);
         if (!add_failure(merged, &one, path) || (one.distinct && !merged->sum.distinct))
-            fault = "there is no memory";
+            fault = "out of memory";
     }
     nicxi_free_result(&one);
     return fault;
@@ -152,7 +152,7 @@ static const char *add_result(struct merged *merged, char *path, struct options 
 const char *nicxi_merge(char **paths, uint32_t count, struct merged *merged)
 {
     struct options *all = calloc(count, sizeof *all);
-    const char *fault = all ? NULL : "there is no memory";
+    const char *fault = all ? NULL : "out of memory";
     memset(merged, 0, sizeof *merged);
     for (uint32_t k = 0; k < count && !fault; k++)
         fault = add_result(merged, paths[k], &all[k]);

@@ -169,7 +169,7 @@ void nicxi_tell_notes(FILE *to, const struct notes *notes)
         fprintf(to, "%s: note: %" PRIu32 " access%s to addresses without a register, the first by %s\n", name,
                 notes->strays, notes->strays == 1 ? "" : "es", notes->stray);
     if (notes->beyond)
-        fprintf(to, "%s: note: queue %" PRIu32 " isn't below .queues, so it never goes on\n", name, notes->beyond - 1);
+        fprintf(to, "%s: note: queue %" PRIu32 " isn't below .queues, so it never turns on\n", name, notes->beyond - 1);
 }
 
 static void tell_end(struct replay *it, const nicx_result *result)

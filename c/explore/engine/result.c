@@ -333,7 +333,7 @@ static void read_distinct(struct form *it, struct result *result)
     }
     result->distinct = calloc(1, sizeof *result->distinct);
     if (!result->distinct) {
-        wrong(it, "there is no memory");
+        wrong(it, "out of memory");
         return;
     }
     read_hashes(it, result->distinct, is_exact);
@@ -393,7 +393,7 @@ static void failure(struct form *it, struct failure *failure)
     if (!it->writes)
         failure->schedule = calloc((size_t)nicxi.most_points + 1, sizeof *failure->schedule);
     if (!failure->schedule)
-        wrong(it, "there is no memory");
+        wrong(it, "out of memory");
     for (uint32_t k = 0; k < failure->result.points && !*it->fault; k++)
         failure->schedule[k] = point(it, failure->schedule[k]);
 }

@@ -277,7 +277,7 @@ const char *nicx_open(const nicx_scenario *scenario)
     nicxi.most_points = scenario->points ? scenario->points : USUAL_POINTS;
     nicxi.schedule = own.schedule = calloc(nicxi.most_points + 1u, sizeof *nicxi.schedule);
     if (!nicxi.schedule)
-        return "there is no memory";
+        return "out of memory";
     nicxi_heap_open();
     nicxi_is_made_here();
     if (nicxi_form)

@@ -97,7 +97,7 @@ static const char *add(struct schedule_file *file, uint16_t actor, const char *d
     if (file->length == MOST_POINTS)
         return "a schedule has at most 1,000,000 points";
     if (!has_room(file))
-        return "there is no memory";
+        return "out of memory";
     file->list[file->length] = actor;
     file->lines[file->length] = file->last;
     file->description[file->length] = NULL;
@@ -105,7 +105,7 @@ static const char *add(struct schedule_file *file, uint16_t actor, const char *d
         size_t size = strlen(description) + 1;
         file->description[file->length] = malloc(size);
         if (!file->description[file->length])
-            return "there is no memory";
+            return "out of memory";
         memcpy(file->description[file->length], description, size);
     }
     file->length++;

@@ -25,7 +25,7 @@ static struct {
     uint32_t acted[MOST_ACTORS];
 } input;
 
-/* A separate place in the code for each of 256 numbers, so that both fuzzers see which ones came up. */
+/* A separate place in the code for each of 256 numbers, so that both fuzzers see which ones occurred. */
 #define PLACE(k)                                                                                                       \
     case k:                                                                                                            \
         __asm__ volatile("" : : "i"(k));                                                                               \

@@ -134,7 +134,7 @@ static const char *end(void)
     uint32_t head = 0, tail = 0, mask = 0;
     for (unsigned k = 0; k < FRAMES; k++) {
         if (k == driver.count)
-            return "a frame wasn't taken";
+            return "a frame wasn't received";
         if (driver.got[k] != k)
             return "the frames are out of order";
     }

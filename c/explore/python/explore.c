@@ -275,7 +275,7 @@ const char *nicp_run(uint32_t hang, struct nicp_made *made)
     const nicx_chooser chooser = {choose, NULL};
     FILE *to = open_text(made);
     if (!to)
-        return "there is no memory";
+        return "out of memory";
     nicp_hang = hang;
     nicxi.listener = write_point;
     nicxi.listener_argument = to;
@@ -292,7 +292,7 @@ const char *nicp_replay(const char *path, bool is_lenient, uint32_t hang, struct
 {
     FILE *to = open_text(made);
     if (!to)
-        return "there is no memory";
+        return "out of memory";
     nicp_hang = hang;
     const char *fault = nicxi_follow(to, path, is_lenient, &made->result);
     nicp_hang = 0;

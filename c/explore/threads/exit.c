@@ -1,4 +1,4 @@
-/* Where a whole program would end the process, it ends its schedule instead. */
+/* In a whole program, calls that would end the process end its schedule instead. */
 #define _GNU_SOURCE
 #include <stdlib.h>
 #include <unistd.h>

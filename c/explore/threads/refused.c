@@ -1,4 +1,4 @@
-/* Calls that aren't intercepted, and could wait forever or end what they shouldn't: in a task they are refused by name.
+/* Calls that aren't intercepted, but could wait forever or end more than a task. In a task they are refused by name.
    Elsewhere they work as usual. */
 #define _GNU_SOURCE
 #include <poll.h>

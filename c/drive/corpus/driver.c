@@ -10,7 +10,7 @@
 #include "in_place.h"
 #endif
 #ifdef ALIASES
-#include "../tests/aliases.h" /* accesses registers through their aliases, if they have any */
+#include "../tests/aliases.h" /* accesses each register through its alias, if it has one */
 #endif
 
 enum bug {
@@ -559,7 +559,7 @@ static void give_back(unsigned queue, unsigned slot)
 {
     struct ring *ring = &driver.rings.rx[queue];
     unsigned tail = BUG == TAIL_MEETS_HEAD ? after(slot) : slot;
-    if (BUG == TAIL_BEFORE_DESCRIPTOR) { /* moves the tail first, and writes the slot that it hands over too late */
+    if (BUG == TAIL_BEFORE_DESCRIPTOR) { /* moves the tail before it writes the descriptor */
         put(NIC_RDT(queue), slot);
         post(ring, (slot + driver.setup.slots - 1u) % driver.setup.slots);
         return;
@@ -777,7 +777,7 @@ static uint32_t interrupt(uint8_t vector)
     }
     if (BUG == CAUSE_READ_AWAY)
         nicx_read32(NIC_EICR);
-    if (BUG == INTERVAL_FOR_LOCK && vector < NICD_QUEUES) { /* relies on a poll ending before the interval does */
+    if (BUG == INTERVAL_FOR_LOCK && vector < NICD_QUEUES) { /* assumes that a poll ends before the interval does */
         bool was_polled = driver.is_polled[vector];
         driver.is_polled[vector] = true;
         return was_polled ? 0 : UINT32_C(1) << vector;

@@ -1,7 +1,7 @@
 /* Opening and closing repeatedly, with frames in flight and with memory refused. */
 #include "../engine/drive.h"
 
-/* --- what close must not leave --- */
+/* --- what close must not leave behind --- */
 
 static bool is_on(unsigned queue, bool transmit)
 {
@@ -14,7 +14,7 @@ static uint32_t masks(void)
     return port ? nicd_peek(NIC_PVTEIMS(port - 1)) : nicd_peek(NIC_EIMS);
 }
 
-/* Returns null, or what the closed driver has left. */
+/* Returns null, or what the closed driver left on, enabled or allocated. */
 static const char *left(void)
 {
     for (unsigned side = 0; side < 2u * nicd.setup.queues; side++)

@@ -106,8 +106,8 @@ static bool have_gone(void *unused)
     return nicd.went[0] == nicd.accepted[0];
 }
 
-/* The card can't see reads through pointers. So all frames are sent while their write-backs are held back, and only TDH
-   could tell reclaim about them. Then the write-backs become visible. */
+/* The card can't see reads through pointers. So it holds back the write-backs until all frames are sent: until then,
+   reclaim could learn about them only from TDH. Then the write-backs become visible. */
 static void reclaim_in_place(void)
 {
     struct nicl_ring ring = nicl_ring_of(nicx_device(), true, 0);

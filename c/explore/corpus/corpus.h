@@ -1,5 +1,5 @@
-/* Shared by the drivers of the corpus: where things are in packet memory, and how a queue is brought up. Each driver is
-   one file with one bug; -DFIXED builds its correct twin. */
+/* Shared by the drivers of the corpus: the layout of packet memory, and how a queue is brought up. Each driver is one
+   file with one bug; -DFIXED builds its correct twin. */
 #ifndef CORPUS_H
 #define CORPUS_H
 
@@ -20,7 +20,7 @@ enum {
     EOP_RS = 0x2B,   /* EOP, IFCS, RS and DEXT, from bit 24 of a transmit descriptor's second half */
     EOP = 0x23,      /* EOP_RS without RS */
     DATA = 3,        /* an advanced data descriptor, from bit 20 */
-    ENABLE = 1 << 25 /* RXDCTL and TXDCTL: written, requests the queue on; read, the queue is on */
+    ENABLE = 1 << 25 /* RXDCTL and TXDCTL: a write enables the queue; reads as 1 when it is on */
 };
 
 static inline uint64_t buffer(unsigned number)
@@ -34,7 +34,7 @@ static inline void lend_blocks(unsigned buffers)
         nicx_lend(block);
 }
 
-/* Turns on a receive queue with its ring at `ring`. The first `posted` slots get a buffer each, from `first` on. */
+/* Turns on a receive queue with its ring at `ring`. The first `posted` slots get buffers, numbered from `first` on. */
 static inline void bring_up_receive_queue(unsigned queue, uint32_t ring, unsigned first, unsigned posted)
 {
     nicx_write32(NIC_RDBAL(queue), ring);

@@ -1,4 +1,4 @@
-/* A sender and a cleaner free the same buffer, since no lock separates them. The sender looks for completed frames
+/* A sender and a cleaner free the same buffer, because no lock protects it. The sender looks for completed frames
    before each send, the cleaner after an interrupt. */
 #include "corpus.h"
 

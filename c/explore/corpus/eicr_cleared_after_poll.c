@@ -1,5 +1,5 @@
-/* A poll finds its ring empty, clears EICR, and then unmasks. A frame that arrived since its last look had raised its
-   cause before the write of EICR: no interrupt reports it. */
+/* A poll finds its ring empty, clears EICR, and then unmasks. A frame that arrived after the poll's last look raised
+   its cause before the write to EICR, so no interrupt reports it. */
 #include "corpus.h"
 
 enum { FRAMES = 2 };

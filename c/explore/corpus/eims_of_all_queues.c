@@ -39,7 +39,7 @@ static void poll(void *argument)
             driver.next[queue]++;
             driver.got++;
         }
-        nicx_point(); /* the stack takes the frames */
+        nicx_point(); /* the stack processes the frames */
         driver.scheduled[queue] = false;
 #ifndef FIXED
         nicx_write32(NIC_EIMS, ALL);

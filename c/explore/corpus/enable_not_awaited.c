@@ -1,6 +1,6 @@
-/* A queue that is being enabled still reads as off for a while, and may turn on after it was stopped. If a driver
-   doesn't wait for the bit, and stops the queue later only if it reads as on, the device writes to buffers that are no
-   longer the queue's. */
+/* A driver stops a queue only if it reads as on, but a queue that is being enabled still reads as off for a while. It
+   may turn on after the stop, and then the device writes to buffers that are no longer the queue's. A correct driver
+   waits for the bit. */
 #include "corpus.h"
 
 enum { FRAMES = 1, POSTED = 2 };

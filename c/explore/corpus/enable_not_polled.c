@@ -1,5 +1,5 @@
-/* A queue that is being disabled stays on for a while, and keeps its ring until then: a driver that doesn't wait for
-   the bit moves the ring in vain. */
+/* A driver moves a queue's ring without waiting until the queue is off. A queue that is being disabled stays on for a
+   while, and keeps its old ring until then. */
 #include "corpus.h"
 
 static const char *bring_up(void)

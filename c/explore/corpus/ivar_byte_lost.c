@@ -1,5 +1,5 @@
 /* Two threads each set one byte of a register by reading and writing all of it, and one byte is lost. The register
-   holds the vectors of four causes. */
+   contains the vectors of four causes. */
 #include "corpus.h"
 
 enum { OWN = 2 };

@@ -21,7 +21,7 @@ static uint32_t get32(uint64_t bus)
     return bytes[0] | (uint32_t)bytes[1] << 8 | (uint32_t)bytes[2] << 16 | (uint32_t)bytes[3] << 24;
 }
 
-/* The length of the frame in a slot; 0 if none is done. */
+/* Returns the length of the frame in a slot, or 0 if the slot isn't done. */
 static unsigned take(unsigned slot)
 {
     uint64_t second = RX_RING + 16 * slot + 8;

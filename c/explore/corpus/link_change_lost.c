@@ -1,4 +1,4 @@
-/* A reset clears the causes that were raised before it. A driver that checks its link before the reset but not after it
+/* A driver checks its link before a reset but not after it. The reset clears the causes raised before it, so the driver
    misses a change in between. */
 #include "corpus.h"
 

@@ -1,5 +1,5 @@
-/* A function and its host write the same mailbox. If the function doesn't take it first (VFU), its message mixes with
-   the host's. */
+/* A function writes to its mailbox without taking it first (VFU), while the host writes to it too. The two messages
+   mix. */
 #include "mailbox.h"
 
 static struct {

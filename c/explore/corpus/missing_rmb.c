@@ -1,5 +1,5 @@
-/* Without a barrier, a frame's bytes may be read before the bit that says they are there. They are then another
-   frame's. */
+/* Without a barrier, a frame's bytes may be read before the bit that says they are there. They may then be the bytes of
+   another frame. */
 #include "corpus.h"
 
 enum { FRAMES = 2 };

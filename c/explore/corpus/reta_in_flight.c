@@ -1,5 +1,5 @@
-/* A queue that was removed from RETA still gets frames that were already inside the device. A driver that stops
-   checking the ring after it was empty once leaves them there. */
+/* A driver removes a queue from RETA, and stops checking its ring when it has been empty once. Frames that were already
+   inside the device still arrive there. */
 #include "corpus.h"
 
 enum { FRAMES = 3, OLD = 1 };

@@ -1,5 +1,5 @@
-/* Only every fourth descriptor requests a report. A driver that checks the report of the wrong four reuses their
-   buffers too early. */
+/* Only every fourth descriptor requests a report, and the driver always checks the one in slot 3. So it reuses the
+   buffers of later frames too early. */
 #include "corpus.h"
 
 enum { FRAMES = 12, FOUR = 4 };

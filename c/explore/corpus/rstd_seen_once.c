@@ -1,5 +1,5 @@
-/* Only one read of VFMAILBOX returns RSTD, since it clears the bit. If two threads of a function read the register, the
-   thread that doesn't wait for RSTD may read it, and drop it. */
+/* Two threads of a function read VFMAILBOX, but only one read returns RSTD, because it clears the bit. The thread that
+   doesn't wait for RSTD may read it, and drop it. */
 #include "mailbox.h"
 
 static struct {

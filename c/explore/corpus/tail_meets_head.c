@@ -1,4 +1,4 @@
-/* A ring with its tail equal to its head is empty to the device. A driver that posts every slot posts none. */
+/* A driver posts every slot of a ring, so the tail equals the head. To the device such a ring is empty. */
 #include "corpus.h"
 
 enum { FRAMES = 2, POSTED = 4 };

@@ -1,5 +1,5 @@
-/* A head that was read before taking the lock may be older than what another thread has cleaned since. To reach that
-   head, the cleaner goes once around the ring, over outstanding slots. */
+/* A cleaner reads the head before it takes the lock, and meanwhile another thread cleans past that head. To reach the
+   old head, the cleaner goes around the ring once, over outstanding slots. */
 #include "corpus.h"
 
 enum { FRAMES = 4, POOL = 3 };

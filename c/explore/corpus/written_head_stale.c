@@ -1,5 +1,5 @@
-/* The device writes its head to memory. If the driver doesn't clear that location before it sends, a value left there
-   by an earlier use of the queue counts as completed frames. */
+/* A driver doesn't clear the location of the written-back head before it sends. A value left there by an earlier use of
+   the queue counts as completed frames. */
 #include "corpus.h"
 
 enum { FRAMES = 2, EARLIER = 5 };

@@ -184,7 +184,7 @@ OUTSIDE = {
     "mailbox_withdrawn_request": "end: the function never learned its address",
     "ring_resize_jumbo": "check: a frame is incomplete",
     "rss_rebalance": "end: the frames of a flow are out of order",
-    "transmit_watchdog": "end: (the frames on the wire aren't the ones sent|more frames were transmitted)",
+    "transmit_watchdog": "end: (the frames on the wire differ from the frames sent|more frames were transmitted)",
 }
 
 
@@ -831,7 +831,7 @@ FREED = {
     "aligned": rf"use after free: receive at \S+ < \S+ writes 32 bytes that were {FREED_BY}",
     "past": r"out of bounds: receive at \S+ < \S+ writes 8 bytes at offset 24 of 24 bytes, allocated at freed\.c:\d+\n",
     "before": r"out of bounds: receive at .* writes 4 bytes at offset -4 of 24 bytes, allocated at freed\.c:\d+\n",
-    "middle": r"bad free: receive frees at .* what begins 16 bytes into what was allocated at freed\.c:\d+\n",
+    "middle": r"bad free: receive frees at .* a pointer 16 bytes into the allocation from freed\.c:\d+\n",
     "kinds": "",
     "woken": "",
 }

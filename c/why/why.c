@@ -118,7 +118,7 @@ static void rx_switch(struct nicl_why *it, uint16_t queue)
         nicl_why_rx_queue_off(it, queue);
 }
 
-/* The device owns no slot. A disabled queue gets its first slots when it is enabled. */
+/* Reports a ring with no slot for the device. A disabled queue gets its first slots when it is enabled. */
 static void rx_empty(struct nicl_why *it, uint16_t queue)
 {
     bool has_frames = it->inside.waiting[queue];

@@ -61,7 +61,7 @@ WRONG(FIRST_DD_OF_A_CHAIN, "receive-4096", "frame 0 of 4096 bytes is delivered w
       "Only the first DD of a frame in several buffers is checked")
 WRONG(HEAD_CACHED_OVER_A_WRAP, "send-wrap",
       "send on queue 0 fails forever, although all its frames were transmitted: slot \\d was never reclaimed",
-      "The head is compared with a slot past the wrap")
+      "The head is compared with a slot as if the ring never wrapped")
 WRONG(DOUBLE_CLEANER, "interrupt-both-ways",
       "never transmitted|reclaim reports|didn't transmit|second time|deadlock|endless",
       "The handler reclaims slots concurrently with the poll")
@@ -74,7 +74,8 @@ WRONG(PAYLEN_OF_BUFFER, "send-descriptor-chain", "slot \\d has PAYLEN 2048 for a
 WRONG(IFCS_MISSING, "send-descriptor", "slot 0 has no IFCS", "The driver doesn't request the frame check sequence")
 WRONG(RECLAIM_BY_HEAD, "send-write-back", "neither a slot's DD nor a head .*: it read TDH",
       "TDH is taken for the device's progress")
-WRONG(MEMORY_LOST_BY_RESET, "reset-memory", "after three: one of 2048 bytes at 0x\\w+, which reset allocated",
+WRONG(MEMORY_LOST_BY_RESET, "reset-memory",
+      "after three, for example one of 2048 bytes at 0x\\w+, which reset allocated",
       "A reset allocates rings and buffers without freeing the old ones")
 WRONG(SUSPEND_LEAVES_LINK_CAUSE, "suspend-quiet",
       "vector 8 sends a message while the driver is suspended: EIMS is 0x00180000",

@@ -356,7 +356,7 @@ static void set_interrupts(void)
     unsigned vf = driver.setup.port - 1u;
     if (!driver.setup.interrupts)
         return;
-    if (BUG == CAUSES_RAISED_TOO_EARLY) /* to poll for what arrived before */
+    if (BUG == CAUSES_RAISED_TOO_EARLY) /* so that a poll finds earlier frames */
         nicx_write32(NIC_EICS, own_causes());
     if (BUG == CAUSES_ENABLED_FIRST && !driver.setup.port)
         nicx_write32(NIC_EIMS, own_causes() | other_causes);

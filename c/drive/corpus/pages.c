@@ -29,7 +29,7 @@ struct transmit {
     nicx_mutex lock;
 };
 
-/* The rings for one number of slots. */
+/* The rings of all queues, with the same number of slots each. */
 struct rings {
     uint16_t slots;
     struct receive rx[NICD_QUEUES];

@@ -59,10 +59,11 @@ static void reset_and_count(void)
         nicd_reset();
     const struct piece *it = nicd_memory_newest();
     if (nicd_memory_taken() > before && it)
-        nicd_failed(
-            "the driver holds %u allocations after one reset but %u after three: one of %u bytes at 0x%llx, which %s "
-            "allocated",
-            (unsigned)before, (unsigned)nicd_memory_taken(), (unsigned)it->bytes, (unsigned long long)it->bus, it->by);
+        nicd_failed("the driver holds %u allocations after one reset but %u after three, for example one of %u bytes "
+                    "at 0x%llx, which %s "
+                    "allocated",
+                    (unsigned)before, (unsigned)nicd_memory_taken(), (unsigned)it->bytes, (unsigned long long)it->bus,
+                    it->by);
     nicd_close();
     if (nicd_memory_left())
         nicx_fail(nicd.fault);

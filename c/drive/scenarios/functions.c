@@ -22,7 +22,7 @@ static void close_it(void)
         nicx_fail(nicd.fault);
 }
 
-/* --- the host resets the pool during traffic, as when it takes the function away --- */
+/* --- the host resets the pool during traffic, as when it removes the function --- */
 
 static void reset_pool(void)
 {

@@ -89,7 +89,7 @@ static void note_poll(const struct step *step)
     polls->seen[k][1] = step->word;
 }
 
-/* The call that makes an access; of nested calls, the outermost. */
+/* The call that makes an access; for nested calls, the outermost one. */
 static const void *outside_call;
 
 static const void **call_of(struct thread *self)

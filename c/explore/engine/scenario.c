@@ -88,7 +88,7 @@ int nicx_service(const char *name, void (*function)(void *), void *argument)
 static struct thread *add_handler(const char *name, void (*function)(void *), void *argument, int where)
 {
     if (nicxi.phase != BEGINNING || nicxi.handlers == NICX_HANDLERS || where < NICX_BESIDE || where >= NICX_TASKS) {
-        nicxi_failed(NICX_MISUSE, "create handlers and timers in begin after the tasks, at most %d", NICX_HANDLERS);
+        nicxi_failed(NICX_MISUSE, "in begin, create at most %d handlers and timers, after the tasks", NICX_HANDLERS);
         return NULL;
     }
     struct thread *handler = name_thread(NICX_TASKS + nicxi.handlers++, name, function, argument);

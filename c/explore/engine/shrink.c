@@ -372,7 +372,7 @@ void nicxi_confirm(const struct options *options, struct failure *failure)
         failure->result.outcome = NICX_MISUSE;
         snprintf(
             failure->result.words, sizeof failure->result.words,
-            "begin doesn't initialize all of the driver's state: only after other schedules it fails with %s: %.120s",
+            "begin doesn't initialize all of the driver's state: the schedule fails only after others, with %s: %.120s",
             nicxi_outcome_name(found.outcome), found.words);
     }
     nicxi_free_posts(post, 1);

@@ -16,7 +16,7 @@ struct store {
     bool is_own;       /* to the driver's own memory */
     bool releases;     /* all earlier stores must come before it */
     uint8_t slot;      /* own memory: its number among the processor's pending stores */
-    uint32_t barriers; /* stores made before this many barriers come before it */
+    uint32_t barriers; /* barriers made before it: stores made before one of them come first */
 };
 
 /* The latest state of a location that a processor has seen: its loads of the location return nothing older than

@@ -1,9 +1,9 @@
 /* Receive side scaling with two queues. Each queue has a worker, which delivers a flow's frames to the stack in the
    order in which they arrived. A balancer moves a flow from a busy worker to the other one.
 
-   The new worker gets the flow when the old one has found its ring empty; a frame that arrived before RETA was written
-   may still be in the device, and reach the old ring afterwards. With -DFIXED the old ring is checked again after the
-   new worker has a frame of the flow. */
+   The new worker gets the flow as soon as the old one finds its ring empty. A frame that arrived before RETA was
+   written may still be in the device, and reach the old ring afterwards. With -DFIXED the old ring is checked again
+   after the new worker has a frame of the flow. */
 #include <string.h>
 
 #include "../driver.h"

@@ -176,7 +176,7 @@ static const char *end(void)
         if (nic_collect(nicx_device(), frame, FRAME, &outcome) != NIC_FRAME)
             return "a frame was never transmitted";
         if (outcome.len != FRAME || memcmp(frame, whole, FRAME))
-            return "the frames on the wire aren't the ones sent, each once";
+            return "the frames on the wire differ from the frames sent";
     }
     if (nic_next_out(nicx_device()))
         return "more frames were transmitted than sent";

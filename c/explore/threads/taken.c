@@ -265,8 +265,8 @@ static bool may_give(void *at, const char *verb, const void *call)
     if (is_begin(at))
         fail_twice(begin, verb, call);
     else
-        fail("bad free: %.40s %s at %.90s what begins %zu byte%s into what was allocated at %.50s", name_of_self(),
-             verb, nicxi_line_now(call, here), (size_t)((char *)at - begin), nicxi_s((size_t)((char *)at - begin)),
+        fail("bad free: %.40s %s at %.90s a pointer %zu byte%s into the allocation from %.50s", name_of_self(), verb,
+             nicxi_line_now(call, here), (size_t)((char *)at - begin), nicxi_s((size_t)((char *)at - begin)),
              nicxi_line(head_of(begin)->call, there));
     return false;
 }

@@ -576,8 +576,8 @@ IDLE = {
 
 @dataclass(frozen=True)
 class Edit:
-    """A change of corpus/driver.c with which these rows don't fail, but don't reach what they try either: the report of
-    each row. With the flag of nicd_can, if any, the rows aren't applicable."""
+    """A change of corpus/driver.c after which these rows neither fail nor reach what they try, and each row's report.
+    With the flag of nicd_can, if any, the rows aren't applicable."""
 
     texts: dict[str, str]  # texts in the driver, and their replacements
     rows: dict[str, str]

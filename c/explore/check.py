@@ -838,8 +838,8 @@ FREED = {
 
 
 def check_freed(kit: Kit) -> str:
-    """Use after free is found although a lock orders the accesses, and so are double frees and accesses out of bounds.
-    Each schedule fails again, and nothing is found in the correct drivers."""
+    """Finds use after free, double frees and out-of-bounds accesses, even if a lock orders the accesses. Each schedule
+    fails again, and nothing is found in the correct drivers."""
     source, out = HERE / "tests/freed.c", kit.out("freed")
     words = ["--quiet", "--jobs", 2, "--out", out]
     if set(modes_of(source)) != set(FREED):

@@ -223,7 +223,7 @@ static bool has_no_report(struct nicl_why *it, const struct nicl_ring *ring)
     return true;
 }
 
-/* The device has processed all slots: reports why a driver may wait in vain for the last one. */
+/* The device has processed all slots. Reports why a driver may never see the last one reported. */
 static void tx_last(struct nicl_why *it, const struct nicl_ring *ring, uint16_t queue)
 {
     uint32_t last = (ring->head ? ring->head : ring->slots) - 1;

@@ -10,7 +10,7 @@
 
 enum { NICL_QUEUES = 128, NICL_GROUPS = 64, NICL_RX = 0, NICL_TX = 1 };
 
-/* What registers don't show of a controller. Without `is_known`, there was no memory to find out. */
+/* State of a controller that its registers don't show. If `is_known` is false, there was no memory to find it out. */
 struct nicl_inside {
     bool is_known;
     bool is_wanted[2][NICL_QUEUES]; /* requested state of a queue's side: NICL_RX or NICL_TX */

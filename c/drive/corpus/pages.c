@@ -24,7 +24,7 @@ struct receive {
 struct transmit {
     uint64_t ring, pages, head;
     bool is_end[MOST_SLOTS];
-    uint32_t put, clean; /* free-running: slots filled, slots that came back */
+    uint32_t put, clean; /* free-running: slots filled, slots reclaimed */
     uint32_t frames;     /* frames in flight */
     nicx_mutex lock;
 };

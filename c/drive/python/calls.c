@@ -115,7 +115,7 @@ static void thread(uint32_t number)
 
 static void refuse_thread(void)
 {
-    nicd_note("a call comes from a thread that the driver created itself: the card knows only those of `threads`");
+    nicd_note("a call comes from a thread that the driver created itself: use the adapter's `threads` instead");
 }
 
 int nicp_main(int argc, char **argv, const struct nicp_driver *given);

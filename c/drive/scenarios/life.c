@@ -1,7 +1,7 @@
 /* Opening and closing repeatedly, with frames in flight and with memory refused. */
 #include "../engine/drive.h"
 
-/* --- what close must not leave behind --- */
+/* --- what must not remain after close --- */
 
 static bool is_on(unsigned queue, bool transmit)
 {

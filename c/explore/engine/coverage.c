@@ -144,7 +144,7 @@ static const char *group_name(unsigned group, char room[16])
     return room;
 }
 
-/* Adds the messages that arrived but have no handler, since one of them may be the intended one. */
+/* Adds the messages that arrived but have no handler, because one of them may be the intended one. */
 static void add_other_messages(struct telling *it)
 {
     char room[16];

@@ -6,7 +6,7 @@
 
 enum { MOST_DEPTH = 32, MOST_PARTS = 256, HASH = 16 };
 
-/* The input and the output. Parts are counted, since one may refer back to many. */
+/* The input and the output. Parts are counted, because one may refer back to many. */
 struct names {
     const char *symbol; /* what follows the prefix */
     size_t at, end;

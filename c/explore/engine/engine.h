@@ -252,7 +252,7 @@ struct engine {
     bool is_over; /* the program ended */
     nicx_result result;
     uint64_t epoch; /* the schedule's number in this process: a lock with another number is free (threads.c) */
-    /* Each act wakes the threads that wait, since it may have changed what they wait for. Changes are the acts that
+    /* Each act wakes the threads that wait, because it may have changed what they wait for. Changes are the acts that
        weren't mere looks by waiting threads: two threads that poll each other act forever and change nothing. */
     uint64_t acts, changes;
 

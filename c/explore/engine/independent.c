@@ -250,7 +250,7 @@ static const struct row {
     {READS | WRITES, OTHERS, is_of_some_side, "access of a side, int, eestep, arrive or link",
      "dev: read_changes_nothing, access_leaves_the_rest (write), message_leaves_the_rest (queues), "
      "eeprom_step_gives_the_word (rest), arrival_leaves_the_rest (queues), link_leaves_the_rest (link, queues)"},
-    /* mailboxes: no step of the device looks at their memory; a write may raise a cause */
+    /* mailboxes: no step of the device reads their memory; a write may raise a cause */
     {FUNCTIONS_OWN, DEVICE, is_mailbox_memory, "function's access of VFMBMEM, step of the device",
      "dev: vf_stays_in_its_pool (changes), event_stays_within_its_reach, eeprom_step_gives_the_word (rest); reg: "
      "accesses_stay_with_their_owner"},

@@ -1,4 +1,4 @@
-/* Writes the files of a failure while its schedule runs again, line by line, since the driver may crash. */
+/* Writes the files of a failure while its schedule runs again, line by line, because the driver may crash. */
 #include "keep.h"
 
 #include <inttypes.h>

@@ -105,7 +105,7 @@ static void put_ip(uint8_t *ip, size_t length, const nicx_flow *flow)
     put16(ip + 10, folded(sum_of(ip, IP)));
 }
 
-/* Called after the payload is written, since the checksum covers it. */
+/* Called after the payload is written, because the checksum covers it. */
 static void put_ports(uint8_t *ip, size_t length, const nicx_flow *flow)
 {
     uint8_t *it = ip + IP, *checksum = it + (flow->protocol == NICX_TCP ? 16 : 6);

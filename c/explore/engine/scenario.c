@@ -59,7 +59,7 @@ static int add_task(const char *name, void (*function)(void *), void *argument, 
     return nicxi.tasks++;
 }
 
-/* Created threads are named by number, since the schedule decides which is created first. */
+/* Created threads are named by number, because the schedule decides which is created first. */
 void nicxi_name_made(void)
 {
     static char names[NICX_TASKS][16];

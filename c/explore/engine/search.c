@@ -211,7 +211,7 @@ static uint64_t most_runs(const struct options *options)
 }
 
 /* Whether the limit on schedules excludes the rest of a part. The schedules before it are counted again now and then,
-   since other processes keep running more. */
+   because other processes keep running more. */
 static bool is_spent(const struct job *job, const struct post *post)
 {
     static uint64_t before, part = UINT64_MAX, counted;

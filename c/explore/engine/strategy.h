@@ -7,7 +7,7 @@
 
 /* The index of an actor in `can`, or `count`. */
 uint32_t nicxi_place_of(uint16_t actor, const uint16_t *can, uint32_t count);
-/* The index of the actor that acted longest ago; of values, the first. */
+/* The index of the actor that acted longest ago; for values, the first. */
 uint32_t nicxi_longest_ago(const uint16_t *can, uint32_t count);
 
 /* --- random: each runnable actor is equally likely --- */

@@ -14,7 +14,7 @@ bool nicxi_symbol(const void *address, char *room, size_t size);
 /* The start of the function that covers an address, or null. */
 const void *nicxi_function(const void *address);
 
-/* A call. An instruction in inlined functions has several, the innermost first. */
+/* A call. An instruction in inlined functions has several calls, the innermost first. */
 struct source_line {
     char file[MOST_FILE];
     unsigned line;

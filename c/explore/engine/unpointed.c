@@ -316,7 +316,7 @@ static void add(struct unpointed_list *found, const struct access *first, const 
 }
 
 /* Looks for two accesses between the same two points, or a single access that reads and writes. Two reads alone don't
-   count, since other threads don't notice them. */
+   count, because other threads don't notice them. */
 static void judge(struct unpointed_list *found)
 {
     const struct access *before = NULL;

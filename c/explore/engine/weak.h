@@ -46,8 +46,8 @@ void nicxi_acquired(const struct thread *thread);
 void nicxi_memory_moved(uint32_t block);
 
 /* The running thread makes an atomic store to its own memory. Returns the store's slot among the pending stores, which
-   nicxi_races->landed gets when it reaches memory. Returns -1 if it isn't kept, and must be made now. If it releases,
-   all earlier stores reach memory before it. */
+   is passed to nicxi_races->landed when it reaches memory. Returns -1 if it isn't kept, and must be made now. If it
+   releases, all earlier stores reach memory before it. */
 int nicxi_keep_own(uint64_t at, const void *bytes, uint32_t length, bool releases);
 /* Replaces what a load of own memory returns with the thread's own pending store there, if there is one. */
 void nicxi_load_own(uint64_t at, void *bytes, uint32_t length);

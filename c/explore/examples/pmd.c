@@ -1,7 +1,7 @@
 /* This repository's poll-mode driver (crates/pmd_driver) rewritten in C. Instead of moving blocks it copies packets. A
-   worker receives, sends back what came, and reaps until all is idle. With -DBUG=1 to 4 it becomes one of the incorrect
-   drivers that the proof excludes: it takes a slot without DD; takes a slot twice; accepts a packet and drops it;
-   reports idle too early. */
+   worker receives, sends back what it received, and reaps until all is idle. With -DBUG=1 to 4 it becomes one of the
+   incorrect drivers that the proof excludes: it takes a slot without DD; takes a slot twice; accepts a packet and drops
+   it; reports idle too early. */
 #include "corpus.h"
 
 #ifndef BUG

@@ -1,5 +1,6 @@
-/* The engine for code in Python: each of its stacks is a thread of the process, since the interpreter keeps per-thread
-   state. One of them runs at a time. Used by scenarios (explore.c) and by drivers on the report card (drive/python).
+/* The engine for code in Python: each of its stacks is a thread of the process, because the interpreter keeps
+   per-thread state. One of them runs at a time. Used by scenarios (explore.c) and by drivers on the report card
+   (drive/python).
 
    The modules nic82599.explore and nic82599.drive call the functions named nicp_* through ctypes. */
 #ifndef NICP_PYTHON_H
@@ -46,8 +47,8 @@ struct nicp_way {
 struct nicp_way **nicp_way(void);
 /* Jumps to the running thread's innermost nicp_way. */
 void nicp_leave(void);
-/* Whether the running thread must leave its schedule. Called if it makes a call nevertheless; a thread that keeps
-   making calls never returns from that. */
+/* Whether the running thread must leave its schedule. Called if the thread makes a call nevertheless. For a thread that
+   keeps making calls, it never returns. */
 bool nicp_is_left(void);
 void nicp_calls_on(void);
 /* Before each call: whether it is allowed, by one of the engine's threads that needn't leave. */

@@ -1,5 +1,5 @@
-/* The kit: frames of flows arrive complete in the queue that it predicts, with the hash that it predicts; a host and a
-   function exchange words by mailbox, in any order of steps. */
+/* The kit: frames of flows arrive complete, in the queue and with the hash that it predicts. A host and a function
+   exchange words by mailbox, in any order of steps. */
 #include <stdio.h>
 #include <string.h>
 

@@ -546,7 +546,7 @@ static void *recurse(void *depth)
     return depth == &count ? depth : (char *)recurse((char *)depth + 1) + room[0];
 }
 
-/* The least that this machine gives a thread, 128 KiB on arm64, or 32 KiB. */
+/* The smallest stack that the machine allows (on arm64, 128 KiB), but at least 32 KiB. */
 static size_t small_stack(void)
 {
     long least = sysconf(_SC_THREAD_STACK_MIN);

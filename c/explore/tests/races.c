@@ -195,7 +195,7 @@ static void stack(void)
     nicx_check(local <= 2, "another value");
 }
 
-/* --- the device: a store before a tail comes before the frame, and a done descriptor before its bytes are read --- */
+/* --- the device: a store before a tail precedes the frame, and a done descriptor precedes reads of its bytes --- */
 
 static void *post_buffer(void *unused)
 {

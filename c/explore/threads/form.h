@@ -127,7 +127,7 @@ void nicxi_state_back(void);
 void nicxi_state_close(void);
 void nicxi_state_goes(const struct thread *from, const struct thread *to);
 
-/* In a searched whole program: from here on other actors may run, since the program creates a thread, or waits. */
+/* In a searched whole program: from here on other actors may run, because the program creates a thread, or waits. */
 void nicxi_program_begins(void);
 /* Called when the program opens a controller. Returns whether the controller is the search's. */
 extern bool (*nicxi_program_opens)(uint8_t vfs, uint16_t fifo, uint32_t blocks, void **device);

@@ -131,8 +131,8 @@ static struct clock *clock_of(enum space space, uint64_t of)
     return &object->clock;
 }
 
-/* Set while a condition of nicx_wait_until runs: the writers of the memory that it looks at happen before the waiting
-   thread. */
+/* Set while a condition of nicx_wait_until runs: writes to the memory that it reads happen before what the waiting
+   thread does next. */
 static bool is_looking;
 
 static bool is_watching(void)
@@ -622,7 +622,7 @@ static void device_acted(const struct step *step)
     if (step->kind == STEP_TX && step->outcome.back)
         device_writes_back(step);
     if (nicxi_is_in_thread() && nicxi.is_program)
-        join(&now[self_number()], clock); /* the thread that requested the step knows of it */
+        join(&now[self_number()], clock); /* the step is ordered before what its requesting thread does next */
 }
 
 /* --- handlers: one on a task runs between two of the task's steps --- */

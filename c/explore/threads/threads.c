@@ -245,7 +245,7 @@ void __wrap_pthread_exit(void *result)
     __real_pthread_exit(result);
 }
 
-/* --- no-ops, since time and processors aren't modelled --- */
+/* --- no-ops, because time and processors aren't modelled --- */
 
 INTERCEPT(int, pthread_setname_np, (pthread_t number, const char *name), (number, name), 0)
 INTERCEPT(int, pthread_setschedparam, (pthread_t number, int policy, const struct sched_param *how),

@@ -178,8 +178,8 @@ static bool stores_late(volatile void *at, const void *value, const struct atomi
     return slot >= 0;
 }
 
-/* An exchange happens at once, after pending stores to its address; on x86, or if it releases, after all pending
-   stores. */
+/* An exchange isn't delayed. It happens after pending stores to its address; on x86, or if it releases, after all
+   pending stores. */
 static void before_exchange(volatile void *at, unsigned size, int order)
 {
     if (is_weak_here() && (nicxi.is_tso || releases(order)))

@@ -23,7 +23,8 @@ $(OUT)/libnic82599_explore.a: $(EXPLORE_OBJECTS)
 	$Qrm -f $@
 	$Q$(AR) rcs $@ $^
 
-# The engine for code in Python: its stacks are threads (python/fiber.c), because the interpreter keeps per-thread state.
+# The engine for code in Python: its stacks are threads (python/fiber.c), because the interpreter keeps per-thread
+# state.
 PYTHON_HEADERS := $(wildcard $(HERE)/explore/python/*.h) $(EXPLORE_HEADERS)
 PYTHON_BOTH    := $(OUT)/explore/python/fiber.o $(OUT)/explore/python/calls.o
 PYTHON_ENGINE  := $(PYTHON_BOTH) $(filter-out %/fiber.o,$(EXPLORE_OBJECTS))

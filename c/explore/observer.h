@@ -74,13 +74,13 @@ const char *nicxo_thread_name(unsigned thread);
 /* Whether the schedule is over and the running thread only unwinds its stack. Then each call returns at once. */
 bool nicxo_is_over(void);
 
-/* The value of a register of the device, read without effects. */
+/* Returns the value of a register of the device, read without effects. */
 uint32_t nicxo_peek(uint32_t address);
 /* The name of the register at this first address: "RDT[3]". */
 const char *nicxo_register(uint32_t address, char room[NICXO_NAME]);
-/* The first address of the register at this address. `is_low` is set if this address shows only bits 15:0. */
+/* Returns the first address of the register at this address. `is_low` is set if this address shows only bits 15:0. */
 uint32_t nicxo_first_address(uint32_t address, bool *is_low);
-/* " at driver.c:31" for a step in a report, or "" if the line isn't known. */
+/* Returns " at driver.c:31" for a step in a report, or "" if the line isn't known. */
 const char *nicxo_place(const nicxo_step *step, char room[NICXO_PLACE]);
 
 /* --- verdicts --- */
@@ -111,8 +111,8 @@ uint8_t nicxo_write(uint64_t bus, nicxo_bytes_at *source, size_t length);
 /* Calls the observer's `publish`, as happens before each call of the driver. */
 void nicxo_publish(void);
 
-/* The running thread releases everything that it did so far to an object, or acquires from the object. This states the
-   order of calls that the driver's caller promises. It isn't a barrier, and does nothing if accesses of own memory
+/* Make the running thread release everything that it did so far to an object, or acquire from the object. This states
+   the order of calls that the driver's caller promises. It isn't a barrier, and does nothing if accesses of own memory
    aren't seen. */
 void nicxo_gives(const void *object);
 void nicxo_takes(const void *object);

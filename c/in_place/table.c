@@ -88,8 +88,8 @@ static __attribute__((noinline)) bool is_callers(uintptr_t address)
     return is_there;
 }
 
-/* The function with which the archive frees memory. The archive would free the caller's memory like its own, so this
-   skips it. No caller's memory is outside the bounds, even while another thread moves them. */
+/* Called by the archive to free memory. The archive would free the caller's memory like its own, so this skips it. No
+   caller's memory is outside the bounds, even while another thread moves them. */
 void nicl_dealloc(void *piece)
 {
     uintptr_t address = (uintptr_t)piece;

@@ -408,7 +408,7 @@ void nicl_add(struct recording *it, const char *format, ...)
     nicl_text_ends(it, &more);
 }
 
-/* The two digits of each byte, made at the first use. */
+/* Returns the two digits of each byte, made at the first use. */
 static const char (*digits_of_bytes(void))[2]
 {
     static char digits[256][2];

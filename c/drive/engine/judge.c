@@ -204,7 +204,7 @@ static void judge_frame(uint16_t number)
     }
 }
 
-/* The index of the first byte in which a transmitted frame differs from an accepted one. */
+/* Returns the index of the first byte in which a transmitted frame differs from an accepted one. */
 static unsigned first_other(const struct sent *sent, uint64_t length)
 {
     unsigned at = 0;

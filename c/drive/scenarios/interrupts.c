@@ -31,7 +31,7 @@ static void come_by_flows(void)
     nicd_come_flows(NIC_RSS_TCP_IPV4, 6);
 }
 
-/* The receive vector of a queue. The row checks that rearm enables the causes of its own queue only. */
+/* Returns the receive vector of a queue. The row checks that rearm enables the causes of its own queue only. */
 static uint32_t vector_of(unsigned queue)
 {
     return nicd_peek(NIC_IVAR(queue / 2)) >> 16 * (queue % 2) & 0xF;

@@ -30,11 +30,11 @@ struct step;
 void nicxi_cover_begin(void);
 /* The frame that a receive step is about, taken or not; -1 if none waited. Call it after nicxi_cover_step. */
 int nicxi_frame_in_hand(bool is_taken);
-/* A task or handler ended, or continued from a point that isn't a wait. */
+/* Notes that a task or handler ended, or continued from a point that isn't a wait. */
 void nicxi_cover_thread(uint16_t number);
-/* The device or the link took a step. */
+/* Notes a step of the device or the link. */
 void nicxi_cover_step(const struct step *step);
-/* The device was reset, which loses the frames that wait in it. */
+/* Notes that the device was reset, which loses the frames that wait in it. */
 void nicxi_cover_reset(void);
 /* Notes which queues are on after the bring-up. */
 void nicxi_cover_bring_up(void);

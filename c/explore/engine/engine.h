@@ -295,7 +295,7 @@ void nicxi_went_on(struct thread *self);
 void nicxi_announce(const struct step *step);
 void nicxi_observed(uint16_t actor, const struct step *step);
 
-/* The first index from `from` on that isn't left out, or `count`. */
+/* Returns the first index from `from` on that isn't left out, or `count`. */
 uint16_t nicxi_next_kept(const bool *omitted, uint16_t from, uint16_t count);
 
 /* Lists the actors of a schedule, after its tasks and handlers are named. */
@@ -334,7 +334,7 @@ static inline bool nicxi_is_value(uint16_t actor)
 {
     return actor >= VALUES && actor != NOBODY;
 }
-/* The number of points at which the actor differs from the one before. */
+/* Returns the number of points at which the actor differs from the one before. */
 uint32_t nicxi_switches(const uint16_t *schedule, uint32_t points);
 uint64_t nicxi_sum_of_values(const uint16_t *schedule, uint32_t points);
 /* Lists the timers among `can` that must fire now. Returns how many there are. */
@@ -369,7 +369,7 @@ bool nicxi_lock_is_free(const nicx_mutex *lock);
 /* Whether another actor has run since the thread last continued. */
 bool nicxi_others_acted(const struct thread *thread);
 
-/* The value of a register of the device, read without effects. */
+/* Returns the value of a register of the device, read without effects. */
 static inline uint32_t nicxi_peek(uint32_t address)
 {
     return nicl_word_at(&nicxi.device, address);

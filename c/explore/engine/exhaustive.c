@@ -170,8 +170,8 @@ static void go_to(struct exhaustive *it, struct node *node, uint32_t k)
     node->at = k;
 }
 
-/* The sleep set after a node's choice: the steps asleep before it and the steps already tried at the node, if they are
-   independent of the choice. */
+/* Fills in the sleep set after a node's choice: the steps asleep before it and the steps already tried at the node, if
+   they are independent of the choice. */
 static bool inherit(struct exhaustive *it, const struct node *above, struct node *node)
 {
     const struct step *made = &nicxi.steps[above - it->nodes];
@@ -293,7 +293,7 @@ static bool add_more(struct exhaustive *it, struct node *node, const uint16_t *c
     return true;
 }
 
-/* A step of the device had nothing to do: tries another actor at the same point. */
+/* Called if a step of the device had nothing to do: tries another actor at the same point. */
 static bool try_another(struct exhaustive *it, struct node *node, const uint16_t *can, uint32_t count)
 {
     it->can[node->can + node->at] |= IDLE;
@@ -313,7 +313,7 @@ static void remember_idle(const struct exhaustive *it, const struct node *node)
             nicxi_set_idle(actor_at(it, node, k));
 }
 
-/* The choice at a point reached before. At the last point it may have changed since. */
+/* Makes the choice at a point reached before. At the last point it may have changed since. */
 static uint32_t choose_again(struct exhaustive *it, const struct node *node, const uint16_t *can, uint32_t count)
 {
     if (node->at == node->count)

@@ -21,7 +21,7 @@ void nicxi_write_head(FILE *file, const struct origin *origin);
 /* Writes the line of a point. Takes a listener's arguments. */
 void nicxi_write_point(FILE *file, uint16_t actor, const struct step *step);
 
-/* The actor with this name in a file, or NOBODY. */
+/* Returns the actor with this name in a file, or NOBODY. */
 uint16_t nicxi_actor_of(const char *words);
 
 struct schedule_file {

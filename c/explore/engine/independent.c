@@ -61,7 +61,7 @@ static uint32_t address_of(const struct step *step)
     return step->kind == STEP_VF_READ || step->kind == STEP_VF_WRITE ? step->physical : step->address;
 }
 
-/* The side of a step of the device. If a frame was dropped, its queue isn't reported. */
+/* Returns the side of a step of the device. If a frame was dropped, its queue isn't reported. */
 int nicxi_side_of_step(const struct step *step)
 {
     switch (step->kind) {

@@ -8,7 +8,7 @@
 
 #include "names.inc"
 
-/* The name of the register at an address, or the address formatted by `form`. */
+/* Returns the name of the register at an address, or the address formatted by `form`. */
 static const char *named(const struct run *list, size_t count, uint32_t at, const char *form, char *room)
 {
     for (size_t k = 0; k < count; k++) {

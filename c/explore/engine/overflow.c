@@ -18,7 +18,7 @@ static int place_of(int number)
     return number == SIGBUS;
 }
 
-/* The thread with the guard that contains this address, or null. */
+/* Returns the thread with the guard that contains this address, or null. */
 static const struct thread *owner_of(const char *address)
 {
     for (int k = 0; k < MOST_THREADS; k++) {

@@ -63,7 +63,7 @@ void nicxi_page_begin(FILE *file, const struct origin *origin, const struct turn
     fflush(file);
 }
 
-/* The text of a line. For a function's opening brace, it is the line before. */
+/* Reads the text of a line. For a function's opening brace, reads the line before it. */
 static bool source_of(struct source_line line, char *room, size_t size)
 {
     if (!nicxi_source(&line, room, size))

@@ -35,8 +35,8 @@ struct nicxi_races {
     void (*made)(const struct step *step); /* called for each step taken */
     /* A processor's pending store to own memory reached memory: its slot among the pending stores, and its address. */
     void (*landed)(unsigned processor, unsigned slot, uint64_t at);
-    /* The running thread releases everything that it did so far to an object, or acquires from the object. This states
-       an order that the caller promises; it isn't a barrier. */
+    /* Make the running thread release everything that it did so far to an object, or acquire from the object. This
+       states an order that the caller promises; it isn't a barrier. */
     void (*gives)(const void *object);
     void (*takes)(const void *object);
 };
@@ -70,7 +70,7 @@ struct thread *nicxi_make_thread(void (*function)(void *), void *argument, size_
 /* Ends the running thread, inside any call. */
 void nicxi_end_thread(void);
 
-/* A point of the running thread, for a call with this name about this object. */
+/* Adds a point of the running thread, for a call with this name about this object. */
 void nicxi_call(enum thread_state state, const char *call, const void *object);
 /* Like nicxi_call, but waits until one of the engine's own conditions holds. If `timed`, the wait may end at rest
    without it. */
@@ -79,7 +79,7 @@ void nicxi_call_until(bool (*condition)(void *), void *argument, bool timed, con
 /* Notes that the running thread accesses packet memory by this call. */
 void nicxi_note_call(const void *at);
 
-/* A point before an access of the driver's own memory. */
+/* Adds a point before an access of the driver's own memory. */
 void nicxi_memory_point(enum local local, uint64_t at, uint32_t size);
 
 /* An atomic operation of the running thread. Values are known only for up to 8 bytes. */
@@ -91,9 +91,9 @@ struct atomic {
     int order;
     uint64_t operand, expected;
 };
-/* A point before the operation. */
+/* Adds a point before the operation. */
 void nicxi_atomic_point(const struct atomic *atomic);
-/* A point before a store. With weak memory the store may be late: returns its slot among the pending stores
+/* Adds a point before a store. With weak memory the store may be late: returns its slot among the pending stores
    (nicxi_keep_own), or -1 if it must be made now. */
 int nicxi_store_point(const struct atomic *atomic, const void *bytes, bool releases);
 /* Weak memory: makes all pending stores of the running thread reach memory. */

@@ -35,7 +35,7 @@ static inline bool piece_has(const struct piece *piece, const void *taken)
            (const char *)taken < (const char *)piece + PIECE_ROOM;
 }
 
-/* The class for a size plus its header: every multiple of 16 up to 128, then eight sizes for each doubling. */
+/* Returns the class for a size plus its header: every multiple of 16 up to 128, then eight sizes for each doubling. */
 static inline unsigned piece_class(size_t size)
 {
     size_t units = (size + HEAD + UNIT - 1) / UNIT;
@@ -83,7 +83,7 @@ static inline void piece_give(struct piece *piece, void *taken)
     piece->free[k] = taken;
 }
 
-/* The usable size of a block. */
+/* Returns the usable size of a block. */
 static inline size_t piece_size(const void *taken)
 {
     unsigned k;

@@ -46,7 +46,7 @@ static bool is_of_engine(const void *call)
             has_prefix(name, "__wrap_") || has_prefix(name, "__tsan_"));
 }
 
-/* The driver's first frame: after the last of the engine's frames, if the engine was called. */
+/* Returns the index of the driver's first frame: after the last of the engine's frames, if the engine was called. */
 static unsigned first_of_driver(const struct frames *frames, unsigned end)
 {
     unsigned first = 0;
@@ -56,14 +56,14 @@ static unsigned first_of_driver(const struct frames *frames, unsigned end)
     return first;
 }
 
-/* The driver's function that a thread starts with. */
+/* Returns the driver's function that a thread starts with. */
 static const void *function_of(const struct thread *thread)
 {
     const void *function = nicxi_form && thread->is_made ? nicxi_form->function_of(thread) : NULL;
     return function ? function : (const void *)(uintptr_t)thread->function;
 }
 
-/* The number of frames up to and including that function. The frames after it belong to its caller. */
+/* Returns the number of frames up to and including that function. The frames after it belong to its caller. */
 static unsigned end_of_thread(const struct frames *frames, const struct thread *self)
 {
     const void *own = function_of(self), *caller = (const void *)(uintptr_t)self->function;
@@ -84,7 +84,7 @@ static bool is_of_library(const char *file)
            strstr(file, "/explore/threads/") || strstr(file, "/explore/python/");
 }
 
-/* The report card's functions and scenarios don't belong to the driver. */
+/* Whether a file is the report card's: its functions and scenarios don't belong to the driver. */
 static bool is_of_card(const char *file)
 {
     return strstr(file, "/drive/engine/") || strstr(file, "/drive/scenarios/") || strstr(file, "/drive/python/");
@@ -109,7 +109,7 @@ static void add_lines(struct place *place, const void *call)
             place->calls[place->count++] = lines[k];
 }
 
-/* The thread that took a step; null for the device, the link, and a store flushed by a barrier. */
+/* Returns the thread that took a step; null for the device, the link, and a store flushed by a barrier. */
 static const struct thread *thread_of(uint16_t actor, const struct step *step)
 {
     if (actor == NOBODY || step->is_beside)
@@ -121,7 +121,7 @@ static const struct thread *thread_of(uint16_t actor, const struct step *step)
     return is_thread ? &nicxi.threads[it->of] : NULL;
 }
 
-/* The place of the running thread, from its stack. */
+/* Finds the place of the running thread, from its stack. */
 static void place_here(const struct thread *thread, struct place *place)
 {
     struct frames frames = {{NULL}, 0};

@@ -20,25 +20,25 @@ extern unsigned (*nicxi_ask_for_lines)(struct source_line *lines, unsigned most)
 extern unsigned (*nicxi_ask_for_begin)(const struct thread *thread, struct source_line *lines, unsigned most);
 extern unsigned (*nicxi_ask_for_wait)(const struct thread *thread, struct source_line *lines, unsigned most);
 
-/* The place of a step that is being reported: call it only in a listener. Unknown for steps of the device, and if the
-   program has no debug information. */
+/* Finds the place of a step that is being reported: call it only in a listener. The place is unknown for steps of the
+   device, and if the program has no debug information. */
 void nicxi_place(uint16_t actor, const struct step *step, struct place *place);
 
-/* "race.c:31"; with helpers "corpus.h:110 < tail.c:42"; "" if unknown. */
+/* Returns "race.c:31"; with helpers "corpus.h:110 < tail.c:42"; "" if unknown. */
 const char *nicxi_place_words(const struct place *place, char room[MOST_PLACE]);
 
-/* The place of the running thread: its line, and the line of the call that led there. "" if no thread runs, or if
-   unknown. */
+/* Returns the place of the running thread: its line, and the line of the call that led there. "" if no thread runs, or
+   if unknown. */
 const char *nicxi_place_here(char room[MOST_PLACE]);
 
 /* Describes a step, as in "locks driver.lock", and names what it locks or waits for in `about`, or "". */
 void nicxi_step_words(const struct step *step, const struct place *place, char room[MOST_DESCRIPTION],
                       char about[MOST_DESCRIPTION]);
 
-/* The driver's line of a call, given its return address: "poll.c:17", or "" if unknown. */
+/* Returns the driver's line of a call, given its return address: "poll.c:17", or "" if unknown. */
 const char *nicxi_line_of_call(const void *return_address, char room[MOST_PLACE]);
 
-/* The driver's line at which a thread waits. */
+/* Returns the driver's line at which a thread waits. */
 const char *nicxi_line_of_wait(const struct thread *thread, char room[MOST_PLACE]);
 
 /* Describes a step with its place: "locks driver.lock at poll.c:17". */

@@ -53,7 +53,7 @@ bool nicxi_ended(struct post *post, int status);
 /* Starts a process and waits for it. */
 bool nicxi_do(struct post *post, uint32_t hang, void (*work)(struct post *, void *), void *argument);
 
-/* Another thread of the process made a call that only tasks may make: reports that, and exits. */
+/* Called if another thread of the process made a call that only tasks may make: reports that, and exits. */
 void nicxi_refuse_thread(void);
 
 /* After this call, a stack overflow's task is noted in `where`, or printed to standard error if `where` is null. */

@@ -78,7 +78,7 @@ static bool next_line(struct form *it)
     return true;
 }
 
-/* The rest of the next line, which must have this name; "" after a fault. */
+/* Returns the rest of the next line, which must have this name; "" after a fault. */
 static const char *field(struct form *it, const char *name)
 {
     size_t length = strlen(name);
@@ -230,7 +230,7 @@ static void queue(struct form *it, struct coverage *coverage, uint32_t k)
     coverage->acted[1][k] = bits >> 3 & 1;
 }
 
-/* What the scenario names, and whether it ran. Refuses another scenario's result. */
+/* Writes or reads what the scenario names, and whether it ran. Refuses another scenario's result. */
 static void coverage(struct form *it, struct coverage *coverage)
 {
     same(it, "tasks", nicxi.tasks);
@@ -398,7 +398,7 @@ static void failure(struct form *it, struct failure *failure)
         failure->schedule[k] = point(it, failure->schedule[k]);
 }
 
-/* Everything but the checksum. */
+/* Writes or reads everything but the checksum. */
 static void all(struct form *it, struct result *result)
 {
     char name[64];

@@ -180,9 +180,9 @@ static void note_wait(void)
     }
 }
 
-/* A thread reached its next point. A thread that waits again without a visible change may still have changed the
-   driver's own memory, so this counts as an act. But it counts only once per change: otherwise two polling threads
-   never become idle. */
+/* Called when a thread reached its next point. A thread that waits again without a visible change may still have
+   changed the driver's own memory, so this counts as an act. But it counts only once per change: otherwise two polling
+   threads never become idle. */
 static void note_act(struct thread *self)
 {
     if (nicxi.steps && is_waiting(self))
@@ -326,7 +326,7 @@ bool nicxi_may_come(uint16_t actor, const uint16_t *can, uint32_t count)
     return !nicxi_is_value(actor) && comes_at_rest(&nicxi.actors[actor]) && nicxi_may_be_idle(can, count);
 }
 
-/* The actor that counts as having acted: for an older load, its thread. */
+/* Returns the actor that counts as having acted: for an older load, its thread. */
 static uint16_t who(uint16_t number)
 {
     const struct actor *actor = &nicxi.actors[number];

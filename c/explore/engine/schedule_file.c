@@ -140,7 +140,7 @@ static unsigned number_of(const char *text, unsigned bound)
     return number < bound ? number : bound;
 }
 
-/* The entry that says whether this is left out, or null if the scenario doesn't contain it. */
+/* Returns the entry that says whether this is left out, or null if the scenario doesn't contain it. */
 static bool *omission_of(struct omitted *omitted, const char *words)
 {
     unsigned frame = strncmp(words, "frame ", 6) ? nicxi.frame_count : number_of(words + 6, nicxi.frame_count);

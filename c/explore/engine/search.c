@@ -89,7 +89,7 @@ static bool make(struct post *post, const nicx_chooser *chooser, struct distinct
     return note(post, &result);
 }
 
-/* The largest number of points among some random schedules. Priorities change at points below this. */
+/* Returns the largest number of points among some random schedules. Priorities change at points below this. */
 static uint32_t usual_length(const struct options *options)
 {
     struct by_chance state;
@@ -147,7 +147,7 @@ static const struct strategy_row {
 };
 enum { STRATEGIES = sizeof strategies / sizeof *strategies };
 
-/* The row for a run's strategy. */
+/* Returns the row for a run's strategy. */
 static const struct strategy_row *row_of(const struct options *options, uint64_t run)
 {
     const struct strategy_row *row = &strategies[run % STRATEGIES];
@@ -194,7 +194,7 @@ static uint64_t made_of(const struct common *common, uint64_t run)
     return common->made[run / RUNS_OF_BOUND][part < PARTS ? part : PARTS - 1];
 }
 
-/* The number of schedules run so far in the parts before this one. */
+/* Returns the number of schedules run so far in the parts before this one. */
 static uint64_t made_before(const struct common *common, uint64_t run)
 {
     uint64_t sum = 0, bound = run / RUNS_OF_BOUND, part = run % RUNS_OF_BOUND;
@@ -204,7 +204,7 @@ static uint64_t made_before(const struct common *common, uint64_t run)
     return sum;
 }
 
-/* This machine's share of the limit on schedules. */
+/* Returns this machine's share of the limit on schedules. */
 static uint64_t most_runs(const struct options *options)
 {
     return options->runs / options->shards + (options->runs % options->shards != 0);

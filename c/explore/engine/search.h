@@ -35,10 +35,10 @@ struct failure {
     struct omitted omitted; /* tasks, handlers and events that the schedule leaves out */
 };
 
-/* The monotonic clock, in seconds. */
+/* Returns the time of the monotonic clock, in seconds. */
 double nicxi_now(void);
 
-/* "random in run 36": the strategy and the run that found it. */
+/* Returns "random in run 36": the strategy and the run that found it. */
 const char *nicxi_where(const struct failure *failure, char room[80]);
 
 /* Returns null, or why no search is possible. */

@@ -194,7 +194,7 @@ static void take_range(struct shrinking *it, uint32_t from, uint32_t to)
     it->length += to > from ? to - from : 0;
 }
 
-/* The end of the stretch of one actor's points that begins at `at`. */
+/* Returns the end of the stretch of one actor's points that begins at `at`. */
 static uint32_t end_of(const struct failure *best, uint32_t at)
 {
     uint32_t end = at + 1;

@@ -5,14 +5,14 @@
 #include "engine.h"
 #include "places.h"
 
-/* The driver writes packet memory, or the register at this address. `call` may be null if it isn't known. */
+/* Notes that the driver writes packet memory, or the register at this address. `call` may be null if it isn't known. */
 void nicxi_note_stored(uint64_t bus, uint64_t length, const void *call);
 void nicxi_note_set(uint32_t address, const void *call);
 
 /* After a step of the device: forgets the driver's writes to what the step overwrote. */
 void nicxi_forget_stored(const struct step *step);
 
-/* " at ring.c:9 < driver.c:40" for this thread's write, if it was the last one to that place, or "". */
+/* Returns " at ring.c:9 < driver.c:40" for this thread's write, if it was the last one to that place, or "". */
 const char *nicxi_stored_at(const struct thread *thread, uint64_t bus, char room[MOST_PLACE]);
 
 /* Adds the source of the address to the report of a fault at memory that isn't lent: the write of the descriptor; the

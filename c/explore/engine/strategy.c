@@ -117,7 +117,7 @@ static uint32_t choose_to_the_letter(void *argument, const uint16_t *can, uint32
     return is_first ? k : count;
 }
 
-/* The list's next entry if it is a value, at most the largest possible; otherwise 0. */
+/* Returns the list's next entry if it is a value, at most the largest possible; otherwise 0. */
 static uint32_t value_of_list(struct by_list *state, uint32_t count)
 {
     if (state->at == state->length || !nicxi_is_value(state->list[state->at]))

@@ -5,9 +5,9 @@
 #include "chance.h"
 #include "engine.h"
 
-/* The index of an actor in `can`, or `count`. */
+/* Returns the index of an actor in `can`, or `count`. */
 uint32_t nicxi_place_of(uint16_t actor, const uint16_t *can, uint32_t count);
-/* The index of the actor that acted longest ago; for values, the first. */
+/* Returns the index of the actor that acted longest ago; for values, the first. */
 uint32_t nicxi_longest_ago(const uint16_t *can, uint32_t count);
 
 /* --- random: each runnable actor is equally likely --- */

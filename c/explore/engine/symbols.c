@@ -26,7 +26,7 @@ struct module {
     bool is_found;
 };
 
-/* The path of the program's file, through a descriptor that stays open. Under an emulator of another processor,
+/* Formats the path of the program's file, through a descriptor that stays open. Under an emulator of another processor,
    /proc/self/exe is right only in the process that opens it, but another process reads the lines. If the file is
    replaced, the descriptor still refers to the old one. */
 static void name_program(char *path, size_t size)

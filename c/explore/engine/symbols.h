@@ -8,10 +8,10 @@
 
 enum { MOST_FILE = 512, MOST_SYMBOL = 96 };
 
-/* The variable or function that covers an address, as "driver" or "driver+0x10". Returns false if none does, as for the
-   heap and for stacks. */
+/* Names the variable or function that covers an address, as "driver" or "driver+0x10". Returns false if none does, as
+   for the heap and for stacks. */
 bool nicxi_symbol(const void *address, char *room, size_t size);
-/* The start of the function that covers an address, or null. */
+/* Returns the start of the function that covers an address, or null. */
 const void *nicxi_function(const void *address);
 
 /* A call. An instruction in inlined functions has several calls, the innermost first. */

@@ -50,7 +50,7 @@ bool nicxi_tell_nothing(const struct options *options, const struct totals *tota
     return fails;
 }
 
-/* The first line of the report, if the search doesn't see everything that the driver's threads do. */
+/* Prints the first line of the report, if the search doesn't see everything that the driver's threads do. */
 static void tell_unseen(void)
 {
     char words[MOST_WORDS];

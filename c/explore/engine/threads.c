@@ -36,8 +36,8 @@ static void end(struct thread *self)
     self->on = -1;
 }
 
-/* The outermost function of a thread. It never ends: a handler that starts again, and a task in the next schedule,
-   continue in its loop. */
+/* Runs as the outermost function of a thread. It never ends: a handler that starts again, and a task in the next
+   schedule, continue in its loop. */
 static void live(void *argument)
 {
     struct thread *self = argument;

@@ -24,8 +24,8 @@ uint32_t nicxi_list_due(uint16_t *can)
     return count;
 }
 
-/* The timer with this number, after a point of the calling thread. Null if there is no such timer, or if the thread is
-   left. */
+/* Returns the timer with this number, after a point of the calling thread. Returns null if there is no such timer, or
+   if the thread is left. */
 static struct thread *timer_of(int number, enum local local)
 {
     struct thread *self = nicxi.self;

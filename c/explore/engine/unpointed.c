@@ -114,7 +114,7 @@ static void decode_one(struct decoded *it, unsigned part)
                 AMONG(opcode, "\x63\x69\x6B\x84\x85\x86\x87\x8A\x8B\xC0\xC1\xD0\xD1\xD2\xD3");
 }
 
-/* How many bytes it accesses. Vector moves count as whole vectors. */
+/* Returns how many bytes it accesses. Vector moves count as whole vectors. */
 static unsigned size_of(const struct decoded *it)
 {
     unsigned opcode = it->opcode, low = opcode & 0xFF;
@@ -132,7 +132,7 @@ static unsigned size_of(const struct decoded *it)
     return it->rex & 8 ? 8 : it->is_wide ? 4 : 2;
 }
 
-/* How many bytes of an immediate follow the address. */
+/* Returns how many bytes of an immediate follow the address. */
 static unsigned constant_of(const struct decoded *it, unsigned part)
 {
     unsigned whole = it->is_wide ? 4 : 2;
@@ -157,7 +157,7 @@ static int64_t displacement(const uint8_t *at, unsigned bytes)
     return word;
 }
 
-/* The address that a ModRM byte for memory and the bytes after it encode. */
+/* Returns the address that a ModRM byte for memory and the bytes after it encode. */
 static uint64_t place_of(const struct decoded *it, const greg_t *registers)
 {
     const uint8_t *at = it->at;
@@ -408,7 +408,7 @@ static const char *object_words(uint64_t at, char *room, size_t size)
     return room;
 }
 
-/* "clean() in task send" */
+/* Returns "clean() in task send". */
 static const char *function_words(uintptr_t instruction, uint16_t thread, char *room, size_t size)
 {
     char function[MOST_SYMBOL];

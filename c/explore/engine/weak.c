@@ -462,7 +462,7 @@ int nicxi_keep_own(uint64_t at, const void *bytes, uint32_t length, bool release
     return keep_store(it, store, bytes) ? store.slot : -1;
 }
 
-/* How many of the oldest stores must reach memory so that no store to own memory in the range is left. */
+/* Returns how many of the oldest stores must reach memory before no store to own memory in the range is left. */
 static uint32_t up_to(const struct processor *it, uint64_t at, uint64_t length)
 {
     uint32_t count = it->count;

@@ -45,9 +45,9 @@ void nicxi_acquired(const struct thread *thread);
 /* A block was lent or taken back: no processor's loads are older than this. */
 void nicxi_memory_moved(uint32_t block);
 
-/* The running thread makes an atomic store to its own memory. Returns the store's slot among the pending stores, which
-   is passed to nicxi_races->landed when it reaches memory. Returns -1 if it isn't kept, and must be made now. If it
-   releases, all earlier stores reach memory before it. */
+/* Makes an atomic store of the running thread to its own memory. Returns the store's slot among the pending stores,
+   which is passed to nicxi_races->landed when it reaches memory. Returns -1 if it isn't kept, and must be made now. If
+   it releases, all earlier stores reach memory before it. */
 int nicxi_keep_own(uint64_t at, const void *bytes, uint32_t length, bool releases);
 /* Replaces what a load of own memory returns with the thread's own pending store there, if there is one. */
 void nicxi_load_own(uint64_t at, void *bytes, uint32_t length);
@@ -56,7 +56,7 @@ void nicxi_land_own(uint64_t at, uint64_t length);
 /* Like nicxi_land_own, for every processor: the range holds other data from now on. */
 void nicxi_land_everywhere(uint64_t at, uint64_t length);
 
-/* A step of the device, or one outside of threads, changed memory. */
+/* Notes that a step of the device, or one outside of threads, changed memory. */
 void nicxi_memory_changed(const struct step *step);
 
 /* Whether an actor is runnable: a store that reaches memory, or an older load. Makes a store reach memory. */

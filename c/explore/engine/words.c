@@ -31,7 +31,7 @@ const char *nicxi_reply(const struct step *step, char room[MOST_WORDS])
     return room;
 }
 
-/* A barrier with the number of stores that it flushed; a timer by its name. */
+/* Describes a local step: a barrier with the number of stores that it flushed, a timer by its name. */
 static const char *local_words(const struct step *step, char *room)
 {
     static const char *const words[] = {"begins",  "a point", "waited", "waited until", "paused", "locks",
@@ -46,8 +46,8 @@ static const char *local_words(const struct step *step, char *room)
     return room;
 }
 
-/* An access of lent memory. With weak memory, a store may be pending, and a load may include the thread's own pending
-   stores, or be old. */
+/* Describes an access of lent memory. With weak memory, a store may be pending, and a load may include the thread's own
+   pending stores, or be old. */
 static const char *memory_words(const struct step *step, const char *stray, char *room)
 {
     const char *late = !step->is_kept ? "" : step->kind == STEP_POKE ? ", on its way" : ", with its own pending stores";
@@ -69,7 +69,7 @@ const char *nicxi_own_name(uint64_t at, char room[MOST_WORDS])
     return room;
 }
 
-/* A small number in decimal; a large one, like an address, in hexadecimal. */
+/* Formats a small number in decimal, and a large one, like an address, in hexadecimal. */
 static const char *value_words(uint64_t value, char room[MOST_VALUE])
 {
     snprintf(room, MOST_VALUE, value < 65536 ? "%llu" : "0x%llx", (unsigned long long)value);
@@ -94,7 +94,7 @@ static const char *atomic_words(const struct step *step, const char *name, char 
     return room;
 }
 
-/* An access of the driver's own memory, or a call on a library's object. */
+/* Describes an access of the driver's own memory, or a call on a library's object. */
 static const char *own_words(const struct step *step, char *room)
 {
     static const char *const words[] = {"reads", "writes"};
@@ -113,7 +113,7 @@ static const char *own_words(const struct step *step, char *room)
     return room;
 }
 
-/* A store that reaches memory, lent or own. */
+/* Describes a store that reaches memory, lent or own. */
 static const char *landing_words(const struct step *step, char *room)
 {
     char name[MOST_WORDS];
@@ -125,7 +125,7 @@ static const char *landing_words(const struct step *step, char *room)
     return room;
 }
 
-/* A register access, with the register's name. */
+/* Describes a register access, with the register's name. */
 static const char *access_words(const struct step *step, const char *stray, char *room)
 {
     char name[MOST_NAME];

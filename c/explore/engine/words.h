@@ -9,16 +9,17 @@ enum { MOST_WORDS = 160 };
 /* Formats an actor's step and its result: "r EICR = 0x00000020". */
 const char *nicxi_words(const struct step *step, char room[MOST_WORDS]);
 
-/* What a step of the device returned, as a script's run prints it. */
+/* Returns what a step of the device returned, as a script's run prints it. */
 const char *nicxi_reply(const struct step *step, char room[MOST_WORDS]);
 
-/* The variable at an address of the driver's own memory, or where that memory was allocated, or the address itself. */
+/* Returns the variable at an address of the driver's own memory, or where that memory was allocated, or the address
+   itself. */
 const char *nicxi_own_name(uint64_t at, char room[MOST_WORDS]);
 
-/* ", queue 0's receive slot 1" for the ring slot at an address of packet memory, or "". */
+/* Returns ", queue 0's receive slot 1" for the ring slot at an address of packet memory, or "". */
 const char *nicxi_slot_words(uint64_t bus, char room[MOST_WORDS]);
 
-/* For an address that isn't lent: "; stop took block 2 back at driver.c:43", or "". */
+/* Returns, for an address that isn't lent, "; stop took block 2 back at driver.c:43", or "". */
 const char *nicxi_taken_words(uint64_t bus, char room[MOST_WORDS]);
 
 const char *nicxi_outcome_name(uint8_t outcome);
@@ -26,7 +27,7 @@ const char *nicxi_outcome_name(uint8_t outcome);
 /* Formats why something is refused. The text stays valid until the next refusal, and may be an argument of it. */
 const char *nicxi_why(const char *form, ...) __attribute__((format(printf, 1, 2)));
 
-/* The plural ending for a count: "1 schedule", "2 schedules". */
+/* Returns the plural ending for a count: "1 schedule", "2 schedules". */
 static inline const char *nicxi_s(uint64_t count)
 {
     return count == 1 ? "" : "s";

@@ -49,7 +49,7 @@ static bool host_reads(uint32_t *request)
     return true;
 }
 
-/* The answer to a request, from the host's own tables and registers. */
+/* Returns the answer to a request, from the host's own tables and registers. */
 static uint32_t host_finds(uint32_t request)
 {
     switch (request) {

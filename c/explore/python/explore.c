@@ -194,7 +194,7 @@ const char *nicp_open_scenario(const struct nicp_scenario *given)
 
 nic *nicp_device(void);
 
-/* The controller, at an address that doesn't change. */
+/* Returns the controller, at an address that doesn't change. */
 nic *nicp_device(void)
 {
     return &nicxi.device;

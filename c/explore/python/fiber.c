@@ -287,7 +287,7 @@ void nicxi_fiber_begin(struct fiber *fiber, void (*function)(void *), void *argu
         abort();
 }
 
-/* The running thread reaches no point: ends the schedule, and abandons the thread where it is. */
+/* Called if the running thread reaches no point: ends the schedule, and abandons the thread where it is. */
 static void give_up(void)
 {
     struct thread *self = nicxi.self;
@@ -297,7 +297,7 @@ static void give_up(void)
     nicxi.self = NULL;
 }
 
-/* The schedule is over: makes its threads leave it. */
+/* Called when the schedule is over: makes its threads leave it. */
 static void unwind_all(void)
 {
     for (int k = 0; k < MOST_THREADS; k++) {

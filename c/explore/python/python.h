@@ -32,7 +32,7 @@ struct nicp_python {
 void nicp_open(const struct nicp_python *given, uint32_t condition, void (*foreign)(void));
 /* Calls a function in Python. Doesn't return if the schedule is over. */
 int64_t nicp_ask(uint32_t function, uint64_t a, uint64_t b, uint64_t c);
-/* The text of an exception or a fault. */
+/* Returns the text of an exception or a fault. */
 const char *nicp_words(void);
 void nicp_set_words(const char *text);
 
@@ -43,7 +43,7 @@ struct nicp_way {
     struct nicp_way *outer;
 };
 
-/* The running thread's innermost way, or null if the thread isn't the engine's. */
+/* Returns the running thread's innermost way, or null if the thread isn't the engine's. */
 struct nicp_way **nicp_way(void);
 /* Jumps to the running thread's innermost nicp_way. */
 void nicp_leave(void);

@@ -239,7 +239,7 @@ static void pick(struct pick *it, uint8_t kind)
     }
 }
 
-/* The value that the physical function sees at the address of a virtual function's access. */
+/* Returns the value that the physical function sees at the address of a virtual function's access. */
 static uint32_t physical_now(const struct step *step)
 {
     uint32_t mode = 0, own = 0, word = 0;
@@ -337,7 +337,7 @@ static uint64_t sum_of_memory(uint64_t sum)
     return sum;
 }
 
-/* A hash of everything that the state shows. Changes the device. */
+/* Returns a hash of everything that the state shows. Changes the device. */
 static uint64_t sum_of_all(void)
 {
     uint64_t sum = sum_of_frames_out(sum_of_memory(sum_of_registers(1)));

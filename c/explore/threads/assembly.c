@@ -47,7 +47,7 @@ static bool is_distance(const uint8_t *at)
     return false;
 }
 
-/* The name of the barrier or exchange that starts here, or null. */
+/* Returns the name of the barrier or exchange that starts here, or null. */
 static const char *named_at(const uint8_t *at, size_t left)
 {
     if (BEGINS("\x0F\xAE\xF0"))

@@ -7,7 +7,7 @@ static bool is_the_device(const nic *n)
     return nicxi_is_ours() && n->device && n->device == nicxi.device.device;
 }
 
-/* The status of the caller's last step. */
+/* Returns the status of the caller's last step. */
 static uint8_t status_of(uint8_t outside)
 {
     return nicxi.self ? nicxi.self->next.status : outside;
@@ -87,7 +87,7 @@ STEP(queue_step, transmit ? STEP_TX_ENABLE : STEP_RX_ENABLE, queue,
 STEP(eeprom_step, STEP_EEPROM, 0, (nic * n, nic_outcome *outcome), (n, outcome))
 STEP(int_step, STEP_INT, group, (nic * n, uint8_t group, nic_outcome *outcome), (n, group, outcome))
 
-/* The engine's kind for a step of nic_settle. */
+/* Returns the engine's kind for a step of nic_settle. */
 static uint8_t kind_of(const nic_outcome *outcome)
 {
     static const uint8_t kinds[] = {STEP_RX_ENABLE, STEP_TX_ENABLE, STEP_EEPROM, STEP_TX, STEP_RX, STEP_INT};

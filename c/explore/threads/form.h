@@ -64,7 +64,7 @@ static inline unsigned nicxi_number(const struct thread *thread)
 /* A whole program's first thread until it creates another one: nothing that it does is a point. Null otherwise. */
 extern struct thread *nicxi_alone;
 
-/* The calling task, or null for bring_up, begin and end. Fails for functions that may only look. */
+/* Returns the calling task, or null for bring_up, begin and end. Fails for functions that may only look. */
 static inline struct thread *nicxi_caller(void)
 {
     if (!nicxi_may_act())
@@ -81,7 +81,7 @@ void nicxi_refuse(const char *call, const void *at);
 const char *nicxi_line(const void *at, char room[MOST_NAMED]);
 /* Adds the line of the function's caller, if it isn't null: "regs.h:9 < driver.c:31". */
 const char *nicxi_line_by(const void *at, const void *caller, char room[MOST_NAMED]);
-/* The line of the thread's current call, taken from its stack. */
+/* Returns the line of the thread's current call, taken from its stack. */
 const char *nicxi_line_now(const void *at, char room[MOST_NAMED]);
 const char *nicxi_name(const void *object, const char *kind, char room[MOST_NAMED]);
 

@@ -12,13 +12,13 @@
 /* Called if accesses are seen: the driver was built with -fsanitize=thread. */
 void nicxi_race_open(void);
 
-/* The running thread releases everything that it did so far to an object, or acquires from the object. */
+/* Make the running thread release everything that it did so far to an object, or acquire from the object. */
 void nicxi_race_release(const void *object);
 void nicxi_race_acquire(const void *object);
 
 enum access { READS = 0, WRITES = 1, ATOMIC = 2 };
 
-/* The running thread accesses memory at this call. */
+/* Notes that the running thread accesses memory at this call. */
 void nicxi_race_access(uint64_t at, size_t length, unsigned access, const void *call);
 /* The call that led to the running function, or null for the task's first function, or if the caller isn't built with
    -fsanitize=thread. A schedule starts without a call. */
@@ -34,7 +34,7 @@ void nicxi_race_load(uint64_t at, int order);
 void nicxi_race_store(uint64_t at, int order);
 void nicxi_race_exchange(uint64_t at, int order);
 void nicxi_race_fence(int order);
-/* A pending store (nicxi_keep_own) in this slot: it releases when it reaches memory. */
+/* Notes a pending store (nicxi_keep_own) in this slot, which releases when it reaches memory. */
 void nicxi_race_store_late(int slot, int order);
 /* Whether other threads may see an address: it is neither on a task's stack nor thread-local. */
 bool nicxi_race_is_shared(uint64_t at);

@@ -124,7 +124,7 @@ static char *begin_before(size_t unit)
     return units[unit] & BEGINS ? at_unit(unit) : NULL;
 }
 
-/* The allocation closest to an address: the one before it, or one that begins right after it. */
+/* Returns the allocation closest to an address: the one before it, or one that begins right after it. */
 static char *nearest(uint64_t at, size_t unit)
 {
     char *before = begin_before(unit), *after = unit + 1 < UNITS && units[unit + 1] & BEGINS ? at_unit(unit + 1) : NULL;
@@ -148,7 +148,7 @@ bool nicxi_taken_name(const void *object, char *room, size_t size)
     return true;
 }
 
-/* A name for code outside of tasks. */
+/* Returns a name for code outside of tasks. */
 static const char *name_outside(void)
 {
     if (nicxi.asker)
@@ -163,7 +163,7 @@ static const char *name_of_self(void)
     return nicxi_is_in_thread() ? nicxi.self->name : name_outside();
 }
 
-/* The last free of an allocation, or null if it is no longer known. */
+/* Returns the last free of an allocation, or null if it is no longer known. */
 static const struct freed *freed_of(const char *at)
 {
     for (unsigned k = freed.count; k > 0; k--) {

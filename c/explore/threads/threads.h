@@ -25,7 +25,7 @@ int nicxi_create(pthread_t *handle, const struct creation *creation, const char 
 int nicxi_join(pthread_t number, void **result, const char *call, const void *at);
 void nicxi_exit_thread(void *result, const char *call, const void *at) __attribute__((noreturn));
 
-/* The requested size of a stack in bytes; 0 if the attributes don't change the default. */
+/* Stores the requested size of a stack in bytes, or 0 if the attributes don't change the default. */
 void nicxi_stack_of(const pthread_attr_t *how, size_t *room);
 
 #endif

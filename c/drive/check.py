@@ -392,8 +392,8 @@ FAULTS_OF_POINTERS = ("STORE_PAST_A_PIECE", "STORE_GIVEN_BACK", "STORE_IN_OPEN",
 
 
 def check_seen_in_place(kit: Kit) -> None:
-    """With accesses observed, a load of the device's write-back through a pointer orders the two, and a held lock
-    excludes other threads. Otherwise the correct driver would have races."""
+    """With accesses observed, a load of the device's write-back through a pointer orders later accesses after that
+    write, and a held lock excludes other threads. Otherwise the correct driver would have races."""
     rows = "receive-wrap,send-wrap,both-ways,mtu-then-link"
     sources = {"driver": [HERE / "corpus/driver.c"], "adapter": [ADAPTER_FOLDER / it for it in ("driver.c", "glue.c")]}
     for name, source in sources.items():

@@ -63,7 +63,7 @@ class Kit:
     built: dict[Path, object] = field(default_factory=dict)
 
     def out(self, name: str) -> Path:
-        """A folder for a program's output."""
+        """Returns a folder for a program's output."""
         folder = self.folder / name
         folder.mkdir(exist_ok=True)
         return folder
@@ -151,8 +151,8 @@ def check_script(kit: Kit, path: Path) -> None:
 
 
 def check_names(kit: Kit) -> str:
-    """Each address of the register table and each offset of a virtual function is named; other addresses aren't.
-    Names of Rust are reported as its source has them."""
+    """Each address of the register table and each offset of a virtual function is named; other addresses aren't. Names
+    of Rust are reported as in the source."""
     ran([kit.build(HERE / "tests/demangle.c")])
     return ran([kit.build(HERE / "tests/names.c")]).strip()
 
@@ -722,7 +722,7 @@ REAL_FAULTS = {
 
 
 def modes_of(source: Path) -> list[str]:
-    """The modes in a test's table."""
+    """Returns the modes in a test's table."""
     return re.findall(r'\{"([a-z0-9_]+)", [a-z]', source.read_text())
 
 

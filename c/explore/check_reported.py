@@ -29,7 +29,7 @@ def found_by(kit: Kit, program: Path, mode: str, *words: object) -> tuple[str, s
 
 
 def points_of(schedule: str) -> list[str]:
-    """The actors in a schedule's file."""
+    """Returns the actors in a schedule's file."""
     lines = [line.partition("#")[0].strip() for line in schedule.splitlines()]
     heads = ("scenario ", "without ", "cycle", "memory ", "points ")
     return [line for line in lines if line and not line.startswith(heads)]
@@ -159,7 +159,7 @@ PARTS = {
 
 
 def page_of(path: Path) -> dict[str, Any]:
-    """The data of a page, as its script reads them."""
+    """Returns the data of a page, as its script reads them."""
     found = re.search(r'<script type="application/json" id="data">\n(.*?)\n</script>', path.read_text(), re.S)
     if not found:
         raise Wrong(f"{path} has no data")
@@ -235,8 +235,8 @@ def made(said: str) -> int:
 
 
 def check_same_answer(kit: Kit) -> str:
-    """The exhaustive search finds the same failure and runs as many schedules, however many processes there are,
-    also up to a bound."""
+    """The exhaustive search finds the same failure in the same number of schedules with any number of processes, also
+    with a bound."""
     source, out = HERE / "corpus/eicr_cleared_after_poll.c", kit.folder / "reported-out"
     words = ["--quiet", "--no-shrink", "--strategy", "exhaustive", "--out", out]
     wrong, right = kit.build(source), kit.build(source, "FIXED")
@@ -278,5 +278,5 @@ def check_reported(kit: Kit) -> list[str]:
 
 
 def replace_flags(kit: Kit) -> Kit:
-    """The same kit with debug information, without which no lines are known."""
+    """Returns the kit with debug information, without which no lines are known."""
     return replace(kit, flags=[*kit.flags, "-g"])

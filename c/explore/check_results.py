@@ -14,7 +14,7 @@ RACE = HERE / "examples/race.c"
 
 
 def numbers(said: str) -> dict[str, int]:
-    """The numbers of schedules, points and distinct schedules in the output."""
+    """Returns the numbers of schedules, points and distinct schedules in the output."""
     found = re.search(r"(\d+) schedules?, (\d+) points?", said)
     distinct = re.search(r"(\d+) distinct schedules?", said)
     if not found:
@@ -92,7 +92,7 @@ def check_causes(kit: Kit) -> str:
 
 
 def summed(lines: list[str]) -> str:
-    """The lines of a result, followed by the checksum they must end in."""
+    """Returns the lines of a result, followed by the checksum they must end in."""
     total = 0xCBF29CE484222325
     for byte in "".join(lines).encode("latin-1"):
         total = (total ^ byte) * 0x100000001B3 % 2**64
@@ -150,7 +150,7 @@ def check_refused(kit: Kit, tries: int) -> str:
 
 
 def changed(lines: list[str], chance: random.Random) -> str:
-    """A file with a line removed, repeated or moved, or a changed byte or number; most of them with a valid
+    """Returns a file with a line removed, repeated or moved, or with a changed byte or number, mostly with a valid
     checksum."""
     made = list(lines)
     for _ in range(chance.randint(1, 3)):

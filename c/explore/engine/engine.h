@@ -72,7 +72,7 @@ enum local {
     LOCAL_ATOMIC
 };
 
-/* What an atomic operation does. A compare-and-exchange that finds another value than expected only compares. */
+/* What an atomic operation does. A compare-and-exchange that finds an unexpected value only compares. */
 enum operation { LOADS, STORES, CHANGES, COMPARES };
 
 enum thread_state {

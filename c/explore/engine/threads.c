@@ -251,7 +251,7 @@ void nicx_lock(nicx_mutex *lock)
     self->lock = lock;
     if (!stand_at(LOCKED, LOCAL_LOCK, lock))
         return;
-    if (nicxi.is_tso) /* x86 takes a lock by an exchange */
+    if (nicxi.is_tso) /* on x86, taking a lock is an exchange */
         nicxi_released(self);
     lock->kept = nicxi.epoch << 8 | (number_of(self) + 1);
     note_lock(self, lock);

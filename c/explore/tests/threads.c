@@ -120,8 +120,8 @@ static void on_another(void *(*function)(void *), void *argument)
     pthread_join(other, NULL);
 }
 
-/* Another thread closes a device of the search's thread, and the other way round; and a thread runs schedules that
-   didn't open the scenario. */
+/* Another thread closes a device of the search's thread, and vice versa; and a thread runs schedules that didn't open
+   the scenario. */
 static void cross_over(void)
 {
     nic here, there;

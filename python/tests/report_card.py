@@ -37,7 +37,7 @@ LACKS = {
 }
 
 # The entry for a driver with Can.SHARED_DEVICE.
-NO_RESET = "no reset of the device (NICD_SHARED_DEVICE)"
+NO_RESET = "no device reset (NICD_SHARED_DEVICE)"
 
 # For each class of card_drivers.py, the row that fails and a pattern of its message.
 WRONG = {

@@ -93,8 +93,8 @@ struct need {
     const char *name;
 };
 
-/* Names what the row must reach but the driver, according to its adapter, never does by design. Returns null if there
-   is nothing. */
+/* Names a requirement of the row that, according to the adapter, the driver never meets by design. Returns null if
+   there is none. */
 static const char *never_of(const struct scenario *it)
 {
     static const struct {
@@ -102,10 +102,10 @@ static const char *never_of(const struct scenario *it)
         uint8_t reach;
         const char *name;
     } nevers[] = {
-        {NICD_SHARED_DEVICE, WRITES_RESET, "no reset of the device (NICD_SHARED_DEVICE)"},
-        {NICD_NO_MODERATION, WRITES_EITR, "no interval of interrupts (NICD_NO_MODERATION)"},
-        {NICD_NO_HEADS, WRITES_HEAD, "no write of heads (NICD_NO_HEADS)"},
-        {NICD_NO_ADDRESS, WRITES_ADDRESS, "no write of its address (NICD_NO_ADDRESS)"},
+        {NICD_SHARED_DEVICE, WRITES_RESET, "no device reset (NICD_SHARED_DEVICE)"},
+        {NICD_NO_MODERATION, WRITES_EITR, "no interrupt interval (NICD_NO_MODERATION)"},
+        {NICD_NO_HEADS, WRITES_HEAD, "no writes to head registers (NICD_NO_HEADS)"},
+        {NICD_NO_ADDRESS, WRITES_ADDRESS, "no writes to address registers (NICD_NO_ADDRESS)"},
         {NICD_ONE_VECTOR, OWN_VECTORS, "one vector for all queues (NICD_ONE_VECTOR)"},
         {NICD_ONE_BUFFER, CHAIN, "one buffer for each frame (NICD_ONE_BUFFER)"},
         {NICD_ONE_BUFFER, SENT_CHAIN, "one buffer for each frame (NICD_ONE_BUFFER)"},

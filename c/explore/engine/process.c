@@ -140,7 +140,7 @@ static void tell_hang(const struct post *post, nicx_result *result)
     char name[96];
     uint32_t at = post->at, leaves = post->notes.leaves;
     if (leaves) {
-        snprintf(result->words, sizeof result->words, "%s's stack can't unwind: a thread or a drop there hangs",
+        snprintf(result->words, sizeof result->words, "%s's stack can't unwind: a thread or a destructor there hangs",
                  nicxi.threads[leaves - 1].name);
         return;
     }

@@ -143,7 +143,7 @@ static const char *end(void)
     nic_peek32(nicx_device(), NIC_EIMS, &mask);
     if (head != driver.next || (tail + SLOTS - head) % SLOTS != SLOTS - 1)
         return "a buffer was never posted";
-    return mask & CAUSE ? NULL : "the vector is still masked when all is idle";
+    return mask & CAUSE ? NULL : "the vector is still masked at rest";
 }
 
 DRIVER(.name = "interrupt_moderation", .blocks = 1 + SLOTS)

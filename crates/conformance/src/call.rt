@@ -2,7 +2,7 @@
 
 use text_format::Words;
 
-/// A call as a table writes it. A missing word reads as empty, and a word that isn't a number as 0.
+/// A call in a table's notation. A missing word reads as empty, and a word that isn't a number as 0.
 #[derive(Clone, Copy)]
 pub struct Call<'a> {
     /// The name of the called function.

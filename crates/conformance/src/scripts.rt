@@ -118,7 +118,7 @@ fn has_parts(printed: &str, parts: &str) -> bool {
     !parts.is_empty()
 }
 
-/// Marks words that request threads. The program has no such status.
+/// The status returned for words that request threads. The program itself never ends with it.
 const NOT_ENDED: u8 = 255;
 
 /// Runs the program with these words. Returns its output and its exit status.

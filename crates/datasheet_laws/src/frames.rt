@@ -1,4 +1,4 @@
-//! Laws of frames and memory by the bits of registers, beyond the definitions that the contracts of `nic_device` cite.
+//! Laws of frames and memory in terms of register bits, beyond the definitions that the contracts of `nic_device` cite.
 //!
 //! Each law is the contract of a function that does nothing. It names registers by their words and bits, as the
 //! datasheet does, so it is independent of the definition of a step and doesn't repeat it.
@@ -31,7 +31,7 @@ pub fn arriving_has_an_order()
 {}
 
 /// An accepted frame is appended to the receive list, with its bytes and the filter's queue, hash and RSS type, and
-/// nothing of it written. A frame that isn't accepted leaves the list unchanged.
+/// with none of it written. A frame that isn't accepted leaves the list unchanged.
 #[tactic(auto, using(crate::proofs::Joining::joins_last))]
 pub fn frames_join_last()
     ensures { FramesJoinLast }
@@ -41,17 +41,17 @@ pub fn frames_join_last()
 /// redirection table. With 8, 0xA and 0xB, it is one of its pool's queues: the first with 8, otherwise the one that the
 /// entry names. These are two from 2p on, four from 4p on with 0xA, or eight from 8p on while GCR_EXT bits 1 to 0 are
 /// 1. With any other code, it is queue 0, with RSS type 0 and hash 0. While VT_CTL bit 0 is 0, the frame's pool is pool
-/// 0, whatever VFRE is. While it is 1, the pool is the frame's own, has queues, and its bit of VFRE is 1, whatever the
-/// code.
+/// 0, whatever VFRE is. While it is 1, the pool is the frame's own; it has queues and its bit of VFRE is 1, whatever
+/// the code.
 #[tactic(auto, using(crate::proofs::Queues::queues_by_mrqc))]
 pub fn queues_go_by_mrqc()
     ensures { QueuesGoByMrqc }
 {}
 
 /// The bytes of an accepted frame and MRQC determine its RSS type. While MRQC bits 3 to 0 are 1, 0xA or 0xB, TCP over
-/// IPv4 has type 1 if bit 16 is 1, UDP over IPv4 type 7 by bit 22, TCP over IPv6 type 3 by bit 21, and UDP over IPv6
-/// type 8 by bit 23. With none of these, IPv4 has type 2 by bit 17, and IPv6 type 5 by bit 20. Any other frame has type
-/// 0.
+/// IPv4 has type 1 if bit 16 is 1, UDP over IPv4 type 7 if bit 22 is 1, TCP over IPv6 type 3 if bit 21 is 1, and UDP
+/// over IPv6 type 8 if bit 23 is 1. With none of these, IPv4 has type 2 if bit 17 is 1, and IPv6 type 5 if bit 20 is 1.
+/// Any other frame has type 0.
 ///
 /// IPv4 has 0x0800 in bytes 12 and 13, version 4 in byte 14, and a complete header of at least 20 bytes. IPv6 has
 /// 0x86DD, version 6 and a complete header of 40 bytes. TCP is protocol 6 and UDP 17, in byte 23 of an IPv4 packet that
@@ -65,7 +65,7 @@ pub fn frames_have_types()
 
 /// A receive step is idle exactly while CTRL bit 2 is 1, the receive list is empty, or the oldest frame keeps waiting.
 /// The oldest frame is dropped (`QueueOff`) if RXDCTL bit 25 of its queue is 0. If there is no free descriptor, with
-/// RDH equal to RDT inside the ring, it is dropped (`NoSlot`) if SRRCTL bit 28 is 1 and nothing of it is written;
+/// RDH equal to RDT inside the ring, it is dropped (`NoSlot`) if SRRCTL bit 28 is 1 and none of it is written;
 /// otherwise it keeps waiting, and nothing changes. In every other case a slot is written, or has a fault.
 #[tactic(auto, using(crate::proofs::Receiving::received_so, crate::proofs::Receiving::reasons_met))]
 pub fn receiving_has_its_reasons()
@@ -74,21 +74,21 @@ pub fn receiving_has_its_reasons()
 {}
 
 /// A receive step removes the oldest frame from the receive list if and only if the step writes its last byte, drops
-/// it, or has a fault; the others are unchanged. A piece from its middle leaves it at the front. Its offset advances by
-/// the number of written bytes, at least one, and some are left.
+/// it, or has a fault; the other frames are unchanged. A piece from its middle leaves it at the front. Its offset
+/// advances by the number of written bytes, at least one, and some bytes remain.
 #[tactic(auto, using(crate::proofs::Leaving::leaves_at_end))]
 pub fn frames_leave_at_their_end()
     ensures { FramesLeaveAtTheirEnd }
 {}
 
 /// A written slot is the one at the head: its number is RDH, its descriptor is 16 bytes for each slot after the base in
-/// RDBAH and RDBAL, modulo 2^64, and SRRCTL bits 27 to 25 are 1. Its bytes go where the descriptor says, at most as
-/// many KB as SRRCTL bits 4 to 0 say. A piece from the middle of a frame fills that.
+/// RDBAH and RDBAL, modulo 2^64, and SRRCTL bits 27 to 25 are 1. Its bytes go to the buffer that the descriptor names,
+/// at most as many KB as SRRCTL bits 4 to 0 say. A piece from the middle of a frame fills the buffer.
 pub fn slots_are_written_at_the_head()
     ensures { SlotsAreWrittenAtHead }
 {}
 
-/// A receive step that processes a slot writes as many bytes as fit into the buffer or are left, exactly if three
+/// A receive step that processes a slot writes as many of the remaining bytes as fit into the buffer, exactly if three
 /// conditions hold: head and tail are slots; SRRCTL bits 27 to 25 are 1 and bits 4 to 0 aren't 0; and its descriptor
 /// and these bytes of its buffer are lent. Otherwise the slot has the first fault that applies: head or tail outside
 /// (`Outside`), the descriptor type (`DescType`), the buffer size (`NoBufferSize`), the descriptor (`NotLent` with its
@@ -121,12 +121,13 @@ pub fn silence_has_its_reasons()
 /// byte 13 bits 5 to 0. IFCS and PAYLEN have no effect.
 ///
 /// A descriptor that a step processes has the first fault that applies. `Outside`: TDH or TDT isn't a slot of the ring
-/// in TDLEN bits 19 to 0. `NotLent` of the descriptor. `Legacy`: DEXT is 0. `UnknownType`: the type is neither 2 nor 3.
-/// The remaining faults are only for type 3. `Offload`: VLE, TSE or POPTS isn't 0. `TooLong`: the staged bytes and the
-/// length together exceed the frame limit, which is 1,514 bytes, or MAXFRS bits 31 to 16 minus 4 while HLREG0 bit 2 is
-/// 1. `NotLent` of the buffer. With RS 1, `NotLent` of the report: 4 bytes at TDWBAH and TDWBAL bits 31 to 2 if TDWBAL
-/// bit 0 is 1, otherwise the 16 of the descriptor. Without a fault, the descriptor is done. A descriptor of type 3
-/// sends a frame with EOP 1, and none with EOP 0.
+/// in TDLEN bits 19 to 0. `NotLent` with the descriptor's address: the descriptor isn't lent. `Legacy`: DEXT is 0.
+/// `UnknownType`: the type is neither 2 nor 3. The remaining faults are only for type 3. `Offload`: VLE, TSE or POPTS
+/// isn't 0. `TooLong`: the staged bytes and the length together exceed the frame limit, which is 1,514 bytes, or MAXFRS
+/// bits 31 to 16 minus 4 while HLREG0 bit 2 is 1. `NotLent` with the buffer's address: the buffer isn't lent. With RS
+/// 1, `NotLent` with the report's address: the report's bytes aren't lent. These are 4 bytes at TDWBAH and TDWBAL bits
+/// 31 to 2 if TDWBAL bit 0 is 1, otherwise the 16 of the descriptor. Without a fault, the descriptor is done. A
+/// descriptor of type 3 sends a frame with EOP 1, and none with EOP 0.
 #[tactic(auto, using(crate::proofs::TransmitFaults::faults_so))]
 pub fn descriptors_have_their_faults()
     ensures { DescriptorsHaveTheirFaults }
@@ -141,11 +142,11 @@ pub fn reports_are_written_back()
     ensures { ReportsAreWrittenBack }
 {}
 
-/// A transmitted frame consists of the bytes that its queue staged, followed by those of the descriptor at the head, of
-/// type 3 with EOP. While HLREG0 bit 10 is 1, it is padded with zero bytes to 60. It has the reported length, is
-/// appended to the transmitted frames, and nothing is staged afterwards. The bytes of a descriptor of type 3 without
-/// EOP are staged after the others. A descriptor of type 2 stages nothing, and a fault drops what is staged. None of
-/// these changes the transmitted frames.
+/// A transmitted frame consists of the bytes that its queue staged, followed by the bytes of the descriptor at the
+/// head, which is of type 3 with EOP. While HLREG0 bit 10 is 1, it is padded with zero bytes to 60. It has the reported
+/// length, is appended to the transmitted frames, and nothing is staged afterwards. The bytes of a descriptor of type 3
+/// without EOP are staged after the others. A descriptor of type 2 stages nothing, and a fault drops what is staged.
+/// None of these changes the transmitted frames.
 #[tactic(auto, using(crate::proofs::Fetched::goes_out_whole))]
 pub fn frames_go_out_whole()
     ensures { FramesGoOutWhole }
@@ -160,16 +161,18 @@ pub fn switching_has_its_reason()
 {}
 
 /// After an enable step that is done, bit 25 has exactly its requested value, and no other bit of that word has
-/// changed. A receive side that is disabled loses the oldest frame if part of it is written on that queue, and no other
-/// frame. A transmit side that is disabled loses its staged bytes. A side that is enabled loses nothing.
+/// changed. A receive side that becomes disabled loses the oldest frame if part of it is written on that queue, and no
+/// other frame. A transmit side that becomes disabled loses its staged bytes. A side that becomes enabled loses
+/// nothing.
 pub fn switched_side_is_as_wanted()
     ensures { SwitchedSideIsAsWanted }
 {}
 
 /// A write of PVFCTRL[v] with bit 26, through either port, drops the frames of the receive list for pool v's queues,
-/// written in part or not, and what these queues staged. By GCR_EXT bits 1 to 0, these are the eight queues from 8v on
-/// with 1, the four from 4v on with 2, the two from 2v on with 3, and none with 0. The frames for all other queues stay
-/// in order, and these queues keep what they staged. Lent memory, the frames out and the link are unchanged.
+/// whether partly written or not, and what these queues staged. By GCR_EXT bits 1 to 0, these are the eight queues from
+/// 8v on with 1, the four from 4v on with 2, the two from 2v on with 3, and none with 0. The frames for all other
+/// queues stay in order, and these queues keep what they staged. Lent memory, the transmitted frames and the link are
+/// unchanged.
 #[tactic(auto, using(crate::proofs::FramePoolResets::resets_drop))]
 pub fn pool_resets_drop_their_frames()
     ensures { PoolResetsDropFrames }
@@ -182,25 +185,25 @@ pub fn link_changes_raise()
     ensures { LinkChangesRaise }
 {}
 
-/// A `Collect` returns the oldest frame out with its queue and removes it from the list; the others stay. It is idle,
-/// and changes nothing, exactly if there is none.
+/// A `Collect` returns the oldest transmitted frame with its queue and removes it from the list; the others stay. It is
+/// idle, and changes nothing, exactly if there is no such frame.
 #[tactic(auto, using(crate::proofs::Link::oldest_out))]
 pub fn oldest_is_collected()
     ensures { OldestIsCollected }
 {}
 
-/// A block is lent exactly if none is lent under its number; otherwise it comes back. A `Take`, and at a multiple of 16
-/// a `Peek16` and a `Poke16`, get the reply `NotLent`, and change nothing, exactly if the block isn't lent. A lent
-/// block comes back once, with the bytes that it then contains. A `Peek16` at a multiple of 16 returns 16 of them, and
-/// changes nothing.
+/// Lending a block succeeds exactly if no block with its number is lent; otherwise the block is handed back. A `Take`,
+/// and at a multiple of 16 a `Peek16` and a `Poke16`, get the reply `NotLent`, and change nothing, exactly if the block
+/// isn't lent. A lent block is taken back once, with the bytes that it then contains. A `Peek16` at a multiple of 16
+/// returns 16 of a lent block's bytes, and changes nothing.
 #[tactic(auto, using(crate::proofs::Memory::calls_answer))]
 pub fn memory_calls_answer()
     ensures { MemoryCallsAnswer }
 {}
 
 /// A `Peek16` at the same address right after a `Poke16` that is done returns what was written. A `Peek16` that shares
-/// no byte with it returns what it would have returned without it. A block that was just lent shows its bytes. A block
-/// that is taken back has the bytes that reads returned, whether the driver or the device wrote them.
+/// no byte with the poke returns what it would have returned without it. A block that was just lent shows its bytes. A
+/// block that is taken back has the bytes that reads returned, whether the driver or the device wrote them.
 pub fn memory_shows_what_is_written()
     ensures poked { PokedIsPeeked }
     ensures lent { LentIsPeeked }

@@ -1,8 +1,8 @@
 //! Laws of interrupts and of registers by their names, beyond the definitions that the contracts of `nic_device` cite.
 //!
-//! Each law is the contract of a function that does nothing. What it ensures holds for `step_of`, by which
-//! `nic_device::Device::step` performs each event, in terms of the datasheet's addresses and bits and of what reads
-//! return.
+//! Each law is the contract of a function that does nothing. It states a property of `step_of`, by which
+//! `nic_device::Device::step` performs each event, in terms of the datasheet's addresses and bits and of the values
+//! that reads return.
 
 ghost use Rattle.datasheet_laws.specs.Names.{HasLowViews, RegistersHaveAddresses};
 ghost use Rattle.datasheet_laws.specs.Answered.{AccessesAreAnswered};
@@ -32,8 +32,8 @@ pub fn interrupt_registers_have_addresses()
 {}
 
 /// A write of EICS or PVTEICS sets in EICR or PVTEICR the causes of the bits that are written as 1 and that its address
-/// shows. In EIMS or PVTEIMS, it sets those of them that EIAM or PVTEIAM contains; for the physical function, only
-/// while GPIE bit 30 is 0. It changes no other bit of these registers, of EIAC and of EIAM, and no other group's.
+/// shows. In EIMS or PVTEIMS, it sets the masks of those bits that EIAM or PVTEIAM contains; for the physical function,
+/// only while GPIE bit 30 is 0. It changes no other bit of these registers, of EIAC and of EIAM, and no other group's.
 #[tactic(auto, using(crate::proofs::Causes::cause_set_sets))]
 pub fn causes_are_set()
     ensures { WriteOfCauseSetSets }
@@ -41,8 +41,8 @@ pub fn causes_are_set()
 
 /// A write of EICR or PVTEICR clears the causes of the bits written as 1, and no others. A read clears all of them; a
 /// read of EICR while GPIE bit 5 is 1 clears only bits 29 to 16. While the auto-mask acts on accesses, a write clears
-/// the masks of the written bits that EIAM or PVTEIAM contains, and a read those of all bits that it contains. Neither
-/// changes another bit, or another group.
+/// the masks of the written bits that EIAM or PVTEIAM contains. A read then clears the masks of all bits that it
+/// contains. Neither changes another bit, or another group.
 #[tactic(auto, using(crate::proofs::Causes::causes_clear, crate::proofs::Causes::read_clears))]
 pub fn causes_are_cleared()
     ensures write { WriteOfCausesClears }
@@ -88,9 +88,10 @@ pub fn messages_are_shared()
     ensures last { MessagesLast }
 {}
 
-/// The holder of a mailbox keeps it over every event except the writes that end this, through either port. For the
-/// function, these are a write of PVFMAILBOX without bit 2, a write of PFMAILBOX with bit 4, and a reset of its pool or
-/// of the device. For the physical function, they are a write of PFMAILBOX without bit 3, and a reset of the device.
+/// The holder of a mailbox keeps it through every event except the writes that end the hold, made through either port.
+/// For the function, these are a write of PVFMAILBOX without bit 2, a write of PFMAILBOX with bit 4, and a reset of its
+/// pool or of the device. For the physical function, they are a write of PFMAILBOX without bit 3, and a reset of the
+/// device.
 #[tactic(auto, using(crate::proofs::Holding::function_holds_on, crate::proofs::Holding::physical_holds_on))]
 pub fn holders_hold_on()
     ensures function { FunctionHoldsOn }
@@ -98,8 +99,8 @@ pub fn holders_hold_on()
 {}
 
 /// From one reset of the device to the next, at most one read of PVFMAILBOX[v], through either port, returns bit 7,
-/// RSTD, which says that a reset is done. A write of CTRL_EXT with bit 14 sets RSTD for each function that reads bit 6,
-/// RSTI, for the beginning of a reset, or RSTD already, and clears bit 6.
+/// RSTD, which says that a reset is done. A write of CTRL_EXT with bit 14 sets RSTD for each function that reads as 1
+/// bit 6, RSTI, which says that a reset began, or already RSTD. It clears bit 6.
 pub fn ends_are_reported_once()
     ensures once { EndIsReportedOnce }
     ensures reported { EndIsReported }
@@ -114,10 +115,10 @@ pub fn requests_are_apart()
 /// An interrupt step gets the reply `NoGroup` exactly for a virtual function that the device doesn't have or that has
 /// no pool: from `vfs` on, or from 16 on with GCR_EXT bits 1 to 0 at 1, 32 with 2, 64 with 3, and 0 with 0. Otherwise
 /// it is idle exactly while CTRL bit 2 is 1 or no bit is due. A bit is due if its cause and mask are 1, it isn't
-/// reported, and it has a vector. Both change nothing. In every other case, the step reports the lowest due bit, and no
-/// other. The vector of bits 0 to 15 of EICR and of the bits of PVTEICR is their own number. For bits 16 to 29, it is
-/// IVAR_MISC bits 13 to 8 if bit 15 is 1, and for bit 30 its bits 5 to 0 if bit 7 is 1, each below 16. The bit's cause
-/// is cleared if EIAC contains it, and its mask if GPIE bit 30 is 1 and EIAM contains it.
+/// reported, and it has a vector. Neither reply changes anything. In every other case, the step reports the lowest due
+/// bit, and no other. The vector of bits 0 to 15 of EICR and of the bits of PVTEICR is their own number. For bits 16 to
+/// 29, it is IVAR_MISC bits 13 to 8 if bit 15 is 1, and for bit 30 its bits 5 to 0 if bit 7 is 1, each below 16. The
+/// bit's cause is cleared if EIAC contains it, and its mask if GPIE bit 30 is 1 and EIAM contains it.
 #[tactic(auto, using(crate::proofs::Telling::steps))]
 pub fn message_steps_tell_what_is_due()
     ensures { MessageStepsTellWhatIsDue }
@@ -160,7 +161,7 @@ pub fn vectors_name_causes()
 
 /// An arriving frame that finds the list full raises cause 17 of EICR, at 0x00800. A fault of a receive or transmit
 /// step raises cause 18, and a change of the link cause 20. No other cause or mask changes, and no other arrival or
-/// call of the link raises any.
+/// `Link` event raises any.
 #[tactic(auto, using(crate::proofs::Raised::by_number))]
 pub fn device_raises_by_number()
     ensures { DeviceRaisesByNumber }
@@ -218,9 +219,9 @@ pub fn ctrl_ext_keeps_what_is_written()
 
 /// While VT_CTL bit 0 is 1, an accepted frame is appended to the receive list with its bytes, for a queue of its pool
 /// p, below 64. Bit p mod 32 of VFRE[p/32] is 1. Pool p is the lowest pool of the first address that is the frame's
-/// destination, or the default. The queue is 2p with MRQC bits 3 to 0 at 8, one of the four from 4p on with 10, and one
-/// of the two from 2p on with 11. But while GCR_EXT selects 16 pools, it is 8p with 8, and one of the eight from 8p on
-/// with 10 and 11. With any code except these and 1, the queue is 0, whatever the pool.
+/// destination, or the default pool. The queue is 2p with MRQC bits 3 to 0 at 8, one of the four from 4p on with 10,
+/// and one of the two from 2p on with 11. But while GCR_EXT selects 16 pools, it is 8p with 8, and one of the eight
+/// from 8p on with 10 and 11. With any code except these and 1, the queue is 0, whatever the pool.
 #[tactic(auto, using(crate::proofs::Arriving::lets_in))]
 pub fn vfre_lets_into_pools()
     ensures { VfreLetsIntoPools }

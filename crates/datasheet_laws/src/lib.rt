@@ -26,8 +26,8 @@ ghost use Rattle.datasheet_laws.specs.Settings.{DevicesAreSet, QueuesAreSet, Cou
 ghost use Rattle.datasheet_laws.specs.Table.{RegistersAreListed, HasAliases, HasLowViews, OtherAddressesMeetNone};
 
 /// Each register has the name, number of indices, kind, mask and reset value that are listed by hand, and the listed
-/// addresses. The first addresses show all bits, as do the further ones of CTRL, SRRCTL, RAL, RAH, MRQC, RETA, RSSRK
-/// and PSRTYPE. The further ones of EICS, EIMS, EIMC and EIAM show only bits 15 to 0.
+/// addresses. The first addresses show all bits, as do the further addresses of CTRL, SRRCTL, RAL, RAH, MRQC, RETA,
+/// RSSRK and PSRTYPE. The further addresses of EICS, EIMS, EIMC and EIAM show only bits 15 to 0.
 pub fn registers_are_listed()
     ensures lines { RegistersAreListed }
     ensures aliases { HasAliases }
@@ -40,10 +40,10 @@ pub fn other_addresses_meet_none()
     ensures { OtherAddressesMeetNone }
 {}
 
-/// Virtual function v, below `vfs` and with a pool, reaches by each listed offset the physical function's address that
+/// At each listed offset, virtual function v, below `vfs` and with a pool, reaches the physical function's address that
 /// is listed by hand. This holds with GCR_EXT bits 1 to 0 at 1 (16 pools of 8 queues), 2 (32 of 4) and 3 (64 of 2). It
-/// covers the 14 registers of which it has one each, its 16 words of mailbox memory, its vectors, and the 15 registers
-/// of each of its queues.
+/// covers the 14 registers that the function has once, its 16 words of mailbox memory, its vectors, and the 15
+/// registers of each of its queues.
 pub fn offsets_are_listed()
     ensures { OffsetsAreListed }
 {}
@@ -58,9 +58,9 @@ pub fn other_offsets_are_holes()
 /// A write of PVFMAILBOX[v], at 0x04C00 + 4v, with bit 2 takes the mailbox for the function if bit 3 reads 0, and
 /// changes neither bit if that reads 1; without bit 2, it releases the mailbox. A write of PFMAILBOX[v], at 0x04B00 +
 /// 4v, with bit 4 frees the mailbox from the function. With bit 3, it takes the mailbox for the physical function if
-/// bit 2 reads 0, or is freed by this write; without bit 3, it releases it. Both sides read who holds it, and the
-/// physical function reads nothing more. Bits 0 and 1 of PFMAILBOX[v] are read as bits 4 and 5 of PVFMAILBOX[v], until
-/// one read, which clears only bits 4, 5 and 7.
+/// bit 2 reads 0, or is freed by this write; without bit 3, it releases the mailbox. Both sides read who holds it, and
+/// the physical function reads nothing more. Bits 0 and 1 of PFMAILBOX[v] are read as bits 4 and 5 of PVFMAILBOX[v],
+/// until one read, which clears only bits 4, 5 and 7.
 pub fn mailboxes_shake()
     ensures { MailboxesShake }
 {}
@@ -74,8 +74,8 @@ pub fn mailboxes_keep_other_bits()
 
 /// Of the words that registers store, a write of PVFMAILBOX[v] changes only those of PVFMAILBOX[v], PFMBICR[v / 16] and
 /// EICR. A write of PFMAILBOX[v] changes only those of PVFMAILBOX[v] and PVTEICR[v], and a read of PVFMAILBOX[v] only
-/// that register's. A write of EERD or of PFMBICR[k], or a write of CTRL that requests no reset, changes no other
-/// register.
+/// the word of that register. A write of EERD or of PFMBICR[k], or a write of CTRL that requests no reset, changes no
+/// other register.
 #[tactic(auto, using(crate::proofs::Others::mailboxes_leave, crate::proofs::Others::writes_leave))]
 pub fn accesses_leave_other_registers()
     ensures mailboxes { MailboxesLeaveOthers }
@@ -118,17 +118,17 @@ pub fn pool_resets_take_the_pools_registers()
 /// A unicast frame passes the filter exactly if bit 9 of FCTRL, at 0x05080, is 1, or one of the 128 receive addresses
 /// is its destination, byte by byte. Bytes 0 to 3 are in bits 7 to 0, 15 to 8, 23 to 16 and 31 to 24 of 0x0A200 + 8i;
 /// bytes 4 and 5 are in bits 7 to 0 and 15 to 8 of 0x0A204 + 8i, and its bit 31 marks it as valid. A multicast frame
-/// passes by bit 8, by a receive address, or by its bit of MTA, from 0x05200 on, while bit 2 of MCSTCTRL, at 0x05090,
-/// is 1. A broadcast frame passes by bit 10 or bit 8.
+/// passes if bit 8 is 1, or if a receive address is its destination. While bit 2 of MCSTCTRL, at 0x05090, is 1, it also
+/// passes if its bit of MTA, from 0x05200 on, is 1. A broadcast frame passes if bit 10 or bit 8 is 1.
 #[tactic(auto, using(crate::proofs::Filter::frames_let_in))]
 pub fn frames_are_let_in()
     ensures { FramesAreLetIn }
 {}
 
 /// VT_CTL, at 0x051B0, distributes frames among pools by bit 0. A frame's pool is the lowest pool of the first receive
-/// address that is its destination: for address i, the bits of 0x0A600 + 8i are pools 0 to 31, those of the next word
-/// pools 32 to 63. If no address is its destination, or the first has no pool, the frame is for the pool in bits 12 to
-/// 7 of VT_CTL, or for none with bit 29. Pool p has reception enabled by bit p mod 32 of 0x051E0 + 4(p/32).
+/// address that is its destination: for address i, the bits of 0x0A600 + 8i are pools 0 to 31, and the bits of the next
+/// word pools 32 to 63. If no address is its destination, or the first has no pool, the frame is for the pool in bits
+/// 12 to 7 of VT_CTL, or for none with bit 29. Bit p mod 32 of 0x051E0 + 4(p/32) enables reception for pool p.
 pub fn pools_are_chosen()
     ensures { PoolsAreChosen }
 {}
@@ -142,11 +142,11 @@ pub fn types_are_chosen()
     ensures { TypesAreChosen }
 {}
 
-/// The queue of a frame, by MRQC bits 3 to 0, at 0x05818, and GCR_EXT bits 1 to 0, at 0x11050. With MRQC at 1, it is
-/// the entry. For pool p, while VT_CTL bit 0 is 1, it is 2p with 8, 4p plus two bits of the entry with 0xA, and 2p plus
-/// one bit with 0xB. While GCR_EXT bits 1 to 0 are 1, it is 8p with 8, and 8p plus three bits of the entry with 0xA and
-/// 0xB. The entry of a frame with a type is in bits 8(n mod 4) + 3 to 8(n mod 4) of 0x05C00 + 4(n/4), where n is the
-/// low seven bits of its hash. The reported hash is that hash if RXCSUM bit 13, at 0x05000, is 1, otherwise 0.
+/// MRQC bits 3 to 0, at 0x05818, and GCR_EXT bits 1 to 0, at 0x11050, determine the queue of a frame. With MRQC at 1,
+/// it is the entry. For pool p, while VT_CTL bit 0 is 1, it is 2p with 8, 4p plus two bits of the entry with 0xA, and
+/// 2p plus one bit with 0xB. While GCR_EXT bits 1 to 0 are 1, it is 8p with 8, and 8p plus three bits of the entry with
+/// 0xA and 0xB. The entry of a frame with a type is in bits 8(n mod 4) + 3 to 8(n mod 4) of 0x05C00 + 4(n/4), where n
+/// is the low seven bits of its hash. The reported hash is that hash if RXCSUM bit 13, at 0x05000, is 1, otherwise 0.
 #[tactic(auto, using(crate::proofs::Choice::queues_chosen))]
 pub fn queues_are_chosen()
     ensures { QueuesAreChosen }
@@ -166,7 +166,7 @@ pub fn words_are_stored()
     ensures { WordsAreStored }
 {}
 
-/// A ring's base, length and head are stored by their masks while bit 25 of RXDCTL[q] or TXDCTL[q] reads 0. While it
+/// A ring's base, length and head are stored under their masks while bit 25 of RXDCTL[q] or TXDCTL[q] reads 0. While it
 /// reads 1, a write changes nothing.
 #[tactic(auto, using(crate::proofs::Rings::held_rings))]
 pub fn rings_are_held()
@@ -201,11 +201,11 @@ pub fn hash_is_of_the_key()
 {}
 
 /// CTRL bit 2, at 0x00000, stops the device's steps. RXCTRL bit 0, at 0x03000, enables reception, and DMATXCTL bit 0,
-/// at 0x04A80, transmission. HLREG0, at 0x04240, pads frames by bit 10. The frame limit is 1,514 bytes, or, with HLREG0
+/// at 0x04A80, transmission. Bit 10 of HLREG0, at 0x04240, pads frames. The frame limit is 1,514 bytes, or, with HLREG0
 /// bit 2, MAXFRS bits 31 to 16, at 0x04268, minus 4. Bit 5 of GPIE, at 0x00898, says whether a read of EICR clears only
-/// bits 29 to 16, and bit 30 whether the auto-mask is only for messages. SRRCTL[q] bit 28 drops frames without a
-/// descriptor. With TDWBAL[q] bit 0, the head is written to the address in TDWBAH[q] and TDWBAL[q] bits 31 to 2. A
-/// counter that a read clears counts one more each time, and stays at 0xFFFFFFFF.
+/// bits 29 to 16, and bit 30 whether the auto-mask is only for messages. SRRCTL[q] bit 28 drops frames for which there
+/// is no descriptor. With TDWBAL[q] bit 0, the head is written to the address in TDWBAH[q] and TDWBAL[q] bits 31 to 2.
+/// A counter that a read clears counts one more each time, and stays at 0xFFFFFFFF.
 pub fn settings_are_bits()
     ensures device { DevicesAreSet }
     ensures queue { QueuesAreSet }
@@ -213,12 +213,12 @@ pub fn settings_are_bits()
 {}
 
 /// An EEPROM image has 64, 128, 256 and so on up to 16,384 words of 16 bits. Words 0x03 to 0x0E, and no others, point
-/// to a word of the image, which says how many words follow it, all of them in the image; 0 and 0xFFFF point to none,
-/// and say that none follow. Words 0x00 to 0x3F, with all that follow these, add up to 0xBABA, modulo 2^16. Word 0x0D
-/// points to the register writes, of three words each: a quarter of the register's offset, then the low and the high
-/// half of the data. In a file, the low byte of each word is first. Of a file's faults, the first in this order is
-/// reported: an odd number of bytes, the size, what a word points to, the sum, the number of words of the register
-/// writes.
+/// to a word of the image, which says how many words follow it, all of them in the image. 0 and 0xFFFF point to no
+/// word, and say that no words follow. Words 0x00 to 0x3F, with all words that follow the ones pointed to, add up to
+/// 0xBABA, modulo 2^16. Word 0x0D points to the register writes, of three words each: a quarter of the register's
+/// offset, then the low and the high half of the data. In a file, the low byte of each word is first. Of a file's
+/// faults, the first in this order is reported: an odd number of bytes, the size, what a word points to, the sum, the
+/// number of words of the register writes.
 #[tactic(auto, using(crate::proofs::Eeprom::images, crate::proofs::Eeprom::writes))]
 pub fn images_are_by_number()
     ensures image { ImagesAreByNumber }
@@ -227,9 +227,9 @@ pub fn images_are_by_number()
 {}
 
 /// In the image of a text, each of words 0x03 to 0x0E points to nothing or to a word from 0x40 on that is in the image
-/// with all that follow it. So a value of 5 is refused in each of them, but not in words 0x02 and 0x0F. Register write
-/// k of a text is in words 0x41 + 3k to 0x43 + 3k of its image, in the order of the text. Word 0x40 says how many words
-/// follow it, and word 0x0D is 0x40. Without register writes, word 0x0D is 0xFFFF.
+/// with all words that follow it. So a value of 5 is refused in each of them, but not in words 0x02 and 0x0F. Register
+/// write k of a text is in words 0x41 + 3k to 0x43 + 3k of its image, in the order of the text. Word 0x40 says how many
+/// words follow it, and word 0x0D is 0x40. Without register writes, word 0x0D is 0xFFFF.
 #[tactic(auto, using(crate::proofs::Eeprom::point, crate::proofs::Eeprom::words_point, crate::proofs::Eeprom::texts))]
 pub fn texts_are_laid_out()
     ensures pointers { TextsPoint }
@@ -237,16 +237,17 @@ pub fn texts_are_laid_out()
     ensures text { TextsAreByNumber }
 {}
 
-/// A text that sets words has the first of these faults, as 21 texts just inside and just outside the limits show. An
-/// index has two values: the lowest of these is reported. An index is reserved: 0x0D, 0x3F, and 0x40 to 0x40 + 3k of a
-/// text with k register writes; the lowest of these is reported. An index, or the last of these words, isn't below the
-/// size: 21 register writes fit 128 words, and 22 don't. A pointer points outside.
+/// A text that sets words has the first of these faults, as 21 texts just inside and just outside the limits show.
+/// First, an index with two values: the lowest such index is reported. Second, a reserved index: 0x0D, 0x3F, and 0x40
+/// to 0x40 + 3k of a text with k register writes; the lowest such index is reported. Third, an index, or the last of
+/// the reserved words, that isn't below the size: 21 register writes fit into 128 words, and 22 don't. Last, a pointer
+/// that points outside.
 #[tactic(auto, using(crate::proofs::Eeprom::faults))]
 pub fn texts_have_an_order_of_faults()
     ensures { TextsHaveFaults }
 {}
 
-/// A word from the end of an image on is 0xFFFF.
+/// A word at or past the end of an image is 0xFFFF.
 #[tactic(auto, using(crate::proofs::Eeprom::words_read))]
 pub fn words_outside_are_ones()
     ensures { WordsAreRead }

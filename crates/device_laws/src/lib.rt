@@ -179,7 +179,7 @@ pub fn arrival_leaves_the_rest()
     ensures { ArrivalLeavesTheRest }
 {}
 
-/// A receive step changes no queue except the receive side of the one that the oldest frame waits for, no transmitted
+/// A receive step changes no queue except the receive side of the queue that the oldest frame waits for, no transmitted
 /// frame, and no block except those of the descriptor and the bytes that it reports.
 #[tactic(auto, using(crate::proofs::StandingQueues::receiving_rest, crate::proofs::StandingQueues::receiving_blocks))]
 pub fn receiving_leaves_the_rest()
@@ -212,7 +212,7 @@ pub fn link_leaves_the_rest()
 {}
 
 /// While CTRL bit 2 is 0, a receive step is idle if the receive list is empty. It drops the oldest frame if the frame's
-/// queue is disabled. Without a free descriptor, it drops the frame if drop enable is set and nothing of it is written;
+/// queue is disabled. Without a free descriptor, it drops the frame if drop enable is set and none of it is written;
 /// otherwise the frame stays. With a free descriptor, the descriptor is filled or has a fault. Each reply occurs only
 /// in its own case.
 pub fn receiving_has_an_order()

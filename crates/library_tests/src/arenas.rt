@@ -18,7 +18,7 @@ struct Splitting {
 }
 
 impl Splitting {
-    /// Creates one of eight blocks.
+    /// Creates an arena of eight blocks.
     fn new<R: Abort>(rt: &R, alloc: Global) -> Splitting {
         Splitting {
             whole: Some(done(rt, Arena::new(alloc, 0, 8))),

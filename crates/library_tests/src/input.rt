@@ -254,7 +254,7 @@ fn failing_flushes(rt: HostRuntime) {
     flush_fails(&rt, ErrorKind::OutOfMemory, 4);
 }
 
-/// The status of a request over a reader, and whether a write failed.
+/// The status of a request that reads from a reader, and whether a write failed.
 fn answered<R: Read + Drop, W: Write + Drop>(
     alloc: Global,
     reader: R,

@@ -19,7 +19,7 @@ struct Keeping {
 }
 
 impl Keeping {
-    /// Creates one to which four blocks are lent.
+    /// Creates a device to which four blocks are lent.
     fn new<R: Abort>(rt: &R, alloc: Global) -> Keeping {
         let (mut device, mut arena) = ready(rt, alloc);
         let _number = number_of(rt, done(rt, device.step(to_lend(rt, &mut arena))));
@@ -137,7 +137,7 @@ struct KeepingMachine {
 }
 
 impl KeepingMachine {
-    /// Creates one that has received a frame.
+    /// Creates a machine that has received a frame.
     fn new<R: Abort>(rt: &R, alloc: Global) -> KeepingMachine {
         KeepingMachine {
             machine: machine_after(rt, alloc, 14),

@@ -124,7 +124,7 @@ struct Telling {
     reported: Option<Vec<Entry>>,
 }
 
-/// Marks the own calls among three.
+/// Marks which of three calls are the driver's own.
 const MARKS: [bool; 3] = [true, false, true];
 
 impl Telling {

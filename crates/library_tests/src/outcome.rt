@@ -33,7 +33,7 @@ pub fn refused<T, E>(rt: &impl Abort, answer: Result<T, E>) -> E {
     }
 }
 
-/// Stores a value where there is none.
+/// Stores a value in an option that must be `None`.
 pub fn put<T>(rt: &impl Abort, at: &mut Option<T>, value: T) {
     none(rt, mem::replace(at, Some(value)));
 }

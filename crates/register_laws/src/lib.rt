@@ -3,8 +3,8 @@
 //! Each law is the contract of a function with an empty body. It holds for the definitions that specify the operations
 //! of `register_file::RegisterFile`. The footprint of an operation is what it can change. Each place has one owner, and
 //! an access changes nothing of another owner. A side of a queue and the interrupts of a group are seen as values, and
-//! every change outside them leaves them as they are. Registers stay sound. The device core proves its own soundness
-//! with these laws, and the laws of the device use them.
+//! every change outside them leaves them unchanged. Registers stay sound. The device core proves its own soundness with
+//! these laws, and the laws of the device use them.
 #![tactic(auto)]
 
 ghost use Rattle.register_laws.specs.Laws.{ResetIsSound, ReadKeepsSound, WriteKeepsSound, CountKeepsSound, CountWrappingKeepsSound, AnswerKeepsSound, RaiseKeepsSound, QueueRaiseKeepsSound, MessageKeepsSound, HeadKeepsSound, SwitchKeepsSound, ShutKeepsSound, ResetGivesResetValues, ResetSwitchesOff, ResetTellsNothing, PutWordIsThere, PutWordIsAlone, GroupBitsAreMasks, StoredWordReadsBack, ReadStaysWithin, WriteStaysWithin, CountStaysWithin, CountWrappingStaysWithin, AnswerStaysWithin, RaiseStaysWithin, QueueRaiseStaysWithin, MessageStaysWithin, HeadStaysWithin, SwitchStaysWithin, ShutStaysWithin, ReadStaysWithOwner, WriteStaysWithOwner, OwnersAreApart, OwnersDiffer, WordIsOnePlace, PendingIsPending, CountersAreTheirOwn, PendingMissesSides, ReadMissesSides, MissedReceiveStands, MissedTransmitStands, MissedInterruptsStand, MissedSettingsStand, HeadMovesReceive, HeadMovesTransmit, SwitchObeysReceive, SwitchObeysTransmit, SwitchedSideStays, ShutIsOffReceive, ShutIsOffTransmit, RingIsHeldWhileOn, WrittenReceiveIsTheSides, WrittenTransmitIsTheSides, EnableWriteAsksReceive, EnableWriteAsksTransmit, EnableReadTellsOn, CountersCount, ReadOnlyCountersGoRound, CalculatedRowsHaveFormulas, EepromAnswerIsRead, InterruptsStand};
@@ -135,7 +135,7 @@ pub fn moved_head_is_the_head()
 {}
 
 /// After a switch, a side is enabled or disabled as requested, and the rest of the side is unchanged. Switching a side
-/// that already is as requested changes nothing.
+/// that is already in its requested state changes nothing.
 pub fn switched_side_is_as_wanted()
     ensures receive { SwitchObeysReceive }
     ensures transmit { SwitchObeysTransmit }
@@ -163,7 +163,7 @@ pub fn written_word_is_the_sides()
 
 /// Writing a side's enable word changes nothing of the side except its enable request, which becomes bit 25 of the
 /// written word: the side stays enabled or disabled, and its ring is unchanged. Bit 25 of a side's enable word, as
-/// read, is whether the side is enabled.
+/// read, shows whether the side is enabled.
 pub fn enable_write_only_asks()
     ensures receive { EnableWriteAsksReceive }
     ensures transmit { EnableWriteAsksTransmit }

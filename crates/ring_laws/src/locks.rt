@@ -27,10 +27,10 @@ pub fn other_events_leave_queues_alone()
     ensures nothing_else { NothingElseCounts }
 {}
 
-/// A history up to the first entry of a driver's pass leaves its queue alone. After that entry, one entry is enough for
-/// the whole history not to leave it alone. It may be a write of another pass, or its access to a block, that doesn't
-/// leave it alone. It may also be a step of another queue, by any pass, that writes into a block of the driver's pass.
-/// A history with none of these leaves the queue alone.
+/// A history up to the first entry of a driver's pass leaves its queue alone. After that entry, a single entry is
+/// enough for the history not to leave the queue alone. It may be a write of another pass, or another pass's access to
+/// a block, that doesn't leave the queue alone. It may also be a step of another queue, by any pass, that writes into a
+/// block of the driver's pass. A history with none of these leaves the queue alone.
 #[tactic(auto, using(crate::proofs::Others::histories_leave, crate::proofs::Others::sparing_suffices))]
 pub fn histories_leave_queues_alone()
     ensures history { HistoriesLeaveQueues }
@@ -43,10 +43,10 @@ pub fn drivers_begin_with_their_first_entry()
     ensures { DriversBegin }
 {}
 
-/// The pools that the last write of GCR_EXT set, by bits 1 to 0 of its word and from any pass, determine which pools a
-/// history's later writes of PVFCTRL reset. Before the first write of GCR_EXT, they are as given. After a write of CTRL
-/// with bit 3 or bit 26, there are none. No other write changes the pools, and no other event. All these writes get the
-/// reply `Done`.
+/// The last write of GCR_EXT, by any pass, sets the pools by bits 1 to 0 of its word. They determine which pools a
+/// history's later writes of PVFCTRL reset. Before the first write of GCR_EXT, the pools are as given. After a write of
+/// CTRL with bit 3 or bit 26, there are none. No other write changes the pools, and no other event. All these writes
+/// get the reply `Done`.
 #[tactic(auto, using(crate::proofs::Beginning::stay))]
 pub fn pools_are_the_last_that_were_set()
     ensures set { PoolsAreFollowed }

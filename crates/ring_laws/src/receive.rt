@@ -1,5 +1,5 @@
-//! What the device and a driver agree on in the receive ring, whatever others do in between: so what the driver returns
-//! is a prefix of the packets that were written.
+//! What the device and a driver agree on in the receive ring, whatever others do in between. It follows that what the
+//! driver returns is a prefix of the packets that were written.
 //!
 //! Between two events, the device and the driver agree on the slots of the receive ring: which are filled with pieces
 //! of frames, which are posted, which of the slots after the tail name a block, and which pieces were consumed. Each
@@ -16,8 +16,8 @@ ghost use Rattle.ring_laws.specs.Steps.{LookTellsSlot, ReceiveStepKeeps, EnableS
 ghost use Rattle.ring_laws.specs.ReceiveUp.{LeavingStaysUp, EnableStepChangesNothing, ReceiveStepStaysUp, OwnEventStaysUp, EntryStaysUp};
 
 /// If the device and the driver agree, a read of a slot with a block, before the tail, finds it done exactly if the
-/// slot is filled. Its descriptor then reports the slot's piece: its length, whether it ends the packet, and the first
-/// half.
+/// slot is filled. Its descriptor then reports the slot's piece: its length, whether it ends the packet, and the
+/// descriptor's first half.
 pub fn look_tells_the_slot()
     ensures { LookTellsSlot }
 {}
@@ -35,18 +35,19 @@ pub fn receive_step_stays_in_its_blocks()
     ensures { PieceIsInside }
 {}
 
-/// An event keeps the agreement if it leaves the receive side of the queue, what numbers name and the driver's blocks
-/// unchanged. It may enable or disable the side, or request that, so a step of the side's own enable keeps it too.
+/// An event keeps the agreement if it leaves unchanged the receive side of the queue, which registers numbers name, and
+/// the driver's blocks. It may enable or disable the side, or request that, so a step of the side's own enable keeps it
+/// too.
 pub fn other_events_keep_the_agreement()
     ensures leaving { LeavingKeeps }
     ensures switching { SwitchingKeeps }
     ensures enable { EnableStepKeeps }
 {}
 
-/// A receive side that is enabled and requested on stays so if an event leaves it alone, and over a step of its enable,
-/// which then changes nothing. If the device and the driver agree, it stays so over each receive step and each of the
-/// driver's own events. It also stays so over each entry that leaves the queue alone, if that is of another pass, or is
-/// a device step of any pass.
+/// A receive side that is enabled and requested on stays so if an event leaves it alone, and through a step of its
+/// enable, which then changes nothing. If the device and the driver agree, it stays so through each receive step and
+/// each of the driver's own events. It also stays so through each entry that leaves the queue alone, if that is of
+/// another pass, or is a device step of any pass.
 pub fn queue_up_stays_up()
     ensures leaving { LeavingStaysUp }
     ensures enable { EnableStepChangesNothing }
@@ -94,7 +95,7 @@ pub fn own_replies_are_healthy()
     ensures { OwnRepliesAreHealthy }
 {}
 
-/// Suppose the two agree, and the side is enabled and requested on. The following stays true over every event that
+/// Suppose the two agree, and the side is enabled and requested on. The following stays true through every event that
 /// writes no setting and doesn't reset the queue's pool. The frames of the receive list for the queue fit as many slots
 /// as the driver takes for a packet, longer ones aren't accepted, and the written packets fit too. Each written piece
 /// except the last of its frame fills its block. While the side is disabled, nothing is written of a frame for the
@@ -104,9 +105,9 @@ pub fn fitting_frames_stay_fitting()
     ensures off { NoneBegunWhileOff }
 {}
 
-/// Take some block numbers, for example an arena's, of which only those are lent that the driver has lent for receiving
-/// or others have lent. Each of the driver's own events keeps this, with the driver's state after it. A block of these
-/// numbers that the driver lends, and others haven't lent, isn't lent yet.
+/// Suppose that of some block numbers, for example an arena's, only those are lent that the driver has lent for
+/// receiving or that others have lent. Each of the driver's own events keeps this, with the driver's state after it. A
+/// block of these numbers that the driver lends, and others haven't lent, isn't lent yet.
 #[tactic(auto, using(crate::proofs::ReceiveLent::own_lends_are_known))]
 pub fn own_lends_are_known()
     ensures { OwnLendsAreKnown }

@@ -26,8 +26,8 @@ pub fn sparing_events_keep()
     ensures { SparingEventsKeep }
 {}
 
-/// An event that leaves the queue alone, with all blocks that its driver has lent for sending, by the clauses that
-/// judge a closed history, spares the driver. A receive step must write a piece that isn't empty, and on the queue
+/// An event spares the driver if it leaves alone the queue and all blocks that its driver has lent for sending, by the
+/// clauses that judge a closed history. A receive step must also write a piece that isn't empty, and on the queue
 /// itself into none of these blocks.
 pub fn left_alone_is_spared()
     ensures { LeftAloneIsSpared }
@@ -49,8 +49,8 @@ pub fn sent_in_order()
 {}
 
 /// The frames that a history sends on a queue are counted since the queue's transmit side was last enabled. If the side
-/// is never enabled, these are all frames that it sends; otherwise, all that it sends since the last time. They are a
-/// suffix of all frames, at most one for each entry.
+/// is never enabled, these are all frames that it sends; otherwise, all that it sends after the side is enabled for the
+/// last time. They are a suffix of all frames, at most one for each entry.
 #[tactic(auto, using(crate::proofs::InOrder::sent_is_counted))]
 pub fn sent_is_counted_since_the_side_went_on()
     ensures { SentIsCounted }
@@ -64,14 +64,14 @@ pub fn sent_frames_are_reported()
 {}
 
 /// A transmit side that isn't requested on stays so. A side that is also disabled stays disabled and sends nothing.
-/// This holds over every history of events that leave the side unchanged or are its own steps.
+/// This holds for every history of events that leave the side unchanged or are its own steps.
 #[tactic(auto, using(crate::proofs::Off::off_stays))]
 pub fn queue_off_stays_off()
     ensures { OffStays }
 {}
 
-/// If device and driver agree, a transmit side that is enabled and requested on stays so, over each of the driver's
-/// moves and over every event that spares the driver.
+/// If device and driver agree, a transmit side that is enabled and requested on stays so through each of the driver's
+/// moves and through every event that spares the driver.
 pub fn queue_up_stays_up()
     ensures { UpStays }
 {}
@@ -97,9 +97,9 @@ pub fn own_replies_are_healthy()
     ensures { OwnRepliesAreHealthy }
 {}
 
-/// Take some block numbers, for example an arena's, of which only those are lent that the sender has lent or others
-/// have lent. Each of the driver's own moves keeps this, with the sender's state after it, as does a call that lends
-/// none of them. A block of these numbers that a move lends, and no other has lent, isn't lent yet.
+/// Suppose that of some block numbers, for example an arena's, only those are lent that the sender has lent or that
+/// others have lent. Each of the driver's own moves keeps this, with the sender's state after it, as does a call that
+/// lends none of them. A block of these numbers that a move lends, and no other has lent, isn't lent yet.
 #[tactic(auto, using(crate::proofs::TransmitLent::own_lends_are_known))]
 pub fn own_lends_are_known()
     ensures { OwnLendsAreKnown }

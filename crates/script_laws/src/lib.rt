@@ -17,18 +17,18 @@ use nic_device::{Config, Device, NewFault};
 use std::alloc::Global;
 
 /// An instruction is twelve bytes in an object: the operation, 1 to 22, its kind, 16 bits for a block, queue, function,
-/// data string or target, and two words of 32 bits, each with the low byte first. What an operation doesn't use is 0.
-/// The object of `arrive` with a data string of three bytes and of `halt` is these 45 bytes: 4e 42 53 43, version 1,
-/// two instructions, one data string, 0, and 45, the total number of bytes; then both instructions, and the string
-/// after its length.
+/// data string or target, and two words of 32 bits, each with the low byte first. The fields that an operation doesn't
+/// use are 0. The object of `arrive` with a data string of three bytes and of `halt` is these 45 bytes: 4e 42 53 43,
+/// version 1, two instructions, one data string, 0, and 45, the total number of bytes; then both instructions, and the
+/// string after its length.
 #[tactic(auto, using(crate::proofs::Objects::instructions, crate::proofs::Objects::objects))]
 pub fn instructions_are_bytes()
     ensures each { InstructionsAreBytes }
     ensures object { ObjectsAreBytes }
 {}
 
-/// Bytes that aren't an object have the first of these faults, as 37 lists of bytes show, next to three that are just
-/// right. The fault is in their first four bytes, in the version, in the numbers of the header or the parts, or,
+/// Bytes that aren't an object have the first of these faults, as 37 lists of bytes show, next to three that are
+/// objects. The fault is in their first four bytes, in the version, in the numbers of the header or the parts, or,
 /// reported with its number, in the first faulty instruction. That instruction has its first fault too: its operation,
 /// then an operand that is out of its range, or unused but not 0, and then its target. Missing bytes of the header
 /// count as wrong ones.
@@ -37,11 +37,11 @@ pub fn objects_have_an_order_of_faults()
     ensures { ObjectsHaveFaults }
 {}
 
-/// A step of a running machine makes the event of its next instruction, with that instruction's operands, and returns
-/// the device's reply. A read leaves its word in the accumulator, also the word of a stray access. A peek at 16 bytes
-/// leaves the word that it names, the low byte first. No other event changes the accumulator. A block that the step
-/// lends is no longer free, and a block that a reply returns is free again. Lending a block that isn't free makes no
-/// event. The next instruction is the one after it, and after the last instruction the machine has ended.
+/// A step of a running machine performs the event of its next instruction, with that instruction's operands, and
+/// returns the device's reply. A read leaves its word in the accumulator, also the word of a stray access. A peek at 16
+/// bytes leaves the word that it names, the low byte first. No other event changes the accumulator. A block that the
+/// step lends is no longer free, and a block that a reply returns is free again. If the block to lend isn't free, no
+/// event is made. The next instruction is the one after it, and after the last instruction the machine has ended.
 #[tactic(auto, using(crate::proofs::Steps::make))]
 pub fn instructions_make_events()
     ensures { InstructionsMakeEvents }
@@ -56,10 +56,10 @@ pub fn instructions_act()
     ensures { InstructionsAct }
 {}
 
-/// A breakpoint is set at an instruction of the program. A breakpoint that is already set stays, also if 32 are set.
-/// One more is then refused with `TooManyBreaks`. One after the last instruction is refused with `NoSuchPc`, as is
-/// clearing one that isn't set. Going back reduces the number of steps by the number requested; going back before the
-/// first step is refused with `AtStart`.
+/// A breakpoint is set at an instruction of the program. A breakpoint that is already set stays, even if 32 are set.
+/// One more is then refused with `TooManyBreaks`. A breakpoint after the last instruction is refused with `NoSuchPc`,
+/// as is clearing one that isn't set. Going back reduces the number of steps by the number requested; going back before
+/// the first step is refused with `AtStart`.
 #[tactic(auto, using(crate::proofs::Commands::breakpoints, crate::proofs::Commands::back))]
 pub fn breakpoints_are_bounded()
     ensures breaks { BreakpointsAreBounded }
@@ -68,12 +68,12 @@ pub fn breakpoints_are_bounded()
 
 /// A debugger's `Step` takes as many steps as requested, whatever instructions have breakpoints, or as many as the
 /// machine takes. `Continue` ends earlier, after a step with a breakpoint at its next instruction. It takes at least
-/// one step if it may, also from an instruction with a breakpoint. Neither takes a step for a count of 0.
+/// one step if it can, even from an instruction with a breakpoint. With a count of 0, neither takes a step.
 pub fn breakpoints_hold_runs()
     ensures { BreakpointsHoldRuns }
 {}
 
-/// An arena of only block 65,535 exists, with that block free. Only a lack of memory refuses it.
+/// An arena can consist of only block 65,535, which is free in it. It is refused only for lack of memory.
 pub fn last_block_is_there(alloc: Global) -> Result<Arena, ArenaFault>
     ensures made { IfOk result (λ arena. arena ≡ all_free 65535 1) }
     ensures refused { IfErr result (λ fault. fault ≡ ArenaFault.OutOfMemory) }
@@ -88,7 +88,7 @@ pub fn arenas_are_split_inside()
     ensures { ArenasAreSplit }
 {}
 
-/// Only a lack of memory refuses a device with 63 virtual functions and a receive list of 4,096 frames.
+/// A device with 63 virtual functions and a receive list of 4,096 frames is refused only for lack of memory.
 pub fn largest_device_is_there(alloc: Global) -> Result<Device, NewFault>
     ensures { IfErr result (λ fault. fault ≡ NewFault.OutOfMemory) }
 {
@@ -101,8 +101,8 @@ pub fn largest_device_is_there(alloc: Global) -> Result<Device, NewFault>
     )
 }
 
-/// A device with 64 virtual functions is refused for them, also with a receive list of no frames, which isn't allowed
-/// either.
+/// A device with 64 virtual functions is refused because of their number, even with a receive list of no frames, which
+/// isn't allowed either.
 pub fn no_device_has_64_functions(alloc: Global) -> Result<Device, NewFault>
     ensures { result ≡ Err NewFault.TooManyVfs }
 {

@@ -1,4 +1,4 @@
--- What writes of EIAC and EIAM, and of PVTEIAC and PVTEIAM, leave.
+-- The registers after writes of EIAC and EIAM, and of PVTEIAC and PVTEIAM.
 use Rattle.std.proofs.Common.{◌≡◌, ◌≢◌, ℕ, ◌-◌, ◌<◌, ◌^◌, true, ◌&&◌, if◌then◌else◌, cond, refl, ap, sym, ◌∙◌, arith, lit<, ◌==◌}
 use Rattle.std.specs.Prelude.{bit_and}
 use Rattle.std.proofs.lemmas.Nat.{and_le_l}
@@ -19,7 +19,7 @@ use Rattle.datasheet_laws.proofs.Bits.{has_bit-and, has_bit-merged}
 use Rattle.datasheet_laws.proofs.Groups.{shows_then}
 use Rattle.datasheet_laws.proofs.Words.{by_words, bit_of-words, small}
 
--- A written word has the new bit if mask and view contain it.
+-- A written word has the new bit if the mask and the view contain that bit.
 stored_bit : (mask view old word bit : ℕ) → bit < 32 → mask < 2 ^ 32 → has_bit bit mask ≡ true
     → has_bit bit (merged (bit_and mask view) old word)
     ≡ (if has_bit bit view then has_bit bit word else has_bit bit old)

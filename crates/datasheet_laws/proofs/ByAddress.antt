@@ -17,7 +17,7 @@ has_bit-shown w bit low =
     ap (λ n. n == 1) (bit_at_and w whole bit ∙ ap (λ n. min (bit_at w bit) n) (bit_at_ones 32 bit low)
     ∙ least (bit_at w bit) (bit_at-lt w bit))
 
--- The word at a register's first address, what a read of it returns, and what accesses leave.
+-- The word at a register's first address, the value that a read of it returns, and the registers after accesses.
 module _ (r : Registers) (row : RowId) (i : ℕ) (inside : i < (line_of row).count) where
   pub word-at : word r ((line_of row).address i) ≡ word_of r row i
   word-at = ap (held r) ((listed row).met i inside)

@@ -37,7 +37,7 @@ own_written g word view bit b =
     ∙ and_true (contains (bit_and word view) bit)
     ∙ written word view bit
 
--- Registers that take these interrupts of a group.
+-- Registers in which these interrupts of a group are stored.
 module _ (s t : State) (g : Group) (left : Interrupts) (bits : Bits) (h : IsSound s) (there : IsGroup g)
     (own : left.group ≡ g) (settled : IsSettled left) (reported : left.reported < 2 ^ 32)
     (x : Leaves (interrupts_of s.registers g) left bits) (is : t.registers ≡ with_interrupts s.registers left) where
@@ -55,7 +55,7 @@ module _ (s t : State) (g : Group) (left : Interrupts) (bits : Bits) (h : IsSoun
       settled.enabled reported)
       ∙ (λ k. record left { auto_clear = sym x.auto_clear k; auto_mask = sym x.auto_mask k })
 
-  -- A bit of the group then shows them.
+  -- Reads of a bit of the group then show them.
   pub shows : (f : Bit → Bit) (bit : ℕ) → bit < bits_in g → bit_by bits bit (bit_in before bit) ≡ f (bit_in before bit)
       → bit_of t g bit ≡ f (bit_of s g bit)
   shows f bit b then =

@@ -96,7 +96,7 @@ section_length words is points =
     ap length (section_is words points)
     ∙ omega (arith, length-take n (drop (at + 1) words), length-drop (at + 1) words, section_ends words is points)
 
--- A word of the section is at that index further on.
+-- Word i of the section is i words after the section's first word.
 word_in_section : (words : List ℕ) → names_none (nth words 13) ≡ false → (i j : ℕ) →
     i < following words (nth words 13) → nth words 13 + 1 + i ≡ j →
     nth (section_at words (nth words 13)) i ≡ nth words j
@@ -217,7 +217,7 @@ faults = record {
   };
 }
 
--- A word inside is the image's own, and outside there is none.
+-- A word inside the image is the image's own; outside, there is none.
 word_inside : (words : List ℕ) (n : ℕ) → n < length words → get_or words n 0xFFFF ≡ get_or words n 0
 word_inside [] n h = absurd (omega arith)
 word_inside (w ∷ words) zero h = refl

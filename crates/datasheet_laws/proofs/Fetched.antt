@@ -1,4 +1,4 @@
--- What a fetched slot leaves, and what a transmit step leaves of a frame.
+-- The state after a slot is fetched, and the frame after a transmit step.
 use Rattle.std.proofs.Common.{◌≡◌, ◌<◌, ℕ, Bool, cond, List, [], Some, None, Ok, nat_lt, inl, inr, refl, ap, sym, ◌∙◌, subst}
 use Rattle.std.specs.Prelude.{slice_set}
 use Rattle.std.proofs.lemmas.Bool.{cond-true, cond-false, cases_Bool, ltb-true}
@@ -54,7 +54,7 @@ module _ (s : State) (queue : ℕ) (f : Fetched) (is : (fetched_by s queue).answ
 abbrev After : State → ℕ → Outcome → Type 0
 After s queue o = SentAfter queue o.reply s o.state
 
--- The staged bytes that are set for a queue are those that it has.
+-- A queue has the staged bytes that were set for it.
 staged_there : (s : State) (queue : ℕ) (bytes : List ℕ) → IsSound s → queue < 128
     → staged_by (record s { staged = slice_set s.staged queue bytes }) queue ≡ bytes
 staged_there s queue bytes h small =

@@ -91,7 +91,7 @@ has-exists r pool has lacks = both_ways (has_queues (parting_in r) pool) (lacks-
 small-pool : (r : Registers) (frame : List ℕ) (pool : ℕ) → selected_pool r frame ≡ Some pool → pool < 64
 small-pool r frame pool e = subst (λ o. IfSome o (λ p. p < 64)) e (selected_pool-small r frame)
 
--- A frame goes where its filter, its pool and MRQC say.
+-- The filter, the frame's pool and MRQC determine where a frame goes.
 
 pub sorted-filtered : (r : Registers) (frame : List ℕ) → passes r frame ≡ false → sorted r frame ≡ Err unwanted.Filter
 unfolding sorted
@@ -150,7 +150,7 @@ chosen-on r frame parts h =
     ∙ cond-true (takes_frames r h.pool) (Ok h.pool) (Err unwanted.PoolOff)
     (has-one (h.pool % 32) (word_of r Vfre (h.pool / 32)) h.on)
 
--- What is known of a frame by its checked pool.
+-- What the check of a frame's pool shows about the frame.
 
 pub has_pool : (r : Registers) (frame : List ℕ) (pool : ℕ) → selected_pool r frame ≡ Some pool
     → has_queues (parting_in r) pool ≡ true → HasPool r frame pool

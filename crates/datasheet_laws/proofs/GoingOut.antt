@@ -1,4 +1,4 @@
--- What a transmit step leaves of a frame.
+-- The frame after a transmit step.
 use Rattle.std.proofs.Common.{◌≡◌, ◌⊎◌, ◌+◌, ◌*◌, ◌-◌, ◌%◌, ◌^◌, ℕ, true, false, List, [], ◌++◌, length, append-nil, Option, Some, None, inl, inr, refl, ap, sym, ◌∙◌, subst, arith}
 use Rattle.std.specs.Prelude.{replicate}
 use Rattle.nic_device.specs.TxRing.Fetch.{descriptor_of, buffer_bytes}
@@ -78,7 +78,7 @@ module _ (s : State) (queue : ℕ) where
   at-head : (P : List ℕ → Type 0) → P (descriptor s queue) → P (head_descriptor s queue)
   at-head P h = subst P (sym (head-is s queue)) h
 
-  -- What a fetched slot may leave.
+  -- The possible states after a slot is fetched.
   abbrev pub Leaves : Option (List ℕ) → State → Type 0
   Leaves (Some frame) new =
       (frame ≡ frame_of (pads s.registers) bytes) × (field 23 20 second ≡ 3) × (bit 24 second ≡ 1)

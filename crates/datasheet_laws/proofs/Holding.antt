@@ -18,7 +18,7 @@ use Rattle.datasheet_laws.proofs.MailEvents.{writing, silent, made}
 use Rattle.datasheet_laws.proofs.SharedMailbox.{own}
 use Rattle.datasheet_laws.specs.Holding.{SparesFunction, SparesPhysical, IsSparing, FunctionHoldsOn, PhysicalHoldsOn}
 
--- What the two sides write, if the mailbox stays held.
+-- Writes of the two sides after which the mailbox is still held.
 function_holds : (mail word : ℕ) → has_bit 2 word ≡ true → has_bit 2 mail ≡ true
     → has_bit 2 (function_wrote mail word) ≡ true
 function_holds mail word on held =
@@ -87,7 +87,7 @@ physical_mailed r h v word there =
     reported_still (with_mail r v (physical_wrote (mail_of r v) word)) v word
     ∙ put_stands r (place row.Pvfmailbox v) (physical_wrote (mail_of r v) word) h there
 
--- What a write leaves of a mailbox's bit, by the side that makes it.
+-- A bit of a mailbox after a write, by the side that writes.
 module _ (s : State) (h : IsSound s) (v : ℕ) (there : v < 64) (n : ℕ) (low : (n == 6 || n == 7) ≡ false)
     (held : has_bit n (mail_of s.registers v) ≡ true) (p : Place) (view word : ℕ)
     (own : p ≡ place row.Pvfmailbox v → has_bit n (function_wrote (mail_of s.registers v) word) ≡ true)

@@ -31,7 +31,7 @@ use Rattle.datasheet_laws.proofs.Groups.{index_small, bit_of-in, bit_stands}
 use Rattle.datasheet_laws.proofs.LastingAccesses.{read_keeps, write_keeps}
 use Rattle.datasheet_laws.proofs.Words.{general_bit, small}
 
--- What a number names is in its row.
+-- The register that a number names is in its row.
 
 among_in_range : (s : State) (a : ℕ) (o : Option Place) → place_among runs a ≡ o → (p : Place) (view : ℕ)
     → at_place o (view_among runs a) ≡ Register p view → p.index < (row_of p.row).count

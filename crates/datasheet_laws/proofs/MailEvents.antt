@@ -30,7 +30,7 @@ apart_mail w v apart =
     is_place-other (place row.Pvfmailbox w) (place row.Pvfmailbox v)
     (λ same. apart (ap (λ (q : Place). q.index) (sym same)))
 
--- A read changes no bit of a mailbox, except a read of the mailbox those that are reported once.
+-- A read changes no bit of a mailbox, but a read of the mailbox itself changes the bits that are reported once.
 abbrev pub IsUnread : Place → (v n : ℕ) → Type 0
 IsUnread p v n =
     (row_of p.row).kind ≡ kind.Vfmail → (is_place (place row.Pvfmailbox p.index) (place row.Pvfmailbox v)
@@ -43,7 +43,7 @@ read_lacks kind.Cause p v n e other = none_pending_of (place row.Pvfmailbox v) r
 read_lacks kind.Vfmail p v n e other = other e
 read_lacks k p v n e other = refl
 
--- A write changes no bit of a mailbox, except those of the mailbox by either side, and of CTRL_EXT.
+-- A write changes no bit of a mailbox, unless it is a write of the mailbox by either side or a write of CTRL_EXT.
 pub record IsOther (k : Kind) (p : Place) (v n : ℕ) : Type 0 where
   pub own : k ≡ kind.Vfmail → (is_place (place row.Pvfmailbox p.index) (place row.Pvfmailbox v) && n == 2) ≡ false
   pub physical :
@@ -119,7 +119,7 @@ module _ (v n : ℕ) (value : Bool) where
       (within-written s.registers p view word).bits (place row.Pvfmailbox v) n
       (write_lacks (row_of p.row).kind p v n refl other) ∙ is
 
-  -- A write, by the state that it leaves.
+  -- A write, in terms of the state after it.
   pub write_holds : (s : State) (p : Place) (view word : ℕ) → p.index < (row_of p.row).count
       → (p ≡ place row.Ctrl 0 → IsFalse (has_bit 3 word || has_bit 26 word))
       → (asks_pool_reset (row_of p.row).kind word ≡ true → Is (with_pool_reset s p.index))

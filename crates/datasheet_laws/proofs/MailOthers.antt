@@ -1,4 +1,4 @@
--- What accesses of a mailbox leave of its word, and of the words of other functions.
+-- The word of a mailbox after accesses, and the words of other functions' mailboxes.
 use Rattle.std.proofs.Common.{◌≡◌, ℕ, ◌<◌, Bool, true, false, ◌==◌, ◌&&◌, ◌||◌, refl, ap, sym, ◌∙◌}
 use Rattle.std.specs.Prelude.{IsFalse}
 use Rattle.reg_table.specs.declared.rows.RowId.TheVariants as row

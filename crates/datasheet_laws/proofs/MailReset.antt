@@ -1,4 +1,4 @@
--- What a pool reset leaves of the pool's mailbox.
+-- The pool's mailbox after a pool reset.
 use Rattle.std.proofs.Common.{◌≡◌, ℕ, ◌<◌, true, false, ◌==◌, ◌&&◌, ◌||◌, refl, sym, ◌∙◌, inl, inr}
 use Rattle.std.specs.Prelude.{not}
 use Rattle.std.proofs.lemmas.Bool.{cases_Bool, and_cases, and_from, and_left, and_right, or_from, or_left, not_from_true, both_ways, eq-eqb, agree_below_at}

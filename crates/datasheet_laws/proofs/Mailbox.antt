@@ -28,7 +28,7 @@ use Rattle.datasheet_laws.proofs.Table.{at}
 unmasked : (a b : ℕ) → b < 2 → (b == 1) ≡ false → (min a b == 1) ≡ false
 unmasked a b small off = grind (arith, nat_tests)
 
--- A word that is put is the register's, and another row's words stay unchanged.
+-- A stored word is the register's, and another row's words stay unchanged.
 put_here : (r : Registers) → HasShape r → (x : RowId) (i w : ℕ) → i < (row_of x).count
     → word_of (with_word r x i w) x i ≡ w
 put_here r h x i w inside = put_stands r (at x i) w h inside

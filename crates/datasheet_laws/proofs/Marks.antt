@@ -1,4 +1,4 @@
--- What events leave of the reported marks.
+-- The reported marks after events.
 use Rattle.std.proofs.Common.{◌≡◌, ℕ, ◌<◌, ◌^◌, Bool, true, false, ◌&&◌, Option, Some, None, refl, ap, sym, ◌∙◌, subst}
 use Rattle.nic_device.specs.RegTable.declared.rows.RowId.TheVariants as row
 use Rattle.nic_device.specs.IntrUnit.BitSet.{contains, intersection}

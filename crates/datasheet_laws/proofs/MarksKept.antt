@@ -30,7 +30,7 @@ use Rattle.datasheet_laws.proofs.Marks.{Keeps, same_marks, same_interrupts, rais
 use Rattle.datasheet_laws.proofs.Masks.{registers_set as masks_put, registers_cleared as masks_taken}
 use Rattle.datasheet_laws.proofs.Owned.{IsOne, causes, cause_set, masks, mask_clear, auto_clear, auto_mask, one_of_group}
 
--- What a write of another owner's register may change has no mark of the group.
+-- A write of another owner's register can't change a mark of the group.
 reaching : (k : Kind) (p : Place) (g : Group) → is_own k ≡ false → (written_by k p).reported g ≡ false
 reaching kind.Vfmail p g off = refl
 reaching kind.Pfmail p g off = refl

@@ -16,7 +16,7 @@ use Rattle.datasheet_laws.proofs.ByAddress.{word-at, left-at, wrote-at}
 use Rattle.datasheet_laws.proofs.Table.{at as place}
 
 module _ (y : RowId) (j : ℕ) (inside : j < (line_of y).count) where
-  -- Putting another word leaves the word unchanged.
+  -- Storing a word of another register leaves this register's word unchanged.
   stands : (r : Registers) (x : RowId) (i w : ℕ) → IsOther x i y j
       → word_of (record r { words = put r.words (place x i) w }) y j ≡ word_of r y j
   stands r x i w apart =

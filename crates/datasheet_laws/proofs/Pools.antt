@@ -27,7 +27,7 @@ is_in s h v x queue pool own is = record {
   is = subst (λ n. queue ≡ v * n + x) (queues_there s h) is;
 }
 
--- The group that a queue raises causes in.
+-- The group in which a queue raises causes.
 
 pub group_vf : (s : State) → IsSound s → (v x queue : ℕ) → IsQueueOf s v x queue
     → group_of_queue s.registers s.vfs queue ≡ Vf v

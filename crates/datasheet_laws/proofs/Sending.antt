@@ -1,4 +1,4 @@
--- What functions send, as reads of PFMBICR show it.
+-- Requests and acknowledgements of functions, as reads of PFMBICR show them.
 use Rattle.std.proofs.Common.{◌≡◌, ◌≢◌, ℕ, ◌<◌, ◌+◌, ◌/◌, ◌%◌, ◌^◌, Bool, true, false, ◌==◌, ◌&&◌, ◌||◌, ◌⊎◌, refl, ap, sym, ◌∙◌, inl, inr, arith}
 use Rattle.std.proofs.Math.Bool.{or-false}
 use Rattle.nic_device.specs.RegTable.declared.rows.RowId.TheVariants as row
@@ -38,7 +38,7 @@ module _ (r : Registers) (h : HasShape r) (v word : ℕ) (there : v < 64) (k : �
   abbrev Held : Registers
   Held = with_mail r v (function_wrote (mail_of r v) word)
 
-  -- Neither the mailbox's word nor a cause is one of PFMBICR.
+  -- Neither the mailbox's word nor a cause's word is a word of PFMBICR.
   by_mail : word_of Held row.Pfmbicr k ≡ word_of r row.Pfmbicr k
   by_mail =
       word_at-put_other r.words (place row.Pvfmailbox v) (place row.Pfmbicr k) _

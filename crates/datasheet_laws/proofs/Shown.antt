@@ -1,4 +1,4 @@
--- What one memory call shows of another.
+-- How one memory call shows the effect of another.
 use Rattle.std.proofs.Common.{◌≡◌, ◌<◌, ◌+◌, ◌*◌, ◌/◌, ◌%◌, ◌==◌, ℕ, Bool, true, false, cond, List, length, Option, Some, None, refl, ap, sym, ◌∙◌, subst, arith}
 use Rattle.std.specs.FinMap as map
 use Rattle.nic_device.specs.DmaArena.Memory.{has_block, is_lent, read_at, write_at, AreApart}

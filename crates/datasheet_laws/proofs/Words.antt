@@ -1,4 +1,4 @@
--- What reads of addresses show of the words of registers.
+-- Which bits of a register's word the reads of its addresses show.
 use Rattle.std.proofs.Common.{◌≡◌, ℕ, ◌<◌, refl, ap, sym, ◌∙◌, ◌&&◌, not, arith}
 use Rattle.std.specs.Prelude.{bit_and}
 use Rattle.nic_device.specs.RegTable.declared.rows.RowId.TheVariants.{Eicr, Eims, Eiac, Eiam, Gpie, Pvteicr, Pvteims, Pvteiac, Pvteiam}

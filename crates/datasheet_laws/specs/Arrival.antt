@@ -1,4 +1,4 @@
--- When an arriving frame is accepted, why another is dropped, by the bits of registers, and where it waits.
+-- In terms of register bits: when an arriving frame is accepted, where it waits, and why other frames are dropped.
 use Rattle.std.specs.Prelude.{ℕ, ◌≡◌, ◌≢◌, ◌<◌, ◌≤◌, ◌⊎◌, ◌↔◌, ◌-◌, ◌/◌, ◌%◌, IsTrue, IsFalse, List, [], ◌∷◌, ◌++◌, length, Some, None, Ok}
 use Rattle.nic_device.specs.RegTable.declared.rows.RowId.TheVariants.{Rxctrl, Hlreg0, Maxfrs, VtCtl, Mrqc, GcrExt, Vfre}
 use Rattle.nic_device.specs.RxFilter.Pools.{selected_pool}
@@ -116,8 +116,8 @@ ArrivingHasAnOrder =
     (s : State) → IsSound s → (frame : List ℕ) (reply : Reply Block) →
     (reply_to s (event.Arrive frame) ≡ reply) ↔ IsAnswered s frame reply
 
--- A frame is appended to the receive list with its bytes, its queue, its hash and its RSS type, and nothing of it
--- written. The others are unchanged.
+-- A frame is appended to the receive list with its bytes, its queue, its hash and its RSS type, and none of it written.
+-- The other frames are unchanged.
 pub record Joins (s : State) (frame : List ℕ) (new : State) : Type 0 where
   pub last : Waiting
   pub waiting : new.waiting ≡ s.waiting ++ last ∷ []

@@ -1,4 +1,4 @@
--- Which pools VFRE lets frames into.
+-- Which pools may receive frames, according to VFRE.
 use Rattle.std.specs.Prelude.{ℕ, ◌≡◌, ◌≢◌, ◌⊎◌, ◌<◌, ◌*◌, ◌/◌, ◌%◌, List, [], ◌∷◌, ◌++◌, IsTrue, Some}
 use Rattle.nic_device.specs.RxFilter.Pools.{selected_pool}
 use Rattle.nic_device.specs.declared.event.Event.TheVariants as event
@@ -28,8 +28,8 @@ pub record IsOfOpenPool (s : State) (queue pool : ℕ) : Type 0 where
   pub eight : pool_mode s ≡ 1 → (queue_mode s ≡ 10) ⊎ (queue_mode s ≡ 11) → queue / 8 ≡ pool
   pub none : queue_mode s ≢ 1 → queue_mode s ≢ 8 → queue_mode s ≢ 10 → queue_mode s ≢ 11 → queue ≡ 0
 
--- The frame was appended to the receive list, and waits for a queue of its pool that meets this. Its pool is the lowest
--- pool of the first address that is its destination, or the default.
+-- The frame was appended to the receive list, and waits for a queue of its pool with the property above. Its pool is
+-- the lowest pool of the first address that is its destination, or the default pool.
 pub record JoinsOpenPool (s : State) (arrived : List ℕ) (new : State) : Type 0 where
   pub frame : Waiting
   pub bytes : frame.frame ≡ arrived

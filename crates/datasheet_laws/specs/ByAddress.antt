@@ -1,9 +1,10 @@
--- Registers by their addresses: the word that a register holds, what a read returns, and what accesses leave.
+-- Registers by their addresses: the word that a register holds, the value that a read returns, and the registers after
+-- accesses.
 use Rattle.std.specs.Prelude.{ℕ, Bool, Option, None, Some, bit_and}
 use Rattle.datasheet_laws.specs.NumberPrelude.{Access, Registers, Surroundings, access_at, after_read, has_bit, read_word}
 use Rattle.datasheet_laws.specs.NumberPrelude.{row_of, word_at, written}
 
--- By the access that an address meets.
+-- The same, given the access that an address leads to, if any.
 abbrev pub held : Registers → Option Access → ℕ
 held r None = 0
 held r (Some a) = word_at r.words a.place

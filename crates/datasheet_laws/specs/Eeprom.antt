@@ -37,7 +37,7 @@ pointed_sum words n =
 abbrev pub points_in : List ℕ → ℕ → Bool
 points_in words n = let at = nth words n in names_none at || nat_lt (at + following words at) (length words)
 
--- What words 0x03 to 0x0E point to is in the image. Nothing is required of other words, for example 0x0F.
+-- The words that words 0x03 to 0x0E point to are in the image. Nothing is required of other words, for example 0x0F.
 abbrev pub all_point_in : List ℕ → Bool
 all_point_in words =
     list_all (points_in words)

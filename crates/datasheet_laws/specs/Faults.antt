@@ -32,7 +32,7 @@ descriptor_address r queue =
     (word_of r Rdbah queue * 2 ^ 32 + word_of r Rdbal queue + 16 * field 15 0 (word_of r Rdh queue)) % 2 ^ 64
 
 -- The address of the buffer that the descriptor names, with bit 0 ignored, and how many bytes of a frame go there: as
--- many as fit or are left.
+-- many of the remaining bytes as fit.
 abbrev pub buffer_address : State → ℕ → ℕ
 buffer_address s queue = 2 * (first_half (read_at s.memory (descriptor_address s.registers queue) 16) / 2)
 

@@ -16,7 +16,7 @@ pub record IsAddress (low high : ℕ) (frame : List ℕ) : Type 0 where
   pub fifth : high % 256 ≡ slice_index frame 4
   pub sixth : high / 256 % 256 ≡ slice_index frame 5
 
--- RAL[i] and RAH[i] are a frame's destination; `IsAddressed`: one of the 128 addresses is.
+-- RAL[i] and RAH[i] are a frame's destination. `IsAddressed`: one of the 128 addresses is.
 abbrev pub IsAddressedBy : Registers → List ℕ → ℕ → Type 0
 IsAddressedBy r frame i = IsAddress (word r (0x0A200 + 8 * i)) (word r (0x0A204 + 8 * i)) frame
 

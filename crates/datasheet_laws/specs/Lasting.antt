@@ -15,16 +15,16 @@ abbrev pub IsPoolReset : Group → Place → Type 0
 IsPoolReset Pf p = ⊥
 IsPoolReset (Vf v) p = p ≡ place Pvfctrl v
 
--- A write isn't one of EIMC with the bit, nor one of EICR with a bit that masks itself, and requests no reset of the
--- device or of the function's pool. The same for PVTEIMC and PVTEICR.
+-- A write is neither a write of EIMC with the bit nor a write of EICR with the bit if the bit masks itself, and it
+-- requests no reset of the device or of the function's pool. The same holds for PVTEIMC and PVTEICR.
 pub record SparesMask (s : State) (g : Group) (bit : ℕ) (p : Place) (view word : ℕ) : Type 0 where
   pub mask_clear : p ≡ mask_clear_register g → IsFalse (has_bit bit word && has_bit bit view)
   pub cause : p ≡ cause_register g → IsFalse (has_bit bit word && has_bit bit view && masks_itself s g bit)
   pub control : p ≡ place Ctrl 0 → IsFalse (has_bit 3 word || has_bit 26 word)
   pub pool : IsPoolReset g p → IsFalse (has_bit 26 word)
 
--- An event clears no mask of a bit. It isn't a write of the other kind, a read of EICR while the bit masks itself, or a
--- message of the group while GPIE bit 30 is 1 and the auto-mask contains the bit.
+-- An event doesn't clear the mask of a bit. It isn't a write that the definition above excludes, a read of EICR while
+-- the bit masks itself, or a message of the group while GPIE bit 30 is 1 and the auto-mask contains the bit.
 abbrev pub Spares : State → Group → ℕ → Event Block → Type 0
 Spares s g bit (event.Read port number) =
     (p : Place) (view : ℕ) → named s port number ≡ Register p view → p ≡ cause_register g

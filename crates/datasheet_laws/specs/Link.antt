@@ -1,4 +1,4 @@
--- What a change of the link raises, and which frame a `Collect` hands out.
+-- What a change of the link raises, and which frame a `Collect` returns.
 use Rattle.std.specs.Prelude.{ℕ, ◌≡◌, ◌≢◌, ◌<◌, Bool, List, [], ◌∷◌}
 use Rattle.nic_device.specs.declared.event.Event.TheVariants as event
 use Rattle.nic_device.specs.declared.event.Reply.TheVariants.{Done, Idle, Frame}
@@ -20,7 +20,7 @@ pub record SetsLink (s : State) (up : Bool) : Type 0 where
 abbrev pub LinkChangesRaise : Type 0
 LinkChangesRaise = (s : State) → IsSound s → (up : Bool) → SetsLink s up
 
--- A `Collect` hands out the oldest of the frames out and removes it from them. It is idle exactly if there is none.
+-- A `Collect` returns the oldest transmitted frame and removes it from the list. It is idle exactly if there is none.
 pub record Collects (s : State) : Type 0 where
   pub none : s.out ≡ [] → step_of s event.Collect ≡ gives Idle s
   pub oldest :

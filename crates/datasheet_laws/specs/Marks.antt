@@ -1,4 +1,4 @@
--- Which bits messages reported (the reported marks), and what events leave of these marks.
+-- Which bits messages reported (the reported marks), and these marks after events.
 use Rattle.std.specs.Prelude.{ℕ, ◌≡◌, ◌≢◌, ◌<◌, ◌==◌, Bool, ◌&&◌, ◌||◌, ⊤, IsFalse}
 use Rattle.nic_device.specs.declared.event.Event.TheVariants as event
 use Rattle.datasheet_laws.specs.Prelude.{Block, Ctrl, Event, Group, IsEvent, IsSound, Place, Register, State, after}

@@ -1,4 +1,4 @@
--- The replies to memory calls, and what one call shows of another.
+-- The replies to memory calls, and how one call shows the effect of another.
 use Rattle.std.specs.Prelude.{ℕ, ◌≡◌, ◌<◌, ◌+◌, ◌*◌, ◌/◌, ◌%◌, List, length, take, drop, Some, None}
 use Rattle.std.specs.FinMap as map
 use Rattle.nic_device.specs.DmaArena.Block.{Block, IsBlock}
@@ -17,7 +17,7 @@ IsLentWith s number bytes = map.get s.memory number ≡ Some bytes
 abbrev pub sixteen : ℕ → List ℕ → List ℕ
 sixteen at bytes = take 16 (drop at bytes)
 
--- A block that isn't lent becomes lent, and one that is already lent comes back unused.
+-- A block becomes lent if no block with its number is lent; otherwise it is handed back unused.
 pub record Lends (s : State) (block : Block) : Type 0 where
   pub fresh : IsNotLent s block.number → reply_to s (event.Lend block) ≡ Done
   pub is_lent : IsNotLent s block.number → IsLentWith (after s (event.Lend block)) block.number block.bytes

@@ -3,7 +3,7 @@ use Rattle.std.specs.Prelude.{ℕ, ◌≡◌, ◌<◌, ◌+◌, ◌*◌, ⊤}
 use Rattle.nic_device.specs.RegTable.declared.rows.RowId.TheVariants.{Eicr, Eics, Eims, Eimc, Eiac, Eiam, Gpie, Pvteicr, Pvteics, Pvteims, Pvteimc, Pvteiac, Pvteiam}
 use Rattle.datasheet_laws.specs.Prelude.{Group, Names, Pf, Place, Vf, place, runs, view_among}
 
--- A group with registers: that of the physical function, or of one of 64 virtual functions.
+-- A group with registers: the group of the physical function, or of one of 64 virtual functions.
 abbrev pub IsGroup : Group → Type 0
 IsGroup Pf = ⊤
 IsGroup (Vf v) = v < 64

@@ -20,7 +20,7 @@ receive_address q after = halves 64 (0x01000 + after) (0x0D000 + after) 0x40 q
 abbrev pub transmit_address : (q after : ℕ) → ℕ
 transmit_address q after = 0x06000 + after + 0x40 * q
 
--- The registers of which function v has one each.
+-- The registers that function v has once.
 pub record HasOwn (mode : Mode) (vfs v : ℕ) : Type 0 where
   pub control : mapped mode vfs v 0x0000 ≡ Pf (0x00300 + 4 * v)
   pub status : mapped mode vfs v 0x0008 ≡ Pf 0x00008

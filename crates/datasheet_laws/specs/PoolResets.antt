@@ -15,9 +15,9 @@ pool_has Pools16 v q = q / 8 == v
 pool_has Pools32 v q = q / 4 == v
 pool_has Pools64 v q = q / 2 == v
 
--- Whether it resets register j of a row. Of the interrupts, the packet types, the counters and the mailbox's vector, it
--- resets the function's. Of the rings, it resets those of the pool's queues, and the words with their vectors, two
--- queues in each.
+-- Whether the reset affects register j of a row. Of the interrupts, the packet types, the counters and the mailbox's
+-- vector, it resets the function's. Of the rings, it resets those of the pool's queues, and the words with their
+-- vectors, two queues in each.
 abbrev pub takes : Mode → (v : ℕ) → RowId → (j : ℕ) → Bool
 takes mode v row.Pvfctrl j = j == v
 takes mode v row.Pvteicr j = j == v
@@ -48,8 +48,8 @@ takes mode v row.Tdwbah j = pool_has mode v j
 takes mode v row.Pvtivar j = pool_has mode v (2 * j)
 takes mode v other j = false
 
--- A register that it resets has its reset value, and everything else is unchanged: PFMBICR, PFMBMEM, and, if the device
--- has no such pool, every ring and PVTIVAR.
+-- A register that the reset affects has its reset value, and everything else is unchanged: PFMBICR, PFMBMEM, and, if
+-- the device has no such pool, every ring and PVTIVAR.
 pub record IsTaken (r : Registers) (mode : Mode) (v : ℕ) (y : RowId) (j bit : ℕ) : Type 0 where
   pub taken : takes mode v y j ≡ true →
       holds (pool_reset mode v r) (at y j) bit ≡ has_bit bit (line_of y).reset

@@ -92,7 +92,7 @@ receive_counter s queue = counter_by s 0x02300 queue
 abbrev pub transmit_counter : State → ℕ → ℕ
 transmit_counter s queue = counter_by s 0x08600 queue
 
--- One more, saturating at the largest word.
+-- A counter's next value, saturating at the largest word.
 abbrev pub one_more : ℕ → ℕ
 one_more word = if word == 0xFFFFFFFF then word else word + 1
 

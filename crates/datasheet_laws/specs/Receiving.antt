@@ -97,7 +97,8 @@ pub record EndsFirst (len : ℕ) (old new : List Waiting) : Type 0 where
   pub was : old ≡ first ∷ new
   pub whole : first.offset + len ≡ length first.frame
 
--- The first frame stays at the front with this many more bytes written, some of it left, and the others unchanged.
+-- The first frame stays at the front with this many more bytes written, some of it remaining, and the other frames
+-- unchanged.
 pub record MovesOnFirst (len : ℕ) (old new : List Waiting) : Type 0 where
   pub first : Waiting
   pub others : List Waiting
@@ -110,8 +111,8 @@ abbrev pub AfterPiece : Bool → ℕ → List Waiting → List Waiting → Type 
 AfterPiece true len old new = EndsFirst len old new
 AfterPiece false len old new = MovesOnFirst len old new
 
--- The waiting frames after a receive step, by the reply. A frame leaves if it is written to its end, dropped or at
--- fault. Otherwise the list is unchanged, except for how much of the first frame is written.
+-- The waiting frames after a receive step, by the reply. A frame leaves the list if it is written to its end, is
+-- dropped or meets a fault. Otherwise the list is unchanged, except for how much of the first frame is written.
 abbrev pub WaitsAfterReceiving : Reply Block → List Waiting → List Waiting → Type 0
 WaitsAfterReceiving (Wrote queue slot end desc at len) old new = AfterPiece end len old new
 WaitsAfterReceiving (Dropped why) old new = LosesFirst old new

@@ -8,7 +8,8 @@ use Rattle.datasheet_laws.specs.Bits.{bit, field}
 use Rattle.datasheet_laws.specs.TransmitFaults.{IsReportedAt, type_in, report_bit}
 use Rattle.datasheet_laws.specs.Transmitting.{head_descriptor}
 
--- The head after a step: the slot after that in TDH bits 15 to 0, or slot 0 after the last in TDLEN bits 19 to 0.
+-- The head after a step: the slot after the one in TDH bits 15 to 0, or slot 0 after the last slot of the ring in TDLEN
+-- bits 19 to 0.
 abbrev pub next_head : Registers → ℕ → ℕ
 next_head r queue =
     if field 15 0 (word_of r Tdh queue) + 1 == field 19 0 (word_of r Tdlen queue) / 16

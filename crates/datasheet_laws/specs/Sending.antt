@@ -15,8 +15,8 @@ abbrev pub asks_by : (v word k bit : ℕ) → Bool
 asks_by v word k bit =
     k == v / 16 && ((has_bit 0 word && bit == v % 16) || (has_bit 1 word && bit == 16 + v % 16))
 
--- After a write of PVFMAILBOX[v], the bit of its request reads as 1 if bit 0 is written as 1, that of its
--- acknowledgement if bit 1 is, and all other bits read as before.
+-- After a write of PVFMAILBOX[v], the bit of its request reads as 1 if bit 0 is written as 1, the bit of its
+-- acknowledgement reads as 1 if bit 1 is, and all other bits read as before.
 abbrev pub RequestsAreApart : Type 0
 RequestsAreApart =
     (s : State) → IsSound s → (v : ℕ) → v < 64 → (port : Port) (number view word : ℕ) →

@@ -23,7 +23,7 @@ pools_by mode = if mode == 1 then 16 else (if mode == 2 then 32 else (if mode ==
 abbrev pub pools_of : State → ℕ
 pools_of s = pools_by (read_at s mode_address % 4)
 
--- Whether a group exists: that of a virtual function does if the device has the function, and a pool for it.
+-- Whether a group exists: a virtual function's group does if the device has the function, and a pool for it.
 abbrev pub HasGroup : State → Group → Type 0
 HasGroup s Pf = ⊤
 HasGroup s (Vf v) = (v < s.vfs) × (v < pools_of s)
@@ -33,8 +33,8 @@ abbrev pub valid_vector : Bool → ℕ → Option ℕ
 valid_vector valid vector = if valid && nat_lt vector 16 then Some vector else None
 
 -- The vector of a bit. Bits 0 to 15 of the physical function have their own number. Bits 16 to 29 have the number in
--- IVAR_MISC bits 13 to 8, valid by bit 15. Bit 30 has that in bits 5 to 0, valid by bit 7. Bits of a virtual function
--- have their own number.
+-- IVAR_MISC bits 13 to 8, if bit 15 marks it valid. Bit 30 has the number in bits 5 to 0, if bit 7 marks it valid. Bits
+-- of a virtual function have their own number.
 abbrev pub vector_by : (misc : ℕ) → Group → ℕ → Option ℕ
 vector_by misc Pf bit =
     if nat_le bit 15 then Some bit

@@ -1,5 +1,5 @@
--- The registers as a driver's author finds them listed, a second time and by hand: no generator writes this file, and
--- no line of it comes from the table that the code searches.
+-- The registers as the datasheet lists them for driver authors, a second time and by hand: no generator writes this
+-- file, and no line of it comes from the table that the code searches.
 use Rattle.std.specs.Prelude.{ℕ, ◌≡◌, ◌<◌, ◌+◌, ◌-◌, ◌*◌, ◌⊎◌, List, [], ◌∷◌, codes, nat_lt, Some, if◌then◌else◌}
 use Rattle.reg_table.specs.declared.kind.Kind.TheVariants as kind
 use Rattle.reg_table.specs.declared.rows.RowId.TheVariants.{Ctrl, Status, CtrlExt, Ledctl, Pvfctrl, Pfmbicr, Pfmbimr, Eicr, Eics, Eiac, Eitr, Eims, Eimc, Eiam, Gpie, Ivar, IvarMisc, Pvteicr, Pvteics, Pvteims, Pvteimc, Pvteiac, Pvteiam, Rdbal, Rdbah, Rdlen, Rdh, Srrctl, Rdt, Rxdctl, Vfgprc, Qprc, Qprdc, Rqsmr, Rdrxctl, Rxctrl, Mpc, Gprc, Gptc, Ruc, Roc, Hlreg0, Maxfrs, Autoc, Links, Dmatxctl, Pfmailbox, Pvfmailbox, PvtivarMisc, Rxcsum, Fctrl, Mcstctrl, VtCtl, Vfre, Vfte, Mta, Ral, Rah, Mrqc, Reta, Rssrk, Tdbal, Tdbah, Tdlen, Tdh, Tdt, Txdctl, Tdwbal, Tdwbah, Qptc, Mtqc, Vfgptc, Tqsm, Mpsar, Psrtype, Eec, Eerd, GcrExt, Pvtivar, Pfmbmem}

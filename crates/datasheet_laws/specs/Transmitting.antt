@@ -74,8 +74,9 @@ pub record GoesOutAs (r : Registers) (bytes frame : List ℕ) : Type 0 where
   pub padded :
       bit 10 (word_of r Hlreg0 0) ≡ 1 → length bytes ≤ 60 → frame ≡ bytes ++ replicate (60 - length bytes) 0
 
--- A frame was sent: the staged bytes and those that the descriptor names, which is of type 3 (bits 23 to 20) and ends
--- the packet (bit 24). It is the last of the frames out, and nothing is staged now.
+-- A frame was sent: the staged bytes, followed by the bytes that the descriptor names. The descriptor is of type 3
+-- (bits 23 to 20) and ends the packet (bit 24). The frame is the last of the transmitted frames, and nothing is staged
+-- afterwards.
 pub record SendsFrame (queue len : ℕ) (s new : State) : Type 0 where
   pub frame : List ℕ
   pub bytes : GoesOutAs s.registers (with_named s queue) frame
@@ -96,8 +97,8 @@ pub record StagesNothing (queue : ℕ) (s new : State) : Type 0 where
   pub type : field 23 20 (second_half (head_descriptor s queue)) ≡ 2
   pub staged : staged_by new queue ≡ staged_by s queue
 
--- What a transmit step leaves of the frame: if it is reported as advanced, nothing is sent; if it has a fault, what was
--- staged is lost.
+-- The frame after a transmit step: if the step is reported as advanced, nothing is sent; if it has a fault, the staged
+-- bytes are lost.
 abbrev pub SentAfter : ℕ → Reply Block → State → State → Type 0
 SentAfter own (Sent queue len back) s new = SendsFrame own len s new
 SentAfter own (Advanced queue slot back) s new =

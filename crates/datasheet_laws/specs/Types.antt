@@ -14,8 +14,9 @@ hashes mrqc = field 3 0 mrqc == 1 || field 3 0 mrqc == 0xA || field 3 0 mrqc == 
 abbrev pub has : (mrqc n : ℕ) → Bool
 has mrqc n = bit n mrqc == 1
 
--- The RSS type. With ports, TCP over IPv4 has 1 by MRQC bit 16, UDP over IPv4 7 by bit 22, TCP over IPv6 3 by bit 21,
--- and UDP over IPv6 8 by bit 23. By addresses only, IPv4 has 2 by bit 17, and IPv6 5 by bit 20. Everything else has 0.
+-- The RSS type. With ports, TCP over IPv4 has type 1 if MRQC bit 16 is 1, UDP over IPv4 type 7 if bit 22 is 1, TCP over
+-- IPv6 type 3 if bit 21 is 1, and UDP over IPv6 type 8 if bit 23 is 1. By addresses only, IPv4 has type 2 if bit 17 is
+-- 1, and IPv6 type 5 if bit 20 is 1. Everything else has type 0.
 abbrev pub type_of : (mrqc : ℕ) → List ℕ → ℕ
 type_of mrqc frame =
     if not (hashes mrqc) then 0

@@ -1,4 +1,4 @@
--- What a fetched slot raises.
+-- The causes that a fetched slot raises.
 use Rattle.std.proofs.Common.{cond, ◌≡◌, ◌∙◌, ℕ, Bool, true, false, List, refl, ap, sym, subst, inl, inr, Option, Some, None, Result, Ok, Err}
 use Rattle.std.specs.Prelude.{⊤, is_some}
 use Rattle.nic_device.specs.TxRing.Fetch as tx

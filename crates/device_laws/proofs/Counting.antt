@@ -1,4 +1,4 @@
--- What counts: each counter's word after a step.
+-- Which steps count: each counter's word after a step.
 use Rattle.std.proofs.Common.{cond, ◌≡◌, ◌≢◌, ◌<◌, ◌^◌, ◌*◌, ◌/◌, ◌%◌, ℕ, Bool, true, false, ap, sym, ◌∙◌, inl, inr, arith, refl}
 use Rattle.std.specs.Prelude.{◌&&◌}
 use Rattle.nic_device.specs.RegTable.declared.kind.Kind.TheVariants as kind
@@ -42,7 +42,7 @@ changed_there f r row index h b p =
           ∙ sym (ap (λ c. cond c (f w) w) other)
     ]
 
--- One more at a place.
+-- The counter at a place is incremented.
 pub counted_there : (r : Registers) (row : RowId) (index : ℕ) → HasShape r → index < (row_of row).count
     → (p : Place) → word_at (counted r row index).words p ≡ with_one (is_place (place row index) p) (word_at r.words p)
 counted_there r row index h b p = changed_there bumped r row index h b p
@@ -91,7 +91,7 @@ same_counter r Tx queue head =
     (word_at-put_other r.words (place Tdh queue) (place Tqsm (queue / 4)) head
     (λ e. let same : Tqsm ≡ Tdh = ap (λ (p : Place). p.row) e in cc))
 
--- Whether or not a frame ends.
+-- The counters after a piece of a frame, whether or not the frame ends.
 pub either_end : (b : Bool) (P : Bool → Registers → Type 0) (x y : Registers) → P true x → P false y → P b (cond b x y)
 either_end true P x y p q = p
 either_end false P x y p q = q

@@ -71,7 +71,7 @@ module _ (p : Place) (is : (row_of p.row).bank ≡ VfCounters) where
       raised_keeps (shut r dir queue) group.Pf fault_cause
       ∙ word_stands (within-shut r dir queue) p (λ bit. not_owned (owner.Side dir queue) refl)
 
-  -- One more for a function.
+  -- A function's counter is incremented.
   function_there : (r : Registers) (o : Option ℕ) (row : RowId) → HasShape r → IfSome o (λ v. v < (row_of row).count)
       → word_at (function_counted r o row).words p ≡ with_one_round (is_counter_of o row p) (word_at r.words p)
   function_there r None row h small = refl

@@ -47,7 +47,7 @@ extended_row row.CtrlExt e = refl
 extended_row row.Ctrl e = cc
 extended_row other e = cc
 
--- A write of a kind that reaches other places has no bit of such a place.
+-- A write of a kind that reaches other places changes no bit of such a place.
 reaching_lacks : (k : Kind) → is_own k ≡ false → (p q : Place) → (row_of p.row).kind ≡ k → IsAway q
     → LacksWord (written_by k p) q
 reaching_lacks kind.Vfmail other p q e away = function_lacks p.index q away
@@ -58,7 +58,7 @@ reaching_lacks k other p q e away = cc
 pub write_lacks : (p q : Place) → is_own (row_of p.row).kind ≡ false → IsAway q → LacksWord (of_write p) q
 write_lacks p q other away = reaching_lacks (row_of p.row).kind other p q refl away
 
--- Nor does it have anything of a side.
+-- Nor does it change anything of a side.
 no_wanted : (k : Kind) → is_own k ≡ false → (p : Place) (dir : Dir) (queue : ℕ)
     → (written_by k p).wanted dir queue ≡ false
 no_wanted kind.Vfmail other p dir queue = refl

@@ -54,7 +54,7 @@ KeepsCount s p (event.Write port number word) =
     (q : Place) (view : ℕ) → named s port number ≡ Register q view → IsFalse (asks_reset (row_of q.row).kind word)
 KeepsCount s p other = ⊤
 
--- One more, if it is counted; it saturates at the largest word.
+-- A counter's next value: one more if the event counts in it, saturating at the largest word.
 abbrev pub with_one : Bool → ℕ → ℕ
 with_one counted word = if counted then bumped word else word
 

@@ -27,7 +27,7 @@ counts_for_function s event.RxStep reply p = function_received s reply p
 counts_for_function s (event.TxStep queue) reply p = function_sent s reply p
 counts_for_function s other reply p = false
 
--- One more, if it is counted; it wraps from the largest word to 0.
+-- A counter's next value: one more if the event counts in it, wrapping from the largest word to 0.
 abbrev pub with_one_round : Bool → ℕ → ℕ
 with_one_round counted word = if counted then (word + 1) % 2 ^ 32 else word
 

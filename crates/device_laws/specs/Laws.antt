@@ -1,4 +1,5 @@
--- What the device promises a driver author, whatever happened before. `view` is the bits that an address shows.
+-- What the device promises a driver author, whatever happened before. `view` is a mask of the bits that an address
+-- shows.
 use Rattle.std.specs.Prelude.{ℕ, ◌≡◌, ◌≢◌, ◌<◌, ◌==◌, Bool, ⊤, IsTrue, IsFalse, List, [], ◌∷◌, take, drop, bit_and, if◌then◌else◌}
 use Rattle.nic_device.specs.RegTable.declared.kind.Kind.TheVariants.{Rw, Rc}
 use Rattle.nic_device.specs.IntrUnit.BitSet.{IsSubset}
@@ -52,7 +53,7 @@ WriteShowsAtEachAddress =
     reply_to_read (after_write s a word) b
     ≡ Word (shown b (merged (shown a (row_of p.row).mask) (word_at s.registers.words p) word))
 
--- A write to one plain register doesn't show in any other plain register.
+-- A write to one plain register doesn't change what any other plain register reads.
 abbrev pub WriteLeavesOtherRegisters : Type 0
 WriteLeavesOtherRegisters =
     (s : State) → IsSound s → (a b word : ℕ) (p q : Place) → IsPlain a p → IsPlain b q → q ≢ p →
@@ -148,7 +149,7 @@ OtherEventsKeepSettings = (s : State) (e : Event Block) → WritesNoSetting s e 
 
 -- Delivery.
 
--- This many of the bytes that are left of the first frame.
+-- This many of the first frame's remaining bytes.
 abbrev pub piece_of : List Waiting → ℕ → List ℕ
 piece_of [] len = []
 piece_of (w ∷ others) len = take len (drop w.offset w.frame)

@@ -129,8 +129,8 @@ abbrev pub IsFirstFor : ℕ → List Waiting → Type 0
 IsFirstFor queue [] = ⊥
 IsFirstFor queue (w ∷ others) = w.queue ≡ queue
 
--- A receive step changes no receive side except that of the queue that the first frame waits for, no transmit side and
--- no transmitted frame.
+-- A receive step changes no receive side except the one of the queue that the first frame waits for, no transmit side
+-- and no transmitted frame.
 pub record ReceivingLeaves (s new : State) : Type 0 where
   pub receive : (queue : ℕ) → ¬ IsFirstFor queue s.waiting → LeavesReceive queue s new
   pub transmit : (queue : ℕ) → LeavesTransmit queue s new
@@ -150,7 +150,7 @@ ReceivingLeavesOtherBlocks =
     (s : State) (number : ℕ) → ReceivesOutside (reply_to s event.RxStep) number
     → LeavesBlock number s (after s event.RxStep)
 
--- A transmit step changes no side except that of its queue, and no waiting frame.
+-- A transmit step changes no side except its own queue's transmit side, and no waiting frame.
 pub record TransmittingLeaves (queue : ℕ) (old new : State) : Type 0 where
   pub sides : LeavesOtherSides Tx queue old new
   pub waiting : new.waiting ≡ old.waiting

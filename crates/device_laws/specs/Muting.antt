@@ -1,12 +1,12 @@
--- Queues with a pool that may not transmit.
+-- Queues whose pool may not transmit.
 use Rattle.std.specs.Prelude.{ℕ, ◌≡◌, ◌<◌, IsTrue, IsFalse, Some}
 use Rattle.nic_device.specs.RegisterFile.Pools.{mode_in, sends_frames}
 use Rattle.nic_device.specs.RxFilter.Pools.{uses_pools}
 use Rattle.nic_device.specs.declared.event.Event.TheVariants as event
 use Rattle.device_laws.specs.Prelude.{Idle, State, gives, pool_of, step_of}
 
--- While frames are distributed among pools, a transmit step of a queue with a pool that may not transmit is idle and
--- changes nothing.
+-- While frames are distributed among pools, a transmit step of a queue whose pool may not transmit is idle and changes
+-- nothing.
 abbrev pub MutedQueueIsIdle : Type 0
 MutedQueueIsIdle =
     (s : State) → IsTrue (uses_pools s.registers) → (queue pool : ℕ) → queue < 128 →

@@ -41,7 +41,7 @@ pub record AccessesChangePoolAlone (s : State) (v offset : ℕ) : Type 0 where
 abbrev pub VfChangesItsPoolAlone : Type 0
 VfChangesItsPoolAlone = (s : State) (v offset : ℕ) → AccessesChangePoolAlone s v offset
 
--- The pool's frames are unchanged too: what is staged, and what waits.
+-- The pool's frames are unchanged too, both the staged bytes and the waiting frames.
 pub record KeepsFrames (old new : State) : Type 0 where
   pub staged : new.staged ≡ old.staged
   pub waiting : new.waiting ≡ old.waiting

@@ -17,7 +17,7 @@ covers-of_write p own = (keeps (row_of p.row).kind).write.owned own p refl
 pub read_misses_sides : ReadMissesSides
 read_misses_sides p dir queue = (keeps (row_of p.row).kind).read.no_side p refl dir queue
 
--- Only accesses to the place itself change a word that is alone.
+-- A word that is alone is changed only by accesses to its own place.
 module _ (q : Place) (alone : is_alone (row_of q.row).kind ≡ true) where
   pub none_read_by : (k : Kind) (p : Place) → is_place p q ≡ false → LacksWord (read_by k p) q
   none_read_by k p n = (keeps k).read.calm p q n alone

@@ -80,7 +80,7 @@ module _ (f : Part) (a b : Registers) (ha : HasShape a) (hb : HasShape b) (same 
         ];
   }
 
--- The same interrupts of a group.
+-- A group with the same interrupts in both.
 pub agree-with_interrupts : (f : Part) (a b : Registers) → HasShape a → HasShape b → AgreeWithin f a b
     → (s t : Interrupts) → s ≡ t → AgreeWithin f (with_interrupts a s) (with_interrupts b t)
 agree-with_interrupts f a b ha hb same s t e =

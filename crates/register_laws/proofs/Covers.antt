@@ -1,4 +1,4 @@
--- Lemmas: which footprints have everything that others have, and which have nothing of others.
+-- Lemmas: which footprints contain other footprints, and which have nothing in common with others.
 use Rattle.std.proofs.Common.{◌≡◌, ℕ, Bool, true, false, ◌||◌, refl, ap, sym, ◌∙◌, subst, inl, inr}
 use Rattle.std.proofs.lemmas.Bool.{both_ways, and_parts, or_cases, or_left, or_right}
 use Rattle.register_file.specs.declared.owner.Owner.TheVariants as owner
@@ -137,7 +137,7 @@ mask_owner : (g : Group) → owner_of (place (mask_row g) (index_of g)) ≡ owne
 mask_owner Pf = refl
 mask_owner (Vf v) = refl
 
--- A place with something pending is that of the causes or that of the masks.
+-- A place with something pending is the place of the causes or of the masks.
 pending_cases : (P : Place → Type 0) (g : Group) (p : Place) (bit : ℕ) → (pending g).bits p bit ≡ true
     → P (place (cause_row g) (index_of g)) → P (place (mask_row g) (index_of g)) → P p
 pending_cases P g p bit is cause mask =

@@ -1,4 +1,4 @@
--- At most one side holds a mailbox, and each access keeps this so.
+-- At most one side holds a mailbox, and each access preserves this.
 use Rattle.std.proofs.Common.{◌≡◌, ℕ, ◌<◌, Bool, true, false, cond, ◌&&◌, refl, ap, sym, ◌∙◌, subst, inl, inr, arith}
 use Rattle.register_file.specs.RegTable.declared.kind.Kind.TheVariants as kind
 use Rattle.register_file.specs.Mailbox.{function_wrote, released, taken, physical_wrote, reported_once, reset_reported, mail_of}
@@ -96,7 +96,7 @@ taken_mail mail word is =
           && has_bit-clear_other 3 7 mail (λ same. omega arith) k) ∙ is.end;
     })
 
--- A bit that has no part in holders and resets.
+-- A bit that concerns neither holders nor resets.
 sent_mail : (b : Bool) (n mail : ℕ) → (2 < n) → (n < 6) → 3 < n → IsMail mail → IsMail (cond b (bit_set n mail) mail)
 sent_mail true n mail low high more is = record {
   holder = (λ k. has_bit-set_other n 2 mail (λ same. omega arith) k

@@ -14,8 +14,8 @@ use Rattle.register_laws.proofs.Reading.{KeepsReading, quiet_read, counter_read,
 use Rattle.register_laws.proofs.RowBits.{IsSubset-or_left, IsSubset-ones, mask_small}
 use Rattle.register_laws.proofs.Writing.{KeepsWriting, no_write, stored_write, held_write, enable_write, group_write}
 
--- Registers that agree in a pool return the same words at its places, and reads and writes keep what is required of
--- them.
+-- Registers that agree in a pool return the same words at its places, and reads and writes preserve the required
+-- properties.
 pub record Keeps (k : Kind) : Type 0 where
   pub given : GivesTheSame k (read_word k)
   pub read : KeepsReading k (after_read k) (read_by k)

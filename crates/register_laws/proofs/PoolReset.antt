@@ -43,7 +43,7 @@ vectors_has : (b : Bank) (n i : ℕ) → is_owner (owner.Vectors n) (owner_in b 
 vectors_has bank.Vectors n i = sym (and-true (n == i))
 vectors_has other n i = sym (and-false (n == i))
 
--- What queues have of a bank, and what words of vectors have.
+-- The places in a bank that belong to queues, and those that belong to words of vectors.
 queues_bits : (count first : ℕ) (p : Place) (bit : ℕ)
     → (any_of of_queue (range_with_len first count)).bits p bit
     ≡ (among first count p.index && is_side (row_of p.row).bank)
@@ -80,7 +80,7 @@ reported_none f g none count first =
     any-among f (λ e. e.reported g) 0 false refl (λ a b. refl) (λ n. none n ∙ sym (and-false (n == 0))) count first
     ∙ and-false (among first count 0)
 
--- All of it belongs to the pool.
+-- All of these places belong to the pool.
 by_bank : (b : Bank) (mode : Mode) (v i : ℕ)
     → (has_own b v i || ((has_queue mode v i && is_side b) || (has_queue mode v (2 * i) && is_vectors b)))
     ≡ is_of_pool_by b mode v i

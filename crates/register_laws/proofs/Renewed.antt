@@ -85,7 +85,7 @@ renewed-same f g r s same new = record {
   reported = λ h k is b. new.reported h k (same.reported k ∙ is) b;
 }
 
--- The part of a footprint that a pool reset covers: of nothing, of one part after another, and of equal footprints.
+-- The part that a pool reset covers of an empty footprint, of one part after another, and of equal footprints.
 pub taken-refl : (r : Registers) → IsRenewed (renewed_of nothing) r r
 taken-refl r =
     renewed-same nothing (renewed_of nothing) r r (record {

@@ -1,4 +1,4 @@
--- What accesses to a pool's registers, and the pool's reset, change and return: only the pool's registers.
+-- What accesses to a pool's registers, and the pool's reset, may change and depend on.
 use Rattle.std.specs.Prelude.{ℕ, ◌≡◌, ◌≢◌, IsTrue}
 use Rattle.register_file.specs.Settings.{is_stopped}
 use Rattle.register_file.specs.declared.surroundings.Surroundings.{Surroundings}

@@ -87,12 +87,12 @@ SwitchObeysTransmit =
     transmit_queue_of (switched r Tx queue) queue
     ≡ record (transmit_queue_of r queue) { on = (transmit_queue_of r queue).wanted }
 
--- Switching a side that already is as requested changes nothing.
+-- Switching a side that is already in its requested state changes nothing.
 abbrev pub SwitchedSideStays : Type 0
 SwitchedSideStays =
     (r : Registers) (dir : Dir) (queue : ℕ) → is_on r dir queue ≡ is_wanted r dir queue → switched r dir queue ≡ r
 
--- Bit 25 of a side's enable word, as read, is whether the side is enabled.
+-- Bit 25 of a side's enable word, as read, shows whether the side is enabled.
 abbrev pub EnableReadTellsOn : Type 0
 EnableReadTellsOn =
     (r : Registers) (dir : Dir) (queue : ℕ) (around : Surroundings) →
@@ -159,8 +159,7 @@ WrittenTransmitIsTheSides =
     ≡ transmit_queue_by (with_row (λ own. word_of r own queue) row (word_after r (place row queue) view word))
     (is_wanted r Tx queue)
 
--- A counter: a read returns what was counted, one more for each count up to the largest word, and restarts the counter
--- from 0.
+-- A counter adds one for each count, up to the largest word. A read returns the count, and restarts the counter from 0.
 pub record CountsAndClears (r : Registers) (p : Place) : Type 0 where
   pub counts : (around : Surroundings)
       → read_word kind.Rc (counted r p.row p.index) around p ≡ bumped (read_word kind.Rc r around p)
@@ -171,8 +170,8 @@ CountersCount =
     (r : Registers) → HasShape r → (p : Place) → p.index < (row_of p.row).count → (row_of p.row).kind ≡ kind.Rc →
     CountsAndClears r p
 
--- A read-only counter: a read returns what was counted, one more for each count, and 0 after the largest word. Reads
--- and writes leave it unchanged.
+-- A read-only counter adds one for each count, and 0 follows the largest word. A read returns the count. Reads and
+-- writes leave the counter unchanged.
 pub record GoesRound (r : Registers) (p : Place) : Type 0 where
   pub counts : (around : Surroundings)
       → read_word kind.Ro (counted_wrapping r p.row p.index) around p ≡ (read_word kind.Ro r around p + 1) % 2 ^ 32
@@ -313,7 +312,7 @@ MissedInterruptsStand =
     (f : Footprint) (old new : Registers) (g : Group) → Misses f (of_group g) → ChangesWithin f old new →
     interrupts_of new g ≡ interrupts_of old g
 
--- What single words set is unchanged if the footprint doesn't have these words.
+-- The settings in single words are unchanged if the footprint doesn't have these words.
 pub record SettingsStand (f : Footprint) (old new : Registers) : Type 0 where
   pub stopped : LacksWord f (place Ctrl 0) → is_stopped new ≡ is_stopped old
   pub can_receive : LacksWord f (place Rxctrl 0) → can_receive new ≡ can_receive old

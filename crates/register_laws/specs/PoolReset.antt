@@ -1,4 +1,4 @@
--- What the reset of a pool promises.
+-- What is promised for the reset of a pool.
 use Rattle.std.specs.Prelude.{ℕ, ◌≡◌, ◌<◌, ◌==◌, Bool, not, ◌&&◌, ◌||◌, IsTrue, IsFalse}
 use Rattle.register_file.specs.RegTable.declared.rows.RowId.TheVariants.{Pfmbmem, Pvfmailbox}
 use Rattle.register_laws.specs.Prelude.{Dir, Group, Mode, Place, Registers, RowId, has_bit, index_of, is_wanted}
@@ -23,7 +23,7 @@ abbrev pub PoolResetStaysWithin : Type 0
 PoolResetStaysWithin =
     (r : Registers) (mode : Mode) (v : ℕ) → ChangesWithin (pool_renews mode v) r (pool_reset mode v r)
 
--- What the reset leaves of a mailbox: the memory, and all bits of the word except 2, 4 and 5.
+-- The part of a mailbox that the reset leaves unchanged: the memory, and all bits of the word except 2, 4 and 5.
 abbrev pub is_left : RowId → (bit : ℕ) → Bool
 is_left row bit =
     (number_of row == number_of Pfmbmem)

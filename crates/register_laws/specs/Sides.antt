@@ -1,4 +1,4 @@
--- What the steps of a queue read.
+-- The register values that a queue's steps read.
 use Rattle.std.specs.Prelude.{ℕ, ◌+◌, ◌*◌, ◌/◌, ◌%◌, ◌^◌, ◌==◌, Bool, Option, Some, None, if◌then◌else◌}
 use Rattle.register_file.specs.RegTable.declared.rows.RowId.TheVariants.{Rdbal, Rdbah, Rdlen, Rdh, Rdt, Srrctl, Rxdctl, Tdbal, Tdbah, Tdlen, Tdh, Tdt, Tdwbal, Tdwbah, Txdctl}
 use Rattle.register_file.specs.DmaRing.declared.ring.Ring.{Ring}

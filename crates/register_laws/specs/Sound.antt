@@ -13,9 +13,9 @@ pub record HasShape (r : Registers) : Type 0 where
   pub wanted_tx : length r.wanted_tx ≡ 128
   pub reported_vf : length r.reported_vf ≡ 64
 
--- The bits that can become 1 in a word of this kind and mask. A written word can have those of the mask; an enable word
--- also bit 25, which a switch sets. A counter, and EERD, which receives answers, can have all bits. A register that
--- only acts or is calculated has none.
+-- The bits that can become 1 in a word of this kind and mask. A written word can have the bits of the mask; an enable
+-- word can also have bit 25, which a switch sets. A counter, and EERD, which receives answers, can have all bits. A
+-- register that only acts or is calculated has none.
 abbrev pub bits_of_kind : Kind → ℕ → ℕ
 bits_of_kind k = (behaviour_of k).bits
 

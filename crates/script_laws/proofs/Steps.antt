@@ -22,13 +22,13 @@ use Rattle.program.specs.declared.instruction.Instruction.TheVariants as instr
 use Rattle.script_laws.specs.Steps.{acc_read, acc_seen, as_it_was, freed, status_after, IsNext, Made, Makes, Acted, Acts, LentNone}
 use Rattle.script_laws.specs.Steps.{EventsAreMade, MachinesAct, InstructionsMakeEvents, InstructionsAct}
 
--- The step that the next instruction makes.
+-- The step that runs the next instruction.
 stepped : (program : Listing) (s : MachineState) (i : Instruction ℕ ℕ) → IsNext program s i →
     machine_step program s ≡ executed_if_some program s (Some i)
 unfolding machine_step
 stepped program s i next = ap (executed_if_some program s) next
 
--- A reply to a read, and to a peek, is kept this way.
+-- What is kept in the accumulator of a reply to a read, and of a reply to a peek.
 same_read : (r : Reply Block) (acc : ℕ) → word_read r acc ≡ acc_read r acc
 same_read (reply.Word w) acc = refl
 same_read other acc = refl
@@ -43,7 +43,7 @@ same_freed (reply.Buf block) blocks = refl
 same_freed (reply.Twice block) blocks = refl
 same_freed other blocks = refl
 
--- All that a step with an event leaves, while these blocks are free.
+-- The machine after a step with an event, while these blocks are free.
 abbrev all_made : Listing → MachineState → (blocks : Numbers) (acc : ℕ) → Outcome → Step
 all_made program s blocks acc outcome = record {
   answer = answer.Made outcome.reply;
@@ -142,7 +142,7 @@ events_made program s = record {
 pub make : InstructionsMakeEvents
 make program s = events_made program s
 
--- All that a step without an event leaves.
+-- The machine after a step without an event.
 abbrev left : MachineState → (acc pc : ℕ) → Status → Step
 left s acc pc status =
     record { answer = answer.Local; state = record s { acc = acc; pc = pc; status = status; steps = s.steps + 1 } }

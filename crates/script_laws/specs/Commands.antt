@@ -16,7 +16,7 @@ use Rattle.machine.specs.declared.machine.StepAnswer.TheVariants.{Stopped}
 abbrev pub is_set : Session → ℕ → Bool
 is_set s pc = list_any (λ set. set == pc) s.breakpoints
 
--- A command returns the view of session `after`, which is the session afterwards; `IsRefused`: it returns this refusal
+-- A command returns the view of session `after`, which is the session afterwards. `IsRefused`: it returns this refusal
 -- and leaves the session unchanged.
 pub record IsDone (s : Session) (command : Command) (after : Session) : Type 0 where
   pub answer : (command_of s command).answer ≡ Ok (view_of after None)
@@ -26,8 +26,8 @@ pub record IsRefused (s : Session) (command : Command) (refusal : DebugRefusal) 
   pub answer : (command_of s command).answer ≡ Err refusal
   pub session : (command_of s command).session ≡ s
 
--- A breakpoint is set at an instruction of the program. A breakpoint that is already set stays, also among 32; a new
--- one becomes the last, and a 33rd is refused.
+-- A breakpoint is set at an instruction of the program. A breakpoint that is already set stays, even if 32 are set. A
+-- new one becomes the last, and a 33rd is refused.
 pub record BreaksAreSet (s : Session) (pc : ℕ) : Type 0 where
   pub outside : length s.program.instructions ≤ pc → IsRefused s (Break pc) NoSuchPc
   pub again : pc < length s.program.instructions → is_set s pc ≡ true → IsDone s (Break pc) s
@@ -57,7 +57,8 @@ one_on s = record s { steps = suc s.steps }
 abbrev pub is_met : Session → Bool
 is_met s = is_set s (machine_at s.program s.config (suc s.steps)).pc
 
--- Steps are taken one after the other, whatever has a breakpoint: as many as requested, or fewer if the machine stops.
+-- Steps are taken one after the other, whatever instructions have breakpoints: as many as requested, or fewer if the
+-- machine stops.
 pub record StepsAreMade (s : Session) (more : ℕ) : Type 0 where
   pub none : IsDone s (Step 0) s
   pub stopped : next_answer s ≡ Stopped → IsDone s (Step (suc more)) s

@@ -66,7 +66,7 @@ pub record Acted (s : MachineState) (step : Step) (word next : ℕ) (now : Statu
   pub status : step.state.status ≡ now
   pub steps : step.state.steps ≡ s.steps + 1
 
--- Lending a block that isn't free makes no event.
+-- If the block to lend isn't free, no event is made.
 pub record LentNone (program : Listing) (s : MachineState) (step : Step) : Type 0 where
   pub answer : step.answer ≡ answer.NoBlock
   pub device : step.state.device ≡ s.device
@@ -76,7 +76,7 @@ pub record LentNone (program : Listing) (s : MachineState) (step : Step) : Type 
   pub status : step.state.status ≡ status_after program (s.pc + 1)
   pub steps : step.state.steps ≡ s.steps + 1
 
--- What the next step of the machine makes, or does without an event.
+-- The machine's next step, with or without an event.
 abbrev pub Makes : Listing → MachineState → Event Block → (Reply Block → ℕ → ℕ) → Type 0
 Makes program s e acc = Made program s (machine_step program s) e acc s.arena
 

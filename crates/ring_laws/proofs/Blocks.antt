@@ -1,5 +1,5 @@
--- A ring in memory, of either half of a driver: its descriptors, the other blocks, and what stays of both; and the ring
--- of a driver that sends, with a posted slot fetched.
+-- A ring in memory, of either half of a driver: its descriptors, the other blocks, and what is unchanged of both. Also
+-- the ring of a driver that sends, after a posted slot is fetched.
 use Rattle.ring_laws.specs.Prelude.{Fetched, IsWhole, LiesIn, Memory, Ring, State, TransmitQueue, done_descriptor}
 use Rattle.ring_laws.specs.Prelude.{first_half, gives, has_block, is_empty, is_lent, is_outside, read_at, reply_to}
 use Rattle.ring_laws.specs.Prelude.{second_half, sending_of, step_of, transmit_queue_of, write_at}
@@ -44,7 +44,7 @@ pub buffer_and_slot : (b n ring size slot : ℕ) → is_ring_block ring size b �
     → AreApart (2048 * b) n (descriptor_in ring slot) 16
 buffer_and_slot b n ring size slot other h l = grind arith
 
--- A ring with a head and a tail that are slots of it, `first` and `last` after the next one. It isn't outside, its head
+-- A ring whose head and tail are slots of it, `first` and `last` slots after the next one. It isn't outside, its head
 -- is a descriptor, and if it isn't empty the head is before the tail.
 
 pub record IsRingAt (r : Ring) (ring size next first last : ℕ) : Type 0 where
@@ -83,8 +83,8 @@ module _ (ring size slot : ℕ) (below : slot < size) where
       ≡ gives Done (record s { memory = write_at s.memory (descriptor_in ring slot) bytes })
   slot_poked s bytes has = poked_is s (descriptor_in ring slot) bytes (aligned ring slot) (slot_lent s.memory has)
 
--- What stays from one memory to another: which of the ring's blocks are lent, these of its descriptors, and the bytes
--- of these of the other blocks.
+-- What is the same in two memories: which of the ring's blocks are lent, the named descriptors, and the bytes of the
+-- named other blocks.
 
 pub record Stays (ring size : ℕ) (m n : Memory) (slots blocks : ℕ → Type 0) : Type 0 where
   pub has : EachRingBlock ring size (λ b. has_block n b ≡ has_block m b)
@@ -94,7 +94,7 @@ pub record Stays (ring size : ℕ) (m n : Memory) (slots blocks : ℕ → Type 0
       → read_at n (2048 * b) len ≡ read_at m (2048 * b) len
   pub there : (b : ℕ) → blocks b → has_block n b ≡ has_block m b
 
--- Everything stays from one memory to another if the ring's blocks do.
+-- Everything is the same in two memories if the ring's blocks are.
 pub same_stays : (ring size : ℕ) (m n : Memory) → EachRingBlock ring size (λ b. map.get n b ≡ map.get m b)
     → Stays ring size m n (λ j. ⊤) (λ b. map.get n b ≡ map.get m b)
 same_stays ring size m n same = record {
@@ -106,7 +106,7 @@ same_stays ring size m n same = record {
   there = λ b is. ap (λ (o : _). is_some o) is;
 }
 
--- Everything stays except a written descriptor, which then has these bytes.
+-- Everything is the same except a written descriptor, which then has these bytes.
 module _ (ring size slot : ℕ) (below : slot < size) (m : Memory) (bytes : List ℕ) (long : length bytes ≡ 16) where
   pub written_stays : Stays ring size m (write_at m (descriptor_in ring slot) bytes) (λ j. j ≢ slot) (λ b. ⊤)
   written_stays = grind (arith, SameLent-write_at, read_at-write_at_apart)
@@ -115,7 +115,7 @@ module _ (ring size slot : ℕ) (below : slot < size) (m : Memory) (bytes : List
       → read_at (write_at m (descriptor_in ring slot) bytes) (descriptor_in ring slot) 16 ≡ bytes
   written_here whole has = grind (arith, read_at-write_at_same, slot_lent)
 
--- Everything stays except a descriptor and some bytes of a block outside the ring.
+-- Everything is the same except a descriptor and some bytes of a block outside the ring.
 pub reads_stay : (ring size slot b len : ℕ) (m n : Memory) → slot < size → is_ring_block ring size b ≡ false
     → len ≤ 2048 → SameLent n m
     → ((c k : ℕ) → AreApart c k (descriptor_in ring slot) 16 → AreApart c k (2048 * b) len
@@ -156,11 +156,11 @@ has_lent-segment v k known lent =
     (omega (arith, length-take-le v.lent v.outstanding known, length-map {A = Segment} {B = ℕ}))
     (grind (arith, common_steps)))
 
--- A block that isn't lent isn't one of them.
+-- A block that isn't lent isn't one of the driver's blocks.
 pub unlike : (v : Sender) (n b : ℕ) → has_lent v n ≡ false → has_lent v b ≡ true → b ≢ n
 unlike v n b none is e = both_ways (has_lent v n) none (subst (λ x. has_lent v x ≡ true) e is)
 
--- Everything shown stays if none of the driver's blocks changes.
+-- Memory still shows all of this if none of the driver's blocks changes.
 module _ (m n : Memory) (v : Sender) (f : ℕ) (l : IsLayout v.layout) (c : IsCounted v f) (h : Shows m v f)
     (same : (number : ℕ) → has_lent v number ≡ true → map.get n number ≡ map.get m number)
   where
@@ -201,7 +201,7 @@ module _ (x : Segment) (short : length x.part.bytes ≤ 2048) (whole : x.part.wh
 pub length-asking : (x : Segment) → length (asking x) ≡ 16
 length-asking x = (halves_come_back (2048 * x.block) (word_of x)).size
 
--- What the slot reports, and what fetching it leaves.
+-- What the slot reports, and the state after it is fetched.
 abbrev pub segment_fetched : Ring → List ℕ → Segment → Fetched
 segment_fetched r staged x = record {
   slot = r.head;
@@ -259,7 +259,7 @@ module _ {s : State} {queue : ℕ} {sent : List (List ℕ)} {v : Sender} {f : �
     asks : descriptor_of s.memory side.ring ≡ asking x
     asks = rw head_is (h.shows.waits f (omega arith) (omega (arith, posted, h.counted.posted_poked)))
 
-    -- The next segment is fetched after what is staged, if both belong to packets.
+    -- The next segment is fetched after the staged bytes, if both belong to packets.
     pub fetch-segment : (staged : List ℕ) → ArePackets v.layout.limit staged (x ∷ drop (f + 1) v.outstanding)
         → fetch_of s.memory staged side.ring (sending_of s.registers side)
         ≡ segment_outcome s.memory side.ring staged x

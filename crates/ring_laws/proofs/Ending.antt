@@ -103,7 +103,7 @@ closing_tells bench count h ps answer a = closing_tells_one bench count h ps ans
 pub closing_is_compared : ClosingIsCompared
 closing_is_compared bench count h ps answer a = closing_compares bench count h ps answer a
 
--- What is listed from a position on: an entry with the tag, that much further on.
+-- A listed position, counted from `at`: it is `place` after `at`, and entry `place` of the history has the tag.
 pub record IsListed (at tag q : ℕ) (h : List Entry) : Type 0 where
   pub place : ℕ
   pub is : q ≡ at + place

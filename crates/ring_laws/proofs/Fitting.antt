@@ -77,7 +77,7 @@ either_zero : (b : Bool) → let z : ℕ = 0 in cond b z z ≡ z
 either_zero true = refl
 either_zero false = refl
 
--- `n` bytes of the first frame are written. The frame may leave the list if that is 0, or if it belongs to another
+-- `n` bytes of the first frame are written. The frame may leave the list if `n` is 0, or if it belongs to another
 -- queue.
 module _ (queue n : ℕ) where
   abbrev Has : List Waiting → Type 0
@@ -113,8 +113,8 @@ module _ (queue n : ℕ) where
       → w.queue ≢ queue → Has (receive.after_piece w others f)
   elsewhere w others f are has ne = grind arith
 
-  -- The count of written bytes stays over an event that isn't a receive step, if nothing is written; or if the side is
-  -- up, and the event writes no setting and doesn't reset the queue's pool.
+  -- An event that isn't a receive step leaves the count of written bytes unchanged if nothing is written. It also does
+  -- so if the side is up, and the event writes no setting and doesn't reset the queue's pool.
   module _ (s : State) (sound : IsSound s) (has : Has s.waiting) where
     abbrev Spared : Event Block → Type 0
     Spared e = (n ≡ 0) ⊎ (WritesNoSetting s e × ResetsNoPool queue s e × IsUp queue s)
@@ -140,7 +140,7 @@ module _ (queue n : ℕ) where
         → Has (after s e).waiting
     still_begun e spared step = waiting_changed Has s has e (begun_changes e spared step)
 
--- If nothing is written, this stays so over each event that writes no piece on the queue.
+-- If nothing is written, this stays so through each event that writes no piece on the queue.
 
 none_received : (queue : ℕ) (s : State) → IsSound s → partial_on queue s.waiting ≡ 0
     → pieces queue s event.RxStep ≡ [] → partial_on queue (after s event.RxStep).waiting ≡ 0

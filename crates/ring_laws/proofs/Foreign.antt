@@ -35,7 +35,7 @@ use Rattle.pmd_access.specs.NicDevice.declared.event.Event.TheVariants as event
 use Rattle.std.specs.FinMap as map
 use Rattle.ring_laws.specs.Sides as sides
 
--- One more slot is filled: the other slots and their blocks stay.
+-- One more slot is filled: the other slots and their blocks are unchanged.
 slots_more : (m n : Memory) (l : Layout) (here : List Piece) (p : Piece) → IsRing l → HasSlots m l here
     → length here < length l.blocks → IsFilled n (descriptor_at l (length here)) (block_at l (length here)) p
     → Stays l.ring l.size m n (λ j. j ≢ slot_at l (length here)) (λ b. b ≢ block_at l (length here))
@@ -165,7 +165,7 @@ module _ {queue : ℕ} {s : State} {out : List Piece} {v : Receive} {gone here :
         order = (grind (arith, seen_longer, append_assoc));
       }
 
--- A device step writes no register by a number, and takes and pokes no block.
+-- A device step neither writes a register by its number nor takes or pokes a block.
 
 pub no_registers : (w : Watched) (mode : Mode) (mine : Blocks) (e : Event Block) → is_step e ≡ true
     → LeavesRegisters w mode e × LeavesBlocks mine e

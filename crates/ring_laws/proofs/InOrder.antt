@@ -131,7 +131,7 @@ module _ (w : Watched) (mine : Blocks) (v : Sender) (s : State) (b : ℕ) (lent 
 pub left_alone_is_spared : LeftAloneIsSpared
 left_alone_is_spared w mine v s e h = search (arith, left-setting, left_transmit, left-side, spared_block)
 
--- What was sent are the first of the accepted frames.
+-- The frames sent are the first of the accepted frames.
 pub first_sent : SentIsPrefix
 first_sent s queue sent v (f, h) = elim h.sends [
   | inl x ↦ (frames_from (staged_by s queue) (drop f v.outstanding), x.in_order)
@@ -155,7 +155,8 @@ idle-all s queue sent v (f, h) none =
     all_sent s queue sent _ _ v.accepted h.sends (rw none (drop_all f [] (omega arith)))
 
 module _ {s : State} {queue : ℕ} {sent : List (List ℕ)} {v : Sender} {f : ℕ} (h : AgreesAt s queue sent v f) where
-  -- With the end of the oldest packet left, not everything is sent, nor was it when less was sent.
+  -- While the end of the oldest packet remains to be sent, not everything is sent, and it wasn't when less had been
+  -- sent.
   left-over : (xs more : List (List ℕ)) → sent ≡ xs ++ more → first_end v.outstanding < v.posted
       → f ≤ first_end v.outstanding → bytes_of v.accepted ≢ xs
   left-over xs more split posted rest same =
@@ -184,9 +185,9 @@ waiting-left s queue sent v (f, h) finds xs more split same =
       | inr none ↦ left-over h xs more split finds.posted none same
     ]
 
--- What is counted of the frames that a queue sends, over whole histories.
+-- Which of the frames that a queue sends are counted, over whole histories.
 
--- One history after the other.
+-- Two consecutive histories.
 joined : (queue : ℕ) (s : State) (sent : List (List ℕ)) (g h : List Entry)
     → sent_since queue s sent (g ++ h) ≡ sent_since queue (leads_to s g) (sent_since queue s sent g) h
 joined queue s sent [] h = refl
@@ -205,7 +206,7 @@ last : (queue : ℕ) (s : State) (sent : List (List ℕ)) (g : List Entry) (e : 
     → sent_since queue s sent (g ++ e ∷ h) ≡ sent_in queue (after (leads_to s g) e.event) h
 last queue s sent g e h goes off = grind (arith, joined, never)
 
--- What is counted is a suffix of everything.
+-- The counted frames are a suffix of all frames.
 
 end : (queue : ℕ) (s : State) (sent : List (List ℕ)) (h : List Entry)
     → IsEndOf (sent_since queue s sent h) (sent ++ sent_in queue s h)

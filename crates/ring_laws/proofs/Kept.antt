@@ -1,5 +1,5 @@
--- The ring of a receiving driver: its places, its blocks, and what stays if memory does. Also, the parts of packets
--- that it saw, and how pieces are cut after the consumed ones.
+-- The ring of a receiving driver: its places, its blocks, and what is unchanged if memory is. Also, the parts of
+-- packets that it saw, and how pieces are cut after the consumed ones.
 use Rattle.ring_laws.specs.Prelude.{Block, Memory, ends_packet}
 use Rattle.ring_laws.{proofs.Left.named-same, specs.Prelude.State, specs.Prelude.bytes_in, specs.Prelude.mode_in}
 use Rattle.pmd_access.proofs.{Copying.bytes-more, Rings.each_ring_block, Rings.ring_block_among}
@@ -21,12 +21,12 @@ use Rattle.std.{proofs.lemmas.Grind.common_steps, proofs.lemmas.List.get_or_appe
 pub first_place : (n : ℕ) → 0 < n → 0 ≡ wrapped n (0 + 0)
 first_place n h = grind arith
 
--- The ring as far as its slots have a block, after each of the driver's calls.
+-- The part of the ring whose slots have a block, after each of the driver's calls.
 
 pub reach_long : (v : Receive) → length (reach v).blocks ≡ length v.layout.blocks + length v.named
 reach_long v = length-append v.layout.blocks v.named
 
--- The posted slots are its first.
+-- The posted slots are the first of this part.
 pub posted_in : (v : Receive) (k : ℕ) → k ≤ length v.layout.blocks → k ≤ length (reach v).blocks
 posted_in v k is = omega (arith, is, reach_long v)
 
@@ -84,7 +84,7 @@ module _ (v : Receive) where
 pub each_map : (v : Receive) (P Q : ℕ → Type 0) → ((b : ℕ) → P b → Q b) → Each v P → Each v Q
 each_map v P Q f each n has = f n (each n has)
 
--- What stays of the agreement if memory, the mode and the number of functions do.
+-- The part of the agreement that still holds if memory, the mode and the number of functions are unchanged.
 
 -- Each slot up to the vacant one is a slot of the ring.
 pub slot_below : (l : Layout) (k : ℕ) → IsRing l → k ≤ length l.blocks → slot_at l k < l.size
@@ -147,7 +147,7 @@ pub open_pushed : (n : ℕ) (ps : List Piece) (p : Piece)
 open_pushed n [] p = refl
 open_pushed n (q ∷ ps) p = open_pushed (cond q.end 0 (n + 1)) ps p
 
--- A driver that is to take the parts that it saw.
+-- A driver that has yet to take the parts that it saw.
 abbrev pub taking : Receive → Reported → List Reported → Receive
 taking v t ts = record v { seen = t ∷ ts; stage = Takes }
 

@@ -118,7 +118,7 @@ pub record Does (queue : ℕ) (s : State) (out : List Piece) (v : Receive) (e : 
 abbrev pub Driven : ℕ → State → List Piece → Receive → Event Block → Type 0
 Driven queue s out v e = Does queue s out v e (step_of s e)
 
--- For an event that is written differently.
+-- The same, for an event given as an equal one.
 pub by_outcome : (queue : ℕ) (s : State) (out : List Piece) (v : Receive) (e d : Event Block) (o : Outcome) → e ≡ d
     → step_of s d ≡ o → (IsSound s → Agree queue o.state out (drive v d o.reply))
     → (IsSound s → IsUp queue s → IsUp queue o.state)

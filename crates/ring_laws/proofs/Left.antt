@@ -38,9 +38,9 @@ module _ (queue : ℕ) (s t : State) where
   pub left_transmit : LeavesSide Tx queue s t → LeavesTransmit queue s t
   left_transmit left = grind arith
 
--- Writes of registers that a queue doesn't rely on, and what numbers name if no setting is written.
+-- Writes of registers that a queue doesn't rely on, and which registers numbers name if no setting is written.
 
--- A pool that doesn't contain the queue has nothing of its sides.
+-- A pool that doesn't contain the queue contains nothing of its sides.
 
 pool_none : (b : Bank) (dir : Dir) (mode : Mode) (v index queue : ℕ) → has_queue mode v queue ≡ false
     → is_owner (owner.Side dir queue) (owner_in b index) ≡ true → is_of_pool_by b mode v index ≡ false

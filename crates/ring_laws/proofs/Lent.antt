@@ -61,7 +61,7 @@ AllFollow had has e = (r : Reply Block) (n : ℕ) → Follows had (has r) e r n
 
 -- Of some numbers, only those stay lent that it or others have lent.
 module _ (own others : Blocks) (s : State) (had : Blocks) (only : OnlyLent own (either had others) s.memory) where
-  -- Only known blocks stay lent over an event that neither lends nor takes.
+  -- After an event that neither lends nor takes, still only known blocks are lent.
   pub still_known : (e : Event Block) (has : Blocks) → LendsNone own e → ((k : ℕ) → had k ≡ true → has k ≡ true)
       → OnlyLent own (either has others) (after s e).memory
   still_known e has none keeps k is there =
@@ -74,7 +74,7 @@ module _ (own others : Blocks) (s : State) (had : Blocks) (only : OnlyLent own (
       let follows = f (reply_to s e) k in
       grind (arith, only k is, keeps_blocks s e, get-insert_other, get-remove_same, get-remove_other)
 
--- What a half has lent stays among some numbers, if a block that it lends is one of them.
+-- The blocks that a half has lent stay among some numbers, if a block that it lends is one of them.
 pub follows_in : (mine had : Blocks) → ((n : ℕ) → had n ≡ true → mine n ≡ true) → (e : Event Block)
     → (has : Reply Block → Blocks) → AllFollow had has e → (r : Reply Block) → LendsOneOf mine e r
     → (n : ℕ) → has r n ≡ true → mine n ≡ true
@@ -89,8 +89,8 @@ pub record Resets (P : List Waiting → Type 0) (s : State) (p : Place) (word : 
       asks_pool_reset (row_of p.row).kind word ≡ true
       → P (filter (λ (w : Waiting). not (has_queue (mode_in s.registers) p.index w.queue)) s.waiting)
 
--- What holds if an event changes them: in addition, a frame of at most the limit may come, and a receive side that
--- becomes disabled removes its partly written frame.
+-- The changes that an event can make to these frames: in addition, a frame of at most the limit may come, and a receive
+-- side that becomes disabled removes its partly written frame.
 abbrev pub Changes : (List Waiting → Type 0) → State → Event Block → Type 0
 Changes P s event.RxStep = P (after s event.RxStep).waiting
 Changes P s (event.Write port n word) =

@@ -109,7 +109,7 @@ module _ (s : State) (port : Port) (n word : ℕ) where
   named_reported sound image (Nothing seen) found real = sym (ap settings_in (left_by (Nothing seen) found))
   named_reported sound image (Register p view) found real = written p view found sound image real
 
--- The reported settings are the device's over every event, and along a history.
+-- The reported settings are the device's after every event, and along a history.
 
 event_reported : (s : State) → IsSound s → s.image ≡ blank → (e : Event Block)
     → settings_after s.vfs (settings_in s) e ≡ settings_in (after s e)
@@ -142,7 +142,7 @@ histories_sound s [] sound events = sound
 histories_sound s (e ∷ es) sound events =
     histories_sound (after s e.event) es (keeps_sound s sound e.event events.0) events.1
 
--- What a pass lends in a part of a history it lends in the whole, and it begins in that part.
+-- A pass lends in a whole history what it lends in a part, and has begun in the whole if it has begun in a part.
 
 lent_both : (pass n : ℕ) (g h : List Entry) → lent_by pass (g ++ h) n ≡ (lent_by pass g n || lent_by pass h n)
 lent_both pass n [] h = refl
@@ -163,7 +163,8 @@ entry_left : (mine less : Blocks) → ((n : ℕ) → IsFalse (mine n) → IsFals
     (e : Entry) → EntryLeavesAlone w mine mode e → EntryLeavesAlone w less mode e
 entry_left mine less fewer w mode e h = grind (arith, common_steps)
 
--- The beginning of a history that leaves a queue alone leaves it alone, and so does the rest: neither lends more.
+-- The beginning of a history that leaves a queue alone leaves it alone, and so does the rest: neither part lends more
+-- than the whole.
 
 pub beginning_alone : BeginningIsAlone
 beginning_alone w s g h alone before e after split begun =

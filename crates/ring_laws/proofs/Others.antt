@@ -59,7 +59,7 @@ nothing_else w mode mine = (
   },
 )
 
--- What comes before the last entry, or before a later one, begins no earlier.
+-- If a pass hasn't begun before the last entry of a history, it hasn't begun before any of its entries.
 begins_no_earlier : (pass : ℕ) (h before after : List Entry) (e other : Entry) →
     h ++ e ∷ [] ≡ before ++ other ∷ after → has_begun pass h ≡ false → has_begun pass before ≡ false
 begins_no_earlier pass h [] after e other split not_yet = refl

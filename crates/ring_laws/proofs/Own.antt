@@ -1,5 +1,5 @@
--- Each of the driver's own events gets the reply of a healthy queue and keeps the agreement. In this file, it names a
--- block in a descriptor, advances the tail, and takes the block of the next slot.
+-- Each of the driver's own events gets the reply of a healthy queue and keeps the agreement. The events in this file
+-- name a block in a descriptor, advance the tail, and take the block of the next slot.
 use Rattle.ring_laws.specs.Prelude.{Block, Done, Rdt, place, receive_queue_of, write_at}
 use Rattle.ring_laws.specs.Prelude.{Event, Memory, Port, ReceiveQueue, after_write, bytes_in, named_written, step_of}
 use Rattle.ring_laws.{proofs.Lent.taken_is, proofs.Written.receive-tail, specs.Prelude.IsWhole, specs.Prelude.State}

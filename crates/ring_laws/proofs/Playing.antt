@@ -75,7 +75,7 @@ module _ {s : State} {queue : ℕ} {sent : List (List ℕ)} {v : Sender} {f : �
       ≡ record (transmit_queue_of s.registers queue) { ring = record (ring_of s.registers Tx queue) { tail = slot } }
   side_moved = grind (arith, transmit-tail)
 
-  -- A move by its outcome, for an event that is written differently and writes no setting.
+  -- A move by its outcome, for an event that is given as an equal one and writes no setting.
 
   abbrev pub Moves : Move → Event Block → Type 0
   Moves m e = Does queue s sent v m e (step_of s e)
@@ -162,7 +162,7 @@ module _ {s : State} {queue : ℕ} {sent : List (List ℕ)} {v : Sender} {f : �
   fetched_known : f ≤ length v.outstanding
   fetched_known = let c = h.counted in omega (arith, c.fetched_posted, c.posted_poked, c.poked_lent, c.lent_known)
 
-  -- A block is lent for a segment, the next of these, which begin with the lent ones.
+  -- A block is lent for the next of these segments, which begin with the lent ones.
   lent_agrees : (x : Segment) (b : Block) → MayLend v x b → (ss : List Segment) (ks : List Kept)
       → ((k : ℕ) → k < v.lent → slice_index_or ss k no_segment ≡ segment_at v k)
       → slice_index_or ss v.lent no_segment ≡ x → length ss < v.layout.size → v.lent < length ss
@@ -175,7 +175,7 @@ module _ {s : State} {queue : ℕ} {sent : List (List ℕ)} {v : Sender} {f : �
     assumption (h.set_up, lent_holds s.memory v f h.based.layout h.counted h.shows x b may ss ks early next room known),
   )
 
-  -- The oldest is taken back.
+  -- The oldest segment's block is taken back.
   reap_agrees : (g : ℕ) → AgreesAt s queue sent v (g + 1)
       → IsBased (record s { memory = fin.remove s.memory (segment_at v 0).block }) queue v.layout
       → AgreesAt (record s { memory = fin.remove s.memory (segment_at v 0).block }) queue sent (reaped v) g

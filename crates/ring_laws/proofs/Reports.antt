@@ -61,7 +61,7 @@ pub clear_outside : (mine : Blocks) (desc at len b : ℕ) → IsClear mine at le
 clear_outside mine desc at len b clear is =
     assumption (clear_avoids mine desc 16 b clear.1 is (omega arith), clear_avoids mine at len b clear.0 is)
 
--- A step that wrote nothing on the queue spares them.
+-- A step that wrote nothing on the queue spares these blocks.
 spared_reply : (queue : ℕ) (mine : Blocks) (ws : List Waiting) (r : Reply Block) (b : ℕ) → IsTrue (mine b)
     → reported_pieces queue ws r ≡ [] → WritesOutside queue mine r → IsSparedBy r b
 spared_reply queue mine ws (Wrote on slot end desc at len) b is none outside =

@@ -36,7 +36,7 @@ pub added-by : (out : List (ℕ × List ℕ)) (queue : ℕ) (ends : Bool) (bytes
 added-by out queue true bytes = added-one out queue bytes
 added-by out queue false bytes = added-none out
 
--- What an event that writes no setting keeps.
+-- What an event that writes no setting preserves.
 
 pub based-after : (s : State) (queue : ℕ) (l : Layout) (e : Event Block) → IsBased s queue l → IsEvent e
     → WritesNoSetting s e → IsBased (after s e) queue l
@@ -112,7 +112,7 @@ module _ {s : State} {queue : ℕ} {sent : List (List ℕ)} {v : Sender} {f : �
 
 -- An event that spares a driver keeps what it and the device agree on.
 
--- What is left goes out as before if what is staged stays, and a side that was cut off still is.
+-- The remaining segments are sent as before if the staged bytes are unchanged, and a side that was cut off still is.
 pub sends_on : (s t : State) (queue : ℕ) (sent : List (List ℕ)) (limit : ℕ) (left : List Segment) (ks : List Kept)
     → staged_by t queue ≡ staged_by s queue
     → (IsCutOff (transmit_queue_of s.registers queue) sent left ks
@@ -132,7 +132,7 @@ module _ {s : State} {queue : ℕ} {sent : List (List ℕ)} {v : Sender} {f : �
     abbrev Sends : State → Type 0
     Sends u = SendsInOrder u queue sent v.layout.limit left v.accepted
 
-    -- The two agree, with no further frame, if the side's ring stays and no block of the driver's changes.
+    -- The two agree, with no further frame, if the side's ring is unchanged and no block of the driver's changes.
     pub still-agrees : IsEvent e → WritesNoSetting s e
         → IsSetUp (transmit_queue_of t.registers queue) v.layout v.posted f → Sends t
         → ((number : ℕ) → IsTrue (has_lent v number) → LeavesBlock number s t) → Agrees t queue sent v
@@ -146,7 +146,7 @@ module _ {s : State} {queue : ℕ} {sent : List (List ℕ)} {v : Sender} {f : �
 
     -- A side that gets its requested state, and so is disabled during a packet, is cut off.
 
-    -- What is staged stays.
+    -- The staged bytes are unchanged.
     same_sends : staged_by t queue ≡ staged_by s queue
         → IsInTurn v.layout.limit (staged_by s queue) sent left v.accepted → Sends t
     same_sends same x = inl (rw same x)

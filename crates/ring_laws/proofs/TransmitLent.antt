@@ -62,7 +62,7 @@ packets-append limit staged [] ys none more = rw none (more, refl)
 packets-append limit staged (x ∷ xs) ys are more =
     grind (arith, packets-append limit (staged_with staged x) xs ys are.2 more)
 
--- What is staged has an end to come.
+-- The packet of the staged bytes still has its end to come.
 
 pub frame_left : (limit : ℕ) (staged : List ℕ) (ss : List Segment) → 0 < length staged → ArePackets limit staged ss
     → (frame : List ℕ) × (rest : List (List ℕ)) × (0 < length ss) × (frames_from staged ss ≡ frame ∷ rest)
@@ -83,7 +83,7 @@ frame_of_end staged (x ∷ ss) zero below end = rw end (omega arith)
 frame_of_end staged (x ∷ ss) (suc k) below end =
     grind (arith, frame_of_end (staged_with staged x) ss k (omega arith) end)
 
--- A block that is lent for a segment: that of a packet that is thereby accepted, or the next one of a packet.
+-- A block that is lent for a segment: the first of a packet, which is thereby accepted, or the next of a packet.
 
 -- A segment's block, among segments that begin with the lent ones and continue with it.
 module _ (m : Memory) (v : Sender) (f : ℕ) (l : IsLayout v.layout) (c : IsCounted v f) (h : Shows m v f) (x : Segment)
@@ -123,7 +123,7 @@ module _ (m : Memory) (v : Sender) (f : ℕ) (l : IsLayout v.layout) (c : IsCoun
     pub lent_holds : length ss < v.layout.size → v.lent < length ss → IsCounted w f × Shows lent w f
     lent_holds room known = (grind (arith, new), grind (arith, stays, ready))
 
--- An accepted packet goes after the others.
+-- An accepted packet is placed after the others.
 module _ (v : Sender) (p : Outgoing) (b : Block) (may : MayAccept v p b) where
   pub early-accepted : (k : ℕ) → k < v.lent → segment_at (accepted_by v p) k ≡ segment_at v k
   early-accepted k below = get_or_append_left v.outstanding (segments_of p) no_segment k (omega (arith, may.lent))
@@ -167,7 +167,7 @@ first_at v p lent = grind (arith, common_steps)
 -- What a move that lends a block adds.
 
 module _ (v : Sender) (n : ℕ) where
-  -- One more is lent, the next of these.
+  -- One more segment has its block lent: the next of these.
   next_lent : (ss : List Segment) (ks : List Kept) (b : ℕ) → take v.lent ss ≡ take v.lent v.outstanding
       → v.lent < length ss → b ≡ (slice_index_or ss v.lent no_segment).block
       → has_lent (record v { outstanding = ss; lent = v.lent + 1; accepted = ks }) n ≡ (n == b || has_lent v n)
@@ -190,7 +190,8 @@ module _ (v : Sender) where
   follows Elsewhere e may ne r n = absurd (ne refl)
   follows m e may ne r n = grind arith
 
--- Every block that the driver has lent is one of these, as it moves: a move lends at most one of them.
+-- Every block that the driver has lent is one of these. This stays true as it moves, if a move lends at most one of
+-- them.
 abbrev pub AreMine : Blocks → Sender → Type 0
 AreMine mine v = (number : ℕ) → IsTrue (has_lent v number) → IsTrue (mine number)
 

@@ -44,8 +44,8 @@ pub record IsLayout (l : Layout) : Type 0 where
   pub next : l.next < l.size
   pub limit : l.limit ≤ 10240
 
--- What an event that writes no setting keeps: the device is sound, the driver's number of its tail register names the
--- queue's TDT, and the device's frame limit is the driver's packet limit.
+-- What an event that writes no setting preserves: the device is sound, the driver's number of its tail register names
+-- the queue's TDT, and the device's frame limit is the driver's packet limit.
 pub record IsBased (s : State) (queue : ℕ) (l : Layout) : Type 0 where
   pub sound : IsSound s
   pub small : queue < 128
@@ -93,8 +93,8 @@ pub record Shows (m : Memory) (v : Sender) (fetched : ℕ) : Type 0 where
       → IsDone m (descriptor_at v.layout k) (segment_at v k)
   pub waits : (k : ℕ) → fetched ≤ k → k < v.poked → IsPosted m (descriptor_at v.layout k) (segment_at v k)
 
--- What is staged and the segments left are whole packets. The frames sent are those of all accepted packets except
--- these.
+-- The staged bytes and the remaining segments are whole packets. The frames sent are the frames of all accepted packets
+-- except these.
 pub record IsInTurn (limit : ℕ) (staged : List ℕ) (sent : List (List ℕ)) (left : List Segment) (accepted : List Kept) :
     Type 0 where
   pub packets : ArePackets limit staged left
@@ -110,7 +110,7 @@ pub record IsCutOff (side : TransmitQueue) (sent : List (List ℕ)) (left : List
     pub rest : List (List ℕ)
     pub in_order : bytes_of accepted ≡ sent ++ frame ∷ rest
 
--- The frames sent are the first of those of the accepted packets, with these segments left.
+-- The frames sent are the first of the accepted packets' frames, with these segments remaining.
 abbrev pub SendsInOrder : State → ℕ → List (List ℕ) → ℕ → List Segment → List Kept → Type 0
 SendsInOrder s queue sent limit left accepted =
     IsInTurn limit (staged_by s queue) sent left accepted
@@ -124,6 +124,7 @@ pub record AgreesAt (s : State) (queue : ℕ) (sent : List (List ℕ)) (v : Send
   pub shows : Shows s.memory v fetched
   pub sends : SendsInOrder s queue sent v.layout.limit (drop fetched v.outstanding) v.accepted
 
--- For some number of fetched segments: what every event keeps that is the driver's own, or spares it.
+-- The agreement, for some number of fetched segments. Every event keeps it that is the driver's own or spares the
+-- driver.
 abbrev pub Agrees : State → ℕ → List (List ℕ) → Sender → Type 0
 Agrees s queue sent v = (fetched : ℕ) × AgreesAt s queue sent v fetched

@@ -13,7 +13,7 @@ LeavesAloneFrom w s h =
     → EntryLeavesAlone w (lent_by w.pass h) (mode_in (leads_to s before).registers) e
 
 -- A device with a mode that follows from the entries alone, from its state on: a reset makes no writes of an installed
--- EEPROM image, and the queues aren't separated into pools. A new device is one.
+-- EEPROM image, and the queues aren't separated into pools. A new device is such a device.
 pub record IsPlain (w : Watched) (s : State) : Type 0 where
   pub image : s.image ≡ blank
   pub mode : mode_in s.registers ≡ Off

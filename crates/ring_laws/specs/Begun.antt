@@ -1,4 +1,5 @@
--- From when on a history counts for a driver, and how its queues are then separated among pools, by addresses and bits.
+-- The entry from which a history counts for a driver, and how the queues are separated among pools at an entry, by
+-- addresses and bits.
 use Rattle.std.specs.Prelude.{◌≡◌, ◌/◌, ◌%◌, ◌==◌, ◌||◌, ℕ, Bool, true, false, List, [], ◌∷◌, Some, None}
 use Rattle.device_lock.specs.NicDevice.RegTable.declared.rows.RowId.TheVariants as row
 use Rattle.device_lock.specs.NicDevice.VfMap.declared.mode.Mode.TheVariants.{Off, Pools16, Pools32, Pools64}

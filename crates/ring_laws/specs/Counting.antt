@@ -1,4 +1,4 @@
--- What is counted of the frames that a queue sends, over whole histories.
+-- Which of the frames that a queue sends are counted, over whole histories.
 use Rattle.std.specs.Prelude.{[], if◌then◌else◌, ◌++◌, ◌+◌, ◌==◌, ◌∷◌, ◌≡◌, ◌≤◌, IsFalse, IsTrue, List, length, map, ℕ}
 use Rattle.std.specs.{List.flat_map, Prelude.⊤}
 use Rattle.ring_laws.specs.Prelude.{AreEvents, Block, Entry, IsLegal, IsSound, Reply, Sent, State, after, leads_to}
@@ -14,8 +14,8 @@ abbrev pub IsEndOf : List (List ℕ) → List (List ℕ) → Type 0
 IsEndOf xs ys = (before : List (List ℕ)) × (ys ≡ before ++ xs)
 
 -- If the side is never enabled, everything sent is counted, after what was counted before. If it is enabled, everything
--- sent since the last time is. The count over two consecutive histories continues over the second. It is a suffix of
--- everything counted before and sent, and each entry adds at most one frame.
+-- sent after the last time is counted. The count over two consecutive histories continues over the second. It is a
+-- suffix of everything counted before and sent, and each entry adds at most one frame.
 pub record SentIsCounted : Type 0 where
   pub never :
       (queue : ℕ) (s : State) (sent : List (List ℕ)) (h : List Entry) → NeverGoesOn queue s h

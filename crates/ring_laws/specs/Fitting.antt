@@ -32,7 +32,7 @@ ResetsNoPool queue s (event.Write port number word) =
     → IsFalse (has_queue (mode_in s.registers) p.index queue)
 ResetsNoPool queue s other = ⊤
 
--- If the device and the driver agree and the side is up, this stays true over every event that writes no setting and
+-- If the device and the driver agree and the side is up, this stays true through every event that writes no setting and
 -- doesn't reset the queue's pool.
 abbrev pub FramesStayFitting : Type 0
 FramesStayFitting =

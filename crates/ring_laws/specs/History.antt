@@ -26,7 +26,7 @@ PlainIsLeftAlone =
     (w : Watched) (s : State) (h : List Entry) → IsSound s → IsPlain w s → AreEvents h → LeavesAlone w h →
     LeavesAloneFrom w s h
 
--- A new device is one of these.
+-- A new device is such a device.
 abbrev pub NewIsPlain : Type 0
 NewIsPlain = (w : Watched) (fifo : ℕ) → IsPlain w (new_state w.vfs fifo)
 
@@ -49,6 +49,6 @@ RestIsAlone =
     (w : Watched) (s : State) (before rest : List Entry) → LeavesAloneFrom w s (before ++ rest) →
     LeavesAloneFrom w (leads_to s before) rest
 
--- A sound device stays sound over events that a driver can make.
+-- A sound device stays sound through events that a driver can make.
 abbrev pub HistoriesKeepSound : Type 0
 HistoriesKeepSound = (s : State) (h : List Entry) → IsSound s → AreEvents h → IsSound (leads_to s h)

@@ -115,7 +115,7 @@ abbrev pub IsSilent : Dir → ℕ → State → Event Block → Type 0
 IsSilent Rx queue s e = pieces queue s e ≡ []
 IsSilent Tx queue s e = SendsNone queue s e
 
--- What else an event does to a side: nothing, or it shuts it, or puts it into the requested state.
+-- What else an event can do to a side: do nothing to it, shut it, or put it into its requested state.
 pub data Rests (dir : Dir) (queue : ℕ) (s : State) (e : Event Block) : Type 0 where
   Nothing : LeavesSide dir queue s (after s e) → Rests dir queue s e
   Shut : Shuts dir queue s e → Rests dir queue s e

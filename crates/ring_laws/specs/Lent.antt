@@ -18,7 +18,7 @@ abbrev pub LendsAgain : State → Event Block → Type 0
 LendsAgain s (event.Lend block) = IsFalse (has_block s.memory block.number)
 LendsAgain s other = ⊤
 
--- What either of two has lent.
+-- The blocks that either of two parties has lent.
 abbrev pub either : Blocks → Blocks → Blocks
 either xs ys number = xs number || ys number
 

@@ -1,4 +1,4 @@
--- Which events may come as a move of a driver that sends.
+-- Which events may come next for a driver that sends.
 use Rattle.std.specs.Prelude.{ℕ}
 use Rattle.ring_laws.specs.Prelude.{Block, Event, IsEvent, State}
 use Rattle.ring_laws.specs.{Sparing.Spares, TransmitPrelude.Elsewhere, TransmitPrelude.IsOwn}

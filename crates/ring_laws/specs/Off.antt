@@ -15,7 +15,7 @@ IsUnwanted queue s = sides.IsUnwanted (side_of Tx queue s)
 abbrev pub IsOff : ℕ → State → Type 0
 IsOff queue s = sides.IsOff (side_of Tx queue s)
 
--- An event of a sound device is a step of the side's own, or leaves the side unchanged.
+-- An event of a sound device is one of the side's own steps, or leaves the side unchanged.
 pub record LeavesSide (queue : ℕ) (s : State) (e : Event Block) : Type 0 where
   pub sound : IsSound s
   pub made : IsEvent e

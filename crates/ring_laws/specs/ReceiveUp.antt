@@ -18,7 +18,7 @@ LeavingStaysUp = (queue : ℕ) (s t : State) → LeavesReceive queue s t → IsU
 abbrev pub EnableStepChangesNothing : Type 0
 EnableStepChangesNothing = (queue : ℕ) (s : State) → IsUp queue s → after s (event.QueueStep Rx queue) ≡ s
 
--- If device and driver agree, it stays up over each receive step, of any queue, and over each of the driver's own
+-- If device and driver agree, it stays up through each receive step, of any queue, and through each of the driver's own
 -- events.
 
 abbrev pub ReceiveStepStaysUp : Type 0
@@ -31,7 +31,8 @@ OwnEventStaysUp =
     (queue : ℕ) (s : State) (out : List Piece) (v : Receive) (e : Event Block) → IsSound s → Agree queue s out v →
     IsOwn v e → IsUp queue s → IsUp queue (after s e)
 
--- It also stays up over an entry of another pass that leaves the queue alone, and over each device step of any pass.
+-- It also stays up through an entry of another pass that leaves the queue alone, and through each device step of any
+-- pass.
 abbrev pub EntryStaysUp : Type 0
 EntryStaysUp =
     (w : Watched) (mine : Blocks) (mode : Mode) (s : State) (out : List Piece) (v : Receive) (e : Entry) →

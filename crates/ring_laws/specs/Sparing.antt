@@ -24,8 +24,8 @@ pub record Spares (queue : ℕ) (v : Sender) (s : State) (e : Event Block) : Typ
   pub blocks :
       IsFalse (is_transmit_of queue e) → (number : ℕ) → IsTrue (has_lent v number) → LeavesBlock number s (after s e)
 
--- What the driver's receive half owes for a step: a piece isn't empty, and a piece on the driver's own queue is outside
--- the blocks that the sender has lent.
+-- What the driver's receive half must ensure for a step: a piece isn't empty, and a piece on the driver's own queue is
+-- outside the blocks that the sender has lent.
 abbrev pub ReceiveOwes : ℕ → Sender → Reply Block → Type 0
 ReceiveOwes queue v (Wrote on slot end desc at len) =
     (0 < len) × (on ≡ queue → (number : ℕ) → IsTrue (has_lent v number) → Avoids number desc 16 × Avoids number at len)
@@ -35,8 +35,8 @@ abbrev pub Owes : ℕ → Sender → State → Event Block → Type 0
 Owes queue v s event.RxStep = ReceiveOwes queue v (reply_to s event.RxStep)
 Owes queue v s other = ⊤
 
--- An event leaves a queue of a sound device alone, and all blocks, the sender's among them. What the receive half owes
--- holds.
+-- An event leaves a queue of a sound device alone, and all blocks, the sender's among them. The receive half's
+-- obligations for the step are met.
 pub record IsLeft (w : Watched) (mine : Blocks) (v : Sender) (s : State) (e : Event Block) : Type 0 where
   pub sound : IsSound s
   pub made : IsEvent e

@@ -1,4 +1,4 @@
--- What a start of the driver leaves when the receive side of its queue becomes enabled.
+-- The state after a start of the driver, when the receive side of its queue becomes enabled.
 use Rattle.std.specs.Prelude.{[], ◌*◌, ◌+◌, ◌<◌, ◌≡◌, ◌≤◌, IsTrue, ℕ}
 use Rattle.ring_laws.specs.Prelude.{Port, ReceiveQueue, State, buffer_size_of, descriptor_type_of, has_block}
 use Rattle.ring_laws.specs.Prelude.{receive_queue_of}

@@ -1,4 +1,4 @@
--- What single events do to what the device and a driver agree on about its receive ring.
+-- How single events affect the agreement of the device and a driver about the driver's receive ring.
 pub use Rattle.ring_laws.specs.Left.{IsOutside}
 use Rattle.std.specs.Prelude.{◌++◌, ◌/◌, ◌<◌, ◌↔◌, ◌≡◌, ◌≢◌, ◌⊎◌, IsTrue, List, Some, length, ℕ, ⊤}
 use Rattle.ring_laws.specs.Prelude.{Block, Blocks, Bytes, Entry, EntryLeavesAlone, Event, IsEvent, IsSound}
@@ -34,7 +34,7 @@ IfFresh other P = ⊤
 abbrev pub Each : Receive → (ℕ → Type 0) → Type 0
 Each v P = (number : ℕ) → IsTrue (has_lent v number) → P number
 
--- An event leaves the queue's receive side, what numbers name, and the driver's blocks unchanged.
+-- An event leaves unchanged the queue's receive side, which registers numbers name, and the driver's blocks.
 pub record Leaves (queue : ℕ) (v : Receive) (old new : State) : Type 0 where
   pub receive : LeavesReceive queue old new
   pub mode : mode_in new.registers ≡ mode_in old.registers
@@ -51,7 +51,8 @@ abbrev pub OwnReportsSpare : ℕ → Receive → State → Type 0
 OwnReportsSpare queue v s =
     (back : ℕ) → reported_address (reply_to s (event.TxStep queue)) ≡ Some back → Each v (λ b. b ≢ back / 2048)
 
--- What an entry that isn't the driver's own is made on: a sound device with its queues separated by this mode.
+-- The device on which an entry is made that isn't the driver's own: it is sound, and its queues are separated by this
+-- mode.
 pub record IsMetBy (w : Watched) (mode : Mode) (s : State) (e : Entry) : Type 0 where
   pub sound : IsSound s
   pub vfs : w.vfs ≡ s.vfs

@@ -8,7 +8,8 @@ use Rattle.ring_laws.specs.Sides as sides
 abbrev pub IsUp : ℕ → State → Type 0
 IsUp queue s = sides.IsUp (side_of Tx queue s)
 
--- If device and driver agree, it stays up over each of the driver's moves and over every event that spares the driver.
+-- If device and driver agree, it stays up through each of the driver's moves and through every event that spares the
+-- driver.
 abbrev pub UpStays : Type 0
 UpStays =
     (s : State) (queue : ℕ) (sent : List (List ℕ)) (v : Sender) (e : Event Block) (m : Move) → Agrees s queue sent v →

@@ -31,7 +31,8 @@ const RUNS: [(&str, &str, &str, u8); 15] = [
     ("hash", "nicbench hash", "txt", 0),
 ];
 
-/// The command line that creates bytes from a text, the one that prints the bytes, and the kinds of the three files.
+/// The command line that creates bytes from a text, the command line that prints the bytes, and the kinds of the three
+/// files.
 type Forms = (
     &'static str,
     &'static str,

@@ -1,4 +1,4 @@
--- Which pools VFTE lets send.
+-- Which pools may send, according to VFTE.
 use Rattle.std.proofs.Common.{ℕ, ◌+◌, ◌*◌, ◌/◌, ◌%◌, sym, ◌∙◌, arith, lit<}
 use Rattle.nic_device.specs.RegTable.declared.rows.RowId.TheVariants.{VtCtl, Vfte}
 use Rattle.nic_device.proofs.VfMap.Numbers.{few_pools, placed}

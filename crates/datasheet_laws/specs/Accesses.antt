@@ -103,7 +103,7 @@ ReadsShowTheView =
     (s : State) (p : Place) (whole address bit : ℕ) → Names whole p → view_among runs whole ≡ 0xFFFFFFFF →
     Names address p → bit < 32 → reads_one s address bit ≡ (reads_one s whole bit && shows address bit)
 
--- No bit beyond those of the group's registers reads as 1.
+-- No bit beyond the bits of the group's registers reads as 1.
 abbrev pub OtherBitsReadZero : Type 0
 OtherBitsReadZero =
     (s : State) → IsSound s → (g : Group) → IsGroup g → (bit : ℕ) → bits_in g ≤ bit → bit < 32 →

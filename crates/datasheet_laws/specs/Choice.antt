@@ -44,8 +44,8 @@ pub record HasTypes (mrqc : ℕ) (flow : Flow) : Type 0 where
 abbrev pub TypesAreChosen : Type 0
 TypesAreChosen = (mrqc : ℕ) (flow : Flow) → HasTypes mrqc flow
 
--- A frame goes to queue t.queue. With code 1, it is the entry of RETA. With a code for pools, it is one of the pool's:
--- if GCR_EXT bits 1 to 0 aren't 1, the first of two with code 8, one of four with 0xA, and one of two with 0xB;
+-- A frame goes to queue t.queue. With code 1, this is the entry of RETA. With a code for pools, it is one of the pool's
+-- queues: if GCR_EXT bits 1 to 0 aren't 1, the first of two with code 8, one of four with 0xA, and one of two with 0xB;
 -- otherwise, the first of eight with code 8, and one of eight with 0xA and 0xB. The entry is selected by the low seven
 -- bits n of the hash, in bits 8(n mod 4)+3 on of RETA[n / 4]. The hash is reported if RXCSUM bit 13 is 1.
 pub record ChoosesQueues (r : Registers) (t : Target) (frame : List ℕ) : Type 0 where

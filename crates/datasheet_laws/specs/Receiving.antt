@@ -39,7 +39,7 @@ pub record IsTurnedAway (s : State) : Type 0 where
   pub next : IsNext s w others
   pub off : bit 25 (word_of s.registers Rxdctl w.queue) ≡ 0
 
--- There is no slot for it, SRRCTL bit 28 is 1, and nothing of the frame is written.
+-- There is no slot for it, SRRCTL bit 28 is 1, and none of the frame is written.
 pub record IsDroppedSlotless (s : State) : Type 0 where
   pub w : Waiting
   pub others : List Waiting
@@ -86,7 +86,7 @@ pub record ReasonsAreMet (s : State) : Type 0 where
 abbrev pub EachReasonIsMet : Type 0
 EachReasonIsMet = (s : State) → ReasonsAreMet s
 
--- The first frame left the list, and the others are unchanged.
+-- The first frame left the list, and the other frames are unchanged.
 pub record LosesFirst (old new : List Waiting) : Type 0 where
   pub first : Waiting
   pub was : old ≡ first ∷ new

@@ -33,13 +33,13 @@ bit_of s g bit =
       auto_mask = reads_one s (auto_mask_address g) bit;
     }
 
--- Whether accesses change masks: those of the physical function while GPIE bit 30 is 0, those of a virtual function
--- always.
+-- Whether accesses change masks: accesses to the physical function's registers do while GPIE bit 30 is 0, and accesses
+-- to a virtual function's always do.
 abbrev pub masks_by_access : State → Group → Bool
 masks_by_access s Pf = not (reads_one s general_address 30)
 masks_by_access s (Vf v) = true
 
--- Afterwards, the bits of one group are these, and those of every other group are unchanged.
+-- Afterwards, the bits of one group are these, and the bits of every other group are unchanged.
 pub record ShowsThen (s new : State) (g : Group) (bits : ℕ → Bit) : Type 0 where
   pub own : (bit : ℕ) → bit < bits_in g → bit_of new g bit ≡ bits bit
   pub others :

@@ -112,7 +112,7 @@ line_of Pvtivar = line (codes "PVTIVAR") 64 (steps 0x12500 4) kind.Rw whole 0
 line_of Pfmbmem = line (codes "PFMBMEM") 1024 (steps 0x13000 4) kind.Rw whole 0
 
 -- A register has its line's name, count, kind, mask and reset value. Its first address for each index is the line's,
--- and an access at that address meets it, with all its bits.
+-- and an access at that address reaches it, with all its bits.
 pub record IsListed (row : RowId) : Type 0 where
   pub name : (row_of row).name ≡ (line_of row).name
   pub count : (row_of row).count ≡ (line_of row).count
@@ -168,7 +168,7 @@ further_addresses =
 abbrev pub IsFirst : (address : ℕ) → Place → Type 0
 IsFirst address p = p.index < (line_of p.row).count × (address ≡ (line_of p.row).address p.index)
 
--- No other address meets a register.
+-- No other address reaches a register.
 abbrev pub OtherAddressesMeetNone : Type 0
 OtherAddressesMeetNone =
     (address : ℕ) (a : Access) → access_at address ≡ Some a →

@@ -66,7 +66,7 @@ pub record IsPlain (s : State) (queue : ℕ) : Type 0 where
   pub advanced : IsAdvanced s queue 3
   pub none : ¬ AsksOffload s queue
 
--- The staged bytes and those of the buffer together exceed the limit, or don't.
+-- The staged bytes and the buffer's bytes together exceed the limit, or don't.
 pub record IsTooLong (s : State) (queue : ℕ) : Type 0 where
   pub limit : ℕ
   pub is : IsLimit s.registers limit

@@ -62,7 +62,7 @@ head_descriptor s queue =
 abbrev pub named_bytes : State → List ℕ → List ℕ
 named_bytes s descriptor = read_at s.memory (first_half descriptor) (field 15 0 (second_half descriptor))
 
--- The bytes that a queue has staged, followed by those of the descriptor at its head.
+-- The bytes that a queue has staged, followed by the bytes of the descriptor at its head.
 abbrev pub with_named : State → ℕ → List ℕ
 with_named s queue = staged_by s queue ++ named_bytes s (head_descriptor s queue)
 

@@ -150,9 +150,9 @@ pub fn heads_move_on()
 
 /// The end of a frame on queue q, which belongs to no virtual function, raises the cause in EICR that byte 2(q mod 2)
 /// of IVAR[q/2] names. A report of the queue raises the cause that the next byte names. For queue x of virtual function
-/// v with k queues, the bytes are those of PVTIVAR[v*k/2 + x/2], and the cause is in PVTEICR[v]. A byte with bit 7 at 1
-/// names the cause in its bits 5 to 0: at most 15 in EICR, at most 2 in PVTEICR[v]. No other bit of EICR, EIMS, EIAC
-/// and EIAM changes, in any group.
+/// v with k queues, the bytes are in PVTIVAR[v*k/2 + x/2], and the cause is in PVTEICR[v]. A byte with bit 7 at 1 names
+/// the cause in its bits 5 to 0: at most 15 in EICR, at most 2 in PVTEICR[v]. No other bit of EICR, EIMS, EIAC and EIAM
+/// changes, in any group.
 #[tactic(auto, using(crate::proofs::Raising::ivar_names, crate::proofs::Raising::pvtivar_names))]
 pub fn vectors_name_causes()
     ensures ivar { IvarNamesCauses }

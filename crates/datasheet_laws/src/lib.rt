@@ -72,10 +72,10 @@ pub fn mailboxes_keep_other_bits()
     ensures { OtherBitsStay }
 {}
 
-/// Of the words that registers store, a write of PVFMAILBOX[v] changes only those of PVFMAILBOX[v], PFMBICR[v / 16] and
-/// EICR. A write of PFMAILBOX[v] changes only those of PVFMAILBOX[v] and PVTEICR[v], and a read of PVFMAILBOX[v] only
-/// the word of that register. A write of EERD or of PFMBICR[k], or a write of CTRL that requests no reset, changes no
-/// other register.
+/// Of the words that registers store, a write of PVFMAILBOX[v] changes only the words of PVFMAILBOX[v], PFMBICR[v / 16]
+/// and EICR. A write of PFMAILBOX[v] changes only the words of PVFMAILBOX[v] and PVTEICR[v], and a read of
+/// PVFMAILBOX[v] only the word of that register. A write of EERD or of PFMBICR[k], or a write of CTRL that requests no
+/// reset, changes no other register.
 #[tactic(auto, using(crate::proofs::Others::mailboxes_leave, crate::proofs::Others::writes_leave))]
 pub fn accesses_leave_other_registers()
     ensures mailboxes { MailboxesLeaveOthers }

@@ -58,7 +58,7 @@ reaching_lacks k other p q e away = cc
 pub write_lacks : (p q : Place) → is_own (row_of p.row).kind ≡ false → IsAway q → LacksWord (of_write p) q
 write_lacks p q other away = reaching_lacks (row_of p.row).kind other p q refl away
 
--- Nor does it change anything of a side.
+-- Nor does it change any part of a side.
 no_wanted : (k : Kind) → is_own k ≡ false → (p : Place) (dir : Dir) (queue : ℕ)
     → (written_by k p).wanted dir queue ≡ false
 no_wanted kind.Vfmail other p dir queue = refl

@@ -30,7 +30,7 @@ leaves_missed s e = missed _ s (after s e) (stays_within s e)
 pub same_memory : (old new : Memory) → ((number : ℕ) → map.get new number ≡ map.get old number) → new ≡ old
 same_memory old new same = map.same_map nat_cmp_total map.nat_cmp-IsAntisymmetric new old same
 
--- All queues are unchanged if the reach contains nothing of a side and no staged bytes.
+-- All queues are unchanged if the reach contains no part of a side and no staged bytes.
 pub queues_stand : (r : Reach) (s t : State) → StaysWithin r s t
     → ((dir : Dir) (queue : ℕ) → Misses r.registers (of_side dir queue))
     → ((queue : ℕ) → IsFalse (r.staged queue)) → LeavesQueues s t

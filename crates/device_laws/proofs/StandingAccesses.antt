@@ -15,7 +15,7 @@ use Rattle.device_laws.proofs.Reaching.{reaching_misses_sides}
 use Rattle.device_laws.proofs.Standing.{stays_within, missed, leaves_missed, same_memory}
 use Rattle.nic_device.specs.declared.event.Event.TheVariants as event
 
--- A read affects nothing of a side.
+-- A read affects no part of a side.
 misses_side : (m : Named) (dir : Dir) (queue : ℕ) → Misses (read_reach m).registers (of_side dir queue)
 misses_side (Nothing seen) dir queue = misses-nothing (of_side dir queue)
 misses_side (Register p view) dir queue = read_misses_sides p dir queue

@@ -28,8 +28,8 @@ pub record ChangesAlone (has : Mode → ℕ → Footprint) (v : ℕ) (old new : 
   pub vfs : new.vfs ≡ old.vfs
   pub fifo : new.fifo ≡ old.fifo
 
--- Of the registers, only those of the pool change, and those by which its function signals the physical function: its
--- bits of PFMBICR, and EICR bit 19.
+-- Of the registers, only the pool's change, and the bits by which its function signals the physical function: its bits
+-- of PFMBICR, and EICR bit 19.
 abbrev pub ChangesPoolAlone : ℕ → State → State → Type 0
 ChangesPoolAlone v old new = ChangesAlone pool_changes v old new
 

@@ -180,7 +180,7 @@ pub fn arrival_leaves_the_rest()
 {}
 
 /// A receive step changes no queue except the receive side of the queue that the oldest frame waits for, no transmitted
-/// frame, and no block except those of the descriptor and the bytes that it reports.
+/// frame, and no block except the blocks of the descriptor and of the bytes that it reports.
 #[tactic(auto, using(crate::proofs::StandingQueues::receiving_rest, crate::proofs::StandingQueues::receiving_blocks))]
 pub fn receiving_leaves_the_rest()
     ensures rest { ReceivingLeavesTheRest }

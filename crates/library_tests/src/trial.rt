@@ -72,8 +72,8 @@ impl<M: Maker> Trial for Making<M> {
     }
 }
 
-/// Creates something with a call that may be refused for lack of memory. Checks that the result equals that of the same
-/// call without a refusal.
+/// Creates something with a call that may be refused for lack of memory. Checks that the same call without a refusal
+/// has the same result.
 pub fn makes<R: Abort + Wait + Print, M: Maker>(rt: &R, alloc: Global, subject: M, calm: M) {
     let subject = Making {
         maker: subject,

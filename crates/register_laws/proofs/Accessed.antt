@@ -13,7 +13,7 @@ covers-of_read p = (keeps (row_of p.row).kind).read.owned p refl
 pub covers-of_write : (p : Place) → is_own (row_of p.row).kind ≡ true → Covers (of_owner (owner_of p)) (of_write p)
 covers-of_write p own = (keeps (row_of p.row).kind).write.owned own p refl
 
--- A read changes nothing of a side.
+-- A read changes no part of a side.
 pub read_misses_sides : ReadMissesSides
 read_misses_sides p dir queue = (keeps (row_of p.row).kind).read.no_side p refl dir queue
 

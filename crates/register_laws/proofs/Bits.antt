@@ -17,7 +17,7 @@ pub same_word : {m n : ℕ} → ((bit : ℕ) → has_bit bit m ≡ has_bit bit n
 same_word {m} {n} each =
     same_from_bits m n (λ bit. one_digit (bit_at m bit) (bit_at n bit) (bit_at-lt m bit) (bit_at-lt n bit) (each bit))
 
--- The bits of a number, with those of a mask taken from another number.
+-- The bits of a number, with the bits of a mask taken from another number.
 mixed_digit : (old new mask : ℕ) → old < 2 → new < 2 → mask < 2
     → ((old + min ((old + new) % 2) mask) % 2 == 1) ≡ cond (mask == 1) (new == 1) (old == 1)
 mixed_digit old new mask a b c = grind (arith, nat_tests)

@@ -1,4 +1,4 @@
--- Reads, counts and interrupts have nothing of a side.
+-- The footprints of reads, counts and interrupts contain no part of a side.
 use Rattle.std.proofs.Common.{◌≡◌, ℕ, refl}
 use Rattle.register_file.specs.RegTable.declared.kind.Kind.TheVariants as kind
 use Rattle.register_file.specs.RegTable.declared.rows.RowId.TheVariants as row

@@ -1,4 +1,4 @@
--- Lemmas: what is pending for an owner, and which places have nothing of it.
+-- Lemmas: what is pending for an owner, and at which places nothing is.
 use Rattle.std.proofs.Common.{◌≡◌, true, false, refl}
 use Rattle.register_file.specs.RegTable.declared.kind.Kind.TheVariants as kind
 use Rattle.register_file.specs.declared.owner.Owner.TheVariants as owner

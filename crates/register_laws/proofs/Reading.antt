@@ -26,8 +26,8 @@ KeepsAgreement k change =
     (p : Place) → (row_of p.row).kind ≡ k → is_of_pool mode v p ≡ true →
     AgreeWithin (pool_agrees mode v) (change a p) (change b p)
 
--- A read changes only what it may change. This belongs to the owner of its place, and contains nothing of another place
--- that is alone and nothing of a side. The read keeps registers sound, and keeps agreement in a pool.
+-- A read changes only what it may change. This belongs to the owner of its place, and contains no part of another place
+-- that is alone and no part of a side. The read keeps registers sound, and keeps agreement in a pool.
 pub record KeepsReading (k : Kind) (leaves : Registers → Place → Registers) (by : Place → Footprint) : Type 0 where
   pub within : (r : Registers) (p : Place) → ChangesWithin (by p) r (leaves r p)
   pub owned : (p : Place) → (row_of p.row).kind ≡ k → Covers (of_owner (owner_of p)) (by p)

@@ -17,8 +17,8 @@ use Rattle.register_laws.proofs.Reading.{KeepsAgreement}
 use Rattle.register_laws.proofs.SoundParts.{sound-if, sound-stored, sound-asked, sound_group}
 use Rattle.register_laws.proofs.WithinParts.{within-stored, within-asked, within_group}
 
--- A write changes only what it may change. This belongs to the owner of its place, if the kind says so, and contains
--- nothing of another place that is alone. The write keeps registers sound, and keeps agreement in a pool.
+-- A write changes only what it may change. This belongs to the owner of its place, if the kind says so, and contains no
+-- part of another place that is alone. The write keeps registers sound, and keeps agreement in a pool.
 pub record KeepsWriting (k : Kind) (written : Registers → Place → ℕ → ℕ → Registers) (by : Place → Footprint)
     : Type 0 where
   pub within : (r : Registers) (p : Place) (view word : ℕ) → ChangesWithin (by p) r (written r p view word)

@@ -118,8 +118,8 @@ RingIsHeldWhileOn =
     (r : Registers) (dir : Dir) (queue view word : ℕ) → IsTrue (is_on r dir queue) →
     All (λ row. after_write r (place row queue) view word ≡ r) (held_rows dir)
 
--- Writing a side's enable word changes nothing of the side except its enable request, which becomes bit 25 of the
--- written word: the side stays enabled or disabled, and its ring is unchanged.
+-- Of a side, a write of its enable word changes only the enable request, which becomes bit 25 of the written word: the
+-- side stays enabled or disabled, and its ring is unchanged.
 abbrev pub EnableWriteAsksReceive : Type 0
 EnableWriteAsksReceive =
     (r : Registers) → HasShape r → (queue view word : ℕ) → queue < 128 →
@@ -294,19 +294,19 @@ PendingMissesSides = (o : Owner) (dir : Dir) (queue : ℕ) → Misses (pending_o
 abbrev pub ReadMissesSides : Type 0
 ReadMissesSides = (p : Place) (dir : Dir) (queue : ℕ) → Misses (of_read p) (of_side dir queue)
 
--- A receive side is unchanged if the footprint has nothing of it.
+-- A receive side is unchanged if the footprint contains no part of it.
 abbrev pub MissedReceiveStands : Type 0
 MissedReceiveStands =
     (f : Footprint) (old new : Registers) (queue : ℕ) → Misses f (of_side Rx queue) → ChangesWithin f old new →
     receive_queue_of new queue ≡ receive_queue_of old queue
 
--- A transmit side is unchanged if the footprint has nothing of it.
+-- A transmit side is unchanged if the footprint contains no part of it.
 abbrev pub MissedTransmitStands : Type 0
 MissedTransmitStands =
     (f : Footprint) (old new : Registers) (queue : ℕ) → Misses f (of_side Tx queue) → ChangesWithin f old new →
     transmit_queue_of new queue ≡ transmit_queue_of old queue
 
--- A group's interrupts are unchanged if the footprint has nothing of them.
+-- A group's interrupts are unchanged if the footprint contains no part of them.
 abbrev pub MissedInterruptsStand : Type 0
 MissedInterruptsStand =
     (f : Footprint) (old new : Registers) (g : Group) → Misses f (of_group g) → ChangesWithin f old new →

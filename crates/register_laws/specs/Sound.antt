@@ -19,7 +19,7 @@ pub record HasShape (r : Registers) : Type 0 where
 abbrev pub bits_of_kind : Kind → ℕ → ℕ
 bits_of_kind k = (behaviour_of k).bits
 
--- The bits that a word of a row can have: those of its reset value, and those that can become 1.
+-- The bits that a word of a row can have: the bits of its reset value, and all that can become 1.
 abbrev pub bits_of_row : RowId → ℕ
 bits_of_row row = bit_or (row_of row).reset (bits_of_kind (row_of row).kind (row_of row).mask)
 

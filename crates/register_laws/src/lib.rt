@@ -2,9 +2,9 @@
 //!
 //! Each law is the contract of a function with an empty body. It holds for the definitions that specify the operations
 //! of `register_file::RegisterFile`. The footprint of an operation is what it can change. Each place has one owner, and
-//! an access changes nothing of another owner. A side of a queue and the interrupts of a group are seen as values, and
-//! every change outside them leaves them unchanged. Registers stay sound. The device core proves its own soundness with
-//! these laws, and the laws of the device use them.
+//! an access changes nothing that belongs to another owner. A side of a queue and the interrupts of a group are seen as
+//! values, and every change outside them leaves them unchanged. Registers stay sound. The device core proves its own
+//! soundness with these laws, and the laws of the device use them.
 #![tactic(auto)]
 
 ghost use Rattle.register_laws.specs.Laws.{ResetIsSound, ReadKeepsSound, WriteKeepsSound, CountKeepsSound, CountWrappingKeepsSound, AnswerKeepsSound, RaiseKeepsSound, QueueRaiseKeepsSound, MessageKeepsSound, HeadKeepsSound, SwitchKeepsSound, ShutKeepsSound, ResetGivesResetValues, ResetSwitchesOff, ResetTellsNothing, PutWordIsThere, PutWordIsAlone, GroupBitsAreMasks, StoredWordReadsBack, ReadStaysWithin, WriteStaysWithin, CountStaysWithin, CountWrappingStaysWithin, AnswerStaysWithin, RaiseStaysWithin, QueueRaiseStaysWithin, MessageStaysWithin, HeadStaysWithin, SwitchStaysWithin, ShutStaysWithin, ReadStaysWithOwner, WriteStaysWithOwner, OwnersAreApart, OwnersDiffer, WordIsOnePlace, PendingIsPending, CountersAreTheirOwn, PendingMissesSides, ReadMissesSides, MissedReceiveStands, MissedTransmitStands, MissedInterruptsStand, MissedSettingsStand, HeadMovesReceive, HeadMovesTransmit, SwitchObeysReceive, SwitchObeysTransmit, SwitchedSideStays, ShutIsOffReceive, ShutIsOffTransmit, RingIsHeldWhileOn, WrittenReceiveIsTheSides, WrittenTransmitIsTheSides, EnableWriteAsksReceive, EnableWriteAsksTransmit, EnableReadTellsOn, CountersCount, ReadOnlyCountersGoRound, CalculatedRowsHaveFormulas, EepromAnswerIsRead, InterruptsStand};
@@ -104,9 +104,9 @@ pub fn changes_stay_in_their_footprint()
     ensures shut { ShutStaysWithin }
 {}
 
-/// Every place has an owner. A read changes nothing of another owner. Neither does a write that requests no reset,
-/// except a write of PVFMAILBOX, PFMAILBOX or CTRL_EXT. Raised causes and messages change only causes, masks and
-/// reported bits.
+/// Every place has an owner. A read changes nothing that belongs to another owner. Neither does a write that requests
+/// no reset, except a write of PVFMAILBOX, PFMAILBOX or CTRL_EXT. Raised causes and messages change only causes, masks
+/// and reported bits.
 pub fn accesses_stay_with_their_owner()
     ensures read { ReadStaysWithOwner }
     ensures write { WriteStaysWithOwner }
@@ -161,9 +161,9 @@ pub fn written_word_is_the_sides()
     ensures transmit { WrittenTransmitIsTheSides }
 {}
 
-/// Writing a side's enable word changes nothing of the side except its enable request, which becomes bit 25 of the
-/// written word: the side stays enabled or disabled, and its ring is unchanged. Bit 25 of a side's enable word, as
-/// read, shows whether the side is enabled.
+/// Of a side, a write of its enable word changes only the enable request, which becomes bit 25 of the written word: the
+/// side stays enabled or disabled, and its ring is unchanged. Bit 25 of a side's enable word, as read, shows whether
+/// the side is enabled.
 pub fn enable_write_only_asks()
     ensures receive { EnableWriteAsksReceive }
     ensures transmit { EnableWriteAsksTransmit }

@@ -34,7 +34,7 @@ use Rattle.pmd_access.specs.NicDevice.declared.event.Event.TheVariants as event
 
 -- What the agreement implies for the packets handed out.
 
--- What was handed out is a prefix of what was delivered.
+-- The packets handed out are a prefix of the packets delivered.
 pub handed_first : HandedIsPrefix
 handed_first queue s out v h1 = grind (arith, common_steps)
 
@@ -106,7 +106,7 @@ no_rest hs xs ys is =
 pub between : (hs ds ks : List Kept) → IsPrefixOf hs ds → IsPrefixOf ds ks → ks ≡ hs → hs ≡ ds
 between hs ds ks h1 h2 h3 = grind (arith, common_steps, no_rest)
 
--- An event that leaves blocks alone leaves those of a sending driver.
+-- An event that leaves blocks alone leaves the blocks of a sending driver alone.
 
 -- What is received, as the reply reports it.
 received_outside : (queue : ℕ) (mine : Blocks) (v : Sender) (r : Reply Block) (b : ℕ) → IsTrue (has_lent v b)
@@ -138,14 +138,14 @@ first_sent s queue sent v (f, h) = elim h.sends [
   | inr x ↦ (x.frame ∷ x.rest, x.in_order)
 ]
 
--- Lemmas about what is left to be sent.
+-- Lemmas about the segments that remain to be sent.
 module _ (s : State) (queue : ℕ) (sent : List (List ℕ)) (limit : ℕ) (left : List Segment) (ks : List Kept)
     (sends : SendsInOrder s queue sent limit left ks) where
-  -- Everything accepted is sent, if nothing is left.
+  -- If no segment remains, everything accepted is sent.
   all_sent : left ≡ [] → bytes_of ks ≡ sent
   all_sent none = grind (arith, common_steps, append-nil)
 
-  -- Not everything is sent, if the end of a packet is left.
+  -- If the end of a packet remains, not everything is sent.
   some_unsent : (k : ℕ) → k < length left → (slice_index_or left k no_segment).part.last ≡ true
       → length sent < length (bytes_of ks)
   some_unsent k below end = grind (arith, common_steps, length-append, frame_of_end)

@@ -33,8 +33,8 @@ posted_in v k is = omega (arith, is, reach_long v)
 pub posted_block : (v : Receive) (k : ℕ) → k < length v.layout.blocks → block_at (reach v) k ≡ block_at v.layout k
 posted_block v k is = get_or_append_left v.layout.blocks v.named 0 k is
 
--- Facts about each block that the driver has lent for receiving: those of the ring itself, those of its slots up to the
--- last named one, and a fresh one.
+-- Facts about each block that the driver has lent for receiving: the blocks of the ring itself, the blocks of its slots
+-- up to the last named one, and a fresh block.
 
 abbrev pub among : List ℕ → ℕ → Bool
 among xs n = list_any (λ b. n == b) xs
@@ -136,7 +136,7 @@ end_more [] t is end = end
 end_more (u ∷ []) t is end = (is.0, end)
 end_more (u ∷ w ∷ ts) t is end = (is.0, end_more (w ∷ ts) t is.1 end)
 
--- If nothing is held, no packet has ended and no part is left, whatever was seen.
+-- If nothing is held, no packet has ended and no part remains, whatever was seen.
 pub none_of : (seen : List Reported) → (ended_of seen no_packet ≡ []) × (left_of seen no_packet ≡ no_packet)
 none_of [] = (refl, refl)
 none_of (t ∷ ts) = (refl, refl)

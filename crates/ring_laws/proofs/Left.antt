@@ -21,7 +21,7 @@ use Rattle.device_lock.specs.NicDevice.declared.event.Event.TheVariants as event
 
 -- A side of a queue, and the records of its direction.
 
--- A side among those of its direction.
+-- A side among the sides of its direction.
 abbrev pub receive_of : Side → ReceiveQueue
 receive_of x = record { ring = x.ring; control = x.control; on = x.on; wanted = x.wanted }
 

@@ -50,7 +50,7 @@ pub not_so : (b c : Bool) → (b ≡ true → c ≡ true) → c ≡ false → b 
 not_so b c so none = grind arith
 
 -- What one half of a driver has lent after one of its own events, by the reply and what it had lent. A block that it
--- lends is added, one that comes back may be removed, and everything else stays.
+-- lends is added, a returned block may be removed, and all other blocks stay.
 abbrev pub Follows : Blocks → Blocks → Event Block → Reply Block → ℕ → Type 0
 Follows had has (event.Lend b) Done n = has n ≡ (n == b.number || had n)
 Follows had has (event.Take t) (Buf b) n = (n ≢ t → had n ≡ true → has n ≡ true) × (has n ≡ true → had n ≡ true)
@@ -89,8 +89,8 @@ pub record Resets (P : List Waiting → Type 0) (s : State) (p : Place) (word : 
       asks_pool_reset (row_of p.row).kind word ≡ true
       → P (filter (λ (w : Waiting). not (has_queue (mode_in s.registers) p.index w.queue)) s.waiting)
 
--- The changes that an event can make to these frames: in addition, a frame of at most the limit may come, and a receive
--- side that becomes disabled removes its partly written frame.
+-- The changes that an event can make to these frames: in addition, a frame of at most the limit may be accepted, and a
+-- receive side that becomes disabled removes its partly written frame.
 abbrev pub Changes : (List Waiting → Type 0) → State → Event Block → Type 0
 Changes P s event.RxStep = P (after s event.RxStep).waiting
 Changes P s (event.Write port n word) =

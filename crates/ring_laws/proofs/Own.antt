@@ -116,7 +116,7 @@ module _ (v : Receive) (blocks packets : ℕ) where
               ∙ simp (append_assoc, map-append)) refl h.order.seen h.order.stage;
         }
 
--- How far a word advances the tail, and which packets are handed out by that.
+-- How far a written word advances the tail, and which packets are thereby handed out.
 record IsMoved (v : Receive) (word : ℕ) (w : Receive) : Type 0 where
   pub blocks : ℕ
   pub packets : ℕ

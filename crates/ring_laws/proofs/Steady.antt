@@ -108,7 +108,7 @@ module _ (queue : ℕ) (s : State) (sound : IsSound s) (small : queue < 128) (po
       let transmit = transmit-asked s.registers sound.registers.shape queue small 0xFFFFFFFF word in
       grind arith
 
-  -- The other is left unchanged.
+  -- The other side is unchanged.
   pub asked_or_left : (side dir : Dir) → NamesEnable side queue s port n
       → Asks dir ⊎ LeavesSide dir queue s (after s (event.Write port n word))
   asked_or_left side dir names =

@@ -62,7 +62,7 @@ packets-append limit staged [] ys none more = rw none (more, refl)
 packets-append limit staged (x ∷ xs) ys are more =
     grind (arith, packets-append limit (staged_with staged x) xs ys are.2 more)
 
--- The packet of the staged bytes still has its end to come.
+-- If bytes are staged, the end of their packet is still among the segments.
 
 pub frame_left : (limit : ℕ) (staged : List ℕ) (ss : List Segment) → 0 < length staged → ArePackets limit staged ss
     → (frame : List ℕ) × (rest : List (List ℕ)) × (0 < length ss) × (frames_from staged ss ≡ frame ∷ rest)

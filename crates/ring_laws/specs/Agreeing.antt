@@ -54,8 +54,8 @@ pub record IsBased (s : State) (queue : ℕ) (l : Layout) : Type 0 where
   pub limit : frame_limit s.registers ≡ l.limit
 
 -- The transmit side is the driver's, with this many of the outstanding segments posted and this many fetched. Its ring
--- begins with the driver's block. Its head is the slot of the first segment that wasn't fetched, its tail that of the
--- first that isn't posted, and there is no head write-back. The side may be on or off.
+-- begins with the driver's block. Its head is the slot of the first segment that wasn't fetched, its tail the slot of
+-- the first segment that isn't posted, and there is no head write-back. The side may be on or off.
 pub record IsSetUp (side : TransmitQueue) (l : Layout) (posted fetched : ℕ) : Type 0 where
   pub base : side.ring.base ≡ 2048 * l.ring
   pub length : side.ring.length ≡ 16 * l.size

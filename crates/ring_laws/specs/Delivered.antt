@@ -30,7 +30,7 @@ packets_if_any None = []
 packets_if_any (Some ps) = packets_of ps
 
 -- The packets that a history delivers on a queue, counted since the queue's receive side was last enabled: the bytes
--- written, in order, cut after each piece that ends a frame. A rest without an end is left out.
+-- written, in order, cut after each piece that ends a frame. Trailing pieces without an end are left out.
 abbrev pub delivered : ℕ → State → List Entry → List Kept
 delivered queue s h = packets_if_any (pieces_since queue s None h)
 

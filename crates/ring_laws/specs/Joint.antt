@@ -116,7 +116,8 @@ still_held v = left_of v.seen v.held
 abbrev pub packets_had : Receive → List Kept
 packets_had v = v.handed ++ records_of (v.whole ++ ended_of v.seen v.held)
 
--- The consumed pieces are those packets and the parts of a held one: whatever comes after is cut as after those parts.
+-- The consumed pieces are these packets and the parts of a held packet: later pieces are cut into packets as if they
+-- followed these parts.
 abbrev pub AreCut : List Piece → Receive → Type 0
 AreCut gone v =
     (rest : List Piece)

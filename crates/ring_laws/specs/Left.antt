@@ -35,8 +35,8 @@ is_switch_of Rx queue (event.QueueStep Rx on) = on == queue
 is_switch_of Tx queue (event.QueueStep Tx on) = on == queue
 is_switch_of dir queue other = false
 
--- The slot at the head of a queue, filled with what is left of a frame. `fetch_on`: the slot at the head that is
--- fetched.
+-- The result of filling the slot at a queue's head with the rest of a frame. `fetch_on`: the result of fetching that
+-- slot.
 abbrev pub fill_on : State → ℕ → rx.Rest → rx.Outcome
 fill_on s queue rest =
     rx.fill_of s.memory (receive_queue_of s.registers queue).ring (receive_queue_of s.registers queue).control rest

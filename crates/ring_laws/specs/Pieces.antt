@@ -8,8 +8,8 @@ use Rattle.pmd_access.specs.NicDevice.DmaRing.Driver.{hash_in, rss_in}
 abbrev pub reported_packet : List ℕ → ℕ → Kept
 reported_packet bytes first = record { bytes = bytes; rss = rss_in first; hash = hash_in first }
 
--- Pieces cut into packets, after each piece that ends a frame, following the bytes of earlier pieces. A rest without an
--- end is left out.
+-- Pieces cut into packets, after each piece that ends a frame, following the bytes of earlier pieces. Trailing pieces
+-- without an end are left out.
 abbrev pub packets_after : List ℕ → List Piece → List Kept
 packets_after front [] = []
 packets_after front (p ∷ ps) =

@@ -58,7 +58,7 @@ all_made program s blocks acc outcome = record {
 }
 
 module _ (program : Listing) (s : MachineState) where
-  -- An event that is made, while these blocks are free.
+  -- A step whose event is made, while these blocks are free.
   made_by : (i : Instruction ℕ ℕ) (e : Event Block) (acc : Reply Block → ℕ → ℕ) (blocks : Numbers)
       → IsNext program s i
       → executed_if_some program s (Some i)
@@ -75,7 +75,7 @@ module _ (program : Listing) (s : MachineState) where
         steps = refl;
       })
 
-  -- An event with nothing of its reply kept.
+  -- An event of whose reply nothing is kept.
   plain : (i : Instruction ℕ ℕ) (e : Event Block) → IsNext program s i
       → executed_if_some program s (Some i) ≡ all_made program s s.arena s.acc (step_of s.device e)
       → Makes program s e as_it_was

@@ -9,7 +9,7 @@ use dma_ring::{
 };
 use std::alloc::{AllocError, Global};
 
-/// The printed result of a call.
+/// Returns the printed result of a call.
 pub fn answer(alloc: Global, call: Call<'_>) -> Result<String, AllocError> {
     match call.name {
         "ring" | "next" | "descriptor" => ring_text(alloc, call),
@@ -28,7 +28,7 @@ pub fn answer(alloc: Global, call: Call<'_>) -> Result<String, AllocError> {
     }
 }
 
-/// The printed result of a call on a ring.
+/// Returns the printed result of a call on a ring.
 fn ring_text(alloc: Global, call: Call<'_>) -> Result<String, AllocError> {
     let ring = Ring {
         base: call.long(3, 4),

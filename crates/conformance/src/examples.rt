@@ -60,7 +60,7 @@ const TEXTS: [(&str, Forms); 5] = [
     ("listing", OBJECT),
 ];
 
-/// The bytes of an example's file. Files of some kinds contain the bytes as hex lines.
+/// Returns the bytes of an example's file. Files of some kinds contain the bytes as hex lines.
 fn example(rt: &HostRuntime, name: &str, kind: &str) -> io::Result<Vec<u8>> {
     let path = format!(in rt.alloc(); "examples/{name}.{kind}")?;
     let text = fs::read_to_string(rt, path.as_str())?;

@@ -6,7 +6,7 @@ use rss_hash::{QueueMode, choose, classify, entry};
 use std::alloc::{AllocError, Global};
 use text_format::BytesText;
 
-/// The printed result of a call.
+/// Returns the printed result of a call.
 pub fn answer(alloc: Global, call: Call<'_>) -> Result<String, AllocError> {
     match call.name {
         "flow" | "input" => frame_text(alloc, call, call.word(0)),
@@ -41,7 +41,7 @@ fn frame_text(alloc: Global, call: Call<'_>, frame: &str) -> Result<String, Allo
     }
 }
 
-/// The redirection table that repeats the words 1 to 4.
+/// Returns the redirection table that repeats the words 1 to 4.
 fn table_in(call: Call<'_>) -> [u32; 32] {
     let words = [
         call.number(1),

@@ -11,7 +11,7 @@ use eeprom_image::{Image, assemble, load};
 use std::alloc::{AllocError, Global};
 use std::fmt::Write;
 
-/// The printed result of a call.
+/// Returns the printed result of a call.
 pub fn answer(alloc: Global, call: Call<'_>) -> Result<String, AllocError> {
     match call.name {
         "blank" => again_text(alloc, &Image::blank(alloc)?),
@@ -33,7 +33,7 @@ pub fn answer(alloc: Global, call: Call<'_>) -> Result<String, AllocError> {
     }
 }
 
-/// The text of an image after it was loaded again from its file.
+/// Returns the text of an image after it was loaded again from its file.
 fn again_text(alloc: Global, image: &Image) -> Result<String, AllocError> {
     let file = image.to_bytes(alloc)?;
     match load(alloc, file.as_slice()) {
@@ -55,7 +55,7 @@ fn image_text(alloc: Global, image: &Image) -> Result<String, AllocError> {
     Ok(text)
 }
 
-/// The file that a case describes. The case sets up to sixteen words.
+/// Returns the file that a case describes. The case sets up to sixteen words.
 fn file_in(alloc: Global, call: Call<'_>) -> Result<Vec<u8>, AllocError> {
     let mut bytes = vec![in alloc; 0xFFu8; usize::from(call.half(0))]?;
     for given in 0..16 {

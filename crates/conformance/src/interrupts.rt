@@ -4,7 +4,7 @@ use crate::call::Call;
 use intr_unit::Group;
 use std::alloc::{AllocError, Global};
 
-/// The printed result of a call. The first word is a group.
+/// Returns the printed result of a call. The first word is a group.
 pub fn answer(alloc: Global, call: Call<'_>) -> Result<String, AllocError> {
     let group = if call.word(0) == "pf" {
         Group::Pf

@@ -11,7 +11,7 @@ use std::alloc::{AllocError, Global};
 use std::fmt::Write;
 use text_format::BytesText;
 
-/// The printed result of a call.
+/// Returns the printed result of a call.
 pub fn answer(alloc: Global, call: Call<'_>) -> Result<String, AllocError> {
     let hex = match call.name {
         "read" => call.text,
@@ -32,7 +32,7 @@ pub fn answer(alloc: Global, call: Call<'_>) -> Result<String, AllocError> {
     }
 }
 
-/// The text of a program, after its object was encoded again.
+/// Returns the text of a program, after its object was encoded again.
 fn program_text(alloc: Global, program: &Program, bytes: &[u8]) -> Result<String, AllocError> {
     if program.to_bytes(alloc)?.as_slice() != bytes {
         return format!(in alloc; "other");

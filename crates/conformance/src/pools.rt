@@ -4,7 +4,7 @@ use crate::call::Call;
 use std::alloc::{AllocError, Global};
 use vf_map::{Mapped, map, mode_of, queues_of};
 
-/// The printed result of a call. The first word is a value of GCR_EXT.
+/// Returns the printed result of a call. The first word is a value of GCR_EXT.
 pub fn answer(alloc: Global, call: Call<'_>) -> Result<String, AllocError> {
     let mode = mode_of(call.number(0));
     match call.name {

@@ -11,7 +11,7 @@ use reg_table::{
 };
 use std::alloc::{AllocError, Global};
 
-/// The printed result of a call.
+/// Returns the printed result of a call.
 pub fn answer(alloc: Global, call: Call<'_>) -> Result<String, AllocError> {
     match call.name {
         "row" => match row_named(call.text) {
@@ -24,7 +24,7 @@ pub fn answer(alloc: Global, call: Call<'_>) -> Result<String, AllocError> {
     }
 }
 
-/// The first address of a row at an index, or 0xFFFF_FFFF if the index isn't below the row's count.
+/// Returns the first address of a row at an index, or 0xFFFF_FFFF if the index isn't below the row's count.
 fn address(row: RowId, index: u16) -> u32 {
     if index < count_of(row) {
         addr_of(Place { row, index })

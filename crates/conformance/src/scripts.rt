@@ -90,8 +90,8 @@ fn case_of(text: &str) -> Option<Case<'_>> {
     })
 }
 
-/// The expected output of a script: the lines in its comments, each with its instruction's number, then the lines of
-/// the case.
+/// Returns the expected output of a script: the lines in its comments, each with its instruction's number, then the
+/// lines of the case.
 fn wanted(alloc: Global, script: &str, case: Case<'_>) -> Result<String, AllocError> {
     let mut printed = String::new(alloc);
     let mut count = 0u64;

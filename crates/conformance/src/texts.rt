@@ -8,7 +8,7 @@ use std::alloc::{AllocError, Global};
 use std::fmt::Write;
 use text_format::{Lines, NAME_LIMIT, Words, hex_bytes, is_name, number};
 
-/// The printed result of a call.
+/// Returns the printed result of a call.
 pub fn answer(alloc: Global, call: Call<'_>) -> Result<String, AllocError> {
     match call.name {
         "lines" => lines_text(alloc, call.text),
@@ -27,13 +27,13 @@ pub fn answer(alloc: Global, call: Call<'_>) -> Result<String, AllocError> {
     }
 }
 
-/// The bytes that a text spells in hex. It may contain blanks and line feeds. Empty if it isn't hex.
+/// Returns the bytes that a text spells in hex, or none if it isn't hex. The text may contain blanks and line feeds.
 pub fn hex_in(alloc: Global, text: &str) -> Result<Vec<u8>, AllocError> {
     let digits = text.replace(alloc, "\n", "")?.replace(alloc, " ", "")?;
     Ok(hex_bytes(alloc, digits.as_str()).unwrap_or(Vec::new(alloc)))
 }
 
-/// A table's text with its escapes replaced by line feeds, carriage returns and tabs.
+/// Returns a table's text with its escapes replaced by line feeds, carriage returns and tabs.
 pub fn plain(alloc: Global, text: &str) -> Result<String, AllocError> {
     let text = text.replace(alloc, "\\n", "\n")?;
     let text = text.replace(alloc, "\\r", "\r")?;

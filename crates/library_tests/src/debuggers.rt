@@ -10,7 +10,7 @@ use std::alloc::Global;
 use std::process::Abort;
 use std::sync::Wait;
 
-/// A checksum of a command's result: the number of steps and the accumulator.
+/// Returns a checksum of a command's result: the number of steps and the accumulator.
 fn view<R: Abort>(rt: &R, debugger: &mut Debugger, command: Command) -> u64 {
     let view = done(rt, debugger.exec(command));
     with(with(START, view.steps), u64::from(view.acc))
@@ -70,7 +70,7 @@ impl Moving {
         Moving { debugger, kind, to }
     }
 
-    /// The number of steps taken.
+    /// Returns the number of steps taken.
     fn at<R: Abort>(&mut self, rt: &R) -> u64 {
         done(rt, self.debugger.exec(Command::Step(0))).steps
     }

@@ -6,12 +6,12 @@ use nic_device::{Config, Device, Event, Image, Parts, Port, Reply};
 /// The configuration of devices.
 pub const CONFIG: Config = Config { vfs: 0, fifo: 64 };
 
-/// A new device with this configuration.
+/// Returns a new device with this configuration.
 pub fn device(rt: &impl Hand) -> Device {
     done(rt, Device::new(rt.alloc(), CONFIG))
 }
 
-/// The reply to an event. It must not run out of memory.
+/// Returns the reply to an event, which must not run out of memory.
 pub fn stepped(rt: &impl Hand, device: &mut Device, event: Event) -> Reply {
     done(rt, device.step(event))
 }

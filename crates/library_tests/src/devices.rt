@@ -32,7 +32,7 @@ const POSTED: [u8; 16] = [0, 8, 0, 0, 0, 0, 0, 0, 0, 0, 0, 0, 0, 0, 0, 0];
 /// A transmit descriptor of a 60-byte frame in block 2, with report status set.
 const OUTGOING: [u8; 16] = [0, 16, 0, 0, 0, 0, 0, 0, 60, 0, 0x30, 0x2B, 0, 0, 15, 0];
 
-/// A frame of 60 bytes.
+/// Returns a frame of 60 bytes.
 pub fn frame<R: Abort>(rt: &R, alloc: Global) -> Octets {
     let mut bytes = Vec::new(alloc);
     for number in 0..60u8 {
@@ -49,7 +49,7 @@ fn make<R: Abort>(rt: &R, device: &mut Device, event: Event) {
     }
 }
 
-/// A device with a ready queue 0 and with blocks 0 to 2 of an arena lent to it, and the arena.
+/// Returns a device with a ready queue 0 and with blocks 0 to 2 of an arena lent to it, and the arena.
 pub fn ready<R: Abort>(rt: &R, alloc: Global) -> (Device, Arena) {
     let mut device = done(rt, Device::new(alloc, Config { vfs: 0, fifo: 64 }));
     let mut arena = done(rt, Arena::new(alloc, 0, 24));
@@ -66,19 +66,19 @@ pub fn ready<R: Abort>(rt: &R, alloc: Global) -> (Device, Arena) {
     (device, arena)
 }
 
-/// The event that lends block 3, which has contents.
+/// Returns the event that lends block 3, which has contents.
 pub fn to_lend<R: Abort>(rt: &R, arena: &mut Arena) -> Event {
     lending(rt, arena, 3)
 }
 
-/// The event that lends a block, which has contents.
+/// Returns the event that lends a block, which has contents.
 fn lending<R: Abort>(rt: &R, arena: &mut Arena, block: u32) -> Event {
     let mut buf = some(rt, arena.take_at(block));
     buf.bytes_mut()[100] = 0xA5;
     Event::Lend(buf)
 }
 
-/// A checksum of the reply to an event.
+/// Returns a checksum of the reply to an event.
 pub fn number_of<R: Abort>(rt: &R, reply: Reply) -> u64 {
     match reply {
         Reply::Done => 1,

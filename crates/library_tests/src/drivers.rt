@@ -24,7 +24,7 @@ pub const PLAIN: Setup = Setup {
     frame: 1518,
 };
 
-/// A new device that the test owns.
+/// Returns a new device that the test owns.
 fn direct<R: Abort>(rt: &R, alloc: Global) -> Direct {
     let device = done(rt, Device::new(alloc, Config { vfs: 0, fifo: 64 }));
     Direct::new(alloc, device, 0)
@@ -83,7 +83,7 @@ fn is_for_memory<R: Abort>(rt: &R, fault: PmdFault) {
     }
 }
 
-/// The arena of a stopped driver, which must not have lost a block.
+/// Returns the arena of a stopped driver, which must not have lost a block.
 pub fn arena_of<R: Abort>(rt: &R, home: Home) -> Arena {
     let Home {
         arena,

@@ -4,7 +4,7 @@ use crate::device::{device, end};
 use crate::outcome::{Hand, done, some};
 use nic_device::{Device, Event, Port, Reply};
 
-/// The replies of a device to two reads in a list.
+/// Returns the replies of a device to two reads in a list.
 fn two_replies(rt: &impl Hand, device: &mut Device, first: u32, second: u32) -> Vec<Reply> {
     let list = [Event::Read(Port::Pf, first), Event::Read(Port::Pf, second)];
     let events = match Vec::from_array(rt.alloc(), list) {

@@ -14,7 +14,7 @@ const FRAMES: usize = 3;
 /// The length of the first frame in bytes. Each later frame is a byte longer.
 const SHORTEST: usize = 60;
 
-/// A frame of `len` zero bytes.
+/// Returns a frame of `len` zero bytes.
 fn frame_of<R: Abort>(rt: &R, alloc: Global, len: usize) -> Vec<u8> {
     let mut bytes = Vec::new(alloc);
     for _byte in 0..len {
@@ -23,7 +23,7 @@ fn frame_of<R: Abort>(rt: &R, alloc: Global, len: usize) -> Vec<u8> {
     bytes
 }
 
-/// The frames, shortest first.
+/// Returns the frames, shortest first.
 fn frames<R: Abort>(rt: &R, alloc: Global) -> Vec<Vec<u8>> {
     let mut frames = Vec::new(alloc);
     for number in 0..FRAMES {
@@ -33,7 +33,7 @@ fn frames<R: Abort>(rt: &R, alloc: Global) -> Vec<Vec<u8>> {
     frames
 }
 
-/// The number of frames that arrived through a pass. Checks that each is a byte longer than the one before.
+/// Returns the number of frames that arrived through a pass. Checks that each is a byte longer than the one before.
 fn arrived<R: Abort>(rt: &R, pass: &Pass) -> usize {
     let mut count: usize = 0;
     for made in pass.calls().kept().0 {

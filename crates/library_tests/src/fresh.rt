@@ -33,7 +33,7 @@ struct Fresh {
     image: Image,
 }
 
-/// The file of a blank image.
+/// Returns the file of a blank image.
 fn blank_file() -> [u8; 128] {
     let mut file = [0xFF; 128];
     file[0x7E] = 0xF9;
@@ -61,7 +61,7 @@ fn sum_of_device<R: Abort>(rt: &R, device: Device) -> u64 {
     sum
 }
 
-/// An arena of two blocks.
+/// Creates an arena of two blocks, and returns a checksum of it.
 fn arena<R: Abort>(rt: &R, alloc: Global) -> Option<u64> {
     match Arena::new(alloc, 4, 2) {
         Ok(arena) => Some(end_arena(rt, START, arena)),
@@ -70,7 +70,7 @@ fn arena<R: Abort>(rt: &R, alloc: Global) -> Option<u64> {
     }
 }
 
-/// A device with two virtual functions.
+/// Creates a device with two virtual functions, and returns a checksum of it.
 fn device<R: Abort>(rt: &R, alloc: Global) -> Option<u64> {
     match Device::new(alloc, Config { vfs: 2, fifo: 64 }) {
         Ok(device) => Some(sum_of_device(rt, device)),
@@ -79,7 +79,7 @@ fn device<R: Abort>(rt: &R, alloc: Global) -> Option<u64> {
     }
 }
 
-/// The image that a text describes.
+/// Assembles the image that a text describes, and returns a checksum of it.
 fn assembled_image<R: Abort>(rt: &R, alloc: Global) -> Option<u64> {
     match image_of(alloc, EEPROM) {
         Ok(image) => Some(sum_of_image(&image)),
@@ -88,7 +88,7 @@ fn assembled_image<R: Abort>(rt: &R, alloc: Global) -> Option<u64> {
     }
 }
 
-/// The image in a file.
+/// Loads the image in a file, and returns a checksum of it.
 fn loaded_image<R: Abort>(rt: &R, alloc: Global) -> Option<u64> {
     match load(alloc, &blank_file()) {
         Ok(image) => Some(sum_of_image(&image)),

@@ -4,12 +4,12 @@ use crate::device::{device, end, make, reads, write};
 use crate::outcome::{Hand, done, same};
 use nic_device::{Device, Event, Image, assemble};
 
-/// The image that a text describes.
+/// Returns the image that a text describes.
 pub fn image(rt: &impl Hand, text: &str) -> Image {
     done(rt, assemble(rt.alloc(), text))
 }
 
-/// A device with this image.
+/// Returns a device with this image.
 fn device_with(rt: &impl Hand, image: Image) -> Device {
     let mut device = device(rt);
     let _blank = device.install(image);

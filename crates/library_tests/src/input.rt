@@ -44,7 +44,7 @@ const IMAGE_TEXT: &[u8] = b"size 128\nword 0 5\ncsr 0x05080 0x400\n";
 
 const LOAD: [&str; 3] = ["nicbench", "eeprom", "--load"];
 
-/// The program's output for a reader, and how it ended.
+/// Returns the program's output for a reader, and how it ended.
 pub fn ran<R: Read>(alloc: Global, words: &[&str], reader: &mut R) -> (Vec<u8>, Outcome) {
     let mut written = Vec::new(alloc);
     let mut output = Output::of(&mut written);
@@ -104,7 +104,7 @@ fn endless_readers(rt: HostRuntime) {
     comes_to_no_end(rt, alloc, &LOAD);
 }
 
-/// A reader of a script that fails at the read with this number.
+/// Returns a reader of a script that fails at the read with this number.
 fn failing(reads: usize) -> FailingReader<'static> {
     FailingReader {
         bytes: SCRIPT,
@@ -112,7 +112,7 @@ fn failing(reads: usize) -> FailingReader<'static> {
     }
 }
 
-/// The bytes read from a reader, and whether a read failed.
+/// Returns the bytes read from a reader, and whether a read failed.
 fn read<R: Read + Drop>(alloc: Global, reader: R) -> (Result<Vec<u8>, InputFault>, bool) {
     let mut input = Input::of(reader);
     let read = read_input(alloc, &mut input);
@@ -150,7 +150,7 @@ fn input_faults(rt: HostRuntime) {
 /// An upper bound on the number of writes for an answer.
 const MOST_WRITES: u32 = 1_000;
 
-/// A writer that accepts this many writes and fails at the next one, with an error of this kind.
+/// Returns a writer that accepts this many writes and fails at the next one, with an error of this kind.
 fn writer(taken: u32, kind: ErrorKind) -> FailingWriter {
     FailingWriter {
         taken,
@@ -215,7 +215,7 @@ fn fails_at_each(rt: &impl Abort, alloc: Global, case: Case<'_, '_, '_>) {
     is_unwritten_at_each(rt, alloc, case);
 }
 
-/// The program's output for words and bytes.
+/// Returns the program's output for words and bytes.
 fn made(alloc: Global, words: &[&str], bytes: &[u8]) -> Vec<u8> {
     let mut reader = bytes;
     let (written, _outcome) = ran(alloc, words, &mut reader);
@@ -254,7 +254,7 @@ fn failing_flushes(rt: HostRuntime) {
     flush_fails(&rt, ErrorKind::OutOfMemory, 4);
 }
 
-/// The status of a request that reads from a reader, and whether a write failed.
+/// Returns the status of a request that reads from a reader, and whether a write failed.
 fn answered<R: Read + Drop, W: Write + Drop>(
     alloc: Global,
     reader: R,

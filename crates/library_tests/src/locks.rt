@@ -58,7 +58,7 @@ pub fn with_history(sum: u64, history: &[Entry]) -> u64 {
     sum
 }
 
-/// The number of entries in a history that lend a block.
+/// Returns the number of entries in a history that lend a block.
 pub fn lends_in(closed: &Closed<0, 64>) -> u64 {
     let mut lends: u64 = 0;
     for entry in closed.history() {
@@ -69,7 +69,7 @@ pub fn lends_in(closed: &Closed<0, 64>) -> u64 {
     lends
 }
 
-/// The event to make: a frame arrives, or a block is lent.
+/// Returns the event to make: a frame arrives, or a block is lent.
 fn event_of<R: Abort>(rt: &R, alloc: Global, arena: &mut Arena, arrives: bool) -> Event {
     if arrives {
         Event::Arrive(frame(rt, alloc))
@@ -78,7 +78,8 @@ fn event_of<R: Abort>(rt: &R, alloc: Global, arena: &mut Arena, arrives: bool) -
     }
 }
 
-/// The checksum of the reply if the event was made. If it was refused for lack of memory, the event is put back.
+/// Returns the checksum of the reply if the event was made. If it was refused for lack of memory, the event is put
+/// back.
 fn answered<R: Abort>(
     rt: &R,
     answer: Result<Reply, CallFault>,

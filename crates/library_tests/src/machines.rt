@@ -33,7 +33,7 @@ peek 0 3
 /// One virtual function, and room for eight frames.
 pub const CONFIG: Config = Config { vfs: 1, fifo: 8 };
 
-/// The program of the script.
+/// Returns the program of the script.
 pub fn program<R: Abort>(rt: &R, alloc: Global) -> Program {
     done(rt, assemble(alloc, SCRIPT))
 }
@@ -122,7 +122,7 @@ fn a_machine_is_made(rt: HostRuntime) {
     tried(&rt, alloc, subject, calm);
 }
 
-/// A machine that has taken this many steps of the script.
+/// Returns a machine that has taken this many steps of the script.
 pub fn machine_after<R: Abort>(rt: &R, alloc: Global, steps: u32) -> Machine {
     let mut machine = match Machine::new(alloc, program(rt, alloc), CONFIG) {
         Ok(machine) => machine,

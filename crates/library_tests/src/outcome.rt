@@ -9,7 +9,7 @@ pub trait Hand: Abort + AllocGlobal {}
 
 impl<R: Abort + AllocGlobal> Hand for R {}
 
-/// The value of a result that must be `Ok`.
+/// Returns the value of a result that must be `Ok`.
 pub fn done<T, E>(rt: &impl Abort, answer: Result<T, E>) -> T {
     match answer {
         Ok(value) => value,
@@ -17,7 +17,7 @@ pub fn done<T, E>(rt: &impl Abort, answer: Result<T, E>) -> T {
     }
 }
 
-/// The value of an option that must be `Some`.
+/// Returns the value of an option that must be `Some`.
 pub fn some<T>(rt: &impl Abort, answer: Option<T>) -> T {
     match answer {
         Some(value) => value,
@@ -25,7 +25,7 @@ pub fn some<T>(rt: &impl Abort, answer: Option<T>) -> T {
     }
 }
 
-/// The error of a result that must be `Err`.
+/// Returns the error of a result that must be `Err`.
 pub fn refused<T, E>(rt: &impl Abort, answer: Result<T, E>) -> E {
     match answer {
         Ok(_value) => panic!(rt; "not refused"),

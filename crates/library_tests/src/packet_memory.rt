@@ -11,7 +11,7 @@ use nic_device::{Device, Event, Reply};
 /// Requires that a value can be sent to another thread.
 fn can_be_sent<T: Send>() {}
 
-/// An arena of `count` blocks from `first` on.
+/// Returns an arena of `count` blocks from `first` on.
 fn arena(rt: &impl Hand, first: u32, count: u32) -> Arena {
     done(rt, Arena::new(rt.alloc(), first, count))
 }
@@ -81,7 +81,7 @@ fn packet_memory_goes_to_other_threads(_rt: HostRuntime) {
     can_be_sent::<Octets>();
 }
 
-/// The next block, which must be the last one.
+/// Returns the next block, which must be the last one.
 fn last(rt: &impl Hand, arena: &mut Arena) -> Buf {
     let buf = some(rt, arena.take());
     none(rt, arena.take());
@@ -105,7 +105,7 @@ fn an_arena_closes_once_all_blocks_are_given(rt: HostRuntime) {
     close(rt, arena);
 }
 
-/// The lowest run of two blocks, with its first block and its number of blocks.
+/// Returns the lowest run of two blocks, with its first block and its number of blocks.
 fn run_of_two(rt: &impl Hand, arena: &mut Arena) -> (Run, u64, u64) {
     let run = some(rt, arena.take_run(2));
     let (first, count) = (u64::from(run.first()), u64::from(run.count()));
@@ -117,7 +117,8 @@ fn no_run_of_two(rt: &impl Hand, arena: &mut Arena) {
     none(rt, arena.take_run(2));
 }
 
-/// The two blocks of a run, the higher one first. Checks that the run is finished only after both are taken out.
+/// Returns the two blocks of a run, the higher one first. Checks that the run is finished only after both are taken
+/// out.
 fn both_of(rt: &impl Hand, run: Run) -> (Buf, Buf) {
     let mut run = run;
     let high = some(rt, run.pop());

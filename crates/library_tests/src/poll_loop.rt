@@ -18,7 +18,7 @@ const FRAMES: usize = 5;
 /// The maximum number of polls in a loop.
 const LOOKS: u32 = 10_000;
 
-/// A redirection table with i mod 2 in entry i.
+/// Returns a redirection table with i mod 2 in entry i.
 fn in_turn() -> [u8; 128] {
     let mut reta = [0; 128];
     let mut queue = 0;
@@ -117,7 +117,7 @@ fn close(rt: &impl Abort, home: Home, frame: &[u8]) {
     done(rt, arena.close());
 }
 
-/// A shared device with three passes, set up through the last one.
+/// Returns a shared device with three passes, set up through the last one.
 fn opened<R: Abort + Wait>(rt: &R, alloc: Global) -> (Bench, Vec<Pass>, Pass) {
     let (bench, mut passes) = done(rt, Bench::new(alloc, 0, 3, 100_000));
     let mut nic = ThroughLock::new(rt, &bench, some(rt, passes.pop()), 0);

@@ -40,7 +40,7 @@ fn sum_of_program(program: &Program) -> u64 {
     sum
 }
 
-/// The program that a script means.
+/// Assembles the program that a script describes, and returns a checksum of it.
 fn assembled_program<R: Abort>(rt: &R, alloc: Global) -> Option<u64> {
     match assemble(alloc, SCRIPT) {
         Ok(program) => Some(sum_of_program(&program)),
@@ -49,7 +49,7 @@ fn assembled_program<R: Abort>(rt: &R, alloc: Global) -> Option<u64> {
     }
 }
 
-/// The program in an object.
+/// Reads the program in an object, and returns a checksum of it.
 fn read_program<R: Abort>(rt: &R, alloc: Global) -> Option<u64> {
     match read(alloc, OBJECT) {
         Ok(program) => Some(sum_of_program(&program)),

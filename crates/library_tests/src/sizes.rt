@@ -13,7 +13,7 @@ fn ends_so(alloc: Global, script: &str, end: &str, wanted: u8) -> bool {
     outcome == Outcome::Ended(wanted) && written.as_slice().ends_with(end.as_bytes())
 }
 
-/// The start, then `count` times the part, then the rest.
+/// Returns the start, then `count` times the part, then the rest.
 fn repeated(
     alloc: Global,
     start: &str,
@@ -64,7 +64,7 @@ fn longest_scripts(rt: HostRuntime) -> Result<(), Fail> {
     Ok(())
 }
 
-/// A script with this many data strings.
+/// Returns a script with this many data strings.
 fn data_strings(alloc: Global, count: u32) -> Result<String, AllocError> {
     let mut script = String::new(alloc);
     for number in 0..count {
@@ -86,7 +86,7 @@ fn most_data_strings(rt: HostRuntime) -> Result<(), Fail> {
     Ok(())
 }
 
-/// An object with this many instructions, each `halt`, and this many data strings of one byte.
+/// Returns an object with this many instructions, each `halt`, and this many data strings of one byte.
 fn object(alloc: Global, instructions: u16, strings: u16) -> Result<Vec<u8>, AllocError> {
     let mut bytes = Vec::new(alloc);
     let length = 16 + 12 * u32::from(instructions) + 3 * u32::from(strings);

@@ -7,7 +7,7 @@ use dma_arena::Arena;
 use nic_device::{Device, Event, Parts, Reply, RestoreRefused, Snapshot};
 use script_asm::{Machine, assemble};
 
-/// An arena of this many blocks from block 0 on.
+/// Returns an arena of this many blocks from block 0 on.
 fn arena(rt: &impl Hand, count: u32) -> Arena {
     done(rt, Arena::new(rt.alloc(), 0, count))
 }
@@ -25,7 +25,7 @@ fn end(rt: &impl Hand, device: Device, mut arena: Arena) {
     done(rt, arena.close());
 }
 
-/// A snapshot of a device with a changed CTRL_EXT, to which block 4 is lent with contents.
+/// Returns a snapshot of a device with a changed CTRL_EXT, to which block 4 is lent with contents.
 fn snapshot(rt: &impl Hand) -> Snapshot {
     let mut arena = arena(rt, 8);
     let mut device = device(rt);
@@ -79,7 +79,7 @@ fn a_device_is_restored(rt: HostRuntime) {
     end(rt, device, arena);
 }
 
-/// A machine after three steps.
+/// Returns a machine after three steps.
 fn machine(rt: &impl Hand) -> Machine {
     let program = done(
         rt,

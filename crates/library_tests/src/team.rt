@@ -18,7 +18,7 @@ use std::thread::Threads;
 /// The set-up with hashing. Frames of an unknown kind go to queue 0.
 const SETUP: Setup = Setup { mrqc: 1, ..PLAIN };
 
-/// Two workers' jobs, on queues 0 and 1.
+/// Returns two workers' jobs, on queues 0 and 1.
 fn jobs<R: Abort>(rt: &R, alloc: Global, passes: Vec<Pass>) -> Vec<Job> {
     let mut jobs = Vec::new(alloc);
     for pass in passes {
@@ -41,7 +41,7 @@ fn jobs<R: Abort>(rt: &R, alloc: Global, passes: Vec<Pass>) -> Vec<Job> {
     jobs
 }
 
-/// The two frames that arrive.
+/// Returns the two frames that arrive.
 fn frames<R: Abort>(rt: &R, alloc: Global) -> Vec<Vec<u8>> {
     let mut frames = Vec::new(alloc);
     for _frame in 0..2 {

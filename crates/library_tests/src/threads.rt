@@ -13,7 +13,7 @@ trait Team: Hand + Threads + Wait + Sync {}
 
 impl<R: Hand + Threads + Wait + Sync> Team for R {}
 
-/// The exit status of a run with this many workers and frames, and its output.
+/// Returns the exit status of a run with this many workers and frames, and its output.
 fn run(rt: &impl Team, workers: u8, frames: u8) -> (u8, Vec<u8>) {
     let mut written = Vec::new(rt.alloc());
     let mut output = Output::of(&mut written);

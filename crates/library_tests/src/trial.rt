@@ -9,7 +9,7 @@ pub trait Trial {
     /// Makes the call. Returns `false` if it was refused for lack of memory; all moved values are then back in `self`.
     fn call<R: Abort + Wait>(&mut self, rt: &R, alloc: Global) -> bool;
 
-    /// A checksum of everything that a refused call must leave unchanged, including the moved values.
+    /// Returns a checksum of everything that a refused call must leave unchanged, including the moved values.
     fn picture<R: Abort>(&mut self, rt: &R) -> u64;
 
     /// Ends everything, and returns a checksum of the results.
@@ -38,10 +38,10 @@ pub fn tried<R: Abort + Wait + Print, T: Trial>(rt: &R, alloc: Global, subject: 
 
 /// A call that creates something new and changes nothing else.
 pub trait Maker: Drop {
-    /// A checksum of the value that the call creates. `None` if it was refused for lack of memory.
+    /// Returns a checksum of the value that the call creates. `None` if it was refused for lack of memory.
     fn make<R: Abort>(&self, rt: &R, alloc: Global) -> Option<u64>;
 
-    /// A checksum of the call's input.
+    /// Returns a checksum of the call's input.
     fn picture(&self) -> u64;
 }
 

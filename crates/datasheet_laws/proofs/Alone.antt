@@ -1,4 +1,4 @@
--- An access of a register of one group leaves the other groups unchanged.
+-- An access to one group's register leaves the other groups unchanged.
 use Rattle.std.proofs.Common.{◌≡◌, ◌≢◌, ℕ, true, ◌&&◌, refl, ap, sym, ◌∙◌}
 use Rattle.std.specs.Prelude.{bit_and, IsFalse}
 use Rattle.nic_device.specs.RegisterFile.Access.{asks_reset, asks_pool_reset}

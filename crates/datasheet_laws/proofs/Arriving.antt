@@ -72,7 +72,7 @@ all_sorted r frame uses =
     either_way (Sorted r frame) (passes r frame) (pool_target r frame (chosen_pool r frame)) (Err Filter)
     (targeted r frame (chosen_pool r frame) (chosen r frame uses)) tt
 
--- The queue by MRQC.
+-- The queue that MRQC selects.
 
 mode_by : ℕ → QueueMode
 mode_by n =

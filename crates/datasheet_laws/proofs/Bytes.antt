@@ -1,4 +1,4 @@
--- What bytes of IVAR and PVTIVAR name.
+-- Which causes the bytes of IVAR and PVTIVAR name.
 use Rattle.std.proofs.Common.{◌≡◌, ℕ, ◌+◌, ◌*◌, ◌/◌, ◌%◌, ◌^◌, ◌<◌, Bool, true, false, ◌&&◌, nat_le, ◌==◌, cond, refl, ap, sym, ◌∙◌, arith}
 use Rattle.std.proofs.Math.Nat.{div-one}
 use Rattle.nic_device.specs.RegTable.declared.rows.RowId.TheVariants.{Ivar, Pvtivar}

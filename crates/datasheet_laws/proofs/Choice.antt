@@ -1,4 +1,4 @@
--- Which queue and which RSS type a frame has, and which writes reset.
+-- Which queue and which RSS type a frame has, and which writes request a reset.
 use Rattle.std.proofs.Common.{◌≡◌, ◌≢◌, ℕ, zero, suc, ◌+◌, ◌*◌, ◌/◌, ◌%◌, ◌^◌, ◌<◌, ◌==◌, Bool, true, false, cond, ◌&&◌, ◌⊎◌, List, [], Ok, Err, if◌then◌else◌, refl, ap, sym, ◌∙◌, subst, inl, inr, arith, lit<, length}
 use Rattle.std.specs.Prelude.{slice_index, Result}
 use Rattle.std.proofs.lemmas.Bool.{cond-true, cond-false, ne_eqb}
@@ -25,7 +25,7 @@ use Rattle.datasheet_laws.specs.ByAddress.{word, holds}
 use Rattle.datasheet_laws.specs.Choice.{IsHashing, IsType, Has, HasTypes, TypesAreChosen, ChoosesQueues, QueuesAreChosen, ResetsAreAsked}
 use Rattle.datasheet_laws.proofs.ByAddress.{word-at}
 
--- The mode by MRQC bits 3 to 0.
+-- The mode that MRQC bits 3 to 0 select.
 abbrev mode_by : ℕ → QueueMode
 mode_by n =
     if n == 0x1 then Rss

@@ -75,7 +75,7 @@ pub bit_left : (new : State) (g : Group) (left : Interrupts) → IsGroup g → i
     → (bit : ℕ) → bit < bits_in g → bit_of new g bit ≡ bit_in left bit
 bit_left new g left h is bit b = bit_of-in new g h bit b ∙ ap (λ i. bit_in i bit) is
 
--- What an access of one group shows.
+-- The bits that reads show after an access to one group.
 pub shows_then : (s new made : State) (g : Group) (bits : ℕ → Bit) → new ≡ made
     → ((other : Group) → other ≢ g → interrupts_of new.registers other ≡ interrupts_of s.registers other)
     → ((bit : ℕ) → bit < bits_in g → bit_of made g bit ≡ bits bit)

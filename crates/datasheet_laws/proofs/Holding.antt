@@ -122,7 +122,8 @@ module _ (s : State) (h : IsSound s) (v : ℕ) (there : v < 64) (n : ℕ) (low :
   pub left : Left p
   left = left_by (side_of (row_of p.row).kind) (cases_eq p.index v)
 
--- A reset of a pool leaves mailboxes that the physical function or another function holds.
+-- A reset of a pool doesn't affect who holds another function's mailbox, nor the physical function's hold of any
+-- mailbox.
 function_stays : (s : State) (v w : ℕ) → w ≢ v → has_bit 2 (mail_of (with_pool_reset s w).registers v)
     ≡ has_bit 2 (mail_of s.registers v)
 function_stays s v w apart =

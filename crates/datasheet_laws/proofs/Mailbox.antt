@@ -164,7 +164,7 @@ shake around r h v w there = record {
   once = once around r h v w there;
 }
 
--- A written 1 clears.
+-- A bit that is written as 1 is cleared.
 
 cleared_digit : (a b : ℕ) → a < 2 → b < 2 → (min a (1 - b) == 1) ≡ ((a == 1) && not (b == 1))
 cleared_digit a b p q = grind (arith, nat_tests)

@@ -115,7 +115,7 @@ module _ (s : State) (h : IsSound s) (g : Group) (there : IsGroup g) (bit : ℕ)
   reset_elsewhere v other then =
       same_marks s _ h then g there bit b ((within-pool_reset s.registers (mode_in s.registers) v).reported g other)
 
--- The auto words are independent of the marks.
+-- The auto-clear and auto-mask words are independent of the marks.
 clear_written : (s : State) (g : Group) (view word : ℕ)
     → reported_by (state_written s (auto_clear_register g) view word).registers g ≡ reported_by s.registers g
 clear_written s Pf view word = refl

@@ -38,7 +38,7 @@ use Rattle.datasheet_laws.specs.Messages.{MessagesLast, SparesMessage}
 use Rattle.datasheet_laws.specs.Names.{IsAddressOf}
 use Rattle.datasheet_laws.specs.Shown.{word_in}
 
--- The numbers of a word of mailbox memory.
+-- The address and the offset of a word of mailbox memory.
 
 own_no_message : (v x : ℕ) → x < 16 → place_at (own_entries v) (message_offset x) ≡ None
 own_no_message v x small =

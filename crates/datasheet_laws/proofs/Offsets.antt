@@ -18,7 +18,7 @@ use Rattle.datasheet_laws.specs.Offsets.{OffsetsAreListed, HasOwn, HasQueue, poo
 use Rattle.datasheet_laws.specs.Table.{line_of}
 use Rattle.datasheet_laws.proofs.Table.{at, first}
 
--- The mode by GCR_EXT bits 1 to 0.
+-- The mode that GCR_EXT bits 1 to 0 select.
 abbrev pub mode_by : ℕ → Mode
 mode_by n = if n == 0 then Off else (if n == 1 then Pools16 else (if n == 2 then Pools32 else Pools64))
 

@@ -143,7 +143,7 @@ flow-reads frame =
     (λ lacks. cond_both (is_ipv6 frame) (ipv6_flow (packet_of frame)) no_flow (Reads frame) (reads-ipv6 frame lacks)
     (reads-none frame lacks)))
 
--- Which of its bytes are hashed.
+-- Which of a frame's bytes are hashed.
 
 abbrev pub with_ports : Bool → (addresses ports : List ℕ) → List ℕ
 with_ports has addresses ports = addresses ++ cond has ports []

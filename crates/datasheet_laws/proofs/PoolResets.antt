@@ -18,7 +18,7 @@ same_queues Pools16 v q small = rw (lt-ltb q 128 small) refl
 same_queues Pools32 v q small = rw (lt-ltb q 128 small) refl
 same_queues Pools64 v q small = rw (lt-ltb q 128 small) refl
 
--- A row that it resets for each of the pool's queues.
+-- A row that the reset affects for each of the pool's queues.
 same_takes : (mode : Mode) (v : ℕ) (y : RowId) (j bit : ℕ) → j < (line_of y).count → y ≢ row.Pvfmailbox
     → (pool_renews mode v).bits (at y j) bit ≡ takes mode v y j
 same_takes mode v row.Rdbal j bit small isnt = same_queues mode v j small

@@ -23,7 +23,7 @@ one_bit n bit =
     ]
 
 module _ (s : State) (h : IsSound s) (e : Event Block) (of : IsOfTheDevice e) where
-  -- Raising these causes raises this number.
+  -- Raising these causes raises the cause with this number.
   by : (causes : Option Causes) → raises s e (reply_to s e) ≡ causes → (g : Group)
       → interrupts_of (after s e).registers g ≡ after_causes causes g (interrupts_of s.registers g)
   by causes is g = events_raise s h e of g ∙ ap (λ o. after_causes o g (interrupts_of s.registers g)) is

@@ -140,7 +140,7 @@ module _ (s : State) (h : IsSound s) (v : ℕ) (there : v < 64) where
     done = ap (has_bit 7) (read_mail port number view is) ∙ once_7 Mail;
   }
 
-  -- Bit 7 of what it returns.
+  -- Bit 7 of the word that the read returns.
   reply_bit : (port : Port) (number view : ℕ) → named s port number ≡ Register (place row.Pvfmailbox v) view
       → has_bit 7 (word_in (reply_to s (event.Read port number))) ≡ (has_bit 7 Mail && has_bit 7 view)
   unfolding step_of

@@ -28,7 +28,7 @@ mode_word s h =
     (address_of (place GcrExt 0) mode_address (first_address (place GcrExt 0) (lit< tt)))
     (word_lt s h (place GcrExt 0))
 
--- The mode by the field of GCR_EXT.
+-- The mode that the field of GCR_EXT selects.
 abbrev pub mode_by : ℕ → Mode
 mode_by n =
     if n == 0 then Off else (if n == 1 then Pools16 else (if n == 2 then Pools32 else Pools64))

@@ -15,11 +15,11 @@ shows address bit = has_bit bit (view_among runs address)
 abbrev pub writes_one : (address word bit : ℕ) → Bool
 writes_one address word bit = has_bit bit word && shows address bit
 
--- A bit after an access set its cause. The access also sets the mask if the auto-mask contains the bit and acts.
+-- A bit whose cause an access has set. The access also sets the mask if the auto-mask contains the bit and acts.
 abbrev pub cause_set : (acts one : Bool) → Bit → Bit
 cause_set acts one b = record b { cause = b.cause || one; mask = b.mask || (acts && one && b.auto_mask) }
 
--- A bit after an access cleared its cause. The access also clears the mask if the auto-mask contains the bit and acts.
+-- A bit whose cause an access has cleared. The access also clears the mask if the auto-mask contains the bit and acts.
 abbrev pub cause_cleared : (acts one : Bool) → Bit → Bit
 cause_cleared acts one b =
     record b { cause = b.cause && not one; mask = b.mask && not (acts && one && b.auto_mask) }

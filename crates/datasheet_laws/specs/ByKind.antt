@@ -56,9 +56,9 @@ is_silent kind.Cause = false
 is_silent kind.Vfmail = false
 is_silent other = true
 
--- A counter that a read clears reads 0 after it, and isn't written; neither is a read-only or calculated register. A
--- register that only sets causes or only clears masks reads 0, as does PVFCTRL. A write of PVFCTRL that requests no
--- reset changes nothing.
+-- A counter that a read clears reads 0 after that read. A write changes neither such a counter nor a read-only or
+-- calculated register. A register that only sets causes or only clears masks reads 0, as does PVFCTRL. A write of
+-- PVFCTRL that requests no reset changes nothing.
 pub record ReadsByKind (around : Surroundings) (r : Registers) (row : RowId) (i w bit : ℕ) : Type 0 where
   pub silent : is_silent (line_of row).kind ≡ true → read_at r (at row i) ≡ r
   pub counter : (line_of row).kind ≡ kind.Rc → reads around (read_at r (at row i)) (at row i) bit ≡ false

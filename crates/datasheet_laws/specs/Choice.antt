@@ -1,4 +1,5 @@
--- Which queue and which RSS type a frame has, by the bits of MRQC, RETA, GCR_EXT and RXCSUM, and which writes reset.
+-- Which queue and which RSS type a frame has, by the bits of MRQC, RETA, GCR_EXT and RXCSUM, and which writes request a
+-- reset.
 use Rattle.std.specs.Prelude.{ℕ, ◌≡◌, ◌≢◌, ◌+◌, ◌*◌, ◌/◌, ◌%◌, ◌^◌, ◌⊎◌, true, false, ◌&&◌, ◌||◌, List, [], take, Ok}
 use Rattle.rss_hash.specs.Choice.{code_of, rss_type_of, hashed_part}
 use Rattle.rss_hash.specs.declared.choice.RssType.{RssType}

@@ -40,7 +40,7 @@ pub record IsListed (r : Registers) (frame : List ℕ) (vector : ℕ) : Type 0 w
 abbrev pub IsLetIn : Registers → List ℕ → Type 0
 IsLetIn r frame = sorted r frame ≢ Err Filter
 
--- A frame to one station, to several, and to all, by FCTRL bits 9, 8 and 10, an address, or MTA.
+-- How unicast, multicast and broadcast frames pass: by FCTRL bits 9, 8 and 10, by an address, or by MTA.
 pub record LetsIn (r : Registers) (frame : List ℕ) : Type 0 where
   pub one : slice_index frame 0 % 2 ≡ 0 →
       IsLetIn r frame ↔ ((holds r 0x05080 9 ≡ true) ⊎ IsAddressed r frame)
@@ -78,8 +78,8 @@ abbrev pub default_of : Registers → ℕ
 default_of r = word r 0x051B0 / 128 % 64
 
 -- VT_CTL bit 0 distributes frames among pools. A frame without its own pool is for the default pool, or with bit 29 for
--- none. It has none if no address is its destination, or if the first of these has no pool, whatever others have. VFRE
--- says which pools accept frames.
+-- none. A frame lacks its own pool if no address is its destination, or if the first such address has no pool, whatever
+-- pools the others have. VFRE says which pools accept frames.
 pub record ChoosesPools (r : Registers) (frame : List ℕ) : Type 0 where
   pub parts : uses_pools r ≡ holds r 0x051B0 0
   pub matched : (i pool : ℕ) → IsChosen r frame i pool → selected_pool r frame ≡ Some pool

@@ -1,4 +1,4 @@
--- The handshake of the mailboxes, in the addresses and bits that drivers of both sides use.
+-- The handshake of the mailboxes, in terms of the addresses and bits that drivers of both sides use.
 use Rattle.std.specs.Prelude.{ℕ, ◌≡◌, ◌<◌, ◌+◌, ◌*◌, ◌/◌, ◌%◌, ◌==◌, ◌⊎◌, Bool, not, true, false, ◌&&◌, ◌||◌, nat_le}
 use Rattle.datasheet_laws.specs.NumberPrelude.{HasShape, Mode, Registers, Surroundings, has_bit, pool_reset}
 use Rattle.datasheet_laws.specs.ByAddress.{word, reads, read_at, write_at}

@@ -164,7 +164,7 @@ further_addresses =
     ∷ stepping 0x05480 4 16 ∷ stepping 0x0EB00 4 32 ∷ stepping 0x0EB80 4 10 ∷ stepping 0x0EC80 4 1
     ∷ stepping 0x00A90 4 1 ∷ stepping 0x00AA0 4 1 ∷ stepping 0x00AB0 4 1 ∷ stepping 0x00AD0 4 1 ∷ []
 
--- An address is the first of a register, by its line.
+-- An address is a first address of a register, according to its line.
 abbrev pub IsFirst : (address : ℕ) → Place → Type 0
 IsFirst address p = p.index < (line_of p.row).count × (address ≡ (line_of p.row).address p.index)
 

@@ -28,7 +28,7 @@ of_function v =
       reported = is_group (Vf v);
     }
 
--- These rows are the ones that the table has for it.
+-- The table renews exactly these rows for the function.
 own_row : (x : RowId) (v index bit : ℕ)
     → (has_renewal function_renewals x bit && v == index) ≡ (is_renewed x bit && has_own (row_of x).bank v index)
 own_row row.Ctrl v index bit = refl

@@ -52,7 +52,7 @@ module _ (dir : Dir) (queue : ℕ) (s : State) (e : Event Block) where
       → IsUp (side_of dir queue (after s e))
   up_kept up never did = grind arith
 
--- A side that isn't requested on stays so, and so does one that is off too.
+-- A side that isn't requested on stays so, and one that is also off stays off.
 
 pub unwanted_steady : IsSteady IsUnwanted
 unwanted_steady = grind arith

@@ -35,13 +35,13 @@ MovesKeep =
 abbrev pub IsPrefixOf : List (List ℕ) → List (List ℕ) → Type 0
 IsPrefixOf xs ys = (rest : List (List ℕ)) × (ys ≡ xs ++ rest)
 
--- If device and driver agree, the frames sent are a prefix of those that the driver accepted.
+-- If device and driver agree, the frames sent are a prefix of the frames that the driver accepted.
 abbrev pub SentIsPrefix : Type 0
 SentIsPrefix =
     (s : State) (queue : ℕ) (sent : List (List ℕ)) (v : Sender) → Agrees s queue sent v →
     IsPrefixOf sent (bytes_of v.accepted)
 
--- If none is outstanding, they are all of them.
+-- If none is outstanding, the frames sent are all frames that the driver accepted.
 abbrev pub IdleIsAllSent : Type 0
 IdleIsAllSent =
     (s : State) (queue : ℕ) (sent : List (List ℕ)) (v : Sender) → Agrees s queue sent v → v.outstanding ≡ [] →
@@ -54,8 +54,8 @@ pub record FindsWaiting (s : State) (v : Sender) : Type 0 where
   pub reported : reply_to s (event.Peek16 (descriptor_at v.layout (first_end v.outstanding))) ≡ reply.Bytes bytes
   pub waits : is_sent bytes ≡ false
 
--- If the next poll finds the oldest outstanding packet not done, the frames sent aren't all that were accepted, nor
--- were they at any earlier time.
+-- If the next poll finds the oldest outstanding packet not done, not all accepted frames were sent, neither now nor at
+-- any earlier time.
 abbrev pub WaitingIsNotAllSent : Type 0
 WaitingIsNotAllSent =
     (s : State) (queue : ℕ) (sent : List (List ℕ)) (v : Sender) → Agrees s queue sent v → FindsWaiting s v →

@@ -39,9 +39,9 @@ pub fn moves_keep()
     ensures { MovesKeep }
 {}
 
-/// If device and driver agree, the frames sent on the queue are a prefix of those that the driver accepted, byte for
-/// byte. If none is outstanding, they are all of them. If a read finds the oldest outstanding packet not done, not
-/// everything that was accepted was sent, neither now nor earlier.
+/// If device and driver agree, the frames sent on the queue are a prefix of the frames that the driver accepted, byte
+/// for byte. If none is outstanding, the frames sent are all frames that it accepted. If a read finds the oldest
+/// outstanding packet not done, not everything that was accepted was sent, neither now nor earlier.
 pub fn sent_in_order()
     ensures prefix { SentIsPrefix }
     ensures idle { IdleIsAllSent }

@@ -41,8 +41,8 @@ pub fn causes_are_set()
 
 /// A write of EICR or PVTEICR clears the causes of the bits written as 1, and no others. A read clears all of them; a
 /// read of EICR while GPIE bit 5 is 1 clears only bits 29 to 16. While the auto-mask acts on accesses, a write clears
-/// the masks of the written bits that EIAM or PVTEIAM contains. A read then clears the masks of all bits that it
-/// contains. Neither changes another bit, or another group.
+/// the masks of the written bits that EIAM or PVTEIAM contains. A read then clears the masks of all bits that this
+/// register contains. Neither changes another bit, or another group.
 #[tactic(auto, using(crate::proofs::Causes::causes_clear, crate::proofs::Causes::read_clears))]
 pub fn causes_are_cleared()
     ensures write { WriteOfCausesClears }
@@ -88,8 +88,8 @@ pub fn messages_are_shared()
     ensures last { MessagesLast }
 {}
 
-/// The holder of a mailbox keeps it through every event except the writes that end the hold, made through either port.
-/// For the function, these are a write of PVFMAILBOX without bit 2, a write of PFMAILBOX with bit 4, and a reset of its
+/// The holder of a mailbox keeps it through every event except the writes, through either port, that end the hold. For
+/// the function, these are a write of PVFMAILBOX without bit 2, a write of PFMAILBOX with bit 4, and a reset of its
 /// pool or of the device. For the physical function, they are a write of PFMAILBOX without bit 3, and a reset of the
 /// device.
 #[tactic(auto, using(crate::proofs::Holding::function_holds_on, crate::proofs::Holding::physical_holds_on))]
@@ -99,8 +99,8 @@ pub fn holders_hold_on()
 {}
 
 /// From one reset of the device to the next, at most one read of PVFMAILBOX[v], through either port, returns bit 7,
-/// RSTD, which says that a reset is done. A write of CTRL_EXT with bit 14 sets RSTD for each function that reads as 1
-/// bit 6, RSTI, which says that a reset began, or already RSTD. It clears bit 6.
+/// RSTD, which says that a reset is done. A write of CTRL_EXT with bit 14 sets RSTD for each function that reads 1 in
+/// bit 6, RSTI, which says that a reset began, or already in RSTD. It clears bit 6.
 pub fn ends_are_reported_once()
     ensures once { EndIsReportedOnce }
     ensures reported { EndIsReported }

@@ -38,7 +38,8 @@ module _ (queue : ℕ) (s t : State) where
   pub left_transmit : LeavesSide Tx queue s t → LeavesTransmit queue s t
   left_transmit left = grind arith
 
--- Writes of registers that a queue doesn't rely on, and which registers numbers name if no setting is written.
+-- Writes of registers that a queue doesn't rely on, and the register that each address or offset names, if no setting
+-- is written.
 
 -- A pool that doesn't contain the queue contains nothing of its sides.
 

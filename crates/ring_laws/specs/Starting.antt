@@ -16,7 +16,7 @@ pub record IsFreshSide (q : ReceiveQueue) (ring size : ℕ) : Type 0 where
   pub head : q.ring.head ≡ 0
   pub tail : q.ring.tail ≡ 0
 
--- The ring is lent, its words are written, and the driver's number names the queue's tail.
+-- The ring is lent, its registers are written, and the driver's number names the queue's tail.
 pub record IsReady (queue : ℕ) (port : Port) (tail ring size most : ℕ) (s : State) : Type 0 where
   pub some : 0 < size
   pub few : size ≤ 1024

@@ -34,7 +34,8 @@ IfFresh other P = ⊤
 abbrev pub Each : Receive → (ℕ → Type 0) → Type 0
 Each v P = (number : ℕ) → IsTrue (has_lent v number) → P number
 
--- An event leaves unchanged the queue's receive side, which registers numbers name, and the driver's blocks.
+-- An event leaves unchanged the queue's receive side, the register that each address or offset names, and the driver's
+-- blocks.
 pub record Leaves (queue : ℕ) (v : Receive) (old new : State) : Type 0 where
   pub receive : LeavesReceive queue old new
   pub mode : mode_in new.registers ≡ mode_in old.registers

@@ -17,10 +17,10 @@ pub fn writes_leave_queues_alone()
     ensures address { AddressesLeaveQueues }
 {}
 
-/// Lending, taking or poking a block leaves a driver's queue alone exactly if its pass doesn't lend that block. A step
-/// of another queue does so exactly if what it wrote, as its reply reports, is in none of the blocks that the pass
-/// lends. Every other event except a write leaves it alone, for example a read, a peek at a block, an arriving frame or
-/// a change of the link. So does a step with any other reply, for example a fault.
+/// Lending, taking or poking a block leaves a driver's queue alone exactly if the driver's pass doesn't lend that
+/// block. A step of another queue does so exactly if what it wrote, as its reply reports, is in none of the blocks that
+/// the pass lends. Every other event except a write leaves it alone, for example a read, a peek at a block, an arriving
+/// frame or a change of the link. So does a step with any other reply, for example a fault.
 #[tactic(auto, using(crate::proofs::Others::others_leave, crate::proofs::Others::nothing_else))]
 pub fn other_events_leave_queues_alone()
     ensures others { OthersLeaveQueues }
@@ -62,7 +62,7 @@ pub fn blocks_are_of_their_pass()
 
 /// Closing reports the lowest tag that no pass of the bench has, whatever else is wrong with the passes. If each tag
 /// has a pass, it reports a pass of another bench, a pass without a tag of this bench, or two passes with the same tag.
-/// It notices each pass with calls that differ from those that the history has for its tag. It doesn't report a pass of
+/// It notices each pass whose calls differ from the calls that the history has for its tag. It doesn't report a pass of
 /// this kind if another one has a lower tag.
 #[tactic(auto, using(crate::proofs::Ending::closing_tells, crate::proofs::Ending::closing_is_compared))]
 pub fn closing_has_an_order()

@@ -35,9 +35,9 @@ pub fn receive_step_stays_in_its_blocks()
     ensures { PieceIsInside }
 {}
 
-/// An event keeps the agreement if it leaves unchanged the receive side of the queue, which registers numbers name, and
-/// the driver's blocks. It may enable or disable the side, or request that, so a step of the side's own enable keeps it
-/// too.
+/// An event keeps the agreement if it leaves unchanged the receive side of the queue, the register that each address or
+/// offset names, and the driver's blocks. It may enable or disable the side, or request that, so a step of the side's
+/// own enable keeps it too.
 pub fn other_events_keep_the_agreement()
     ensures leaving { LeavingKeeps }
     ensures switching { SwitchingKeeps }
@@ -80,7 +80,7 @@ pub fn handed_packets_are_a_prefix_of_those_written()
     ensures all { NoneIsAll }
 {}
 
-/// Suppose the ring, of 1 to 1,024 slots, is lent, its words are written, and the driver's number names the queue's
+/// Suppose the ring, of 1 to 1,024 slots, is lent, its registers are written, and the driver's number names the queue's
 /// tail. Then the device and a driver that posted nothing agree, whether the side is enabled or not.
 #[tactic(auto, using(crate::proofs::Leaving::start_agrees))]
 pub fn fresh_ring_agrees()

@@ -38,7 +38,7 @@ pub fn objects_have_an_order_of_faults()
 {}
 
 /// A step of a running machine performs the event of its next instruction, with that instruction's operands, and
-/// returns the device's reply. A read leaves its word in the accumulator, also the word of a stray access. A peek at 16
+/// returns the device's reply. A read leaves its word in the accumulator, even the word of a stray access. A peek at 16
 /// bytes leaves the word that it names, the low byte first. No other event changes the accumulator. A block that the
 /// step lends is no longer free, and a block that a reply returns is free again. If the block to lend isn't free, no
 /// event is made. The next instruction is the one after it, and after the last instruction the machine has ended.
@@ -73,7 +73,7 @@ pub fn breakpoints_hold_runs()
     ensures { BreakpointsHoldRuns }
 {}
 
-/// An arena can consist of only block 65,535, which is free in it. It is refused only for lack of memory.
+/// An arena can consist of block 65,535 alone, which is then free. It is refused only for lack of memory.
 pub fn last_block_is_there(alloc: Global) -> Result<Arena, ArenaFault>
     ensures made { IfOk result (λ arena. arena ≡ all_free 65535 1) }
     ensures refused { IfErr result (λ fault. fault ≡ ArenaFault.OutOfMemory) }

@@ -88,7 +88,7 @@ def check_finding(look: Look) -> None:
     look.browser.load(look.file)
     look.is_at(found["step"], "opening a finding")
     shown = look.browser.value("document.getElementById('finding').innerText")
-    look.expect(found["words"] in shown and found["outcome"] in shown, f"its finding isn't on top: {shown}")
+    look.expect(found["words"] in shown and found["outcome"] in shown, f"the finding isn't on top: {shown}")
     title = look.browser.value("document.getElementById('now-title').innerText")
     look.expect("task poll" in title, f"the title doesn't say who acts: {title}")
     look.browser.load(look.file, "#start")
@@ -112,9 +112,9 @@ def check_next(look: Look) -> None:
     )
     look.expect(all(box[2] >= 12 and box[3] >= 12 for box in boxes), "a mark is too narrow to hit")
     places = sorted(box[0] for box in boxes)
-    look.expect(all(b - a >= 11.9 for a, b in zip(places, places[1:])), "marks lie over each other")
+    look.expect(all(b - a >= 11.9 for a, b in zip(places, places[1:])), "marks overlap")
     named = {int(found[1]): box for box in boxes if (found := re.match(r"step (\d+): ", box[5]))}
-    look.expect(bool(numbers) <= any(box[4] == "fault" for box in boxes), "no mark of a fault")
+    look.expect(bool(numbers) <= any(box[4] == "fault" for box in boxes), "no fault has a mark")
     for number, (x, y, wide, high, *_) in list(named.items())[:8]:
         browser.click(x + wide / 2, y + high / 2)
         look.is_at(number, "a click on its mark")
@@ -158,15 +158,15 @@ def check_lit(look: Look) -> None:
             "[...document.querySelectorAll('#changes .change')].filter((one) => one.querySelector('code.old'))"
             ".map((one) => one.querySelectorAll('code .lit').length)"
         )
-        look.expect(lit == digits, f"step {number}: {lit} digits are lit of {digits} that changed")
+        look.expect(lit == digits, f"step {number}: {lit} digits are highlighted; {digits} changed")
         rows = browser.value("document.querySelectorAll('#changes .change').length")
         expected = len(changes) + sum(len(one) > 2 for one in more.get("m", [])) + len(more.get("l", []))
-        look.expect(rows == expected, f"step {number}: {rows} changes are shown of {expected}")
+        look.expect(rows == expected, f"step {number}: {rows} changes are shown; expected {expected}")
         side = data["sides"][more["g"]] if "g" in more else None
         if side and (known.get(side["length"], 0) >= 16 or known.get(side["control"], 0) >> 25 & 1):
             front = browser.value(words("#front .slots > p"))
             is_it = front and front[0].startswith(f"{side['side']} {side['queue']}: ")
-            look.expect(bool(is_it), f"step {number}: in front is {front}")
+            look.expect(bool(is_it), f"step {number}: the ring in front is {front}")
 
 
 def check_when(look: Look) -> None:
@@ -181,10 +181,10 @@ def check_when(look: Look) -> None:
         when = set(browser.value(words(".when")))
         look.expect(when == {f"after step {number}"}, f"step {number}: its panels say {when}")
         why, conditions = browser.value(words("#now > p:has(+ .why)")), browser.value(words("#now .why li"))
-        look.expect(not conditions or why == ["Before this step:"], f"step {number}: its conditions stand under {why}")
+        look.expect(not conditions or why == ["Before this step:"], f"step {number}: its conditions are under {why}")
         counts = [found[1] for one in conditions if (found := re.match(r"(\w+) frames? waits?\b", one))]
         look.expect(
-            counts in ([], [str(before or "no")]), f"step {number}: {counts} frames wait before it, not {before}"
+            counts in ([], [str(before or "no")]), f"step {number}: {counts} frames wait before it; expected {before}"
         )
         panel = f"{(browser.value(words('#frames > p')) or [''])[0]};"
         parts = re.match(r"(\w+) frames? waits? to be received[^;]*;(?: before this step (\w+))?", panel)
@@ -198,7 +198,7 @@ def check_outside(look: Look, number: int) -> None:
     look.browser.load(look.file, f"#{number}")
     for selector in ("#front polygon.tail.outside", "#grid .pointer.tail.outside"):
         found = look.browser.value(f"document.querySelectorAll({selector!r}).length")
-        look.expect(found == 1, f"step {number}: {found} of {selector}")
+        look.expect(found == 1, f"step {number}: {found} elements match {selector}")
     texts = look.browser.value(words("#front svg text.bad"))
     look.expect(texts == ["tail 16: no slot"], f"step {number}: the tail is shown as {texts}")
 
@@ -207,7 +207,7 @@ def check_slots(look: Look, number: int, wanted: list[str]) -> None:
     """Checks that at this step the slots of the ring shown have these forms."""
     look.browser.load(look.file, f"#{number}")
     forms = sorted(set(look.browser.value(words(".descriptors td b"))))
-    look.expect(forms == wanted, f"step {number}: slots are shown as {forms}, not as {wanted}")
+    look.expect(forms == wanted, f"step {number}: slots are shown as {forms}; expected {wanted}")
 
 
 def check_warnings(look: Look, warned: dict[int, str]) -> None:
@@ -219,16 +219,18 @@ def check_warnings(look: Look, warned: dict[int, str]) -> None:
         browser.press("w")
         look.is_at(number, "next warning")
         warnings = browser.value(words("#now .warned li"))
-        look.expect(any(text in one for one in warnings), f"step {number} is warned of by {warnings}")
-        look.expect(browser.value(words("#lines li.here .sign")) == ["\u26a0"], f"step {number}: no sign at its line")
+        look.expect(any(text in one for one in warnings), f"step {number}: its warnings are {warnings}")
+        is_marked = browser.value(words("#lines li.here .sign")) == ["\u26a0"]
+        look.expect(is_marked, f"step {number}: its line has no marker")
     browser.press("w")
     look.is_at(list(warned)[-1], "next warning after the last")
     is_off = "document.querySelector('[data-next=warning]').getAttribute('aria-disabled')"
-    look.expect(browser.value(is_off) == "true", "Next warning isn't dimmed where none follows")
-    look.expect(browser.value("document.querySelectorAll('#lines .sign').length") == len(warned), "other signs")
+    look.expect(browser.value(is_off) == "true", "Next warning isn't dimmed after the last warning")
+    marked = browser.value("document.querySelectorAll('#lines .sign').length")
+    look.expect(marked == len(warned), "other lines have markers")
     browser.load(look.file, "#start")
-    look.expect(not browser.value(words(".warned li")), "at the start there is a warning")
-    look.expect(browser.value(is_off) == "false", "Next warning is dimmed where one follows")
+    look.expect(not browser.value(words(".warned li")), "there is a warning at the start")
+    look.expect(browser.value(is_off) == "false", "Next warning is dimmed before a warning")
 
 
 def check_narrow(look: Look, number: int) -> None:
@@ -278,7 +280,7 @@ def check_mailboxes(look: Look) -> None:
         mailboxes.add(tuple(text.strip() for text in rows[1]))
     asked = ("0", "VFU 1", "VFU 1", "0: 0x00000002 1: 0x00000100")
     look.expect(asked in mailboxes, f"no step has the mailbox {asked}: {sorted(mailboxes)}")
-    look.expect("# VFMAILBOX" in browser.value("document.getElementById('lines').innerText"), "no name of an offset")
+    look.expect("# VFMAILBOX" in browser.value("document.getElementById('lines').innerText"), "an offset has no name")
 
 
 def check_unread(look: Look, number: int) -> None:
@@ -314,5 +316,5 @@ def check_fits(look: Look) -> None:
         end = browser.value("document.getElementById('rings-part').getBoundingClientRect().bottom + scrollY")
         most, where = max((most, where), (end, number))
         cards = max(cards, browser.value("document.querySelectorAll('#grid .line').length"))
-    look.expect(cards == 32, f"{cards} rings are shown, not those of sixteen queues")
-    look.expect(most <= 800, f"the rings end at {most} of 800 pixels at step {where}")
+    look.expect(cards == 32, f"{cards} rings are shown; sixteen queues have 32")
+    look.expect(most <= 800, f"the rings end at pixel {most} at step {where}; only 800 are allowed")

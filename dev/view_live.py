@@ -107,7 +107,8 @@ def alike(part: dict[str, Any], file: Path, events: int, expect: Expect, what: s
     want = json.loads(json.dumps(Data(of_recording(str(file), part["until"] - part["before"])).whole()))
     got = part["data"] | {"name": file.name}
     parts = sorted(key for key in want if want[key] != got.get(key))
-    expect(part["until"] == events and not parts, f"live, {what}: until {part['until']} of {events}; others: {parts}")
+    said = f"live, {what}: up to event {part['until']} of {events}; parts that differ: {parts}"
+    expect(part["until"] == events and not parts, said)
 
 
 def is_event(line: bytes) -> bool:
@@ -120,7 +121,7 @@ def check_earlier(it: Served, end: int, lines: list[bytes], cut: Path, expect: E
     cut.write_bytes(b"".join(lines[: numbers[end - 1]]))
     part, want = it.part(end), Data(of_recording(str(cut), LIMIT)).whole()
     same = all(json.loads(json.dumps(want[key])) == part["data"][key] for key in ("steps", "lines", "start"))
-    expect(same and part["until"] == end, f"live: the part up to event {end} is another one")
+    expect(same and part["until"] == end, f"live: the part up to event {end} differs")
 
 
 def check_growing(folder: Path, expect: Expect) -> None:
@@ -130,7 +131,7 @@ def check_growing(folder: Path, expect: Expect) -> None:
     busy_recording(whole, 30)
     lines = whole.read_bytes().splitlines(keepends=True)
     with served(file) as it:
-        expect("waiting for" in it.part()["said"], "live: that the file isn't there isn't said")
+        expect("waits for" in it.part()["said"], "live: a missing file isn't reported")
         at = 0
         for end in (1, 5, len(lines) // 3, len(lines) // 2, len(lines)):
             head, last = b"".join(lines[at : end - 1]), lines[end - 1]
@@ -147,25 +148,25 @@ def check_growing(folder: Path, expect: Expect) -> None:
             check_earlier(it, end, lines, folder / "cut.rec", expect)
         with open(file, "ab") as to:
             to.write(b"r 0x00008     # wor")
-        expect(it.part()["until"] == events, "live: a line without its end is shown")
+        expect(it.part()["until"] == events, "live: an incomplete line is shown")
         with open(file, "ab") as to:
             to.write(b"d 0x00080000\nr sideways # word 1\nr 0x00008 # word 0x00080000\n")
         part = it.until(lambda it: it["said"] != "")
         expect(f":{len(lines) + 2}: this line of a recording" in part["said"], f"live: a broken line: {part['said']!r}")
-        expect(part["until"] == events + 1, f"live: {part['until']} events are shown up to it")
+        expect(part["until"] == events + 1, f"live: {part['until']} events are shown before it")
         file.write_bytes(b"".join(lines[:40]))
         part = it.until(lambda it: it["number"] > 1 and it.get("until", 0) > 0)
         alike(part, file, sum(map(is_event, lines[:40])), expect, "written again")
         file.unlink()
         said = it.until(lambda it: "any longer" in it["said"])["said"]
-        expect("no longer exists" in said, f"live: a file that went: {said!r}")
+        expect("no longer exists" in said, f"live: a removed file: {said!r}")
         status, seconds, said = it.end()
         expect(status == 0 and seconds < 20, f"live: ctrl-C: status {status} after {seconds:.0f} s, {said!r}")
 
 
 def check_who(folder: Path, expect: Expect) -> None:
     """Checks that requests without the token, for another host's name or from another site are refused, and that
-    nothing lets others read the answers."""
+    no response lets other sites read it."""
     file = folder / "live.rec"
     busy_recording(file, 2)
     with served(file) as it:
@@ -185,16 +186,16 @@ def check_who(folder: Path, expect: Expect) -> None:
                     expect(status == wanted, f"live: {name!r} with {how}: status {status} instead of {wanted}")
                     allowed = [key for key in headers if key.lower().startswith("access-control")]
                     is_closed = not allowed and (status == 200 or len(text) < 100)
-                    expect(is_closed, f"live: {name!r} with {how} lets others read")
+                    expect(is_closed, f"live: {name!r} with {how} lets other sites read it")
         for method in ("POST", "PUT", "OPTIONS", "HEAD"):
             expect(it.ask("ask", method, "hold")[0] >= 400, f"live: {method} without a guest isn't refused")
         policy = it.ask("")[2]["Content-Security-Policy"]
-        expect("default-src 'none'" in policy and "script-src 'sha256-" in policy, f"live: its policy is {policy!r}")
+        expect("default-src 'none'" in policy and "script-src 'sha256-" in policy, f"live: the policy is {policy!r}")
         with socket.socket() as others:
             others.settimeout(2)
             outside = [it for it in addresses() if not it.startswith("127.")]
             for address in outside:
-                expect(others.connect_ex((address, it.port)) != 0, f"live: it listens at {address} too")
+                expect(others.connect_ex((address, it.port)) != 0, f"live: it also listens at {address}")
 
 
 def addresses() -> list[str]:
@@ -214,7 +215,7 @@ def check_hostile(folder: Path, expect: Expect) -> None:
     with served(file) as it:
         part = it.until(lambda it: "until" in it)
         expect(TAGS.decode() in json.dumps(part["data"]["comments"]), "live: the comment isn't shown")
-        expect(len(json.dumps(part)) < 1_000_000, "live: a part has lines of megabytes")
+        expect(len(json.dumps(part)) < 1_000_000, "live: a part contains lines of several megabytes")
         page = it.ask("")[1]
         expect(b"<img" not in page and TAGS not in page, "live: a file's name is markup in the page")
         silent = [socket.create_connection(("127.0.0.1", it.port)) for _ in range(40)]
@@ -228,14 +229,14 @@ def check_hostile(folder: Path, expect: Expect) -> None:
         for one in silent[::2]:
             one.close()
         part = until_served(it)
-        expect(part is not None, "live: clients that never read keep others out")
+        expect(part is not None, "live: clients that never read block others")
         for one in silent:
             one.close()
         with open(file, "ab") as to:
             to.writelines(b"x" * 1_000_000 for _ in range(30))
         said = it.until(lambda it: it["said"] != "")["said"]
-        expect("a line of a recording has at most" in said, f"live: a line without an end: {said!r}")
-        expect(it.peak() < 200, f"live: it took {it.peak()} MiB")
+        expect("a line of a recording has at most" in said, f"live: an endless line: {said!r}")
+        expect(it.peak() < 200, f"live: it used {it.peak()} MiB")
         status, seconds, _ = it.end()
         expect(status == 0 and seconds < 20, f"live: ctrl-C: status {status} after {seconds:.0f} s")
 
@@ -300,7 +301,7 @@ def check_guest(folder: Path, expect: Expect) -> None:
         for request, wanted in rows.items():
             made = json.loads(it.ask("ask", "POST", request.encode().decode("latin-1"))[1])
             got = (made["asked"], made["lines"], made["wrong"])
-            expect(got == wanted, f"live: the card is asked {request!r}: {got}")
+            expect(got == wanted, f"live: the request {request!r} to the card: {got}")
         expect(it.ask("ask", "POST", "x" * 500)[0] == 413, "live: a long request isn't refused")
         status = it.ask("ask", "POST", "hold", Content_Type="text/html")[0]
         expect(status == 404, f"live: a form's request has status {status}")
@@ -309,14 +310,14 @@ def check_guest(folder: Path, expect: Expect) -> None:
         server.kill()
         assert server.stdout is not None
         asked = server.stdout.read().splitlines()
-        expect(asked == ["hold", "due", "tx 3", "why", "link down", "rx"], f"live: the card was asked {asked}")
+        expect(asked == ["hold", "due", "tx 3", "why", "link down", "rx"], f"live: the card received {asked}")
         made = json.loads(it.ask("ask", "POST", "hold")[1])
-        expect("no server at" in made["wrong"], f"live: the card has gone: {made}")
+        expect("no server at" in made["wrong"], f"live: after the card exited: {made}")
     path.unlink()
     with card(path):
         try:
             control.recording_of(str(path))
-            expect(False, "live: a card that doesn't record")
+            expect(False, "live: a card that doesn't record isn't refused")
         except Fault as fault:
             expect("--record=FILE" in str(fault), f"live: a card that doesn't record: {fault}")
 
@@ -331,11 +332,11 @@ def check_script(folder: Path, expect: Expect) -> None:
         part = it.until(lambda it: it["said"] != "")
         expect("UnknownName" in part["said"] and part["data"] is None, f"live: a refused script: {part['said']!r}")
         file.write_text("r STATUS\nr CTRL\n")
-        expect(it.until(lambda it: it.get("until") == 2)["until"] == 2, "live: a script that was mended")
+        expect(it.until(lambda it: it.get("until") == 2)["until"] == 2, "live: a corrected script isn't shown")
 
 
 def check_many(folder: Path, expect: Expect, many: int = MANY) -> None:
-    """Checks that this many events are followed, and any part of them is shown, in little memory."""
+    """Checks that nicview follows this many events and shows any part of them, in little memory."""
     file = folder / "many.rec"
     busy_recording(file, 20)
     head, *cycle = file.read_bytes().splitlines(keepends=True)
@@ -356,7 +357,7 @@ def check_many(folder: Path, expect: Expect, many: int = MANY) -> None:
 
 
 def check_marks(folder: Path, expect: Expect) -> None:
-    """Checks that with few marks, and with snapshots that end, each part equals the one made from the beginning."""
+    """Checks that with few marks, and with dropped snapshots, each part equals the one made from the beginning."""
     file = folder / "marks.rec"
     busy_recording(file, 30)
     lines = file.read_bytes().splitlines(keepends=True)
@@ -375,7 +376,7 @@ def check_marks(folder: Path, expect: Expect) -> None:
                 pass
             assert many and (made := few.part(many.until))
             same = all(many.data[key] == made.data[key] for key in ("steps", "start", "lines"))
-            expect(same or many.before != made.before, f"live: the part up to {end} by marks is another one")
+            expect(same or many.before != made.before, f"live: the part up to event {end}, made from marks, differs")
     finally:
         follow.APART, follow.ROOM = former
 
@@ -384,7 +385,7 @@ def check_marks(folder: Path, expect: Expect) -> None:
 
 
 class Seen:
-    """A page that follows, in a browser."""
+    """A live page in a browser."""
 
     def __init__(self, browser: Browser, it: Served, expect: Expect) -> None:
         self.browser, self.report = browser, expect
@@ -418,33 +419,33 @@ def check_following(browser: Browser, folder: Path, expect: Expect) -> None:
 
     with served(file) as it:
         seen = Seen(browser, it, expect)
-        seen.until("it waits", "element('notice').textContent.includes('waiting for')")
+        seen.until("the page waits", "element('notice').textContent.includes('waits for')")
         events = grow(0, 60)
-        seen.until("the first steps come", f"live.until === {events} && position === count && count > 0")
+        seen.until("the first steps appear", f"live.until === {events} && position === count && count > 0")
         events = grow(60, 110)
-        seen.until("further steps come", f"live.until === {events} && position === count")
+        seen.until("further steps appear", f"live.until === {events} && position === count")
         browser.press("ArrowLeft")
         here = browser.value("position")
         more = grow(110, 150)
-        seen.until("that there is more is said", f"live.total === {more} && live.until === {events}")
-        expect(browser.value("position") == here, "live page: an earlier step doesn't stay")
+        seen.until("the page reports further events", f"live.total === {more} && live.until === {events}")
+        expect(browser.value("position") == here, "live page: an earlier step loses its place")
         said = str(browser.value("element('events').textContent"))
         expect(f"{more - events} more since" in said, f"live page: {said!r}")
         seen.click("pause")
-        seen.until("it follows again", f"live.until === {more} && position === count")
+        seen.until("the page follows again", f"live.until === {more} && position === count")
         browser.press("p")
         events = grow(150, None)
-        seen.until("it is paused", f"live.total === {events} && live.until === {more} && position === count")
+        seen.until("the page is paused", f"live.total === {events} && live.until === {more} && position === count")
         before = browser.value("live.before")
         seen.click("older")
         seen.until("earlier events are shown", f"live.until === {before} && !live.isLast")
         browser.value("element('past').value = 3, element('past').dispatchEvent(new Event('change')), 0")
         seen.until("the first events are shown", "live.until === 3 && live.before === 0 && count === 3")
         seen.click("pause")
-        seen.until("the last ones are shown", f"live.until === {events} && position === count")
+        seen.until("the last events are shown", f"live.until === {events} && position === count")
         check_widths(browser, expect)
         it.end()
-        seen.until("that nicview has exited is said", "element('notice').textContent.includes('has ended')")
+        seen.until("the page reports that nicview has exited", "element('notice').textContent.includes('has ended')")
     browser.errors = [it for it in browser.errors if "net::ERR" not in it]
     expect(not browser.errors, f"live page: the console says {browser.errors}")
     browser.errors.clear()
@@ -458,7 +459,7 @@ def check_widths(browser: Browser, expect: Expect) -> None:
 
 
 def check_buttons(browser: Browser, folder: Path, expect: Expect) -> None:
-    """Checks the buttons of a guest's card, and hostile texts in a recording and in the card's answers."""
+    """Checks the buttons of a guest's card, and hostile texts in a recording and in the card's replies."""
     path, file = folder / "control", folder / "card.rec"
     busy_recording(file, 2)
     with open(file, "ab") as to:
@@ -470,7 +471,7 @@ def check_buttons(browser: Browser, folder: Path, expect: Expect) -> None:
         for name, said in buttons.items():
             button = f"[...element('guest').querySelectorAll('button')].find((it) => it.textContent === {name!r})"
             browser.value(f"{button}.click(), 0")
-            seen.until(f"{name} is answered", f"element('said').textContent.includes({json.dumps(said)})")
+            seen.until(f"the reply to {name} is shown", f"element('said').textContent.includes({json.dumps(said)})")
         seen.until("nothing was injected", "window.hacked === undefined && !document.querySelector('img, main script')")
     browser.errors.clear()
 
@@ -479,18 +480,18 @@ def check_in_browser(browser: Browser, folder: Path, expect: Expect) -> None:
     folder.mkdir()
     check_following(browser, folder, expect)
     check_buttons(browser, folder, expect)
-    print("pages that follow: steps as they come, pause, earlier parts, a card's buttons", flush=True)
+    print("live pages: steps as they arrive, pause, earlier parts, a card's buttons", flush=True)
 
 
 def check_live(folder: Path, expect: Expect, is_quick: bool) -> None:
-    """Runs all checks, if the library is built."""
+    """Runs all checks if the library is built."""
     try:
         places.library()
     except places.Missing as missing:
-        print(f"no page that follows is looked at: {missing}")
+        print(f"no live page is checked: {missing}")
         return
     parts = [check_growing, check_who, check_hostile, check_guest, check_script, check_marks]
     for part in parts if is_quick else [*parts, check_many]:
         (folder / part.__name__).mkdir(parents=True)
         part(folder / part.__name__, expect)
-    print("pages that follow: a growing file, who may ask, hostile ones, a card, a script, earlier parts", flush=True)
+    print("live pages: a growing file, permitted requests, hostile input, a card, a script, earlier parts", flush=True)

@@ -112,12 +112,12 @@ def compare(script: Path, vfs: int | None, recording: Path, expect: Expect) -> N
     pairs = list(zip(in_rows(want, lambda _: next(sizes)), events(got), strict=True))
     for left, right in pairs:
         same = facts(left) == facts(right)
-        expect(same, f"{name}, recorded: step {right.number}: {facts(right)} and not {facts(left)}")
+        expect(same, f"{name}, recorded: step {right.number}: {facts(right)}; expected {facts(left)}")
         is_same = want.reasons[left.number] == got.reasons[right.number]
-        expect(is_same, f"{name}, recorded: step {right.number} has other reasons")
+        expect(is_same, f"{name}, recorded: step {right.number} has different reasons")
     for mine, others in ((want.seen.arrived, got.seen.arrived), (want.seen.sent, got.seen.sent)):
         same = [(one.data, one.queue, one.rss) for one in mine] == [(one.data, one.queue, one.rss) for one in others]
-        expect(same, f"{name}, recorded: other frames")
+        expect(same, f"{name}, recorded: the frames differ")
 
 
 def last(run: Run) -> tuple[dict[int, int], dict[int, bytes | None]]:
@@ -144,15 +144,16 @@ def compare_end(name: str, recording: Path, whole: Run, limit: int, expect: Expe
     expect(len(part.steps) == limit + 1, f"{where}: {len(part.steps)} steps")
     for left, right in zip(whole.steps[-limit:], part.steps[1:], strict=True):
         want, got = (kept(run, step, part.seen.sides) for run, step in ((whole, left), (part, right)))
-        expect(got == want, f"{where}: step {right.number}: {got} and not {want}")
+        expect(got == want, f"{where}: step {right.number}: {got}; expected {want}")
     compare_waiting(where, whole, part, expect)
     (words, memory), (part_words, part_memory) = last(whole), last(part)
     for address, word in part_words.items():
-        expect(words.get(address, REGISTERS[address].row.reset) == word, f"{where}: 0x{address:x} is 0x{word:x}")
+        expect(words.get(address, REGISTERS[address].row.reset) == word, f"{where}: 0x{address:x} reads 0x{word:x}")
     for unit, content in part_memory.items():
-        expect(memory.get(unit, content) == content, f"{where}: other bytes at 0x{unit:x}")
+        expect(memory.get(unit, content) == content, f"{where}: the bytes at 0x{unit:x} differ")
     sent = [frame.data for frame in part.seen.sent]
-    expect(sent == [frame.data for frame in whole.seen.sent[len(whole.seen.sent) - len(sent) :]], f"{where}: sent")
+    ends = [frame.data for frame in whole.seen.sent[len(whole.seen.sent) - len(sent) :]]
+    expect(sent == ends, f"{where}: the sent frames differ")
 
 
 def compare_waiting(where: str, whole: Run, part: Run, expect: Expect) -> None:
@@ -160,14 +161,14 @@ def compare_waiting(where: str, whole: Run, part: Run, expect: Expect) -> None:
     came, count = len(whole.seen.arrived) - len(part.seen.arrived), len(part.steps) - 1
     want, got = whole.seen.arrived[came:], part.seen.arrived
     waiting = [[(frame.queue, frame.rss, frame.slots) for frame in frames] for frames in (want, got)]
-    expect(waiting[0] == waiting[1], f"{where}: frames {waiting[1]} and not {waiting[0]}")
+    expect(waiting[0] == waiting[1], f"{where}: frames {waiting[1]}; expected {waiting[0]}")
     for left, right in zip(whole.steps[-count:], part.steps[1:], strict=True):
         here = [(sign, [one - came for one in frames if one >= came]) for sign, frames in left.waiting]
         here = [(sign, frames) for sign, frames in here if frames]
-        expect(here == right.waiting, f"{where}: step {right.number}: {right.waiting} and not {here}")
+        expect(here == right.waiting, f"{where}: step {right.number}: {right.waiting}; expected {here}")
         none = ["no frame waits" in str(run.reasons[step.number]) for run, step in ((whole, left), (part, right))]
         expect(none[0] == none[1], f"{where}: step {right.number}: {part.reasons[right.number]}")
-        expect(right.ring in (None, left.ring), f"{where}: step {right.number}: {right.ring} and not {left.ring}")
+        expect(right.ring in (None, left.ring), f"{where}: step {right.number}: {right.ring}; expected {left.ring}")
 
 
 def check_ends(folder: Path, expect: Expect) -> None:
@@ -182,7 +183,7 @@ def check_ends(folder: Path, expect: Expect) -> None:
 
 
 def check_refused(folder: Path, expect: Expect) -> None:
-    """Checks that files that can't be drawn are reported in one line with status 2."""
+    """Checks that a file that can't be drawn is reported in one line, with status 2."""
     for text, part in REFUSED.items():
         file = folder / "bad.recording"
         file.write_text(text, encoding="latin-1")
@@ -192,7 +193,7 @@ def check_refused(folder: Path, expect: Expect) -> None:
     file.write_text(HEAD + "lend 0 # done\npeek 0x00001 0 # misaligned\ndata d0 00\npoke 0x00008 d0 # misaligned\n")
     run = of_recording(str(file))
     is_right = not run.notes and [step.reply for step in run.steps] == ["done", "misaligned", "misaligned"]
-    expect(is_right, f"a recording with addresses that are no multiple of 16: {run.notes}, {events(run)}")
+    expect(is_right, f"a recording with addresses that aren't multiples of 16: {run.notes}, {events(run)}")
     file.write_text(HEAD + "lend 1   # done\nlend 2")
     words = [ROOT / "tools/nicview", file, "--text"]
     ran = subprocess.run(words, capture_output=True, text=True, check=False)
@@ -202,7 +203,7 @@ def check_refused(folder: Path, expect: Expect) -> None:
 
 
 def check_restored(folder: Path, expect: Expect) -> None:
-    """Checks that after a restored snapshot the steps start again, with its state."""
+    """Checks that after a snapshot is restored, the steps start again from its state."""
     file = folder / "restored.recording"
     with recorded(file) as nic:
         nic["RXCTRL"] = 1
@@ -212,7 +213,7 @@ def check_restored(folder: Path, expect: Expect) -> None:
             nic.arrive(bytes([2]) + bytes(59))
     run = of_recording(str(file))
     expect([step.reply for step in run.steps[1:]] == ["dropped filter"], f"a restored snapshot: {run.steps}")
-    expect(last(run)[0].get(0x3000) == 1, "a restored snapshot: RXCTRL isn't as it was kept")
+    expect(last(run)[0].get(0x3000) == 1, "a restored snapshot: RXCTRL differs from the snapshot")
 
 
 def run_tool(words: list[object], text: str = "") -> tuple[int, str, str]:
@@ -295,7 +296,7 @@ def check_memory(folder: Path, expect: Expect) -> None:
         peaks.append(peak_of(file))
     (few, lines), (many, more) = peaks
     a_line = (many - few) / (more - lines)
-    expect(a_line < MOST_OF_A_LINE, f"a recording takes {a_line:.0f} bytes a line: {peaks}")
+    expect(a_line < MOST_OF_A_LINE, f"a recording takes {a_line:.0f} bytes per line: {peaks}")
 
 
 def check_lent(folder: Path, expect: Expect) -> None:
@@ -315,11 +316,12 @@ def check_lent(folder: Path, expect: Expect) -> None:
     expect([step.lent for step in run.steps[:3]] == [[("+", 0, 599)], [], [("-", 3, 3)]], "600 blocks: steps")
     expect(run.shown(0) == "lend 0 to 599", f"600 blocks are shown as {run.shown(0)}")
     part = of_recording(str(file), 1)
-    expect(part.steps[0].lent == [("+", 0, 2), ("+", 4, 599)], f"600 blocks, the end: {part.steps[0].lent}")
+    expect(part.steps[0].lent == [("+", 0, 2), ("+", 4, 599)], f"600 blocks, at the end: {part.steps[0].lent}")
     ended = "the script ends at line 7 of the recording: nicbench prints `not lent`"
     check_tool(["nicview", file, "--script", "-o", made], "", 1, [ended], expect)
     text = made.read_text()
-    expect("# left out: lend 256 to 599" in text and "# CUT: line 7" in text, "600 blocks: what a script can't say")
+    is_marked = "# left out: lend 256 to 599" in text and "# CUT: line 7" in text
+    expect(is_marked, "600 blocks: the script doesn't mark what it omits")
     answers = Bench().run(text, 4_096)
     expect([line.split(" ", 1)[1] for line in answers[-4:]] == ["done", "done", "taken 3", "258"], f"{answers[-4:]}")
     check_tool(["niclint", made], "", 0, ["258 instructions, no warnings"], expect)
@@ -338,7 +340,7 @@ def check_no_bytes(folder: Path, expect: Expect) -> None:
         nic.arrive(bytes([2]) + bytes(59))
     text = file.read_text()
     answers = [line.split(" ", 1)[1] for line in Bench().run(text, 100)]
-    expect(answers[-3:] == ["dropped short", "dropped filter", "4"], f"a frame without bytes is answered {answers}")
+    expect(answers[-3:] == ["dropped short", "dropped filter", "4"], f"a frame without bytes has the replies {answers}")
     run = of_recording(str(file))
     is_right = not run.notes and "the frame has 0 bytes; the minimum is 60" in str(run.reasons)
     expect(is_right, f"a frame without bytes: {run.notes}, {run.reasons}")
@@ -363,8 +365,8 @@ def check_notes(folder: Path, expect: Expect) -> None:
         wanted = ["", ring] if limit > 1 else [f"after the 2 earlier events; {ring}"]
         wanted.append("first; second ??")
         expect(said == wanted, f"the notes of the last {limit} events are {said}")
-        expect(Data(run).whole()["comments"] == said, "the page has other notes")
-        expect('"note":"first; second ??"' in perfetto.trace(run), "the trace hasn't the note")
+        expect(Data(run).whole()["comments"] == said, "the page has different notes")
+        expect('"note":"first; second ??"' in perfetto.trace(run), "the trace doesn't contain the note")
 
 
 def check_names(folder: Path, expect: Expect) -> None:
@@ -450,7 +452,7 @@ def in_place_recording(folder: Path) -> Path | None:
 def check_in_place(folder: Path, expect: Expect) -> None:
     """Checks that the views show what the device read and wrote in memory in place, and that the rest is unknown."""
     file = in_place_recording(folder)
-    expect("#: in place 0 to 15\n" in Path(str(file)).read_text(), "a recording of memory in place doesn't say so")
+    expect("#: in place 0 to 15\n" in Path(str(file)).read_text(), "a recording doesn't mark memory in place")
     waits = ["read format"] * 4 + ["not read"]
     for limit in (4_096, 2):
         run = of_recording(str(file), limit)
@@ -467,7 +469,7 @@ def check_in_place(folder: Path, expect: Expect) -> None:
     with recorded(one, blocks=16) as nic:
         nic.memory.lend(0x2800, bytearray(2_048))
     blocks = in_place(read(str(one), one.read_bytes()))
-    expect(blocks == {5}, f"a piece of one block in place is {blocks}")
+    expect(blocks == {5}, f"a range of one block in place is {blocks}")
     check_tool(["nicview", one, "--text"], "", 0, ["lend 5"], expect)
     file = folder / "bad.recording"
     file.write_text(HEAD + "#: in place 5 to 4\nrx # idle\n")
@@ -492,7 +494,7 @@ def cut_recording(folder: Path) -> Path | None:
 
 
 def check_cut(folder: Path, expect: Expect) -> None:
-    """Checks that the page of a recording's end starts with the routes, vectors and groups of interrupts as they
+    """Checks that a page of a recording's last events starts with the routes, vectors and interrupt groups as they
     were."""
     run = of_recording(str(cut_recording(folder)), 2)
     data = Data(run).whole()
@@ -521,7 +523,7 @@ def check_opening(folder: Path, expect: Expect) -> None:
         places_of = of_script(Bench(), str(folder / "idle.nic")).opening, of_recording(str(file)).opening
         expect(places_of == (script_at, recorded_at), f"with {steps.split()} the pages open at {places_of}")
 def check_place(script: Path, vfs: int | None, chance: random.Random, expect: Expect) -> None:
-    """Checks that the debugger reports the same for a recording's steps as nicbench's for a script."""
+    """Checks that the debugger's replies for a recording equal those of nicbench's debugger for its script."""
     bench = Bench(vfs)
     read = load(bench, str(script))
     count, commands = len(read.instructions), []
@@ -541,7 +543,7 @@ def check_place(script: Path, vfs: int | None, chance: random.Random, expect: Ex
 
 
 def mutated(lines: list[str], chance: random.Random) -> bytes:
-    """Returns a recording with some lines lost, moved, changed, or from elsewhere."""
+    """Returns a recording with some lines removed, moved, changed, or inserted from elsewhere."""
     made = list(lines)
     for _ in range(chance.randint(1, 4)):
         at, way = chance.randrange(1, len(made)), chance.randint(0, 3)
@@ -575,7 +577,7 @@ def check_hostile(folder: Path, chance: random.Random, expect: Expect) -> None:
         except (Fault, Refused):
             continue
         except Exception as fault:  # noqa: BLE001
-            expect(False, f"a changed recording ends with {fault!r}: {raw!r}")
+            expect(False, f"a changed recording raises {fault!r}: {raw!r}")
 
 
 def check_recordings(scripts: dict[Path, int | None], folder: Path, seed: int, expect: Expect) -> None:
@@ -583,7 +585,7 @@ def check_recordings(scripts: dict[Path, int | None], folder: Path, seed: int, e
     try:
         places.library()
     except places.Missing as missing:
-        print(f"no recording is looked at: {missing}")
+        print(f"no recording is checked: {missing}")
         return
     chance = random.Random(seed)
     for script, vfs in scripts.items():

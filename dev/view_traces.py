@@ -93,7 +93,7 @@ def check_capture(folder: Path, expect: Expect) -> None:
     status, said = run_tool([ROOT / "tools/nic2pcap", made, file])
     expect(status == 0 and said.endswith("nic2pcap: 3 frames in, 2 out\n"), f"nic2pcap: status {status}, {said}")
     sent = IP[:60]
-    expect(read_pcap(made) == [FRAMES[0], IP, FRAMES[2], sent, sent], "nic2pcap: other frames")
+    expect(read_pcap(made) == [FRAMES[0], IP, FRAMES[2], sent, sent], "nic2pcap: the frames differ")
     got, lines = comments(made.read_bytes()), file.read_text().splitlines()
     ways = ["in, dropped off", "in, queue 1 slot 0", "in, waits, queue 0", "out, queue 2", "out, queue 2"]
     for (time, way, comment), want in zip(got, ways, strict=True):
@@ -101,7 +101,7 @@ def check_capture(folder: Path, expect: Expect) -> None:
         is_it = lines[line - 1].startswith("arrive" if way == 1 else "tx 2")
         expect(is_it, f"nic2pcap: {comment} names the line {lines[line - 1]}")
         expect(comment == f"{want}, step {time}, line {line}", f"nic2pcap: {comment}; expected {want}")
-        expect(way == (1 if want.startswith("in") else 2), f"nic2pcap: the way of {comment}")
+        expect(way == (1 if want.startswith("in") else 2), f"nic2pcap: the direction of {comment}")
     check_tshark(made, got, expect)
     for words, says in (([made, file, "--queue", 2], "0 frames in, 2 out"), ([made, file, "--limit", 3], "0 in")):
         status, said = run_tool([ROOT / "tools/nic2pcap", *words])
@@ -117,7 +117,7 @@ def check_tshark(made: Path, got: list[tuple[int, int, str]], expect: Expect) ->
     """Checks that tshark reads the same frames, if it is installed."""
     program = shutil.which("tshark")
     if program is None:
-        print("tshark isn't installed, so no capture is read by it")
+        print("tshark isn't installed, so it reads no capture")
         return
     words = [program, "-r", made, "-T", "fields", "-E", "separator=|"]
     for field in ("frame.time_epoch", "frame.packet_flags_direction", "frame.comment", "frame.interface_name"):
@@ -139,16 +139,17 @@ def check_events(run: Run, expect: Expect) -> dict[str, list[dict[str, Any]]]:
     expect(len(set(names.values())) == len(names), f"{run.name}: tracks {names}")
     tracks = {name: of_track(events, track) for track, name in names.items()}
     count = sum(one["ph"] == "X" for one in events)
-    expect(sum(map(len, tracks.values())) == count, f"{run.name}: a slice of no track")
+    expect(sum(map(len, tracks.values())) == count, f"{run.name}: a slice is on no track")
     for name, slices in tracks.items():
         ends = [(one["ts"], one["ts"] + one["dur"]) for one in slices]
         expect(all(a[1] <= b[0] for a, b in zip(ends, ends[1:])), f"{run.name}: slices of {name} overlap")
     steps = tracks["all steps"]
-    expect([one["ts"] for one in steps] == list(range(len(run.steps))), f"{run.name}: other steps")
-    expect([one["name"] for one in steps] == [run.shown(step.pc) for step in run.steps], f"{run.name}: other names")
+    expect([one["ts"] for one in steps] == list(range(len(run.steps))), f"{run.name}: the steps differ")
+    shown = [run.shown(step.pc) for step in run.steps]
+    expect([one["name"] for one in steps] == shown, f"{run.name}: the names differ")
     others = ("all steps", "messages", perfetto.NAMES[perfetto.TROUBLE])
     of_actors = sorted(one["ts"] for name, slices in tracks.items() if name not in others for one in slices)
-    expect(of_actors == list(range(len(run.steps))), f"{run.name}: a step has no actor, or two")
+    expect(of_actors == list(range(len(run.steps))), f"{run.name}: a step has no actor, or several")
     begun = {(one["cat"], one["id"]): one["ts"] for one in events if one["ph"] == "b"}
     ended = {(one["cat"], one["id"]): one["ts"] for one in events if one["ph"] == "e"}
     expect(begun.keys() == ended.keys() and all(begun[it] < ended[it] for it in begun), f"{run.name}: spans")
@@ -159,7 +160,7 @@ def check_events(run: Run, expect: Expect) -> dict[str, list[dict[str, Any]]]:
 
 
 def check_traces(folder: Path, expect: Expect) -> None:
-    """Checks captures, if the library is built, and traces."""
+    """Checks traces, and if the library is built, captures."""
     found = check_events(of_script(Bench(), str(ROOT / "dev/views/found.nic")), expect)
     tasks = {"task poll", "task function", "device", "link", "bring-up"}
     expect(tasks <= found.keys(), f"the trace of an explorer's script has the tracks {list(found)}")
@@ -175,6 +176,6 @@ def check_traces(folder: Path, expect: Expect) -> None:
     try:
         places.library()
     except places.Missing as missing:
-        print(f"no capture is looked at: {missing}")
+        print(f"no capture is checked: {missing}")
         return
     check_capture(folder, expect)

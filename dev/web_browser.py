@@ -55,7 +55,7 @@ class Page:
         looks = f"({holds}) ? done(true) : performance.now() > end ? done(false) : setTimeout(look, 4)"
         promise = f"new Promise((done) => {{ const look = () => {looks}; look(); }})"
         if not self.value(f"((end) => {promise})(performance.now() + {1000 * PATIENCE})"):
-            raise Wrong(f"after {PATIENCE} s this doesn't hold: {holds}; errors: {self.browser.errors[:3]}")
+            raise Wrong(f"not true after {PATIENCE} s: {holds}; errors: {self.browser.errors[:3]}")
 
     def holds(self, what: str, expression: str) -> None:
         if not (got := self.value(expression)):
@@ -71,12 +71,12 @@ class Page:
 
 
 def first_answer(page: Page) -> None:
-    """Prints how long the first answer takes in a running browser."""
-    print(f"browser: first answer after {page.load():.1f} s elapsed")
+    """Prints how long the first result takes in a running browser."""
+    print(f"browser: first result after {page.load():.1f} s elapsed")
 
 
 def typing(page: Page) -> None:
-    """Checks completions by keys, the answer next to the line, and a refusal at its place while the last run stays
+    """Checks completions by keys, the reply next to its line, and a refusal at its line while the last run stays
     visible."""
     page.put("")
     page.value("element('text').focus(), 0")
@@ -98,11 +98,11 @@ def typing(page: Page) -> None:
     page.browser.press("Escape")
     page.until("element('state').textContent.includes('no register CTRL_EXX')")
     page.holds("the refusal is at its line", "shownText.refused.has(2)")
-    page.holds("what comes near is named", "element('state').textContent.includes('near: CTRL_EXT')")
-    page.holds("the last run stays", "element('views').classList.contains('old') && shownText.replies.has(1)")
+    page.holds("a similar name is suggested", "element('state').textContent.includes('near: CTRL_EXT')")
+    page.holds("the last run stays visible", "element('views').classList.contains('old') && shownText.replies.has(1)")
     page.value("typed(0, 0, '# another line\\n'), 0")
     page.until("shownText.refused.has(3)")
-    page.holds("an answer stays at its line", "!shownText.replies.has(1) && shownText.replies.has(2)")
+    page.holds("a reply stays at its line", "!shownText.replies.has(1) && shownText.replies.has(2)")
     page.value("goTo(3), 0")
     page.until("element('about').textContent.startsWith('Line 3 is refused')")
     page.value("typed(0, 15, ''), 0")
@@ -118,8 +118,8 @@ def other_text(page: Page) -> None:
     page.until("drawn.length > 0")
     page.value("putText('r NOTHING\\n'), 0")
     page.until("shownText.refused.size > 0")
-    page.holds("no run is in sight", "!drawn.length && element('views').classList.contains('none')")
-    page.holds("no answer is, either", "!shownText.replies.size")
+    page.holds("no run is shown", "!drawn.length && element('views').classList.contains('none')")
+    page.holds("no reply is shown", "!shownText.replies.size")
 
 
 def stepping(page: Page) -> None:
@@ -183,7 +183,7 @@ def links(page: Page) -> None:
     page.put("r CTRL\n")
     page.load(link)
     page.until(f"element('text').value === {json.dumps(HOSTILE)}")
-    page.holds("its sizes come with it", "element('vfs').value === '2'")
+    page.holds("the link restores its sizes", "element('vfs').value === '2'")
     bad = {
         "AAAA": "cut off, or was changed",
         "%3Cb%3E": "never has",
@@ -196,7 +196,7 @@ def links(page: Page) -> None:
         page.load(f"#script={packed}&vfs=99999999")
         page.until("element('notice').textContent !== ''")
         page.holds(f"a bad link says {why}", f"element('notice').textContent.includes({json.dumps(why)})")
-        page.holds("a bad link's sizes don't count", "element('vfs').value === ''")
+        page.holds("a bad link's sizes are ignored", "element('vfs').value === ''")
 
 
 def hostile(page: Page) -> None:
@@ -206,7 +206,7 @@ def hostile(page: Page) -> None:
     page.value("show(1), 0")
     page.holds("nothing was injected", "window.hacked === undefined && drawn[0].contentWindow.hacked === undefined")
     documents = "[document, drawn[0].contentDocument]"
-    page.holds("no element came of it", f"{documents}.every((it) => !it.querySelector('img'))")
+    page.holds("no element was created", f"{documents}.every((it) => !it.querySelector('img'))")
     # (even a script that a fault of the page lets through doesn't run: the policy lists the permitted ones)
     tried = "Object.assign(document.createElement('script'), { textContent: 'window.hacked = 1' })"
     page.value(f"document.body.append({tried}), 0")
@@ -222,14 +222,14 @@ def kept_text(page: Page) -> None:
 
 
 def stopped(page: Page) -> None:
-    """Checks that a long run can be stopped, and that the next one is answered."""
+    """Checks that a long run can be stopped, and that the next one works."""
     long = "".join(f"w RDT[{k % 128}] {k % 8}\n" for k in range(4096))
     ended = ".catch((it) => (window.ended = it.message))"
     page.value(f"window.ended = '', ask('view', 'x', {json.dumps(long)}, {{}}){ended}, 0")
     page.value("endRun(), 0")
     page.until("window.ended === 'stopped'")
     page.put("r STATUS\n")
-    page.holds("the next is answered", "shownText.replies.get(1)[0].startsWith('word')")
+    page.holds("the next run has a reply", "shownText.replies.get(1)[0].startsWith('word')")
 
 
 def packets(page: Page) -> None:
@@ -264,7 +264,7 @@ def by_keys(page: Page) -> None:
     for tab in TABS:
         page.value(f"showTab('{tab}'), 0")
         if nameless := page.value(NAMELESS):
-            raise Wrong(f"nothing says what these are: {nameless[:3]}")
+            raise Wrong(f"these controls have no name: {nameless[:3]}")
 
 
 def focus(page: Page) -> None:
@@ -289,7 +289,7 @@ def focus(page: Page) -> None:
         page.until("!element('helping').open")
         page.until(f"document.activeElement === {place}")
     page.value("leaveForScript(), 0")
-    page.holds("leaving it goes to the editor", "document.activeElement === element('text')")
+    page.holds("leaving the lesson moves the focus to the editor", "document.activeElement === element('text')")
 
 
 def narrow_choices(page: Page) -> None:
@@ -303,7 +303,7 @@ def narrow_choices(page: Page) -> None:
         page.value("typed(element('text').selectionStart, element('text').selectionStart, 'w T\\n'), 0")
         page.value(f"goTo({line}, 3), showChoices(true), 0")
         page.until("!element('choices').hidden")
-        page.holds(f"at line {line} the list is inside", inside + boxes)
+        page.holds(f"the list is inside the editor at line {line}", inside + boxes)
     page.browser.press("Escape")
     page.browser.size(1400, 900, False)
 

@@ -62,7 +62,7 @@ static void died(int signal)
 {
     refuse_end();
     printf("library %d ended with signal %d\n", (int)acting + 1, signal);
-    print_place("no answer");
+    print_place("no result");
     fflush(stdout);
     _exit(1);
 }
@@ -102,9 +102,9 @@ static void make_refused(size_t k)
             return;
         }
         if (!is_refusal(&answers[k]))
-            differ("a refusal that isn't one, or that changed something");
+            differ("a refused call has the wrong status, or changed something");
         if (at == MOST_REFUSED)
-            differ("no end of requests for memory");
+            differ("the memory requests don't end");
     }
 }
 
@@ -116,7 +116,7 @@ static bool settle_refused(size_t k)
         return false;
     seen.refusals++;
     if (!asked.is_refused)
-        differ("out of memory, and nothing was refused");
+        differ("out of memory, but nothing was refused");
     event.length = answers[k].count;
     make(1 - k, &event, &answers[1 - k], 0);
     answers[k].status = answers[1 - k].status; /* MORE if the array is full */
@@ -137,7 +137,7 @@ static void why_refused(size_t k)
         length >= sizeof end - 1 && memcmp(answers[k].bytes + length - (sizeof end - 1), end, sizeof end - 1) == 0;
     seen.refusals += asked.is_refused;
     if (asked.is_refused && !is_said && event.card != NOT_OPEN)
-        differ("nic_why was refused memory, and doesn't say so");
+        differ("nic_why was refused memory, but doesn't report it");
     make(k, &event, &answers[k], 0);
 }
 
@@ -307,8 +307,8 @@ static void look_for_losses(void)
 {
     for (size_t k = 0; k < side_count; k++) {
         if (held[k] != 0) {
-            printf("library %zu: %ld blocks of memory are lost\n", k + 1, held[k]);
-            differ("memory is lost");
+            printf("library %zu: %ld blocks of memory are leaked\n", k + 1, held[k]);
+            differ("memory is leaked");
         }
     }
 }
@@ -329,7 +329,7 @@ static void one_event(uint64_t from)
         event_print(&event);
     }
     make_each();
-    compare("the answers differ");
+    compare("the results differ");
     seen.calls[event.call]++;
     count_status(&answers[0]);
     if (event.call == CALL_nic_record) {
@@ -373,7 +373,7 @@ static void print_seen(void)
     printf("%llu requests for memory refused, %llu of them without effect", (unsigned long long)seen.refusals,
            (unsigned long long)seen.unneeded);
     if (side_count == 2)
-        printf("; %llu of %llu calls asked both for the same memory in the same order",
+        printf("; %llu of %llu calls requested the same memory in the same order from both",
                (unsigned long long)seen.same_order, (unsigned long long)seen.asking);
     printf("\nstatuses:");
     for (int status = 0; status < 256; status++)
@@ -389,7 +389,7 @@ static void print_seen(void)
     printf("\ncalls:");
     for (int call = 0; call < CALL_COUNT; call++)
         printf(" %s %llu;", event_name((enum call)call), (unsigned long long)seen.calls[call]);
-    printf("\ncalls that asked for other memory or in another order:");
+    printf("\ncalls with different memory requests, or in a different order:");
     for (int call = 0; call < CALL_COUNT; call++)
         if (seen.other_order[call])
             printf(" %s %llu;", event_name((enum call)call), (unsigned long long)seen.other_order[call]);

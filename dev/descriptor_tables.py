@@ -41,7 +41,7 @@ def receive_fields() -> tuple[list[Field], list[Field]]:
     """Returns the fields that the device writes back to a receive descriptor, for each half."""
     bit = bits_in("crates/dma_ring/src/receive.rt")
     first = [
-        (0, 4, "RSS type", "the code of the hash type, by the table of types below"),
+        (0, 4, "RSS type", "the type by which the frame was hashed, as in the table of types below"),
         (bit["IPV4"], 1, "packet type: IPv4", "the frame is IPv4"),
         (bit["IPV6"], 1, "packet type: IPv6", "the frame is IPv6"),
         (bit["TCP"], 1, "packet type: TCP", "the frame has TCP ports"),
@@ -60,7 +60,7 @@ def receive_table() -> str:
     """Returns the table of a written-back receive descriptor."""
     halves = zip(("first", "second"), receive_fields())
     rows = [[half, span(low, width), name, text] for half, fields in halves for low, width, name, text in fields]
-    return table(["Half", "Bits", "Field", "Holds"], rows)
+    return table(["Half", "Bits", "Field", "Meaning"], rows)
 
 
 def transmit_fields() -> list[Field]:

@@ -100,12 +100,12 @@ def lists() -> dict[str, Numbers]:
         if odd:
             sys.exit(f"dev/status_tables.py: enum {name} and {CRATE} differ in {', '.join(sorted(odd))}")
         taken = {mine[it] for it in AROUND & mine.keys()} & set(other.values())
-        assert not taken, f"{CRATE} has {taken} too"
+        assert not taken, f"{CRATE} also uses {taken}"
     named = set(re.findall(r"case NIC_(\w+): return", text_of(HEADER)))
-    assert named == found["nic_status"].keys() - {"IMAGE", "TEXT"}, "nic_status_name has other statuses"
+    assert named == found["nic_status"].keys() - {"IMAGE", "TEXT"}, "nic_status_name names other statuses than the enum"
     for name, function in WORDS.values():
         words = words_of(function)
-        assert sorted(found[name].values()) == [k for k, word in enumerate(words) if word], f"{function} has others"
+        assert sorted(found[name].values()) == [k for k, word in enumerate(words) if word], f"{function} differs"
         for it, number in found[name].items() if name != "nic_step" else ():
             wanted = it.partition("_")[2].lower().replace("_", " ")
             assert words[number] == wanted, f"{function} has {words[number]} for {it}"

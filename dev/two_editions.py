@@ -62,8 +62,8 @@ def plain_made(what: str) -> Path:
 
 
 def add_programs(parser: argparse.ArgumentParser) -> None:
-    parser.add_argument("--program", metavar="FILE", help="the other nicbench, else the proved one")
-    parser.add_argument("--plain-program", metavar="FILE", help="the plain nicbench, else dev/plain makes it")
+    parser.add_argument("--program", metavar="FILE", help="the other nicbench; by default the proved one")
+    parser.add_argument("--plain-program", metavar="FILE", help="the plain nicbench; by default dev/plain builds it")
     parser.add_argument("--jobs", type=int, default=len(os.sched_getaffinity(0)), metavar="N")
 
 
@@ -71,7 +71,7 @@ def programs(given: argparse.Namespace, folder: str) -> Programs:
     """Returns the two programs, as links with the same name in a folder."""
     other = Path(given.program) if given.program else PROVED
     if not os.access(other, os.X_OK):
-        how = "./nicbench --prove makes the proved one, --program FILE names another"
+        how = "./nicbench --prove builds the proved one; --program FILE names another"
         raise Missing(f"there is no program {other}: {how}")
     plain = Path(given.plain_program) if given.plain_program else plain_made("program")
     return Programs(link(plain, f"{folder}/plain"), link(other, f"{folder}/other"))
@@ -105,7 +105,7 @@ def answer_of(program: Path, words: list[str], data: bytes = b"") -> Answer:
 
 
 def difference(words: list[str], data: bytes, one: Answer, other: Answer) -> str:
-    """Returns the first line in which two answers differ, and their input."""
+    """Returns the first line in which two results differ, and their input."""
     name = next(it for it in Answer._fields if getattr(one, it) != getattr(other, it))
     where = f"status {one.status}, not {other.status}"
     if name != "status":
@@ -134,7 +134,7 @@ def batches(every: Iterable[Input]) -> Iterator[list[Input]]:
 
 
 def compare_all(pair: Programs, what: str, every: Iterable[Input], jobs: int) -> int:
-    """Compares the answers to all inputs, prints how many differ, and keeps the first input that shows a difference."""
+    """Compares the results of all inputs, prints how many differ, and keeps the first input with a difference."""
     count, found, kept = 0, [], []
     with concurrent.futures.ProcessPoolExecutor(jobs) as pool:
         for seen, more, inputs in pool.map(compared, itertools.repeat(pair), batches(every)):
@@ -143,7 +143,7 @@ def compare_all(pair: Programs, what: str, every: Iterable[Input], jobs: int) ->
     for line in found[:SHOWN]:
         print(f"  {line}")
     if kept:
-        print(f"  the first one's input: {keep(kept[0])}")
+        print(f"  the input of the first one: {keep(kept[0])}")
     return len(found)
 
 

@@ -23,14 +23,14 @@ typedef struct nic_desc {
 /* Receive descriptor, as the driver writes it. */
 /* first half: the bus address of the buffer, an even number */
 #define NIC_RXD_BUFFER UINT64_C(0xFFFFFFFFFFFFFFFE)
-/* second half: the bus address of the header buffer; no effect: there is no header split */
+/* second half: the bus address of the header buffer; no effect, because header split isn't supported */
 #define NIC_RXD_HEADER UINT64_C(0xFFFFFFFFFFFFFFFE)
 /* second half: write 0 if the driver polls DD */
 #define NIC_RXD_DD UINT64_C(0x0000000000000001)
 #define NIC_RXD_DD_SHIFT 0
 
 /* Receive descriptor, as the device writes it back. Other bits are 0. */
-/* first half: the code of the hash type, enum nic_rss_type */
+/* first half: the type by which the frame was hashed, enum nic_rss_type */
 #define NIC_RXWB_RSS_TYPE UINT64_C(0x000000000000000F)
 #define NIC_RXWB_RSS_TYPE_SHIFT 0
 #define NIC_RXWB_RSS_TYPE_IS(v) ((uint64_t)(v) << 0 & NIC_RXWB_RSS_TYPE)

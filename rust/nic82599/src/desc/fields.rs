@@ -4,7 +4,7 @@
 pub mod rxd {
     /// First half: the bus address of the buffer, an even number.
     pub const BUFFER: u64 = 0xFFFFFFFFFFFFFFFE;
-    /// Second half: the bus address of the header buffer; no effect: there is no header split.
+    /// Second half: the bus address of the header buffer; no effect, because header split isn't supported.
     pub const HEADER: u64 = 0xFFFFFFFFFFFFFFFE;
     /// Second half: write 0 if the driver polls DD.
     pub const DD: u64 = 0x0000000000000001;
@@ -14,7 +14,7 @@ pub mod rxd {
 pub mod rxwb {
     use crate::register::HalfField;
 
-    /// First half: the code of the hash type, [`RssType`](super::RssType).
+    /// First half: the type by which the frame was hashed, [`RssType`](super::RssType).
     pub const RSS_TYPE: HalfField = HalfField::new(0x000000000000000F, 0);
     /// First half: the frame is IPv4.
     pub const PKT_IPV4: u64 = 0x0000000000000010;

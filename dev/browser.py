@@ -36,7 +36,7 @@ def fetched(name: str) -> bool:
 
 
 class Browser(abc.ABC):
-    """A browser tab. `errors` holds its console's errors and warnings."""
+    """A browser tab. `errors` contains the errors and warnings of its console."""
 
     errors: list[str]
 
@@ -103,7 +103,7 @@ class Chromium(Browser):
             f"--user-data-dir={self.folder}",
             "about:blank",
         ]
-        # Chromium reads file descriptor 3 and writes 4; the pipes' own numbers are higher, so that neither is
+        # Chromium reads file descriptor 3 and writes to 4. The pipes' own numbers are higher, so neither is
         # overwritten.
         starter = f"exec 3<&{read_in} 4>&{write_out}; exec {found} " + " ".join(flags)
         self.process = subprocess.Popen(
@@ -119,7 +119,7 @@ class Chromium(Browser):
             self.ask(f"{domain}.enable")
 
     def ask(self, method: str, words: dict[str, Any] | None = None, session: str | None = None) -> dict[str, Any]:
-        """Sends a message and waits for its answer."""
+        """Sends a message and waits for the reply."""
         self.count += 1
         message: dict[str, Any] = {"id": self.count, "method": method, "params": words or {}}
         if (named := self.session if session is None else session) != "":

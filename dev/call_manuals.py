@@ -57,7 +57,7 @@ def plain(comment: str) -> str:
 
 
 def split_words(words: str) -> list[str]:
-    """Splits a parameter list; a function pointer contains commas itself."""
+    """Splits a parameter list. A function pointer may itself contain commas."""
     parts, depth, begin = [], 0, 0
     for at, letter in enumerate(words + ","):
         depth += (letter == "(") - (letter == ")")
@@ -85,7 +85,7 @@ def groups_of(header: str) -> list[Group]:
             group.functions.append(function_of(mark))
             continue
         is_first_on_line = text.rfind("\n", 0, mark.start()) + 1 == mark.start()
-        # (callers don't need functions after an enum that has no comment)
+        # (functions after an enum without a comment aren't meant for callers)
         is_of_enum = text[mark.end() :].lstrip().startswith("enum")
         titled = SECTION.fullmatch(mark[0])
         section = titled["title"] if titled else section
@@ -130,7 +130,7 @@ def body(text: str) -> str:
 
 
 def word(text: str) -> str:
-    """Returns a word as an argument of a roff macro."""
+    """Returns a word quoted as an argument of a roff macro."""
     return '"' + escaped(text).replace('"', '""') + '"'
 
 

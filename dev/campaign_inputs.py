@@ -59,7 +59,7 @@ Input = tuple[list[str], bytes]
 
 
 class Inputs:
-    """Inputs from one random source. `made` returns the program's output for arguments and bytes."""
+    """Generates inputs from one random source. `made` returns the program's output for arguments and bytes."""
 
     def __init__(self, dice: random.Random, root: Path, made: Callable[[list[str], bytes], bytes]) -> None:
         self.dice, self.made = dice, made
@@ -220,7 +220,7 @@ class Inputs:
         return ["eeprom", "--load"], bytes(data[: it.randrange(len(data) + 1)] if it.random() < 0.1 else data)
 
     def mend(self, data: bytearray) -> None:
-        """Usually repairs the checksum of words 0x00 to 0x3F, so that later checks are reached too."""
+        """In most cases, repairs the checksum of words 0x00 to 0x3F, so that later checks are reached too."""
         if self.dice.random() < 0.7 and len(data) >= 128:
             words = [int.from_bytes(data[2 * it : 2 * it + 2], "little") for it in range(0x3F)]
             section = words[0x0D]

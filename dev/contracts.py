@@ -1,8 +1,8 @@
 """Reads what a crate's sources promise: each public contract with the sentences of its comments.
 
 A contract is a public function with its `ensures` clauses, or a public type with its invariants. Its sentences are its
-doc comment. A clause has a separate sentence if a `//` comment is right above it. It also has one if it only applies a
-definition of specs/ that has a comment; for a record, the comments of its fields follow.
+doc comment. A clause has a sentence of its own if a `//` comment is right above it, or if it only applies a definition
+of specs/ that has a comment. For a record, the comments of its fields follow.
 """
 
 from __future__ import annotations
@@ -24,9 +24,9 @@ MODULE = re.compile(r"^pub mod (\w+);", re.M)
 PASSED_ON = re.compile(r"^pub use (?:crate::)?(\w+)(?:::\w+)*::(?:\{([^}]*)\}|(\w+));", re.M)
 IMPORT = re.compile(r"ghost use Rattle\.([\w.]+?)(?:\.\{(.*)\})?(?: as (\w+))?;")
 DEFINITION = re.compile(r"(?:(?:pub|abbrev|record|data|unfoldable) )+(\w+)")
-# Wrappers that only say which part of a result a clause is about.
+# Wrappers that only select the part of a result that a clause describes.
 PARTS = {"IfOk", "IfErr", "IfSome", "IfNone", "OnOk", "OnErr", "OnSome", "OnNone", "WhereUp"}
-# The parts of a type's contract that promise nothing: how contracts view it, and what the proofs of std's traits need.
+# The parts of a type's contract that promise nothing: its view in contracts, and what the proofs of std's traits need.
 NO_PROMISE = {"Value", "view", "coded", "inverse", "inverse_ok", "from_gives"}
 
 
@@ -146,7 +146,8 @@ class Reader:
 
     @cached_property
     def imports(self) -> dict[str, tuple[str, str]]:
-        """Returns the definitions that the file's clauses use, by local name: the module and the name there."""
+        """Returns the definitions that the file's clauses use, by local name: the module and the name in that
+        module."""
         known: dict[str, tuple[str, str]] = {}
         for path, names, alias in IMPORT.findall("\n".join(self.lines)):
             for name in filter(None, names.split(", ")):
@@ -172,7 +173,7 @@ class Crate:
         self.names = {name for _, some, one in PASSED_ON.findall(root) for name in re.findall(r"\w+", some or one)}
 
     def of_trait(self, it: Contract) -> str:
-        """Returns the sentences of the trait's function that a contract implements, if the trait is in the crate."""
+        """Returns the sentences of the trait function that a contract implements, if the trait is in the crate."""
         return next((one.sentences for one in self.all if one.path == f"{it.trait}::{it.name}"), "")
 
     def is_public(self, it: Contract) -> bool:
@@ -185,7 +186,8 @@ class Crate:
         return [it for it in self.all if it.clauses and self.is_public(it)]
 
     def definition(self, contract: Contract, clause: Clause) -> tuple[str, str] | None:
-        """Returns the only definition that a clause applies, as its path and its comment; None without a comment."""
+        """Returns the only definition that a clause applies, as its path and its comment, or None if it has no
+        comment."""
         head = head_of(clause.body)
         imports = self.readers[contract.file].imports
         first, _, rest = head.partition(".")
@@ -240,7 +242,7 @@ def sentence(text: str) -> str:
 
 
 def comment_of(path: str, name: str) -> str:
-    """Returns the comment of a definition, by the path that a source imports its module by."""
+    """Returns the comment of a definition, by the path with which a source imports its module."""
     parts = path.split(".")
     found = comments().get((parts[-1], name), {})
     camel = {"".join(word.capitalize() for word in crate.split("_")): crate for crate in found}

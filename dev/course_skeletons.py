@@ -1,7 +1,7 @@
 #!/usr/bin/env python3
 """Writes the skeletons in course/ from the answers in c/drive/tests/course: the same text, without the lines between a
-comment `TODO N: ..` and the next `END`. The text after the colon of `END: ..` replaces the hole, one statement a line.
-For tests, `at` returns the text with the holes up to a milestone filled.
+comment `TODO N: ..` and the next `END`. The text after the colon of `END: ..` replaces this hole, one statement per
+line. For tests, `at` returns the text with the holes filled up to a milestone.
 
     dev/course_skeletons.py [--check]
 """
@@ -27,7 +27,7 @@ END = re.compile(r"(\s*)(?:/\*|//|#) END(?:: (.*?))?(?: \*/)?\n")
 
 
 def comment(first: str, mark: str, lines: Iterator[str]) -> tuple[list[str], str]:
-    """Returns the lines of a comment after its first line was read, and the line after it."""
+    """Returns the lines of a comment whose first line was already read, and the line after the comment."""
     found, line = [first], next(lines)
     if mark == "/*":
         while not found[-1].rstrip().endswith("*/"):
@@ -41,7 +41,7 @@ def comment(first: str, mark: str, lines: Iterator[str]) -> tuple[list[str], str
 
 
 def hole(line: str, lines: Iterator[str]) -> tuple[list[str], list[str]]:
-    """Returns the lines that fill a hole, and the lines in its place."""
+    """Returns the lines that fill a hole, and the lines that replace them in a skeleton."""
     inside = []
     while not (end := END.fullmatch(line)):
         inside.append(line)

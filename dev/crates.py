@@ -1,8 +1,8 @@
 """Packs the Rust crates: the files of each, and its `.crate` file.
 
-`nic82599-model` is pure Rust. In the repository a build script writes its controller, and it compiles the API and the
-tests of the neighbouring crate; a packed crate contains all of them and no script. `nic82599` contains the sources of
-the C library in the folder `sources`; its build script builds the library from them if it finds none.
+`nic82599-model` is pure Rust. In the repository, a build script writes its controller, and the crate compiles the API
+and the tests of the neighbouring crate. A packed crate contains all of them and no script. `nic82599` contains the
+sources of the C library in the folder `sources`; its build script builds the library from them if it finds no library.
 """
 
 from __future__ import annotations
@@ -20,13 +20,13 @@ from pathlib import Path
 from generated import ROOT, git
 
 MODEL, OVER_C = "rust/nic82599-model", "rust/nic82599"
-# How files of the model crate refer to those of the other crate.
+# How files of the model crate refer to files of the other crate.
 OTHER = "../nic82599/"
-# Files compiled together with those that it refers to.
+# Files that are compiled together with the files that they refer to.
 ALONG = ("src/desc", "tests/common", "tests/digests.txt")
 # The build script's output as its root includes it; a packed crate has no build script.
 INCLUDED = 'include!(concat!(env!("OUT_DIR"), "/modules.rs"));\n'
-# What `make -C c` reads, and which of it the archives of a packed crate don't need.
+# What `make -C c` reads, and the part of it that the archives of a packed crate don't need.
 SOURCES = ("LICENSE", "VERSION", "c", "crates.txt", "dev/need", "dev/plain", "plain")
 UNREAD = re.compile(r"c/(tests|fuzz|bus|vfio-user|test$)|c/\w+/(tests|corpus|examples)/|plain/eraser/cases/|.*\.md$")
 
@@ -38,7 +38,7 @@ class Unpacked(Exception):
 
 
 def files_here() -> list[str]:
-    """Returns the repository's files, including uncommitted ones; in an archive of the sources, the files in its
+    """Returns the repository's files, including uncommitted ones; for an archive of the sources, the files in its
     list."""
     if not (ROOT / ".git").exists():
         return (ROOT / "COMMIT").read_text().splitlines()[1:]
@@ -71,7 +71,7 @@ def shared_with(text: str) -> list[str]:
 
 
 def alone(text: str) -> str:
-    """Returns the text that a file of the model crate has next to the other crate's files."""
+    """Returns the text of a model crate's file for a crate that also contains the other crate's files."""
     text = re.sub(rf'^ *#\[path = "[./]*{re.escape(OTHER)}[^\n]*\n', "", text, flags=re.M)
     return text.replace(f'path = "{OTHER}', 'path = "').replace('build = "build.rs"\n', "")
 
@@ -93,7 +93,7 @@ def model(files: list[str]) -> Files:
 
 
 def over_c(files: list[str]) -> Files:
-    """Returns the crate over the C library, with the library's sources."""
+    """Returns the crate that wraps the C library, with the library's sources."""
     packed = {str(Path(name).relative_to(OVER_C)): (ROOT / name).read_bytes() for name in below(files, OVER_C)}
     crates = sorted({"/".join(it.split("/")[:2]) for it in below(files, "crates")})
     read = [it for it in below(files, *SOURCES, *(f"{it}/src" for it in crates)) if not UNREAD.match(it)]
@@ -112,7 +112,7 @@ def is_program(packed: Files, name: str) -> bool:
 
 
 def write(packed: Files, name: str, epoch: int, out: Path) -> Path:
-    """Writes a crate's `.crate` file: the same bytes for the same files and time."""
+    """Writes a crate's `.crate` file; the same files and time result in the same bytes."""
     named = f"{name}-{version_of(packed)}"
     path = out / f"{named}.crate"
     with (

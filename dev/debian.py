@@ -1,5 +1,5 @@
-"""Builds the Debian packages of a release: the main package, and the one with its debugging symbols. dev/release
-calls it with a tree that has the libraries in the machine's folder."""
+"""Builds the Debian packages of a release: the main package, and the one with its debugging symbols. dev/release passes
+it a tree that has the libraries in the folder of the machine's architecture."""
 
 from __future__ import annotations
 
@@ -18,7 +18,7 @@ from generated import ROOT
 
 ARCHITECTURES = {"x86_64": "amd64", "aarch64": "arm64"}
 DOC = "usr/share/doc/nic82599"
-# Debian has the licence's text elsewhere; the package's file `copyright` refers to it.
+# Debian stores the licence's text elsewhere; the package's file `copyright` refers to it.
 LEFT_OUT = (f"{DOC}/LICENSE",)
 TO_LICENCE = re.compile(r"\]\(((?:\.\./)*)LICENSE\)")
 
@@ -27,7 +27,7 @@ Run = Callable[..., str]
 
 @dataclass(frozen=True)
 class Machine:
-    """A machine that a release is for, by its kernel's name."""
+    """A machine for which a release is made, with the kernel's name for it."""
 
     name: str = os.uname().machine
 
@@ -45,13 +45,13 @@ class Machine:
         return f"lib/{self.name}-linux-gnu"
 
     def tool(self, name: str) -> str:
-        """Returns the name of a tool that compiles for the machine; on another machine it is Debian's cross tool."""
+        """Returns the name of a tool that compiles for the machine: on a different machine, Debian's cross tool."""
         return name if self.is_here else f"{self.name}-linux-gnu-{name}"
 
 
 @dataclass(frozen=True)
 class Package:
-    """The inputs of a package: the machine, the version, the commit's time, the soname's number, the oldest C
+    """The inputs of a package: the machine, the version, the commit's time, the soname's number, the oldest supported C
     library, and other packages with libraries that the binaries need."""
 
     machine: Machine
@@ -78,13 +78,13 @@ def packed(text: str) -> bytes:
 
 
 def changelog(version: str, epoch: int) -> str:
-    """Returns the changelog with the version for Debian's tools; the changes are in CHANGELOG.md."""
+    """Returns a changelog that names the version for Debian's tools; the changes themselves are in CHANGELOG.md."""
     date = formatdate(epoch).replace("-0000", "+0000")
     maintainer = re.search(r"Maintainer: (.*)", text_of("control.in"))
     assert maintainer
     return (
         f"nic82599 ({version}) unstable; urgency=medium\n\n"
-        "  * CHANGELOG.md tells what changed.\n\n"
+        "  * CHANGELOG.md lists the changes.\n\n"
         f" -- {maintainer[1]}  {date}\n"
     )
 
@@ -125,7 +125,7 @@ def build(tree: Path, out: Path, package: Package, run: Run) -> None:
 
 
 def with_own_licence(tree: Path) -> None:
-    """Replaces the licence's text by Debian's file, and redirects the pages' links to it."""
+    """Replaces the licence's text with Debian's copy of it, and redirects the pages' links to that file."""
     for name in LEFT_OUT:
         (tree / name).unlink()
     put(tree / DOC / "copyright", text_of("copyright"))
@@ -136,7 +136,7 @@ def with_own_licence(tree: Path) -> None:
 
 
 def write(prefix: Path, symbols: dict[Path, Path], package: Package, out: Path, run: Run) -> None:
-    """Builds both packages of a tree below /usr. `symbols` maps each binary to its symbols file."""
+    """Builds both packages from a tree below /usr. `symbols` maps each binary to the file with its symbols."""
     tree, beside = prefix.parent / "debian", prefix.parent / "debian-dbgsym"
     shutil.copytree(prefix, tree / "usr", symlinks=True, ignore=shutil.ignore_patterns(".debug"))
     with_own_licence(tree)

@@ -1,5 +1,5 @@
 #!/usr/bin/env python3
-"""Writes the generated tables of docs/DESCRIPTORS.md, each between its two marks.
+"""Writes the generated tables of docs/DESCRIPTORS.md, each between its two markers.
 
     dev/descriptor_tables.py            rewrites the page
     dev/descriptor_tables.py --check    names the page if it is stale, and exits with status 1
@@ -28,7 +28,7 @@ def bits_in(path: str) -> dict[str, int]:
 
 
 def arms(name: str, path: str) -> dict[str, str]:
-    """Returns the right sides of a definition by cases, by the cases' names."""
+    """Returns the right-hand sides of a definition by cases, keyed by the cases' names."""
     return dict(re.findall(rf"^{name} (?:mrqc )?(\w+)(?: input| flow)? = (.+)$", text_of(path), re.M))
 
 
@@ -87,7 +87,7 @@ def transmit_table() -> str:
     return table(["Bits", "Field", "Meaning"], rows)
 
 
-# The frames of each hash type, and the name of its part of the input.
+# The frames of each hash type, and its name in the definition of the input.
 FRAMES = {
     "NoHash": "none of these",
     "TcpIpv4": "TCP over IPv4",
@@ -109,7 +109,7 @@ CHOICE = "crates/rss_hash/specs/Choice.antt"
 
 
 def rss_types() -> dict[str, int]:
-    """Returns the codes of the hash types, by the names of the definition."""
+    """Returns the codes of the hash types, keyed by the definition's names."""
     return {name: int(code) for name, code in arms("code_of", CHOICE).items()}
 
 

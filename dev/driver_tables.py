@@ -1,12 +1,12 @@
 #!/usr/bin/env python3
 """Writes the register tables for drivers in C and Rust: c/include/nic82599_regs.h, rust/nic82599/src/regs.rs and the
-addresses of that crate's tests; and the names that the explorer prints (c/explore/engine/names.inc).
+addresses for that crate's tests. It also writes the names that the explorer prints (c/explore/engine/names.inc).
 
     dev/driver_tables.py            rewrites the files
     dev/driver_tables.py --check    names the stale files, and ends with status 1 if there are any
 
 The text around the tables is part of each file. Names and addresses come from python/nic82599/tools/tables.py, fields
-from fields.py beside it, and the offsets of virtual functions from dev/vf_map_table.py.
+from fields.py next to it, and the offsets of virtual functions from dev/vf_map_table.py.
 """
 
 from __future__ import annotations
@@ -52,7 +52,7 @@ def address_macro(row: Row) -> str:
 
 
 def field_macros(row: Row) -> str:
-    """Returns the macros of a register's fields; a field of all bits needs none."""
+    """Returns the macros of a register's fields; a field that covers all bits needs none."""
     lines = ""
     for field in parts_of(row.name):
         name = f"NIC_{row.name}_{macro_name(field.name)}"
@@ -63,8 +63,8 @@ def field_macros(row: Row) -> str:
 
 
 def offset_macros() -> str:
-    """Returns the macros of a virtual function's offsets. Its counters share the device's names, so theirs say
-    OFFSET."""
+    """Returns the macros for a virtual function's offsets. Its counters have the same names as the device's, so their
+    macros contain OFFSET."""
     lines = ""
     for it in places():
         macro = f"NIC_{it.name}" + ("_OFFSET" if it.name in {row.name for row in TABLE} else "")
@@ -76,7 +76,7 @@ def offset_macros() -> str:
 
 
 def c_header() -> str:
-    """Returns c/include/nic82599_regs.h, from the end of its function on."""
+    """Returns the part of c/include/nic82599_regs.h after its function."""
     rows = "".join(f"/* {row.meaning} */\n" + address_macro(row) + field_macros(row) + "\n" for row in TABLE)
     rows += f"/* offsets of a virtual function, for nic_vf_read32 and nic_vf_write32 */\n{offset_macros()}"
     return with_each_macro_once(replaced(HEADER.read_text(), "(i - count);\n}\n\n", rows, "\n#endif\n"))
@@ -113,7 +113,7 @@ def c_aliases(row: Row) -> str:
 
 def rust_registers() -> str:
     """Returns the physical function's registers, each with its meaning and first address. Indexed registers also have a
-    stride and a count; a register with a further run has that run's address and the total count."""
+    stride and a count. A register with a second run of addresses has that run's address and the total count."""
     lines = ""
     for row in TABLE:
         first, stride, count, further = first_runs(row)
@@ -125,7 +125,7 @@ def rust_registers() -> str:
 
 
 def rust_fields() -> str:
-    """Returns the fields of the registers: the bit, or the highest and the lowest one."""
+    """Returns the fields of the registers: the bit, or the highest and the lowest bit."""
     lines = ""
     for row in TABLE:
         parts = parts_of(row.name)
@@ -148,13 +148,13 @@ def rust_offsets() -> str:
 
 
 def rust_module() -> str:
-    """Returns src/regs.rs of the crate, from the end of its macros on."""
+    """Returns the part of the crate's src/regs.rs after its macros."""
     tables = rust_registers() + rust_fields() + rust_offsets()
     return replaced((CRATE / "src/regs.rs").read_text(), BEGIN_RUST, tables, END_RUST)
 
 
 def rust_addresses() -> str:
-    """Returns the addresses that the crate's tests access at random, the same as c/test's and in the same order."""
+    """Returns the addresses that the crate's tests access at random: the same as in c/test, in the same order."""
     runs = [run for row in TABLE for run in row.runs]
     lines = "".join(f"    (0x{run.first:05X}, 0x{run.stride:02X}, {run.count}),\n" for run in runs)
     return f"{HEAD_ADDRESSES}pub const RUNS: &[(u32, u32, u32)] = &[\n{lines}];\n"

@@ -1,5 +1,5 @@
-"""Firefox, driven by WebDriver BiDi: JSON messages over a websocket (`--remote-debugging-port`). It implements as
-much of RFC 6455 as a client needs that sends unfragmented messages."""
+"""Firefox, driven by WebDriver BiDi: JSON messages over a websocket (`--remote-debugging-port`). It implements the part
+of RFC 6455 that a client with unfragmented messages needs."""
 
 from __future__ import annotations
 
@@ -25,7 +25,7 @@ KEYS = {"Tab": "\ue004", "Enter": "\ue006", "Escape": "\ue00c", "PageUp": "\ue00
 KEYS |= {"End": "\ue010", "Home": "\ue011", "ArrowLeft": "\ue012", "ArrowUp": "\ue013", "ArrowRight": "\ue014"}
 KEYS |= {"ArrowDown": "\ue015"} | {f"F{number}": chr(0xE030 + number) for number in range(1, 13)}
 SETTINGS = {
-    # (fetches nothing but the page, and shows no prompts)
+    # (it downloads nothing except the page, and shows no prompts)
     "app.normandy.enabled": False,
     "app.update.auto": False,
     "browser.safebrowsing.downloads.enabled": False,
@@ -123,7 +123,7 @@ class Firefox(Browser):
         self.window = self._contexts({"moz:scope": "chrome"})[0]
 
     def _place(self) -> tuple[str, int]:
-        """Returns the host and the port where it listens, once it does."""
+        """Waits until Firefox listens, and returns the host and the port."""
         server, began = Path(self.folder, "WebDriverBiDiServer.json"), time.monotonic()
         while time.monotonic() - began < PATIENCE and self.process.poll() is None:
             if server.exists() and (text := server.read_text()).rstrip().endswith("}"):
@@ -136,7 +136,7 @@ class Firefox(Browser):
         return [it["context"] for it in self.ask("browsingContext.getTree", {"maxDepth": 0, **words})["contexts"]]
 
     def ask(self, method: str, words: dict[str, Any]) -> dict[str, Any]:
-        """Sends a message and waits for its answer."""
+        """Sends a message and waits for the reply."""
         self.count += 1
         self.socket.send(json.dumps({"id": self.count, "method": method, "params": words}).encode())
         while True:

@@ -1,5 +1,5 @@
-"""Shared by the scripts of this folder: the root, the crates of crates.txt, parts of pages between two lines, generated
-files with their --check, and the report of a check."""
+"""Code that the scripts of this folder share: the root, the crates of crates.txt, parts of pages between two lines,
+generated files with their --check, and the report of a check."""
 
 from __future__ import annotations
 
@@ -25,7 +25,8 @@ def git(*words: str, given: str | None = None) -> str:
 
 
 def crate_rows() -> list[tuple[list[str], list[str]]]:
-    """Returns the lines of crates.txt: the words before the colon, a crate's name first, and the libraries after it."""
+    """Returns the lines of crates.txt: for each, the words before the colon, beginning with the crate's name, and the
+    libraries after it."""
     lines = [line.partition("#")[0] for line in text_of("crates.txt").splitlines()]
     parted = [line.partition(":") for line in lines if line.strip()]
     return [(head.split(), tail.replace(",", " ").split()) for head, _, tail in parted]
@@ -38,7 +39,7 @@ def crates_below() -> dict[str, list[str]]:
 
 
 def with_below(names: Iterable[str], uses: dict[str, list[str]]) -> list[str]:
-    """Returns these crates and those that they depend on, each after its dependencies."""
+    """Returns these crates and the crates that they depend on, each after its dependencies."""
     found: list[str] = []
 
     def walk(name: str) -> None:
@@ -70,7 +71,7 @@ def replaced(text: str, begin: str, new: str, end: str) -> str:
 
 
 def report(faults: list[str]) -> int:
-    """Prints the faults that a check found, one a line. Returns the status: 0 if there is none, otherwise 1."""
+    """Prints the faults that a check found, one per line. Returns the status: 0 if there is none, otherwise 1."""
     print("\n".join(faults), end="\n" if faults else "")
     return 1 if faults else 0
 
@@ -83,8 +84,8 @@ def with_each_macro_once(text: str) -> str:
 
 
 def renewed(texts: dict[Path, str], only_check: bool, left: Iterable[Path] = ()) -> bool:
-    """Rewrites the files whose text differs and removes leftover ones, or only names them. Returns whether there
-    were any."""
+    """Rewrites the files whose text differs and removes leftover files, or only names both. Returns whether there were
+    any."""
     stale = [path for path, text in texts.items() if not path.exists() or path.read_text(encoding="utf-8") != text]
     gone = list(left)
     for path in stale + gone:
@@ -105,7 +106,7 @@ def keep(
     texts: Callable[[], dict[Path, str]],
     left: Callable[[dict[Path, str]], list[Path]] = lambda _: [],
 ) -> None:
-    """Runs a whole script: rewrites its files, or with --check ends with status 1 if one is stale or left over."""
+    """Runs a whole script: rewrites its files, or with --check, ends with status 1 if one is stale or left over."""
     parser = argparse.ArgumentParser(description=page, formatter_class=argparse.RawDescriptionHelpFormatter)
     parser.add_argument("--check", action="store_true")
     only_check, made = parser.parse_args().check, texts()

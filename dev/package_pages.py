@@ -2,13 +2,13 @@
 """Adapts the repository's pages to an installed package, so that their links and commands work there.
 
     dev/package_pages.py --check             generates all pages, and names each dead link and each command that names a
-                                             file which isn't shipped
-    dev/package_pages.py --links FOLDER      names each dead link of the pages below a folder
+    file which isn't shipped dev/package_pages.py --links FOLDER      names each dead link of the pages below a folder
     dev/package_pages.py --commands PAGE ..  prints what a reader of these installed pages runs to build and start C
 
-A link to a file that isn't shipped becomes its text; a link to a header of the library points to the installed one.
-Commands use what is installed: `nicbench`, the tools, and pkg-config's output instead of a clone's folders. Those that
-need a clone say so. The script needs only Python; `--links` and `--commands` use nothing of the repository.
+A link to a file that isn't shipped is replaced by its text; a link to a header of the library points to the installed
+header. Commands use what is installed: `nicbench`, the tools, and pkg-config's output instead of a clone's folders.
+Commands that need a clone are marked. The script needs only Python; `--links` and `--commands` use no other file of the
+repository.
 
 Status 0: no fault; 1: a fault; 3: wrong arguments.
 """
@@ -44,7 +44,7 @@ NOTE = (
 LINK = re.compile(r"(!?)\[([^\[\]]*)\]\(([^()\s]+)\)")
 FENCE = re.compile(r"^(```|~~~).*?^\1$", re.M | re.S)
 CODE = re.compile(r"^    .*$|`[^`\n]*`", re.M)
-# Commands and paths that an installed package has no counterpart for.
+# Commands and paths for which an installed package has no counterpart.
 OF_CLONE = re.compile(
     r"(?:^|(?<=[ (]))(?:\./nicbench --|dev/|drivers/|\.ci/|c/test|c/vfio-user/|c/explore/table|c/drive/table|"
     r"benchmarks/|rt |make -C|"
@@ -102,7 +102,7 @@ def package_of(line: str) -> str:
 
 
 def command(line: str) -> str:
-    """Returns a page's command, on one line, as it is for an installed package; the indentation is kept."""
+    """Returns a page's command on one line, adapted to an installed package; the indentation is kept."""
     if OF_CLONE.search(line):
         return line if "# in a clone" in line else f"{line}{IN_CLONE}"
     if ARCHIVE.search(line):

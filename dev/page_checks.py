@@ -1,4 +1,4 @@
-"""dev/check_views's checks of a page in a browser: it loads, shows the bench's answers, and can be used."""
+"""dev/check_views's checks of a page in a browser: it loads, shows the bench's replies, and can be used."""
 
 from __future__ import annotations
 
@@ -45,7 +45,7 @@ class Look:
 
 
 def check_walk(look: Look, rings: list[str], pictures: Path | None) -> None:
-    """Steps by key from the start to the end in both widths and themes. Then the rings must match the bench, and the
+    """Steps by key from the start to the end, in both widths and themes. The rings must then match the bench, and the
     page must be as wide as the window."""
     browser = look.browser
     for width, dark in ((1_280, False), (400, True)):
@@ -69,7 +69,8 @@ def check_walk(look: Look, rings: list[str], pictures: Path | None) -> None:
 
 def check_opening(look: Look) -> None:
     """Checks that the page opens at the first failing step, and that the URL's number matches the header. Without a
-    failing step it opens at the first that did nothing, then at the first stray access, then at the last step."""
+    failing step, it opens at the first step that did nothing; without that, at the first stray access; otherwise at the
+    last step."""
     numbers = [number for number in range(look.count) if look.kind(number) in TROUBLE]
     for kind in ("idle", "stray"):
         numbers = numbers or [number for number in range(look.count) if look.kind(number) == kind]
@@ -121,7 +122,7 @@ def check_next(look: Look) -> None:
 
 
 def has_comment(line: str) -> bool:
-    """Returns whether a line has a comment, or the page adds one: the name of a virtual function's register."""
+    """Returns whether a line has a comment, or the page adds one with the name of a virtual function's register."""
     found = OFFSET.match(line)
     return "#" in line or (found is not None and int(found[1], 0) in OFFSETS)
 
@@ -144,8 +145,8 @@ def check_words(look: Look) -> None:
 
 
 def check_lit(look: Look) -> None:
-    """Checks for each step that exactly the changed digits are lit, and that rows show the step's own changes. The ring
-    shown must be the step's."""
+    """Checks for each step that exactly the changed digits are highlighted, and that the rows show the step's own
+    changes. The ring in front must be the step's."""
     browser, data = look.browser, look.data
     known = {int(address): word for address, word in data["start"]}
     browser.load(look.file, "#start")
@@ -170,8 +171,8 @@ def check_lit(look: Look) -> None:
 
 
 def check_when(look: Look) -> None:
-    """Checks the wording of each step: its conditions describe the state before it, everything else the state after it.
-    Both must show the same number of waiting frames."""
+    """Checks the wording of each step: its conditions describe the state before the step, everything else the state
+    after it. Both must show the same number of waiting frames."""
     browser, waiting = look.browser, 0
     browser.load(look.file, "#start")
     for number, (*_, more) in enumerate(look.data["steps"]):
@@ -204,14 +205,14 @@ def check_outside(look: Look, number: int) -> None:
 
 
 def check_slots(look: Look, number: int, wanted: list[str]) -> None:
-    """Checks that at this step the slots of the ring shown have these forms."""
+    """Checks that at this step the slots of the ring shown have these descriptor types."""
     look.browser.load(look.file, f"#{number}")
     forms = sorted(set(look.browser.value(words(".descriptors td b"))))
     look.expect(forms == wanted, f"step {number}: slots are shown as {forms}; expected {wanted}")
 
 
 def check_warnings(look: Look, warned: dict[int, str]) -> None:
-    """Checks that exactly these steps have a warning: a sign at the line, a mark, and text."""
+    """Checks that exactly these steps have a warning: a marker at the line, a mark on the bar, and a text."""
     browser = look.browser
     browser.size(1_280, 800, False)
     browser.load(look.file, "#start")
@@ -253,7 +254,7 @@ def check_narrow(look: Look, number: int) -> None:
 
 
 def check_vector(look: Look, name: str, vector: str) -> None:
-    """Checks that the Interrupts panel shows a cause's vector, right from the start of the page."""
+    """Checks that the Interrupts panel shows a cause's vector already at the page's start."""
     look.browser.size(1_280, 800, False)
     for place in ("", "#0"):
         look.browser.load(look.file, place)
@@ -284,8 +285,8 @@ def check_mailboxes(look: Look) -> None:
 
 
 def check_unread(look: Look, number: int) -> None:
-    """Checks that slots which the device hasn't read are striped, in the ring and in its strip, and that the key
-    explains it; and that no row of the script or of the descriptors is clipped by its box."""
+    """Checks that slots that the device hasn't read are striped, in the ring and in its strip, and that the key
+    explains the stripes. Also checks that no row of the script or of the descriptors is clipped by its box."""
     browser = look.browser
     for wide in (1_280, 400):
         browser.size(wide, 800, wide == 400)

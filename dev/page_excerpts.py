@@ -27,7 +27,7 @@ PIECE = re.compile(r"<!-- ([\w./]+): (\S.*) -->\n\n((?:    .*\n|\n+(?=    ))*)")
 
 
 def first(lines: list[str], what: str, is_it: re.Pattern[str]) -> int:
-    """Returns the number of the only line that a pattern matches."""
+    """Returns the number of the only line that matches a pattern."""
     found = [at for at, line in enumerate(lines) if is_it.search(line)]
     if len(found) != 1:
         sys.exit(f"dev/page_excerpts.py: {len(found)} lines are {what}")
@@ -50,7 +50,7 @@ def item_of(text: str, item: str) -> list[str]:
 
 
 def shown(piece: re.Match[str]) -> str:
-    """Returns an excerpt as the page must show it; excerpts by lines lose their common indentation."""
+    """Returns an excerpt as the page must show it. Excerpts selected by lines lose their common indentation."""
     file, items, _ = piece.groups()
     text = text_of(file)
     parts = []

@@ -1,11 +1,12 @@
-/* The calls of the C library, for a library that is opened separately so that its names are hidden from another's. */
+/* The calls of the C library, for a library that is opened separately, so its names don't clash with another's. */
 #ifndef CALLS_H
 #define CALLS_H
 
 #include "nic82599.h"
 
 /* All functions that nic82599.h declares and a program can compare; dev/compare_editions checks that none is missing.
-   Those that report the edition (nic_version, nic_edition, nic_is_proved) differ as they should. */
+   The functions that report the edition (nic_version, nic_edition, nic_is_proved) are omitted, because they must
+   differ. */
 #define CALLS(X)                                                                                                       \
     X(nic_record)                                                                                                      \
     X(nic_note)                                                                                                        \

@@ -16,7 +16,7 @@ const size_t chance_address_count = sizeof chance_addresses / sizeof *chance_add
 
 static uint64_t state = 1;
 
-/* Events to make before any random ones, for example the setup of a queue or the opening of the cards. */
+/* Events to run before any random ones, for example the setup of a queue or the opening of the cards. */
 static struct event planned[MOST_PLANNED];
 static size_t planned_count, planned_at;
 static unsigned left;    /* events left in this session */
@@ -114,7 +114,7 @@ static uint32_t some_word(void)
     }
 }
 
-/* Usually a register of the table, otherwise an address near one, or any. */
+/* Returns in most cases a register of the table, otherwise an address near one, or any address. */
 static uint32_t some_address(void)
 {
     uint32_t address = chance_addresses[below((uint32_t)chance_address_count)];
@@ -157,7 +157,8 @@ static uint8_t some_vf(void)
 
 /* --- setups --- */
 
-/* Receives every frame, with one queue or with four. The second card's virtual functions have their registers. */
+/* Plans the reception of every frame, with one queue or with four. The second card has pools, so its virtual functions
+   have registers. */
 static void plan_plain_modes(uint8_t card)
 {
     plan_write(card, NIC_RXCTRL, 1);
@@ -305,7 +306,7 @@ static void tail(struct event *event)
     event->word = below(SLOTS + 1);
 }
 
-/* Writes the beginning of a frame: IPv4 or IPv6 with TCP, UDP or others, with fragments, options and tags. */
+/* Writes the beginning of a frame: IPv4 or IPv6 with TCP, UDP or another protocol, with fragments, options and tags. */
 static void put_headers(uint8_t *frame)
 {
     static const uint8_t ipv4[] = {2, 0, 0, 0, 0, 1, 2, 0, 0, 0, 0, 2, 8, 0, 0x45, 0, 0, 40, 0, 0, 0, 0, 64, 6};
@@ -399,7 +400,7 @@ static void snapshots(const struct side *side, struct event *event)
         event->call = CALL_nic_snapshot;
 }
 
-/* Writes an EEPROM's text, valid or nearly so. */
+/* Writes an EEPROM's text, valid or nearly valid. */
 static void put_text(struct event *event)
 {
     static const char *const sizes[] = {"", "", "size 128\n", "size 64\n"}, *const twice[] = {"", "", "", "word 5 5\n"};
@@ -467,7 +468,7 @@ static void link(struct event *event)
 
 typedef void single(struct event *);
 
-/* The frequency of each kind of event. Snapshots depend on what is open. */
+/* The frequency of each kind of event. For snapshots, it depends on what is open. */
 static const struct {
     uint32_t weight;
     single *choose;

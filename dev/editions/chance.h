@@ -1,4 +1,4 @@
-/* Random events: the same ones for the same seed, on each machine. */
+/* Random events: the same events for the same seed, on every machine. */
 #ifndef CHANCE_H
 #define CHANCE_H
 
@@ -9,7 +9,7 @@ void chance_seed(uint64_t seed);
 /* Returns a number below `bound`, which isn't 0. */
 uint32_t chance_below(uint32_t bound);
 
-/* Stores the next event for a library in this state; it considers only what is open. */
+/* Stores the next event, which is chosen only from what is open. */
 void chance_event(const struct side *side, struct event *event);
 
 /* All addresses of the register table. */

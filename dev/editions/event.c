@@ -125,7 +125,7 @@ const char *event_name(enum call call)
 
 /* --- answers --- */
 
-/* The number of bytes of an answer that are filled before the call and compared after it. */
+/* Returns the number of bytes of an answer that are filled before the call and compared after it. */
 static size_t size_of(const struct event *event)
 {
     return offsetof(struct answer, bytes) + event->room;
@@ -138,7 +138,7 @@ static void fill(const struct event *event, struct answer *answer)
     answer->where = (nic_settling){event->queue, (uint16_t)event->number};
 }
 
-/* Clears the bytes of a report after its last field, which mean nothing. */
+/* Clears the padding after a report's last field. */
 static void clear_ends(struct answer *answer)
 {
     size_t end = offsetof(nic_outcome, vector) + sizeof answer->outcome->vector;

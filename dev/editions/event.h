@@ -1,4 +1,4 @@
-/* An event is one call with its arguments, made to each library. An answer is everything that the call returns. */
+/* An event is one call with its arguments, made to each library. Its answer is everything that the call returns. */
 #ifndef EVENT_H
 #define EVENT_H
 
@@ -15,7 +15,8 @@ enum {
     NOT_OPEN = CARDS
 };
 
-/* A library, with what it opened and was lent. The handle after the last card is never opened. */
+/* A library, with the cards that it opened and the memory that it was lent. The handle after the last card is never
+   opened. */
 struct side {
     struct library lib;
     nic cards[CARDS + 1];
@@ -36,7 +37,7 @@ struct event {
     uint8_t given[GIVEN];
 };
 
-/* Filled identically before each call, so that what a call leaves unchanged is compared too. */
+/* Filled identically before each call, so the comparison includes bytes that the call leaves unchanged. */
 struct answer {
     uint64_t line;
     size_t count;
@@ -51,7 +52,7 @@ struct answer {
 /* Makes the call to a library. */
 void event_make(struct side *side, const struct event *event, struct answer *answer);
 
-/* Stores the answer of a call that only returned this status; counts and lines are 0. */
+/* Stores the answer of a call that returned only this status; counts and lines are 0. */
 void event_refused(const struct event *event, uint8_t status, struct answer *answer);
 
 bool event_alike(const struct event *event, const struct answer *one, const struct answer *other);

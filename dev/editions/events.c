@@ -5,7 +5,7 @@
    FOLDER is an empty folder for recordings. From event FROM on, each event is printed; 0 prints none. With only one
    library, the program prints a digest of its answers: equal digests on two machines mean equal answers.
 
-   Sometimes the memory requests of a call are refused to one library, one after another. Each refusal must be reported
+   For some calls, one library is refused each of its memory requests, one after another. Each refusal must be reported
    and change nothing. The other library gets all its memory, and must return what the first one finally returns. The
    order in which the two request memory doesn't matter; the program prints how often it was equal.
 
@@ -83,7 +83,7 @@ static struct asked make(size_t k, const struct event *of, struct answer *answer
 static bool is_refusal(const struct answer *answer)
 {
     event_refused(&event, NIC_OUT_OF_MEMORY, &wanted);
-    /* nic_lend_all keeps what it lent, and nic_next_step may have passed idle steps */
+    /* nic_lend_all keeps the blocks that it lent, and nic_next_step may have skipped idle steps */
     if (event.call == CALL_nic_lend_all || event.call == CALL_nic_next_step)
         return answer->status == NIC_OUT_OF_MEMORY;
     return event_alike(&event, answer, &wanted);
@@ -97,7 +97,7 @@ static void make_refused(size_t k)
         if (!asked.is_refused)
             return;
         seen.refusals++;
-        if (answers[k].status != NIC_OUT_OF_MEMORY) { /* the memory only saves time */
+        if (answers[k].status != NIC_OUT_OF_MEMORY) { /* this memory only saves time */
             seen.unneeded++;
             return;
         }
@@ -108,7 +108,7 @@ static void make_refused(size_t k)
     }
 }
 
-/* nic_settle keeps what it did before it was refused memory, so the other library runs as many steps. */
+/* The steps that nic_settle ran before it was refused memory remain, so the other library runs as many steps. */
 static bool settle_refused(size_t k)
 {
     struct asked asked = make(k, &event, &answers[k], 1 + (long)chance_below(3));
@@ -124,7 +124,7 @@ static bool settle_refused(size_t k)
     return true;
 }
 
-/* nic_why manages with less memory; its last line says so. */
+/* nic_why works with less memory, and reports that in its last line. */
 static void why_refused(size_t k)
 {
     static const char end[] = "out of memory for a copy: waiting frames, requested enables and reported causes are "
@@ -187,7 +187,7 @@ static void compare(const char *what)
     digest = event_digest(digest, &event, &answers[0]);
 }
 
-/* Makes a call for the comparison alone; it has no effects. */
+/* Makes a call that has no effect, only for the comparison. */
 static void look(enum call call, uint8_t card, uint8_t vf, uint32_t at)
 {
     memset(&event, 0, offsetof(struct event, given));
@@ -252,7 +252,7 @@ static char *text_of(const char *folder, const char *name)
     return text;
 }
 
-/* Returns a recording after its second line, which says which library made it. */
+/* Returns a recording without its first two lines; the second one names the library that made it. */
 static const char *after_head(const char *text)
 {
     const char *end = text ? strchr(text, '\n') : NULL;
@@ -281,7 +281,7 @@ static void compare_recordings(void)
 
 /* --- the program --- */
 
-/* Writes the caller's own memory between two calls, lent or not. */
+/* Writes to the caller's own memory between two calls, whether or not it is lent. */
 static void store(void)
 {
     uint32_t card = chance_below(CARDS), own = chance_below(OWN), at = chance_below(OWN_BYTES - 64);
@@ -302,7 +302,7 @@ static bool is_any_open(void)
     return false;
 }
 
-/* Nothing is open any longer: a library that still holds memory has leaked it. */
+/* Nothing is open any longer, so a library that still holds memory has leaked it. */
 static void look_for_losses(void)
 {
     for (size_t k = 0; k < side_count; k++) {

@@ -1,4 +1,4 @@
-/* The program's malloc, calloc and realloc, which refuse one request of a library, selected by its number. */
+/* The program's malloc, calloc and realloc, which refuse the library's request with a given number. */
 #ifndef REFUSE_H
 #define REFUSE_H
 
@@ -9,7 +9,7 @@
 struct asked {
     long growths; /* number of requests */
     bool is_refused;
-    uint64_t order; /* digest of the sizes in order */
+    uint64_t order; /* digest of the sizes, in the order of the requests */
     long held;      /* blocks allocated and not freed */
 };
 

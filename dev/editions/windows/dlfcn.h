@@ -1,5 +1,5 @@
-/* For dev/editions/events.c on Windows, where the library is linked in: looks up its calls by name, and defines what
-   Windows' headers lack of POSIX. */
+/* For dev/editions/events.c on Windows, where the library is linked in: looks up its calls by name, and defines the
+   parts of POSIX that the Windows headers lack. */
 #ifndef DLFCN_H
 #define DLFCN_H
 

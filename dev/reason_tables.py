@@ -81,7 +81,7 @@ def bare(node: ast.expr) -> str:
 
 
 def register(it: Named) -> str:
-    """Returns the expression for the register that is named, or for the named part of it."""
+    """Returns the expression for the named register, or for the named part of it."""
     index = f"({bare(it.index) if it.index else '0'})" if it.is_indexed else ""
     address = f"NIC_{it.register}{index}"
     if it.bit:
@@ -95,7 +95,7 @@ def register(it: Named) -> str:
 
 
 def shown(it: Named) -> tuple[str, list[str]]:
-    """Returns a register's name as a format, and its numbers."""
+    """Returns a register's name as a format string, and its numbers."""
     given = [bare(it.index)] if it.index and it.is_indexed else []
     index = "[%llu]" if given else ""
     given += [bare(it.bit)] if it.bit else []
@@ -103,7 +103,7 @@ def shown(it: Named) -> tuple[str, list[str]]:
 
 
 def place_of(place: str) -> tuple[str, list[str]]:
-    """Returns a placeholder as a format, and its arguments."""
+    """Returns a placeholder as a format string, and its arguments."""
     text, _, form = place.partition(":")
     if form == "s":
         return "%s", [text]
@@ -123,7 +123,7 @@ def place_of(place: str) -> tuple[str, list[str]]:
 
 
 def lines_of(pieces: list[str]) -> list[str]:
-    """Joins the pieces of a text to lines of limited width."""
+    """Joins the parts of a text to lines of limited width."""
     lines = [""]
     for piece in pieces:
         if len(lines[-1]) + len(piece) > WIDE and lines[-1]:
@@ -139,7 +139,7 @@ def filled(given: list[str]) -> list[str]:
 
 
 def pieces_of(text: str) -> Iterator[tuple[str, bool]]:
-    """Yields the words of a text with their blanks, and its placeholders."""
+    """Yields a text's words with the blanks after them, and its placeholders."""
     at = 0
     for found in PLACE.finditer(text):
         yield from ((word, False) for word in re.findall(r"\S+ ?| ", text[at : found.start()]))
@@ -149,7 +149,7 @@ def pieces_of(text: str) -> Iterator[tuple[str, bool]]:
 
 
 def format_of(text: str) -> tuple[str, list[str]]:
-    """Returns a text as a format, on one line or several, and its arguments."""
+    """Returns a text as a format string, on one or several lines, and its arguments."""
     pieces: list[str] = []
     given: list[str] = []
     for piece, is_place in pieces_of(text):
@@ -163,7 +163,7 @@ def format_of(text: str) -> tuple[str, list[str]]:
 
 
 def head(row: Row) -> str:
-    """Returns the head of a row's function, on two lines if it is long."""
+    """Returns the head of the function for a row, on two lines if it is long."""
     words = "".join(f", {'const char *' if word in row.texts else 'uint64_t '}{word}" for word in row.words)
     text = f"static {'uint64_t' if row.value else 'bool'} nicl_why_{row.name}(struct nicl_why *it{words})"
     if len(text) < 118:
@@ -190,7 +190,7 @@ def function(row: Row) -> str:
 
 
 def names_of_bits(row: str) -> str:
-    """Returns the names of the bits in a row of causes that have one."""
+    """Returns the names of the bits in a row of causes; some bits have none."""
     names = {bit: bits(row, 1 << bit)[0] for bit in range(32)}
     pieces = [f'[{bit}] = "{name}", ' for bit, name in names.items() if name != f"bit {bit}"]
     lines = "".join(f"    {line.rstrip()}\n" for line in lines_of(pieces))

@@ -1,13 +1,14 @@
 /* A library that dev/refusals preloads before the C library. It refuses one allocation, thread, read or write of the
-   program, selected by its number, and reports at exit what it saw.
+   program, selected by its number, and reports its counts at exit.
 
    REFUSE_GROWTH, REFUSE_THREAD, FAIL_IO and SHORT_IO are numbers, counted from 1. With REFUSE_WITHIN, allocations count
    only after a line `call` on standard output, and before the line that follows it. The first REFUSE_SKIP allocations
-   don't count: they belong to the startup of a language, before the program's own. With REFUSE_OWN, only allocations of
-   a thread that wrote a line `call` count: others belong to the test runner. With LATE_THREADS, each thread is created
-   but starts this many seconds later, as on a busy machine. At exit, one line goes to the file descriptor REFUSE_TELL:
-   the numbers of allocations, threads, reads and writes; whether one was refused; how many blocks of memory weren't
-   freed; and which allocation was the last before the first thread, the one made for the thread itself. */
+   don't count, because they belong to the language's startup, before the program's own. With REFUSE_OWN, only
+   allocations of a thread that wrote a line `call` count; others belong to the test runner. With LATE_THREADS, each
+   thread is created but starts this many seconds later, as on a busy machine. At exit, one line goes to the file
+   descriptor REFUSE_TELL: the numbers of allocations, threads, reads and writes; whether one was refused; how many
+   blocks of memory weren't freed; and which allocation was the last before the first thread, because that one is for
+   the thread itself. */
 #define _GNU_SOURCE
 #include <dlfcn.h>
 #include <errno.h>
@@ -62,7 +63,7 @@ __attribute__((destructor)) static void finish(void)
     tell = -1;
 }
 
-/* A program with threads ends by this call, which runs no exit handlers. */
+/* A program with threads ends with this call, which runs no exit handlers. */
 __attribute__((noreturn)) void _exit(int status)
 {
     finish();

@@ -1,10 +1,10 @@
 #!/usr/bin/env python3
-"""Writes the register table into every file that shows it, from the one list in python/nic82599/tools/tables.py.
+"""Writes the register table to every file that contains it, from the list in python/nic82599/tools/tables.py.
 
-    dev/register_table.py            rewrites the files
-    dev/register_table.py --check    says which files are stale, and ends with status 1 if any is
+    dev/register_table.py            rewrites the files dev/register_table.py --check    names the stale files, and ends
+    with status 1 if there are any
 
-A register is one line of TABLE. Run the script after an edit of that list. It writes the table of docs/REGISTERS.md,
+Each register is one line of TABLE. Run the script after you change that list. It writes the table of docs/REGISTERS.md,
 and whole files of crates/reg_table and crates/register_file; the first line of each says that it is generated.
 """
 
@@ -23,7 +23,7 @@ from nic82599.tools.tables import TABLE, Row, Run  # noqa: E402
 
 # A run with its row.
 Member = tuple[Row, Run]
-# A stride, and a range of remainders modulo it; the end is excluded.
+# A stride, and a range of remainders modulo that stride; the end is excluded.
 Rest = tuple[int, int, int] | None
 
 # The names of the banks on the page of registers.
@@ -40,9 +40,9 @@ BANKS = {
     "Messages": "mailbox memory",
 }
 
-# The rows that register_file keeps outside its cells, with the expression for their words in `a`, the registers:
-# interrupt groups, sides of queues, the hash key and its table, and rows that a pool reset or a full reset sets in a
-# special way. None for a row that holds no word.
+# The rows that register_file stores outside its cells, with the expression for their words in `a`, the registers. These
+# are interrupt groups, sides of queues, the hash key and its table, and rows that a pool reset or a full reset sets in
+# a special way. The expression is None for a row that stores no word.
 FIELDS: dict[str, str | None] = {
     "STATUS": None,
     "PVFCTRL": None,
@@ -91,14 +91,14 @@ FIELDS: dict[str, str | None] = {
 
 
 def cells() -> list[Row]:
-    """Returns the rows among the cells, which a reset clears."""
+    """Returns the rows that are stored in cells, which a reset clears."""
     rows = [row for row in TABLE if row.name not in FIELDS]
     assert all(row.reset == 0 for row in rows)
     return rows
 
 
 def check_table() -> None:
-    """Refuses a duplicate name, an address with two places, and a row with a missing index."""
+    """Refuses a duplicate name, an address of two registers, and a row with a missing index."""
     names: set[str] = set()
     taken: dict[int, str] = {}
     for row in TABLE:
@@ -129,7 +129,7 @@ def kinds() -> str:
 
 
 def doc_of(row: Row) -> str:
-    """Returns the comment for a row's variant and field: what the row is, and how many registers it has."""
+    """Returns the comment for a row's variant and field: the row's meaning, and its number of registers."""
     meaning = row.meaning if row.meaning[1].isupper() else row.meaning[0].lower() + row.meaning[1:]
     return f"{row.name}: {meaning}, " + ("one register." if row.count == 1 else f"index 0 to {row.count - 1}.")
 
@@ -179,7 +179,7 @@ pub(crate) static ROWS: [RowId; {len(TABLE)}] = [
 
 
 def rust_entries() -> str:
-    """Returns the entries of the rows, and the function that looks one up."""
+    """Returns the entries of the rows, and the function that looks up an entry."""
     entries = "".join(
         f"    entry!({quoted(row.name):15} {row.count:4}, {row.kind}, {row.bank}, "
         f"{word(row.mask)}, {word(row.reset)}),\n"
@@ -322,7 +322,7 @@ ANSWERS = {4: "words", 8: "pairs", 64: "queues"}
 
 class Part:
     """A range of addresses that one branch handles: the words of one run, or interleaved runs of equal stride, which
-    the address's remainder distinguishes. Each run comes with its row."""
+    are distinguished by the address's remainder. Each run is paired with its row."""
 
     def __init__(self, low: int, high: int, members: list[Member]) -> None:
         self.low, self.high, self.members = low, high, members
@@ -361,7 +361,7 @@ def parts() -> list[Part]:
 
 
 def between(low: int, high: int, ranges: list[tuple[int, int]]) -> list[tuple[int, int]]:
-    """Returns the gaps between the ranges, which are in order, from low up to high."""
+    """Returns the gaps from low up to high between the ranges, which are sorted."""
     starts, ends = [low] + [end for _, end in ranges], [start for start, _ in ranges] + [high]
     return [(start, end) for start, end in zip(starts, ends) if start < end]
 
@@ -399,7 +399,7 @@ class Dispatch:
         return self.functions[-1]
 
     def lay_out_pages(self, table: list[Part]) -> None:
-        """Lays out functions for runs of equal stride that fill whole pages, and for adjacent pages of few parts."""
+        """Lays out functions for runs of equal stride that fill whole pages, and for adjacent pages with few parts."""
         top = self.function("aligned", None, None, matched=f"address / 0x{PAGE:X}")
         steps = [part for part in table if not part.is_words]
         filling = {part.low: part.high for part in steps if part.low % PAGE == 0 == part.high % PAGE}
@@ -485,7 +485,8 @@ class Dispatch:
         function.arms.append((*arm, call))
 
     def gap(self, function: Function, low: int, high: int, rest: Rest = None) -> None:
-        """Adds the fact that no address from low up to high, with the given remainder if any, names a place."""
+        """Adds the fact that no address from low up to high, with the given remainder if there is one, is a
+        register's."""
         kind = f"NoSteps {rest[0]} 0x{rest[1]:02X} 0x{rest[2]:02X}" if rest else "NoWords"
         function.gaps.append(f"{kind} 0x{low:05X} 0x{high:05X}")
 
@@ -777,7 +778,7 @@ use Rattle.reg_table.specs.declared.rows.RowId.TheVariants.{{{variants}}}
 
 
 def proof_cells() -> str:
-    """Returns the test that distinguishes the cells' rows from all others."""
+    """Returns the test that tells the cells' rows from all others."""
     are = "".join(f"is_cell {row.variant} = true\n" for row in cells())
     return f"""{GENERATED}
 use Rattle.std.specs.Prelude.{{Bool, true, false}}
@@ -788,7 +789,7 @@ abbrev pub is_cell : RowId → Bool
 """
 
 
-# The functions of words.rt that match on all rows: each has a proof for the rows that no other field holds.
+# The functions of words.rt that match on all rows. Each has a proof for the rows that are in no other field.
 WORDS = "register_file/RegisterFile"
 AMONG_HEAD = f"""{GENERATED}
 -- Lemmas: the words of the rows among the cells, and of the rows that hold no word.
@@ -807,7 +808,7 @@ use Rattle.register_file.proofs.CellRows.{is_cell}
 
 
 def filled(pieces: Iterable[str]) -> str:
-    """Fills indented lines with the pieces of a proof, without breaking a piece."""
+    """Fills indented lines with the terms of a proof, without breaking a term."""
     whole = " ".join(piece.replace(" ", "\0") for piece in pieces)
     lines = textwrap.wrap(whole, 115, initial_indent="    ", subsequent_indent="    ", break_on_hyphens=False)
     return "\n".join(lines).replace("\0", " ")
@@ -819,7 +820,7 @@ def fields() -> list[Row]:
 
 
 def proof_among() -> str:
-    """Returns the lemmas about rows among the cells, with a line for each row that isn't."""
+    """Returns the lemmas about the rows that are stored in cells, with a line for each row that isn't."""
     named = [row.variant for row in TABLE if row.name in FIELDS or row.count > 1]
     uses = f"use Rattle.reg_table.specs.declared.rows.RowId.TheVariants.{{{', '.join(named)}}}\n"
     lemmas = (proof_cell_of(), proof_cell_row(), proof_zero_row(), proof_word_stored())
@@ -827,7 +828,7 @@ def proof_among() -> str:
 
 
 def proof_cell_of() -> str:
-    """Returns the lemma: a row that is none of the others is a cell."""
+    """Returns the lemma that a row in no other field is a cell."""
     isnt = filled(f"→ row ≢ {row.variant}" for row in fields())
     lines = ""
     for at, row in enumerate(fields()):
@@ -854,7 +855,7 @@ pub cell_row : (a : Inside) (row : RowId) → is_cell row ≡ true → row_words
 
 
 def proof_zero_row() -> str:
-    """Returns the lemma about rows without a word, in the order of words.rt."""
+    """Returns the lemma about the rows that store no word, in the order of words.rt."""
     none = [row.variant for row in fields() if FIELDS[row.name] is None]
     some = filled([*(f"((row ≡ {it}) ⊎" for it in none[:-1]), f"((row ≡ {none[-1]}" + ")" * (len(none) + 1)])
     lines = ""
@@ -872,7 +873,7 @@ pub zero_row : (a : Inside) (row : RowId)
 
 
 def proof_word_stored() -> str:
-    """Returns the lemma about storing a word in a cell, for rows with an index and without."""
+    """Returns the lemma about storing a word in a cell, for rows with and without an index."""
     lines = "".join(f"word_stored a {row.variant} index word h b = absurd cc\n" for row in fields())
     several = "".join(f"word_stored a {row.variant} (suc index) word h b = refl\n" for row in cells() if row.count > 1)
     return f"""\
@@ -885,7 +886,7 @@ pub word_stored : (a : Inside) (row : RowId) (index word : ℕ) → is_cell row 
 
 
 def answer_no_field() -> str:
-    """Returns the part of an answer that concludes that a row is a cell because no other field holds it."""
+    """Returns the part of a proof that concludes that a row is a cell because it is in no other field."""
     isnt = filled(f"d.not-{row.variant}" for row in fields())
     return f"""\
     let d = c.in_default in
@@ -895,7 +896,7 @@ def answer_no_field() -> str:
 
 
 def answers_of_cell() -> str:
-    """Returns the answers for the function that reads a word."""
+    """Returns the proofs for the function that reads a word."""
     return f"""{GENERATED}
 use Rattle.std.proofs.Common.{{sym, ap, ◌∙◌, get_or}}
 use Rattle.std.proofs.lemmas.List.{{get_or-replicate}}
@@ -923,14 +924,14 @@ returns-in_default-clause-holds c =
 
 
 def answer_of_side(row: Row) -> str:
-    """Returns the answer for a queue's register: the word is stored in its side."""
+    """Returns the proof for a queue's register: the word is stored in its side."""
     side, goal = (FIELDS[row.name] or "").rpartition("a.")[2], f"returns-in-{row.variant}"
     by = f"rw (← c.self-in-{row.variant}.view_is, c.in-{row.variant}.is)"
     return f"pub {goal} : goal.{goal}\n{goal} c = {by} (simp (c.from-at.ensures, {side}_columns))\n\n"
 
 
 def answers_of_set_word() -> str:
-    """Returns the answers for the function that stores a word."""
+    """Returns the proofs for the function that stores a word."""
     sides = [row for row in fields() if (FIELDS[row.name] or "").endswith((" a.receive", " a.transmit"))]
     return f"""{GENERATED}
 use Rattle.std.proofs.Common.{{◌∙◌, ap}}

@@ -5,10 +5,10 @@ python/nic82599/statuses.py, and src/status.rs of rust/nic82599.
     dev/status_tables.py            rewrites the files
     dev/status_tables.py --check    names the stale files, and ends with status 1 if there are any
 
-The numbers are those of c/include/nic82599.h, which is written by hand and documents each. The library's crate
-defines them too, in its proved sources; if the header differs, both forms end with status 1. No call returns two
-of the crate's numbers, so the header lacks them. What C code around the crate's calls returns is only in the
-header, with numbers that the crate doesn't use.
+The numbers come from c/include/nic82599.h, which is written by hand and documents each. The library's crate also
+defines them, in its proved sources; if the header differs, both forms end with status 1. The header lacks two of the
+crate's numbers, because no call returns them. Only the header has the numbers that the C code around the crate's calls
+returns; the crate doesn't use these.
 """
 
 from __future__ import annotations
@@ -33,7 +33,8 @@ WORDS = {
     "FAULTS": ("nic_fault", "nic_fault_name"),
     "STEPS": ("nic_step", "nic_step_name"),
 }
-# Numbers that no call returns, and those returned around the crate's calls: by C code, or by the plain edition's kit.
+# Numbers that no call returns, and numbers that code around the crate's calls returns: C code, or the plain edition's
+# kit.
 UNANSWERED = {"TWICE", "MISALIGNED"}
 AROUND = {"BAD_MEMORY", "BROKEN", "CLOSED"}
 # Names that differ between the crate and the header.
@@ -68,13 +69,13 @@ def words_of(function: str) -> list[str]:
 
 
 def capitals(name: str) -> str:
-    """Returns the header's form of a crate's name: NOT_LENT for NotLent."""
+    """Returns the header's name for a crate's name: NOT_LENT for NotLent."""
     constant = re.sub(r"(?<=[a-z])(?=[A-Z])", "_", name).upper()
     return OTHERWISE.get(constant, constant)
 
 
 def constants(file: str) -> Numbers:
-    """Returns the byte constants of a source of the crate."""
+    """Returns the byte constants in one of the crate's sources."""
     found = re.findall(r"^pub const (\w+): u8 = (\d+);", text_of(f"{CRATE}/{file}"), re.M)
     return {name: int(number) for name, number in found}
 
@@ -93,7 +94,7 @@ def of_crate() -> tuple[Numbers, Numbers, Numbers]:
 
 
 def lists() -> dict[str, Numbers]:
-    """Returns the four lists of the header, after comparing the first three with the crate's."""
+    """Returns the header's four lists, after comparing the first three with the crate's."""
     found = {name: numbers_of(name) for name in LISTS}
     for (name, mine), other in zip(list(found.items())[:3], of_crate(), strict=True):
         odd = {it for it, _ in mine.items() ^ other.items() if it not in AROUND}

@@ -1,6 +1,7 @@
 #!/usr/bin/env python3
-"""Writes what the tools over runs need to know about registers besides their table: python/nic82599/tools/known.py, so
-that the package needs no clone around it; and for C the registers that the bench lacks, c/library/absent.inc.
+"""Writes what the tools that show runs need to know about registers in addition to their table:
+python/nic82599/tools/known.py, so that the package doesn't depend on a clone. For C, writes the registers that the
+bench lacks, c/library/absent.inc.
 
     dev/tool_tables.py            rewrites the files
     dev/tool_tables.py --check    names the stale files, and ends with status 1 if there are any
@@ -65,9 +66,9 @@ def runs_of(part: str, name: str) -> Iterator[AbsentRun]:
 
 
 def absent_registers() -> list[tuple[str, list[AbsentRun]]]:
-    """Returns the card's registers that the bench lacks, from docs/CARD.md: what to do, and their address runs. A
-    row of the page's table has the names and addresses of a family; if their numbers differ, an address gets all
-    the names."""
+    """Returns the card's registers that the bench lacks, from docs/CARD.md: what to do, and their address runs. A row
+    of the page's table has the names and addresses of a family. If there are more or fewer names than addresses, each
+    address gets all the names."""
     found: list[tuple[str, list[AbsentRun]]] = []
     for line in text_of(CARD).splitlines():
         cells = [cell.strip() for cell in line.strip().strip("|").split("|")]

@@ -1,5 +1,5 @@
-"""What dev/compare_editions and dev/compare_words share: the plain edition and another one, and comparing the
-answers of two programs to the same arguments and input."""
+"""Code that dev/compare_editions and dev/compare_words share: the plain edition and another one, and the comparison of
+two programs' results for the same arguments and input."""
 
 from __future__ import annotations
 
@@ -19,7 +19,7 @@ from generated import ROOT
 
 PROVED = ROOT / "crates/nicbench/out/nicbench"
 PLAIN = ROOT / "dev/plain"
-# Timeout in seconds: no compared run takes more than a second, except on a busy machine.
+# Timeout in seconds. No compared run takes more than a second, except on a busy machine.
 PATIENCE = 120
 BATCH = 50
 SHOWN = 5
@@ -37,7 +37,7 @@ class Broken(Exception):
 
 
 class Answer(NamedTuple):
-    """How a program ended and what it wrote; the status is None if a signal ended it."""
+    """A program's status and output; the status is None if a signal ended it."""
 
     status: int | None
     out: bytes
@@ -45,7 +45,7 @@ class Answer(NamedTuple):
 
 
 class Programs(NamedTuple):
-    """Two programs with the same name, which their usage shows, in separate folders."""
+    """Two programs in separate folders, with the same name, because their usage message shows it."""
 
     one: Path
     other: Path

@@ -3,10 +3,10 @@
 from __future__ import annotations
 
 FRAME = "0200000000010200000000020800450000280000000040060000420995bba18e64500aea06e6" + "00" * 22
-# A ring of 256 slots of which only the half in block 0 is lent. The device owns 200 slots, and nothing is written to
+# A ring of 256 slots, of which only the half in block 0 is lent. The device owns 200 slots, and nothing is written to
 # them.
 LONG_RING = "lend 0\nw RDLEN[0] 4096\nw RXDCTL[0] 0x02000000\nqstep rx 0\nw RDT[0] 200\n"
-# A queue that receives: its ring at 0, its first slot poked with a buffer's address.
+# A receive queue whose ring is at 0, with a buffer's address poked into its first slot.
 RECEIVES = """data frame {frame}
 data slot {buffer:02x}{rest}
 lend 0
@@ -54,18 +54,18 @@ arrive zero
 rx
 rx
 """
-# Scripts whose last events, recorded, depend on earlier ones: the number of virtual functions that each needs, and its
+# Scripts whose last recorded events depend on earlier ones: the number of virtual functions that each needs, and its
 # text.
 ENDS = {
     # A slot is written; its ring was set up earlier.
     "slot.nic": (0, RECEIVES.format(**SLOT) + "poke 16 slot\nr RDH[0]\n"),
-    # A frame covers the ring, because of the slot poked earlier.
+    # A frame overwrites the ring, because of a slot that was poked earlier.
     "over.nic": (0, RECEIVES.format(**OVER) + "r RDH[0]\n"),
     # A frame that arrived earlier is received, and another one waits.
     "second.nic": (0, RECEIVES.format(**SLOT).replace("rx\n", "arrive frame\nrx\n")),
-    # A counter that was assigned earlier counts, and a read clears it.
+    # A counter that was assigned to a queue earlier counts, and a read clears it.
     "counted.nic": (0, "w RQSMR[0] 3\n" + RECEIVES.format(**SLOT) + "r QPRC[3]\nr QPRC[3]\n"),
-    # Frames that arrived earlier also wait: one is for a function that resets itself, and one is first.
+    # Frames that arrived earlier also wait: one for a function that resets itself, and one that is first in line.
     "waits.nic": (2, WAITS.format(frame=FRAME, other=FRAME[:11] + "3" + FRAME[12:])),
     # A function resets what it wrote earlier, and writes it again.
     "reset.nic": (1, "w GCR_EXT 3\nvw 0 0x108 7\nvw 0 0x120 0x8281\nvw 0 0 0x04000000\nvw 0 0x108 1\nvw 0 0x104 2\n"),
@@ -133,8 +133,8 @@ USES = [
     (["nicdebug", "examples/queue.nic"], "help\n", 0, "continue fault     the same, but also stops after a fault"),
 ]
 
-# tools/niclint's warnings in the examples, each announced by its example: an access to no register and a write of
-# reserved bits, to show their effects, and a forgotten tail.
+# The warnings of tools/niclint in the examples, each of which the example announces: an access where there is no
+# register and a write to reserved bits, which show their effects, and a forgotten tail.
 WARNED = {
     "aliases.nic": ["0x0000c isn't a register"],
     "masks.nic": ["RDT[127]: bits 0x12340000 are reserved"],
@@ -148,8 +148,8 @@ WARNS_AT = {1: "no `qstep rx 0` follows", 4: "bits 0x00010000 are reserved"}
 
 
 def sixteen_script() -> str:
-    """Returns a script of sixteen queues, each with a receive and a transmit ring; one gets a frame, one sends, then
-    everything is reset."""
+    """Returns a script of sixteen queues, each with a receive and a transmit ring; one queue receives a frame, one
+    sends, then everything is reset."""
     lines = [f"data frame {FRAME}", f"data rx 0080{'00' * 14}", "data tx 00800000000000003c00302b00000f00"]
     lines += [f"lend {block}" for block in range(17)]
     lines += ["w RXCTRL 1", "w FCTRL 0x200", "w DMATXCTL 0x81000001", "w IVAR[0] 0x8180", "w EIMS 3"]
@@ -166,7 +166,8 @@ def sixteen_script() -> str:
 
 
 def long_script() -> str:
-    """Returns a script of 4,096 instructions: rounds of a frame received and one sent, with their interrupts."""
+    """Returns a script of 4,096 instructions: rounds in which a frame is received and one is sent, with their
+    interrupts."""
     lines = [f"data frame {FRAME}", "data tx 00100000000000003c00302b00000f00"]
     lines += [f"data rx{n} {(0x1000 + 0x800 * n).to_bytes(8, 'little').hex()}{'00' * 8}" for n in range(8)]
     body = [f"lend {block}" for block in range(12)] + ["w RXCTRL 1", "w FCTRL 0x200", "w DMATXCTL 0x81000001"]

@@ -25,7 +25,7 @@ from view_recordings import busy_recording
 
 ROOT = Path(__file__).resolve().parents[1]
 Expect = Callable[[bool, str], None]
-# Timeout in seconds for what takes a second, on a busy machine.
+# Timeout in seconds, on a busy machine, for what otherwise takes a second.
 PATIENCE = 120.0
 LIMIT = 64
 HEAD = b"#: nic vfs 0 fifo 64 blocks 256\n"
@@ -35,7 +35,7 @@ MANY, MOST_MIB = 1_000_000, 500
 
 
 def heeding_interrupts() -> None:
-    """(a background job of a shell ignores interrupts, and so would everything that it starts)"""
+    """(a shell's background job ignores interrupts, and so would everything that it starts)"""
     signal.signal(signal.SIGINT, signal.SIG_DFL)
 
 
@@ -55,7 +55,7 @@ class Served:
     def ask(
         self, name: str, method: str = "GET", body: str | None = None, base: str | None = None, **headers: str
     ) -> tuple[int, bytes, Any]:
-        """Returns the status, content and headers of an answer."""
+        """Returns the status, content and headers of a response."""
         with contextlib.closing(http.client.HTTPConnection("127.0.0.1", self.port, timeout=PATIENCE)) as it:
             named = {key.replace("_", "-"): value for key, value in headers.items()}
             if body is not None:
@@ -82,7 +82,7 @@ class Served:
         return int(found[1]) >> 10 if found else 0
 
     def end(self) -> tuple[int, float, str]:
-        """Ends it with ctrl-C. Returns its status, the seconds that took, and its output."""
+        """Ends it with ctrl-C. Returns its status, the seconds until it ended, and its output."""
         began = time.monotonic()
         self.process.send_signal(signal.SIGINT)
         _, said = self.process.communicate(timeout=PATIENCE)
@@ -100,7 +100,7 @@ def served(*words: str | Path) -> Iterator[Served]:
 
 
 def alike(part: dict[str, Any], file: Path, events: int, expect: Expect, what: str) -> None:
-    """Checks that a part equals nicview's page of a file that ends there."""
+    """Checks that a part equals nicview's page for a file that ends at the same event."""
     if not part.get("data"):
         expect(False, f"live, {what}: no part, and {part.get('said')!r}")
         return
@@ -116,7 +116,7 @@ def is_event(line: bytes) -> bool:
 
 
 def check_earlier(it: Served, end: int, lines: list[bytes], cut: Path, expect: Expect) -> None:
-    """Checks that the part up to an event equals the page of a file that ends there."""
+    """Checks that the part up to an event equals the page of a file that ends at that event."""
     numbers = [number for number, line in enumerate(lines, 1) if is_event(line)]
     cut.write_bytes(b"".join(lines[: numbers[end - 1]]))
     part, want = it.part(end), Data(of_recording(str(cut), LIMIT)).whole()
@@ -125,7 +125,7 @@ def check_earlier(it: Served, end: int, lines: list[bytes], cut: Path, expect: E
 
 
 def check_growing(folder: Path, expect: Expect) -> None:
-    """Follows a file that doesn't exist yet, grows by partial lines, breaks off, and is written again from the
+    """Follows a file that doesn't exist yet, grows by partial lines, stops in the middle, and is written again from the
     beginning."""
     whole, file = folder / "whole.rec", folder / "live.rec"
     busy_recording(whole, 30)
@@ -252,7 +252,7 @@ def until_served(it: Served) -> dict[str, Any] | None:
 
 # --- a guest's card ---
 
-# A control socket like that of nic82599-vfio-user: it answers with these lines, and prints each request.
+# A control socket like the one of nic82599-vfio-user: it replies with these lines, and prints each request.
 SERVER = """
 import socket, sys
 answers = {"hold": "", "due": "tx 3: head 1, tail 4\\n", "tx 3": "3 descriptors\\n", "why": "CTRL.Master 0 <b>\\n",
@@ -285,8 +285,8 @@ def card(path: Path, *words: str) -> Iterator[subprocess.Popen[str]]:
 
 
 def check_guest(folder: Path, expect: Expect) -> None:
-    """Checks that the recording of a guest's card is found by its control socket, that the page's buttons send
-    requests to it, and that nothing else can be requested."""
+    """Checks that nicview finds the recording of a guest's card through its control socket, that the page's buttons
+    send requests to the card, and that nothing else can be requested."""
     path, file = folder / "control", folder / "card.rec"
     busy_recording(file, 2)
     with card(path, "--record=card.rec") as server, served(path) as it:

@@ -28,7 +28,7 @@ ROOT = Path(__file__).resolve().parents[1]
 MOST_OF_A_LINE = 60
 Expect = Callable[[bool, str], None]
 HEAD = "#: nic vfs 0 fifo 64 blocks 256\n"
-# Lines to insert into a tampered recording, one of them a recording's first line.
+# Lines to insert into a tampered recording; one of them is the first line of a recording.
 STRANGE = [
     "lend 99999999999", "lend -1", "#: lend 0 to 4000000000 # done", "#: lend 2 to 5 # done", "lend 3 to 9", "unlend 2",
     "#: restore 1", "#: restore 0", "#: drop 1", "#: snapshot 7", "#: image 00", "#: text zz", "#: ", "jmp x", "x:",
@@ -50,7 +50,8 @@ REFUSED = {
 
 
 def of_library(script: Path, vfs: int | None, folder: Path) -> Path:
-    """Returns a script that can run over the library, which accepts every address: misaligned lines are left out."""
+    """Returns a script that can run on the library. Lines with misaligned addresses are omitted, because the library
+    accepts every address."""
     read = load(Bench(vfs), str(script))
     ones = zip(read.line_of, read.instructions, strict=True)
     left_out = {line for line, one in ones if one.op in (Op.PEEK, Op.POKE) and one.a % 16}
@@ -71,7 +72,7 @@ def recorded(file: Path, vfs: int = 0, blocks: int = 256) -> Iterator[nic82599.N
 
 
 def record(script: Path, vfs: int | None, recording: Path) -> None:
-    """Records the events of a script without jumps, run over the library."""
+    """Runs a script without jumps on the library, and records its events."""
     read = load(Bench(vfs), str(script))
     with recorded(recording, vfs or 0) as nic:
         for one in read.instructions:
@@ -130,8 +131,9 @@ def last(run: Run) -> tuple[dict[int, int], dict[int, bytes | None]]:
 
 
 def kept(run: Run, step: Step, sides: list[tuple[str, int]]) -> list[object]:
-    """Returns what the end of a recording must show of a step: the same as the whole recording, with the ring if it
-    is in use. The ring is left out if it belongs to the first waiting frame, which may have arrived earlier."""
+    """Returns what a page of a recording's last events must show for a step: the same as the whole recording, with the
+    ring if it is in use. The ring is omitted if it belongs to the first waiting frame, which may have arrived
+    earlier."""
     is_of_front = run.shown(step.pc) == "rx" and not step.reply.startswith(("wrote", "fault"))
     ring = None if is_of_front or step.ring not in sides else step.ring
     return [step.reply, step.changes, sorted(step.written), ring]
@@ -157,7 +159,7 @@ def compare_end(name: str, recording: Path, whole: Run, limit: int, expect: Expe
 
 
 def compare_waiting(where: str, whole: Run, part: Run, expect: Expect) -> None:
-    """Checks that frames that arrive in the end of a recording wait as in the whole recording."""
+    """Checks that the frames that arrive among a recording's last events wait as in the whole recording."""
     came, count = len(whole.seen.arrived) - len(part.seen.arrived), len(part.steps) - 1
     want, got = whole.seen.arrived[came:], part.seen.arrived
     waiting = [[(frame.queue, frame.rss, frame.slots) for frame in frames] for frames in (want, got)]
@@ -172,7 +174,7 @@ def compare_waiting(where: str, whole: Run, part: Run, expect: Expect) -> None:
 
 
 def check_ends(folder: Path, expect: Expect) -> None:
-    """Checks the ends of recordings whose last events depend on earlier ones."""
+    """Checks pages of the last events of recordings in which these depend on earlier events."""
     for name, (vfs, text) in ENDS.items():
         script, recording = folder / name, folder / f"{name}.recording"
         script.write_text(text)
@@ -261,7 +263,7 @@ def check_long(folder: Path, expect: Expect) -> None:
 
 
 def busy_recording(file: Path, rounds: int) -> None:
-    """Writes a recording in which all lines differ in their bytes: five events a round, two of them with data."""
+    """Writes a recording in which all lines have different bytes: five events per round, two of them with data."""
     with recorded(file) as nic:
         nic.lend(0)
         for number in range(rounds):
@@ -274,7 +276,7 @@ def busy_recording(file: Path, rounds: int) -> None:
 
 def peak_of(file: Path) -> tuple[int, int]:
     """Returns the peak number of bytes in Python objects while a recording is read, viewed, and rebuilt up to its last
-    event; and its number of lines."""
+    event. Also returns the number of lines."""
     tracemalloc.start()
     made = read(str(file), Source(str(file)))
     Advice(made.script()).all()
@@ -288,7 +290,8 @@ def peak_of(file: Path) -> tuple[int, int]:
 
 
 def check_memory(folder: Path, expect: Expect) -> None:
-    """Checks that each line of a longer recording takes a few bytes, not its text: ten million lines fit in 1 GB."""
+    """Checks that each line of a longer recording takes a few bytes instead of its text: ten million lines fit in 1
+    GB."""
     file = folder / "busy.recording"
     peaks = []
     for rounds in (1_000, 4_000):
@@ -349,7 +352,7 @@ def check_no_bytes(folder: Path, expect: Expect) -> None:
 
 
 def check_notes(folder: Path, expect: Expect) -> None:
-    """Checks that a program's notes appear beside its events: in the page, in a part of it, and in the trace."""
+    """Checks that a program's notes appear next to its events: in the page, in a part of the page, and in the trace."""
     file = folder / "notes.rec"
     with recorded(file) as nic:
         nic.lend(1)
@@ -400,8 +403,8 @@ def check_names(folder: Path, expect: Expect) -> None:
 
 
 def check_history(folder: Path, expect: Expect) -> None:
-    """Checks that a script of a recording with snapshots contains the events that lead to its end, and ends before an
-    installed image."""
+    """Checks that the script made from a recording with snapshots contains the events that lead to its end, and ends
+    before an installed image."""
     file = folder / "history.recording"
     with recorded(file) as nic:
         nic["RXCTRL"] = 1
@@ -423,8 +426,8 @@ def check_history(folder: Path, expect: Expect) -> None:
 
 
 def in_place_recording(folder: Path) -> Path | None:
-    """Records a ring in memory in place: the driver received three frames, and by its last event gave slots 7, 0 and 1
-    back to the device. Returns None if there is no library."""
+    """Records a ring in memory in place: the driver received three frames, and its last event returned slots 7, 0 and 1
+    to the device. Returns None if there is no library."""
     file, memory = folder / "in_place.recording", bytearray(16 * 2_048)
 
     def give(*slots: int) -> None:
@@ -509,8 +512,8 @@ def check_cut(folder: Path, expect: Expect) -> None:
 
 
 def check_opening(folder: Path, expect: Expect) -> None:
-    """Checks where a page opens: at the first trouble; otherwise a script at its first idle step, and a recording at
-    its last; otherwise at the first access of a register that doesn't exist."""
+    """Checks where a page opens: at the first trouble; otherwise at an idle step, which is the first for a script and
+    the last for a recording; otherwise at the first access to a register that doesn't exist."""
     file = folder / "idle.recording"
     for steps, script_at, recorded_at in (
         ("r STATUS\nrx\nr STATUS\nint pf\nr STATUS", 1, 3),

@@ -53,7 +53,7 @@ def record(file: Path) -> None:
 
 
 def blocks(data: bytes) -> Iterator[tuple[int, bytes]]:
-    """Yields the blocks of a pcapng file with this byte order, as type and body. Each block states its length at both
+    """Yields the blocks of a pcapng file with this byte order, as type and body. Each block contains its length at both
     ends."""
     at = 0
     while at < len(data):
@@ -86,8 +86,8 @@ def run_tool(words: list[object]) -> tuple[int, str]:
 
 
 def check_capture(folder: Path, expect: Expect) -> None:
-    """Checks that the pcapng file of a recording has its frames in the order of their steps, each with its queue and
-    step."""
+    """Checks that the pcapng file of a recording contains its frames in the order of their steps, each with its queue
+    and step."""
     file, made = folder / "traffic.recording", folder / "traffic.pcapng"
     record(file)
     status, said = run_tool([ROOT / "tools/nic2pcap", made, file])

@@ -14,7 +14,7 @@ from typing import Any
 
 import browser
 
-# Timeout in seconds for what takes a second, on a busy machine.
+# Timeout in seconds, on a busy machine, for what otherwise takes a second.
 PATIENCE = 300
 BATCH = 50
 WIDTHS = (400, 560, 800, 1001, 1280, 1600)
@@ -32,7 +32,7 @@ NAMELESS = """[...document.querySelectorAll('button, input, select, textarea, if
 
 
 class Wrong(Exception):
-    """The page isn't as it should be."""
+    """A check of the page failed."""
 
 
 class Page:
@@ -44,7 +44,7 @@ class Page:
         self.browser.size(1400, 900, False)
 
     def load(self, place: str = "") -> float:
-        """Loads the page, and returns the seconds until it shows a first answer."""
+        """Loads the page, and returns the seconds until it shows a first result."""
         began = time.monotonic()
         self.browser.load(self.path, place)
         self.until("typeof latest === 'number' && document.getElementById('state').textContent !== ''")
@@ -62,7 +62,7 @@ class Page:
             raise Wrong(f"{what}: {expression} is {got!r}")
 
     def put(self, text: str) -> None:
-        """Puts another script into the editor, and waits until its run or its refusal is shown."""
+        """Replaces the script in the editor, and waits until its run or its refusal is shown."""
         self.value(f"showTab('work'), shown = null, putText({json.dumps(text)}, 'it.nic', false), 0")
         self.until("shownText.refused.size > 0 || shown !== null")
 
@@ -174,7 +174,8 @@ def deflated(data: bytes) -> str:
 
 
 def links(page: Page) -> None:
-    """Checks that a link loads its script, and that a hostile one reports the fault and loads nothing."""
+    """Checks that a link loads its script, and that for a hostile link, the page reports the fault and loads
+    nothing."""
     page.put(HOSTILE)
     page.value("setSizes(2, null), 0")
     page.click("#share")
@@ -207,7 +208,7 @@ def hostile(page: Page) -> None:
     page.holds("nothing was injected", "window.hacked === undefined && drawn[0].contentWindow.hacked === undefined")
     documents = "[document, drawn[0].contentDocument]"
     page.holds("no element was created", f"{documents}.every((it) => !it.querySelector('img'))")
-    # (even a script that a fault of the page lets through doesn't run: the policy lists the permitted ones)
+    # (even a script that the page wrongly inserts doesn't run, because the policy lists the permitted scripts)
     tried = "Object.assign(document.createElement('script'), { textContent: 'window.hacked = 1' })"
     page.value(f"document.body.append({tried}), 0")
     page.holds("the policy holds", "window.hacked === undefined")
@@ -271,7 +272,7 @@ def focus(page: Page) -> None:
     """Checks that a selected lesson gets the focus, that control and Enter check it, and that closing the help restores
     the focus."""
     page.value("showTab('lessons'), element('lessons').querySelector('li button').focus(), 0")
-    # (when driven, Firefox presses no button on Enter)
+    # (Firefox under remote control presses no button on Enter)
     page.value("document.activeElement.click(), 0")
     page.until("element('lesson').contains(document.activeElement)")
     page.value("putText(given.lessons[0].answer, null, false), element('text').focus(), 0")
@@ -330,7 +331,7 @@ def fits(page: Page, folder: Path | None) -> None:
 
 
 def answers(page: Page, inputs: list[Any]) -> Iterator[tuple[int, bytes]]:
-    """Yields the answers of the page's worker, with their statuses."""
+    """Yields the results from the page's worker, with their statuses."""
     for at in range(0, len(inputs), BATCH):
         asked = [[words, base64.b64encode(data).decode()] for words, data in inputs[at : at + BATCH]]
         every = f"{json.dumps(asked)}.map(([words, data]) => ask('bench', words, octetsOf(data)))"
@@ -384,7 +385,8 @@ SHOWN = ("queue.nic", "rx")
 
 
 def draw(path: Path, folder: Path) -> None:
-    """Writes the guide's pictures of the page, light and dark, as wide as is readable when scaled down."""
+    """Writes the guide's pictures of the page, light and dark, in the greatest width that is readable when scaled
+    down."""
     page, (name, line) = Page(path, "chromium"), SHOWN
     page.load()
     page.put(next(text for it, text in example_texts(page) if it == name))

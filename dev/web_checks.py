@@ -34,7 +34,7 @@ from nic82599.tools import as_test, page, refusals, run, script  # noqa: E402
 from nic82599.tools.forms import explained  # noqa: E402
 
 MOST_BYTES, SHOWN, LIMIT = 4_000_000, 5, 4_096
-# Three times the duration on the machines where it takes 65 ms.
+# Three times the duration on a machine on which it takes 65 ms.
 MOST_MS = 200
 COMMANDS = ("run", "run", "run", "debug", "asm", "dis", "eeprom", "hash")
 
@@ -68,14 +68,14 @@ class Checks:
 
     def tell(self, what: str, count: int, faults: list[str]) -> None:
         """Prints how many items were checked and the first faults."""
-        print(f"{what}: {count} looked at, {len(faults)} faults", flush=True)
+        print(f"{what}: {count} checked, {len(faults)} faults", flush=True)
         for line in faults[:SHOWN]:
             print(f"  {line}")
         self.faults += len(faults)
 
 
 def made_page(given: argparse.Namespace, folder: Path) -> Made:
-    """Returns the page. If the module can't be compiled, nicbench itself answers instead."""
+    """Returns the page. If the module can't be compiled, nicbench itself is used instead."""
     if given.page:
         return Made(given.page)
     path, why, make = folder / "bench.html", "", [ROOT / "web/make", "-o"]
@@ -97,7 +97,7 @@ def outward(value: Any) -> Any:
 
 
 def asked_in_node(page: Made, messages: list[tuple[str, list[Any]]]) -> list[dict[str, Any]]:
-    """Returns the worker's answers to these messages, in one process."""
+    """Returns the worker's replies to these messages, in one process."""
     words = [page.path, *([os.environ["NICBENCH"]] if page.why else [])]
     lines = "".join(json.dumps({"what": what, "given": list(map(outward, given))}) + "\n" for what, given in messages)
     command = ["node", ROOT / "web/node.mjs", *words]
@@ -138,8 +138,8 @@ def compared(checks: Checks, what: str, inputs: list[Input], got: Iterable[tuple
 
 
 def speed(checks: Checks) -> None:
-    """Checks that 4,096 lines are answered quickly once the page's code is compiled. It takes the least CPU time of
-    some runs, because other processes run too."""
+    """Checks that 4,096 lines run quickly after the page's code has been compiled. It uses the least CPU time of some
+    runs, because other processes are running too."""
     lines = "".join(f"w RDT[{k % 128}] {k % 8}\n" for k in range(LIMIT))
     found = asked_in_node(checks.page, [("answers", ["it.nic", lines, {}])] * 6)
     took = min(it["ms"] for it in found)
@@ -189,7 +189,7 @@ def by_python(text: str, sizes: dict[str, int]) -> Any:
 
 
 def by_page(view: dict[str, Any], answered: dict[str, Any]) -> Any:
-    """Returns the same data as `by_python`, from the page's answers."""
+    """Returns the same data as `by_python`, from the page's replies."""
     if "fault" not in view:
         return view["made"]
     if refused := answered.get("made", {}).get("refused"):
@@ -198,7 +198,7 @@ def by_page(view: dict[str, Any], answered: dict[str, Any]) -> Any:
 
 
 def tests(checks: Checks) -> None:
-    """Checks that the tests that the page saves are those that nicview writes."""
+    """Checks that the tests that the page saves equal the tests that nicview writes."""
     given = [it for it in scripts(checks)[: len(assemble.examples())] if not isinstance(by_python(*it), list)]
     asked = [(language, text, sizes) for text, sizes in given for language in ("c", "python")]
     found = asked_in_node(checks.page, [("test", [language, "it.nic", *it]) for language, *it in asked])
@@ -231,11 +231,11 @@ def file_faults(text: str) -> list[str]:
     """Returns the faults of the page's file: its size, references to other files, and a policy that isn't strict."""
     faults = [] if len(text.encode()) <= MOST_BYTES else [f"{len(text.encode()):,} bytes"]
     outside = re.findall(r"""(?:src|href|action)\s*=\s*["'](?!data:,)[^"']*["']|@import|url\(\s*["']?http""", text)
-    faults += [f"it reaches {it}" for it in outside]
+    faults += [f"it refers to {it}" for it in outside]
     policy = re.search(r'http-equiv="Content-Security-Policy" content="([^"]*)"', text)
     scripts = policy[1].partition("script-src")[2].partition(";")[0] if policy else "'unsafe-inline'"
     if not policy or "default-src 'none'" not in policy[1] or "'unsafe-inline'" in scripts:
-        return [*faults, "its policy lets scripts run that aren't its own"]
+        return [*faults, "its policy permits scripts other than its own"]
     own = re.findall(r"<script>([\s\S]*?)</script>", text)
     return faults + ["its policy doesn't name its script" for it in own if assemble.hash_of(it) not in policy[1]]
 
@@ -262,7 +262,8 @@ def page_part(checks: Checks) -> None:
 
 
 def graded(folder: Path) -> list[str]:
-    """Returns the faults in the grading of four files: a right one, a wrong one, a hostile one and none."""
+    """Returns the faults in the grading of four submissions: a correct file, a wrong file, a hostile file and a missing
+    file."""
     known = lessons.read()
     answered = {str(it.number): {"script": it.parts["answer"], "outcome": "open"} for it in known}
     claimed = {str(it.number): {"script": it.parts["start"], "outcome": "solved"} for it in known}
@@ -350,7 +351,7 @@ def look(checks: Checks, parts: Iterable[str]) -> None:
     jobs: list[Callable[[Checks], None]] = []
     for part in parts:
         if why := missing(part, checks):
-            print(f"{part}: left out: {why}", flush=True)
+            print(f"{part}: skipped: {why}", flush=True)
         else:
             jobs += PARTS[part]
     with ProcessPoolExecutor(checks.given.jobs, multiprocessing.get_context("fork")) as pool:
@@ -403,7 +404,7 @@ def main(doc: str) -> int:
     except SystemExit as end:
         return 3 if end.code else 0
     except Missing as why:
-        print(f"web: left out: {why}")
+        print(f"web: skipped: {why}")
         return 0
     except (Failed, Broken) as why:
         print(f"dev/check_web: {why}", file=sys.stderr)

@@ -2,7 +2,8 @@
 """Adapts the repository's pages to an installed package, so that their links and commands work there.
 
     dev/package_pages.py --check             generates all pages, and names each dead link and each command that names a
-    file which isn't shipped dev/package_pages.py --links FOLDER      names each dead link of the pages below a folder
+                                             file which isn't shipped
+    dev/package_pages.py --links FOLDER      names each dead link of the pages below a folder
     dev/package_pages.py --commands PAGE ..  prints what a reader of these installed pages runs to build and start C
 
 A link to a file that isn't shipped is replaced by its text; a link to a header of the library points to the installed

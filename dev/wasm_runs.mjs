@@ -2,8 +2,9 @@
 // {"words": [..], "input": ..}. Its line on standard output is {"status": .., "out": ..}, or {"fault": ..} if the
 // module trapped. Arguments, input and output are in base64.
 //
-//     node dev/wasm_runs.mjs MODULE node dev/wasm_runs.mjs MODULE --stop     requests a text that the module doesn't
-//     have, which is a fault, and prints what Fault reports
+//     node dev/wasm_runs.mjs MODULE
+//     node dev/wasm_runs.mjs MODULE --stop     requests a text that the module doesn't have, which is a fault, and
+//                                              prints what Fault reports
 
 import { readFileSync } from "node:fs";
 import { createInterface } from "node:readline";

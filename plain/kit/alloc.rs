@@ -1,8 +1,8 @@
-//! `std::alloc`: the allocator that collections take, and the errors for exhausted memory.
+//! `std::alloc`: the allocator that collections use, and the errors for exhausted memory.
 //!
-//! `Global` is zero-sized: Rust's allocator does the work. In the C library (feature `c`) that is the heap of the calls
-//! `rattle_alloc`, `rattle_realloc` and `rattle_dealloc`, which `c/Makefile` links and renames (`c/heap.syms`). A
-//! program that counts or refuses the library's allocations there sees all of them, as in a library that Rattle's
+//! `Global` is zero-sized: Rust's allocator does the work. In the C library (feature `c`), Rust's allocator uses the
+//! calls `rattle_alloc`, `rattle_realloc` and `rattle_dealloc`, which `c/Makefile` links and renames (`c/heap.syms`). A
+//! program that counts or refuses allocations in these calls sees all of the library's, as in a library that Rattle's
 //! compiler built.
 
 use core::fmt;

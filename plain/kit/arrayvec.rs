@@ -17,7 +17,7 @@ impl<T: Copy, const N: usize> ArrayVec<T, N> {
         ArrayVec(Slots::new())
     }
 
-    /// Appends an element. The proofs show that there is room; without it this panics.
+    /// Appends an element. The proofs show that there is room; without room, this panics.
     #[inline]
     pub fn push(&mut self, value: T) {
         self.0.push(value);

@@ -1,16 +1,17 @@
-//! Wraps the calls for C: slices from pointers and lengths, and a barrier that no panic crosses.
+//! Wraps the calls for C: makes slices from pointers and lengths, and stops panics before they reach C.
 //!
-//! A proof rules out panics. This edition has no proof, so one may happen: an index out of range, an integer overflow.
-//! The call then returns `NIC_BROKEN`, and so does each later call with that handle, because its object may be half
-//! changed. It can still be freed, and returns the caller's memory. Standard error shows where the panic was.
+//! Proofs rule out panics. This edition has no proofs, so a panic may happen, for example because of an index out of
+//! range or an integer overflow. The call then returns `NIC_BROKEN`, and so does each later call with that handle,
+//! because its object may be half changed. It can still be freed, and returns the caller's memory. Standard error shows
+//! where the panic happened.
 
 use super::raw::keeping;
 pub use super::raw::{slice, slice_mut};
 use core::sync::atomic::{AtomicUsize, Ordering};
 use std::panic::{catch_unwind, AssertUnwindSafe};
 
-/// The mark of this edition's archive, by which `nic_edition()` recognizes it (c/about.c).
-// `no_mangle` counts as unsafe code, because another symbol could have the same name; none does.
+/// Marks this edition's archive, so that `nic_edition()` recognizes it (c/about.c). `no_mangle` counts as unsafe code,
+/// because another symbol could have the same name; none does.
 #[allow(unsafe_code, non_upper_case_globals)]
 #[no_mangle]
 pub static nicl_is_plain: u8 = 1;
@@ -18,12 +19,12 @@ pub static nicl_is_plain: u8 = 1;
 /// The status of a call that panicked, as in `nic82599.h`.
 pub const BROKEN: u8 = 41;
 
-/// A handle that C holds: the address of its object.
+/// A handle that C has: the address of its object.
 pub trait Held {
     fn address(&self) -> usize;
 }
 
-/// What a call returns to C, and what it returns after a panic.
+/// A type that a call returns to C, with the value that it returns after a panic.
 pub trait Answer {
     const BROKEN: Self;
 }
@@ -40,15 +41,16 @@ impl Answer for () {
     const BROKEN: () = ();
 }
 
-/// The addresses of objects that a panic left half changed. If there are more than fit, all handles count as broken.
+/// The addresses of objects that a panic left half changed. If there are more than this array has room for, all handles
+/// count as broken.
 static PLACES: [AtomicUsize; 64] = [NOBODY; 64];
 #[allow(clippy::declare_interior_mutable_const)]
 const NOBODY: AtomicUsize = AtomicUsize::new(0);
 
-/// The number of panics; while it is 0, `PLACES` need not be searched.
+/// The number of panics; while it is 0, `PLACES` needn't be searched.
 static PANICS: AtomicUsize = AtomicUsize::new(0);
 
-/// Whether more objects broke than `PLACES` holds.
+/// Whether more objects are broken than `PLACES` has room for.
 static OVERFLOWED: AtomicUsize = AtomicUsize::new(0);
 
 fn replaced(old: usize, new: usize) -> bool {
@@ -86,9 +88,9 @@ pub fn guarded<H: Held, R: Answer>(handle: &mut H, call: impl FnOnce(&mut H) -> 
     })
 }
 
-/// Runs a call that exchanges memory, even if the handle is broken, because the caller must get its memory back.
-/// During an exchange two owners share a piece of memory, and a panic would free it for one of them, so a panic frees
-/// nothing here. C, which knows both pieces, finds out with its next exchange which one the handle has.
+/// Runs a call that exchanges memory, even if the handle is broken, because the caller must get its memory back. During
+/// an exchange, two owners share an allocation, and a panic would free it for one of them, so a panic frees nothing
+/// here. C knows both allocations, and its next exchange shows which one the handle has.
 #[inline]
 pub fn exchanging<H: Held, R: Answer>(handle: &mut H, call: impl FnOnce(&mut H) -> R) -> R {
     caught(handle.address(), handle, |handle| {
@@ -110,7 +112,7 @@ fn caught<H, R: Answer>(address: usize, handle: &mut H, call: impl FnOnce(&mut H
 }
 
 /// If this edition is compiled with `--cfg planted` (dev/check_broken), the place with the number NIC82599_PLANTED
-/// panics. There is one in each call, and two in an exchange, before and after it.
+/// panics. There is one place in each call, and there are two in an exchange, before and after it.
 #[inline]
 pub fn planted(_place: &str) {
     #[allow(unexpected_cfgs)]
@@ -167,7 +169,7 @@ mod tests {
         assert_eq!(alone(panics), BROKEN);
         ending(one, |_| ());
         assert_eq!(guarded(&mut Handle(0x1000), |_| 7u8), 7);
-        // With more broken objects than `PLACES` holds, all handles count as broken.
+        // With more broken objects than `PLACES` has room for, all handles count as broken.
         let mut many: Vec<Handle> = (1..=PLACES.len() + 1).map(|k| Handle(0x10 * k)).collect();
         assert!(many.iter_mut().all(|it| guarded(it, |_| panics()) == BROKEN));
         assert_eq!(guarded(&mut other, |_| 7u8), BROKEN);

@@ -1,8 +1,8 @@
-//! The crate `clap`: command lines of a program with commands, whose options have long names and take one number or
-//! none. Help, messages and their tips match clap's byte for byte.
+//! The crate `clap`: command lines of a program with commands, whose options have long names and take at most one
+//! number. Help, messages and their tips match clap's byte for byte.
 //!
 //! `try_get_matches_from` reads the arguments: `parse` scans them as clap does, `texts` formats the output, and
-//! `similar` finds the name that was probably meant. It leaves out what `bench_commands` doesn't use: short names,
+//! `similar` finds the name that was probably meant. The module omits what `bench_commands` doesn't use: short names,
 //! positionals, groups, conflicts, values of other types, and help that is too wide for a terminal.
 
 mod parse;
@@ -20,7 +20,7 @@ use parse::Parser;
 use texts::Place;
 
 pub mod error {
-    //! Why no request was read.
+    //! Why the arguments contain no request.
 
     #[derive(Clone, Copy, Debug, PartialEq, Eq)]
     pub enum ErrorKind {
@@ -39,11 +39,11 @@ pub mod error {
 }
 
 pub mod builder {
-    //! The values that options take.
+    //! The values that options accept.
 
     use core::marker::PhantomData;
 
-    /// The numbers that an option takes. Their text is parsed as a 64-bit number, signed or unsigned.
+    /// The numbers that an option accepts. Their text is parsed as a 64-bit number, signed or unsigned.
     #[derive(Clone, Copy, Debug)]
     pub struct ValueParser<'a> {
         pub(super) is_signed: bool,
@@ -65,7 +65,7 @@ pub mod builder {
     }
 }
 
-/// A type that an option can take: its numbers, and the conversion of one to a value.
+/// A type of value that an option can have: its numbers, and the conversion of a number to a value.
 pub trait Value: Sized {
     const NUMBERS: ValueParser<'static>;
 
@@ -119,7 +119,7 @@ pub enum ArgAction {
     Version,
 }
 
-/// Why no request was read, with the text for the user.
+/// The reason why the arguments contain no request, with the text for the user.
 #[derive(Debug)]
 pub struct Error {
     kind: ErrorKind,
@@ -269,7 +269,7 @@ impl<'a> Command<'a> {
         self
     }
 
-    /// Does nothing: a program with commands always shows its help if none is given.
+    /// Does nothing: a program with commands always shows its help if no command is given.
     pub fn arg_required_else_help(self, _is_shown: bool) -> Self {
         self
     }

@@ -20,7 +20,7 @@ impl<T> VecDeque<T> {
         Ok(VecDeque::from_vec(Vec::with_capacity(alloc, count)?))
     }
 
-    /// Takes a vector's elements, in its memory.
+    /// Converts a vector to a queue, in the same memory.
     pub fn from_vec(from: Vec<T>) -> Self {
         VecDeque(Ring::of(from.into_std()))
     }
@@ -75,7 +75,7 @@ impl<T> VecDeque<T> {
         self.0.get_mut(self.len().checked_sub(1)?)
     }
 
-    /// Returns the elements in two parts, in order.
+    /// Returns the elements as two slices, in order.
     pub fn as_slices(&self) -> (&[T], &[T]) {
         self.0.as_slices()
     }

@@ -104,7 +104,7 @@ pub trait Print {
 
 impl Print for HostRuntime {}
 
-/// Returns standard output, for a holder of the right to print.
+/// Returns standard output to a caller that has the right to print.
 pub fn writer<R: Print>(_: &R) -> Stdout {
     Stdout
 }
@@ -156,7 +156,7 @@ pub mod env {
 }
 
 pub mod fs {
-    //! `std::fs`: files of test programs. Their memory is allocated as Rust allocates it.
+    //! `std::fs`: files of test programs. Their memory comes from Rust's own collections.
 
     use super::*;
 

@@ -1,4 +1,4 @@
-//! `std::io`: readers and writers over memory and the host's streams. An error is a kind, without a text.
+//! `std::io`: readers and writers for memory and the host's streams. An error has a kind, but no text.
 
 pub use super::host::writer;
 

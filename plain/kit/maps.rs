@@ -1,7 +1,7 @@
-//! A map and a set ordered by key. This is a separate B-tree because Rust's aborts when memory runs out.
+//! A map and a set ordered by key. It is the kit's own B-tree, because Rust's aborts when memory runs out.
 //!
-//! A node has up to 15 pairs, as Rattle's does, and is split on the way down if an insert needs room. It therefore
-//! allocates exactly where Rattle's does.
+//! A node has up to 15 pairs, as in Rattle, and is split on the way down if an insert needs room. The map therefore
+//! allocates exactly when Rattle's does.
 
 use super::alloc::{AllocFailed, Global};
 use super::boxed::Box;
@@ -29,7 +29,7 @@ fn none<T>(_: usize) -> Option<T> {
     None
 }
 
-/// Inserts a value at an index of a row, and moves later ones up. The last one must be empty.
+/// Inserts a value at an index of a row, and moves later values up. The last slot must be empty.
 fn put<T>(row: &mut [Option<T>], at: usize, value: T) {
     row[at..].rotate_right(1);
     row[at] = Some(value);
@@ -121,7 +121,7 @@ impl<K: Ord, V> BTreeMap<K, V> {
         self.get(key).is_some()
     }
 
-    /// Returns the value of a key; otherwise, whether the leaf where the key belongs is full.
+    /// Returns the value of a key; without a value, returns whether the leaf in which the key belongs is full.
     fn found(&mut self, key: &K) -> Result<&mut V, bool> {
         let mut node = self.root.as_mut().ok_or(false)?;
         loop {
@@ -193,7 +193,7 @@ impl<K: Ord, V> BTreeMap<K, V> {
         }
     }
 
-    /// Replaces a root without pairs, left by a refused insert, by the node below it.
+    /// Replaces a root without pairs, which a refused insert left, by the node below it.
     fn without_empty_root(&mut self) {
         if let Some(root) = &mut self.root {
             if root.len == 0 {

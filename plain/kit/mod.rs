@@ -42,7 +42,7 @@ pub use host::{env, fs, process, test};
 #[cfg(unix)]
 pub use raw::run_with_words;
 
-/// Names that Rattle's files have without an import, but Rust's prelude lacks or defines differently.
+/// Names that Rattle's files can use without an import, but that Rust's prelude lacks or defines differently.
 pub mod prelude {
     pub use super::boxed::Box;
     pub use super::host::{HostRuntime, Print};

@@ -1,4 +1,4 @@
-//! A value in a separate allocation. Rattle holds it by its address; here it is a box.
+//! A value in a separate allocation. In Rattle it is a pointer; here it is a box.
 
 use crate::kit::prelude::*;
 

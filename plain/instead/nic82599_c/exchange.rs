@@ -1,6 +1,6 @@
 //! Packet memory that belongs to the caller: exchanges the memory of a lent block for 2,048 bytes of the caller's.
 //!
-//! C passes the memory as a pointer, and gets it back by another exchange. Between two calls C may read and write
+//! C passes the memory as a pointer, and gets it back with another exchange. Between two calls C may read and write
 //! everything that a controller owns: a call works with the bytes that it finds. In Rattle the handles are pointers;
 //! here they are boxes.
 
@@ -10,7 +10,7 @@ use crate::nic82599_c::handle::Handle;
 use crate::nic82599_c::status::{DONE, NOT_LENT};
 use crate::nic_device::BLOCK_BYTES;
 
-/// A handle of a block's 2,048 bytes. In C it is a struct with one pointer, which may also be to the caller's memory:
+/// A handle of a block's 2,048 bytes. In C it is a struct with one pointer. This may also point to the caller's memory:
 /// the C library ignores requests to free such memory.
 #[repr(C)]
 pub struct BlockHandle {
@@ -29,10 +29,10 @@ impl BlockHandleOut {
     }
 }
 
-/// Exchanges the memory of a lent block for another, without a copy: the block gets the new bytes, and `former` the
-/// block's previous memory with its bytes. Returns DONE, or NOT_LENT: then nothing changes, and `former` is the memory
-/// passed in. The old contents of `former` are leaked. The exchange also works on a broken handle, so that the caller
-/// gets its memory back.
+/// Exchanges the memory of a lent block for other memory, without a copy: the block gets the new bytes, and `former`
+/// gets the block's previous memory with its bytes. Returns DONE, or NOT_LENT; in that case nothing changes, and
+/// `former` is the memory passed in. The old contents of `former` are leaked. The exchange also works on a broken
+/// handle, so that the caller gets its memory back.
 pub fn nic_exchange(nic: &mut Handle, block: u32, memory: BlockHandle, former: &mut BlockHandleOut) -> u8 {
     let exchanged = nic.lend().exchange(block, memory.bytes);
     #[cfg(feature = "c")]

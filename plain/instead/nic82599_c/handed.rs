@@ -7,8 +7,8 @@ use crate::kit::mem::ManuallyDrop;
 use crate::kit::prelude::*;
 use crate::nic82599_c::parts::Parts;
 
-/// Room for C to receive a handle's pointer. In C it is a struct with one pointer, or that pointer. A handle that is
-/// overwritten is leaked.
+/// Room for C to receive a handle's pointer. In C it is a struct with one pointer, or the pointer itself. A handle that
+/// is overwritten is leaked.
 #[repr(C)]
 pub struct HandleOut {
     card: ManuallyDrop<Option<Box<Card>>>,

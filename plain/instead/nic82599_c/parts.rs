@@ -1,5 +1,5 @@
-//! A `Box` in parts. In Rattle these are a pointer and an allocator, with fields that its proofs can see; here it is
-//! the box.
+//! A `Box` in parts. In Rattle the parts are a pointer and an allocator, as fields that the proofs can see; here they
+//! are the box itself.
 
 use crate::kit::prelude::*;
 

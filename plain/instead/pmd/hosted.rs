@@ -1,5 +1,5 @@
-//! Runs tasks on separate threads. In Rattle a scope's `spawn_with` reports whether a thread was created, and its
-//! promise what the thread returns; here the kit's `beside` reports whether one was created.
+//! Runs tasks on separate threads. In Rattle, a scope's `spawn_with` reports whether a thread was created, and its
+//! promise states what the thread returns. Here, the kit's `beside` reports whether a thread was created.
 
 use super::cell::{put, take, Task, TaskCell};
 use super::start::Start;
@@ -13,7 +13,7 @@ fn work_at<E, T: Task<E>>(start: &Start, cell: &mut TaskCell<T, E>) {
     put(cell, end);
 }
 
-/// Runs the task of each cell, and calls the host when each has a thread or is given up.
+/// Runs the task of each cell, and calls the host when each task has a thread or has been given up.
 fn run_cells<E: Send, T: Task<E> + Send>(starts: &[Start], host: &mut dyn FnMut(), cells: &mut [TaskCell<T, E>]) {
     let (start, starts, cell, cells) = match (starts.split_first(), cells.split_first_mut()) {
         (Some((start, starts)), Some((cell, cells))) => (start, starts, cell, cells),
@@ -26,9 +26,9 @@ fn run_cells<E: Send, T: Task<E> + Send>(starts: &[Start], host: &mut dyn FnMut(
     }
 }
 
-/// Runs the task of each cell on a separate thread, and calls the host on this one meanwhile.
+/// Runs the task of each cell on a separate thread, and meanwhile calls the host on this thread.
 ///
-/// A created thread is awaited, however long it takes to start. If none can be created, the task is given up
+/// Waits for a created thread, however long it takes to start. If no thread can be created, the task is given up
 /// immediately, before the host is called, and its `Start` reports this from then on.
 pub fn run<R: Threads + Wait, E: Send, T: Task<E> + Send, H: FnMut()>(
     _: &R,

@@ -1,7 +1,7 @@
 //! Scans the arguments of one command.
 //!
 //! An option that takes its value from the next argument stays pending. It is checked when the next option occurs or
-//! the arguments end, as in clap, so that of several faults the same one is reported.
+//! the arguments end, as in clap, so that with several faults, the same one is reported.
 
 use super::super::alloc::AllocError;
 use super::super::string::String;
@@ -14,13 +14,13 @@ use super::{Arg, ArgAction, ArgMatches, Command, Error, HELP};
 /// A given option: its index, and its number.
 type Given = (usize, i128);
 
-/// A following command, with its arguments.
+/// A command that follows, with its arguments.
 type Next<'c, 'a> = Option<(&'c Command<'a>, &'c [&'a str])>;
 
 pub(super) struct Parser<'c, 'a> {
     place: &'c Place<'c, 'a>,
     given: Vec<Given>,
-    /// The last option, which isn't checked yet, and its value if it has occurred.
+    /// The last option, which hasn't been checked yet, and its value if that has occurred.
     waiting: Option<(usize, Option<&'c str>)>,
 }
 
@@ -109,7 +109,7 @@ impl<'c, 'a> Parser<'c, 'a> {
         Ok(false)
     }
 
-    /// Parses `-h`, `-V` and others; each of them ends the scan.
+    /// Parses `-h`, `-V` and other short options; each of them ends the scan.
     fn short(&mut self, letters: &str) -> Result<Error, Error> {
         let letter = letters.chars().next().unwrap_or('-');
         match self.place.command.options.iter().find(|it| it.short == Some(letter)) {
@@ -163,7 +163,8 @@ impl<'c, 'a> Parser<'c, 'a> {
         }
     }
 
-    /// Like `settle`, if another fault is already known: only running out of memory takes precedence over it.
+    /// Like `settle`, for use when another fault is already known: only running out of memory takes precedence over
+    /// that fault.
     fn settle_for_message(&mut self) -> Result<(), Error> {
         match self.settle() {
             Err(refused) if refused.kind == ErrorKind::OutOfMemory => Err(refused),
@@ -227,8 +228,8 @@ impl<'c, 'a> Parser<'c, 'a> {
         )?)
     }
 
-    /// Returns the refusal of an unknown option. It suggests the closest option of this command, otherwise of one that
-    /// a later argument names.
+    /// Returns the refusal of an unknown option. It suggests the closest option of this command, or otherwise of a
+    /// command that a later argument names.
     fn unknown(&mut self, name: &str, rest: &[&str]) -> Result<Error, Error> {
         let command = self.place.command;
         let mut used = self.used()?;

@@ -6,14 +6,14 @@ use super::error::ErrorKind;
 use super::{Arg, ArgAction, Command, Error, HELP};
 use core::fmt;
 
-/// A command, and the words that lead to it, starting with the program's name.
+/// A command, and the names on the way to it, starting with the program's name.
 #[derive(Clone, Copy)]
 pub(super) struct Place<'c, 'a> {
     pub(super) command: &'c Command<'a>,
     pub(super) path: &'c str,
 }
 
-/// Returns what follows the last slash of a path; None if that names no file.
+/// Returns the part of a path after the last slash; None if that part names no file.
 pub(super) fn file_name(path: &str) -> Option<&str> {
     let path = path.trim_end_matches('/');
     let name = path.rsplit_once('/').map_or(path, |it| it.1);
@@ -31,7 +31,7 @@ impl fmt::Display for Arg<'_> {
 }
 
 impl Arg<'_> {
-    /// Returns the number of columns that it takes in a list of options.
+    /// Returns the number of columns that it needs in a list of options.
     fn width(&self) -> usize {
         let value = if self.action == ArgAction::Set { self.value_name.chars().count() + 3 } else { 0 };
         2 + self.name.chars().count() + value

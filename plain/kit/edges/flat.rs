@@ -1,4 +1,4 @@
-//! Tests of types that allocate no memory: inline vectors, bits, numbers in bytes, 64 bytes at once.
+//! Tests of types that allocate no memory: inline vectors, bits, numbers in bytes, and vectors of 64 bytes.
 
 use super::super::arrayvec::{ArrayVec, CapacityError};
 use super::super::bitflags::Flags;

@@ -110,7 +110,7 @@ fn a_vector_is_made_of_others() {
     Items::<u8>::new(Global).destroy_empty();
 }
 
-/// An iterator's size hint is at most a hint.
+/// An iterator whose size hint may be wrong.
 struct Hinted(std::ops::Range<u32>, usize);
 
 impl Iterator for Hinted {

@@ -1,6 +1,6 @@
-//! Tests each call of the kit against its documentation at its edges: empty, full, first, last, refused. If Rust's
-//! library has the same, both get the same random calls. `sources` tests the erased sources in this way, where no
-//! program reaches.
+//! Tests each call of the kit against its documentation in edge cases: empty, full, first, last, refused. If Rust's
+//! library has an equivalent, the same random calls are made to both. `sources` tests the erased sources in this way,
+//! in cases that no program reaches.
 
 mod flat;
 mod growing;
@@ -19,7 +19,7 @@ use super::alloc::Global;
 struct Chance(u64);
 
 impl Chance {
-    /// Returns the next number, below a bound.
+    /// Returns the next random number below a bound.
     fn below(&mut self, bound: usize) -> usize {
         self.0 = self.0.wrapping_mul(6_364_136_223_846_793_005).wrapping_add(1_442_695_040_888_963_407);
         (self.0 >> 33) as usize % bound

@@ -36,8 +36,8 @@ fn a_map_is_rusts() {
     }
 }
 
-/// A node has room for 15 pairs, and is split if a pair needs room on its way. At the sixteenth, its upper half moves
-/// to a new node, below a new root.
+/// A node has room for 15 pairs. A full node on the way of a new pair is split: at the sixteenth pair, its upper half
+/// moves to a new node below a new root.
 #[test]
 fn a_map_takes_a_node_where_one_is_full() {
     let mut map = Map::new(Global);

@@ -14,8 +14,8 @@ use super::*;
 use crate::{format_in, vec_in};
 use core::fmt;
 
-/// Makes a call without memory, then with one request granted, then with two and so on, until it isn't refused. Returns
-/// how often it was.
+/// Makes a call without memory, then with one request granted, then with two and so on, until the call isn't refused.
+/// Returns how often it was refused.
 fn refusals<R, E>(mut call: impl FnMut() -> Result<R, E>) -> u64 {
     (0..).find(|&requests| granted(requests, &mut call).is_ok()).unwrap()
 }
@@ -78,7 +78,7 @@ fn what_is_made_is_refused() {
     assert_eq!(refusals(|| decode(Global, "00")), 1);
     assert_eq!(granted(0, || decode(Global, "00")), Err(FromHexError::OutOfMemory));
     assert_eq!(refusals(|| (&mut Items::new(Global)).write_all(b"a")), 1);
-    // A hint that is too high isn't a refusal: the second request is for one element.
+    // A hint that is too high doesn't cause a refusal, because the second request is for one element.
     assert!(granted(2, || (0..9).chain(0..usize::MAX).take_while(|it| *it < 4).collect_in(Global)).is_ok());
 }
 

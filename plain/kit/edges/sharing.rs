@@ -39,7 +39,7 @@ fn a_lock_has_one_holder() {
     assert_eq!(lock.into_inner(), 7);
 }
 
-/// Each thread waits for its turn, so the sum is right only if each was woken and held the lock.
+/// Each thread waits for its turn, so the sum is correct only if each thread was woken and held the lock.
 #[test]
 fn a_thread_waits_for_its_turn() {
     let (turn, changed) = (Mutex::new((0, 1)), Condvar::new());

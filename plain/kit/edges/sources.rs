@@ -1,4 +1,5 @@
-//! Tests of cases in the erased sources that no program reaches: counters at their maximum, bytes that none prints.
+//! Tests of cases in the erased sources that no program reaches: counters at their maximum, and bytes that no program
+//! prints.
 
 use super::*;
 use crate::dma_arena::Arena;
@@ -6,8 +7,8 @@ use crate::nic_device::Notes;
 use crate::reg_table::{bump, RowId};
 use crate::register_file::RegisterFile;
 
-/// A counter of all frames stays at its maximum, and a virtual function's wraps. A program would need 4,294,967,295
-/// frames to show this.
+/// A counter of all frames stays at its maximum, and a virtual function's counter wraps. A program would need
+/// 4,294,967,295 frames to show this.
 #[test]
 fn a_counter_comes_to_its_highest_word() {
     let mut file = RegisterFile::new();
@@ -23,7 +24,7 @@ fn a_counter_comes_to_its_highest_word() {
     }
 }
 
-/// Notes with equal bytes share them; others have separate ones.
+/// Notes with equal bytes share the bytes; other notes have separate bytes.
 #[test]
 fn a_note_has_its_blocks_bytes() {
     let mut notes = Notes::new(Global);

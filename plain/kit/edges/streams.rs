@@ -5,7 +5,7 @@ use super::super::io::{BufWriter, Error, ErrorKind, Read, Result, Write};
 use super::super::vec::Vec as Items;
 use super::*;
 
-/// A writer that accepts a limited number of bytes at once, is interrupted before each write, and fails from some byte
+/// A writer that accepts a limited number of bytes per call, is interrupted before each write, and fails from some byte
 /// on.
 struct Slow {
     most: usize,
@@ -66,8 +66,8 @@ fn all_bytes_are_written() {
     assert_eq!(items.as_slice(), b"abc");
 }
 
-/// Makes writes of these sizes to a buffered writer. After a flush, its inner writer must have all of them, and never
-/// more than 8,192 bytes may be held back.
+/// Makes writes of these sizes to a buffered writer. After a flush, its inner writer must have all the bytes, and at no
+/// time may more than 8,192 bytes be held back.
 #[test]
 fn a_buffer_keeps_the_order() {
     for sizes in [[1, 8191, 1], [8192, 1, 8192], [8191, 1, 8192], [8191, 2, 5], [5000, 5000, 9000], [0, 0, 0]] {

@@ -31,11 +31,11 @@ pub fn write(root: &Path, out: &Path) -> Result<usize, Fault> {
     put(&files, out)
 }
 
-/// The crate with the controller. The pure Rust crate consists of it and everything that it depends on.
+/// The crate with the controller. The pure Rust crate consists of this crate and everything that it depends on.
 const CONTROLLER: &str = "card";
 
-/// Writes the controller's modules to a folder, together with `modules.rs`, which declares them in a crate's root; they
-/// refer to each other by `crate::`. Returns the number of files.
+/// Writes the controller's modules to a folder, together with `modules.rs`, which declares them in a crate's root. The
+/// modules refer to each other by `crate::`. Returns the number of files.
 pub fn write_controller(root: &Path, out: &Path) -> Result<usize, Fault> {
     let mut layers = layers(root)?;
     let inside = below(&layers, CONTROLLER);
@@ -56,8 +56,8 @@ pub fn write_controller(root: &Path, out: &Path) -> Result<usize, Fault> {
     put(&files, out)
 }
 
-/// Precedes each module inside another crate: lints would require changes to sources that are proved in their current
-/// form.
+/// Precedes each module inside another crate, because lints would require changes to sources that are proved in their
+/// current form.
 const QUIET: &str = "#[allow(warnings, clippy::all)]\n";
 
 /// Returns the files of these crates and of the kit.
@@ -170,8 +170,8 @@ opt-level = 2
 overflow-checks = true
 ";
 
-/// Returns the files of all crates, lowest first. Each crate has a thread; of several faults, that of the lowest crate
-/// is reported.
+/// Returns the files of all crates, lowest first. Each crate has a thread. If there are several faults, the lowest
+/// crate's is reported.
 fn files_of_crates(root: &Path, layers: &[Layer], by_hand: &[File]) -> Result<Vec<File>, Fault> {
     let made: Vec<Result<Vec<File>, Fault>> = thread::scope(|scope| {
         let running: Vec<_> = layers.iter().map(|it| scope.spawn(move || files_of_crate(root, it, by_hand))).collect();
@@ -184,7 +184,7 @@ fn files_of_crates(root: &Path, layers: &[Layer], by_hand: &[File]) -> Result<Ve
     Ok(files)
 }
 
-/// Returns the files of a crate, each erased or replaced by a handwritten one.
+/// Returns the files of a crate, each erased or replaced by a handwritten file.
 fn files_of_crate(root: &Path, layer: &Layer, by_hand: &[File]) -> Result<Vec<File>, Fault> {
     let folder = root.join("crates").join(&layer.name).join("src");
     let mut files = Vec::new();
@@ -223,7 +223,7 @@ fn erased(path: &str, text: &str, layer: &Layer) -> Result<String, Fault> {
     Ok(laid_out(&uses::ordered(&laid_out(&source.text()), &prelude)))
 }
 
-/// Returns the files of a folder and its subfolders, with their paths below another one.
+/// Returns the files of a folder and its subfolders, with their paths relative to another folder.
 fn copied(from: &Path, to: &Path) -> Result<Vec<File>, Fault> {
     let mut files = Vec::new();
     for path in sorted(from)? {

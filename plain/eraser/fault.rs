@@ -1,4 +1,4 @@
-//! Why no edition is written.
+//! The reason why no edition is written.
 
 use std::fmt;
 use std::path::Path;
@@ -16,7 +16,7 @@ impl Fault {
         Fault { place: format!("{path}:{line}"), what: what.into() }
     }
 
-    /// Creates a fault of a whole file or folder.
+    /// Creates a fault in a whole file or folder.
     pub fn of(path: &Path, what: impl fmt::Display) -> Fault {
         Fault { place: path.display().to_string(), what: what.to_string() }
     }

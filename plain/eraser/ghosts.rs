@@ -1,4 +1,4 @@
-//! Erases clauses, ghost items, and what only a proof reads. None of it has an effect when the program runs.
+//! Erases clauses, ghost items, and whatever only a proof reads. None of these has an effect when the program runs.
 
 use super::fault::Fault;
 use super::known;
@@ -71,7 +71,7 @@ fn past_clause(source: &Source, clause: usize) -> Result<usize, Fault> {
     Ok(source.after(source.closing(at)?))
 }
 
-/// Returns the space before a body: a blank, or a line end if the head ends with a bound.
+/// Returns the space before a body: a blank, or a line break if the head ends with a bound.
 fn space_before_body(source: &Source, head: usize, clause: usize) -> String {
     if source.at(head) != "," {
         return " ".to_string();
@@ -173,7 +173,7 @@ pub fn without_derive(source: &mut Source, name: &str) -> Result<Vec<usize>, Fau
     Ok(found)
 }
 
-/// Erases `impl Model for ..`, which defines what a contract sees.
+/// Erases `impl Model for ..`, which defines how contracts view a type.
 fn models(source: &mut Source) -> Result<(), Fault> {
     for at in source.words("impl") {
         if !source.is_word(at, "impl") {
@@ -234,7 +234,7 @@ fn markers(source: &mut Source) -> Result<(), Fault> {
     Ok(())
 }
 
-/// Erases the bound `Drop`, which says that a type may be dropped: in Rust every type may.
+/// Erases the bound `Drop`, which states that a type may be dropped: in Rust every type may.
 fn bounds(source: &mut Source) -> Result<(), Fault> {
     for at in source.words("Drop") {
         let before = match source.before(at) {
@@ -261,7 +261,7 @@ fn bounds(source: &mut Source) -> Result<(), Fault> {
     Ok(())
 }
 
-/// Erases the label of a loop that no `break` or `continue` names. Proofs refer to the loop by it.
+/// Erases a loop label that no `break` or `continue` names. Proofs refer to the loop by this label.
 fn labels(source: &mut Source) {
     for at in 0..source.tokens.len() {
         if !matches!(source.tokens[at].kind, Kind::Life) {

@@ -7,7 +7,7 @@ use super::token::Kind;
 /// Types with a `drop` that only frees what their fields own, which Rust does anyway.
 pub const FREED_BY_ITS_FIELDS: &[&str] = &["Card"];
 
-/// Third-party crates that the kit has modules for.
+/// Third-party crates for which the kit has modules.
 pub const LIBRARIES: &[&str] = &["arrayvec", "bitflags", "byteorder", "clap", "hex", "rtrb", "thiserror"];
 
 /// Names and methods that are in Rattle's prelude but not in Rust's, their module in the kit, and what to import from
@@ -96,7 +96,7 @@ pub const PATHS: &[&str] = &[
     "thread",
 ];
 
-/// Refuses what no rewrite knows, after everything that only a proof reads is erased.
+/// Refuses constructs that no rewrite knows, after everything that only a proof reads has been erased.
 pub fn check(source: &Source) -> Result<(), Fault> {
     if let Some(at) = WORDS.iter().flat_map(|it| source.words(it)).min() {
         return Err(source.fault(at, format!("{} of another form", source.at(at))));

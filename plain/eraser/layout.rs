@@ -67,7 +67,8 @@ fn is_signature(line: &str) -> bool {
     words.starts_with("fn ") && line.ends_with([';', '{'].as_ref())
 }
 
-/// Returns a function's head joined on one line, if it is on several and fits, and the line after it.
+/// Returns a function's head joined on one line, if it is on several lines and fits on one, and the line after the
+/// head.
 fn joined(lines: &[String], at: usize) -> Option<(String, usize)> {
     let first = lines[at].strip_suffix('(').filter(|it| is_signature(&format!("{it}{{")))?;
     let indent = first.len() - first.trim_start().len();
@@ -99,8 +100,8 @@ fn embraced(lines: &[String]) -> Vec<String> {
     lines
 }
 
-/// Returns the line after which the bracket closes, if a line opens one around a single struct. Nesting inside the
-/// struct doesn't count.
+/// Returns the line after which the bracket closes, if a line opens a bracket around a single struct. Nesting inside
+/// the struct doesn't count.
 fn embraced_end(lines: &[String], at: usize) -> Option<usize> {
     let indent = |line: &str| line.len() - line.trim_start().len();
     let (outer, inner) = (indent(&lines[at]), indent(&lines[at + 1]));
@@ -128,7 +129,7 @@ fn arm(line: &str) -> Vec<String> {
     }
 }
 
-/// Splits a function's head to one parameter a line.
+/// Splits a function's head to one parameter per line.
 fn signature(line: &str) -> Vec<String> {
     let indent: String = line.chars().take_while(|it| *it == ' ').collect();
     let open = match parameters_at(line) {

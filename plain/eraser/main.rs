@@ -4,9 +4,9 @@
 //!     eraser --controller ROOT OUT   the modules of the controller, for the pure Rust crate
 //!     eraser --case FILE             the plain text of one source, on standard output
 //!
-//! It erases what only a proof reads (`ghosts`). It rewrites what differs in Rust, each form in its own function
-//! (`rust`, `faults`, `exports`, `paths`). It doesn't guess: it refuses an unknown form (`known`) with its file and
-//! line. Status 1: there is an unknown form, or a file can't be read or written. Status 2: wrong arguments.
+//! It erases whatever only a proof reads (`ghosts`). It rewrites the forms that differ in Rust, each in its own
+//! function (`rust`, `faults`, `exports`, `paths`). It doesn't guess: it refuses an unknown form (`known`) with its
+//! file and line. Status 1: there is an unknown form, or a file can't be read or written. Status 2: wrong arguments.
 
 #[path = "mod.rs"]
 mod eraser;

@@ -98,7 +98,7 @@ pub fn prelude(source: &Source) -> Vec<String> {
     written.collect()
 }
 
-/// Whether a source contains this word. The text that a rewrite wrote may contain several words.
+/// Whether a source contains this word. A text that a rewrite wrote may contain several words.
 fn is_used(source: &Source, word: &str) -> bool {
     let written = |it: &Token| tokens("", &it.text).unwrap_or_default().iter().any(|it| it.text == word);
     let is_in = |it: &Token| it.text.contains(word) && (it.text == word || written(it));

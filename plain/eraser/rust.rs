@@ -1,4 +1,4 @@
-//! Rewrites the forms that differ in Rust, and those that rustc supports only since a version after 1.63, or not yet.
+//! Rewrites the forms that differ in Rust, and the forms that rustc 1.63 doesn't support.
 
 use super::fault::Fault;
 use super::layout::indented;
@@ -42,7 +42,7 @@ fn formats(source: &mut Source) -> Result<(), Fault> {
     Ok(())
 }
 
-/// Rewrites `fn clone(&self) -> Result<Self, AllocError> { Ok(*self) }`: Rust's can't fail.
+/// Rewrites `fn clone(&self) -> Result<Self, AllocError> { Ok(*self) }`: Rust's `clone` can't fail.
 fn clones(source: &mut Source) -> Result<(), Fault> {
     for at in source.words("clone") {
         let result = match source.past(at, &["clone", "(", "&", "self", ")", "->", "Result"]) {
@@ -156,7 +156,7 @@ fn lets(source: &mut Source) -> Result<(), Fault> {
     Ok(())
 }
 
-/// Returns the `else` or the `;` that ends a `let`'s value. It is a `;` too if the value is an `if` with an else.
+/// Returns the `else` or the `;` that ends a `let`'s value. If the value is an `if` with an else, it is also a `;`.
 fn let_end(source: &Source, sign: usize) -> Result<usize, Fault> {
     let first = source.after(sign);
     if ["if", "match", "loop", "unsafe"].contains(&source.at(first)) {
@@ -203,7 +203,7 @@ fn arm_of(source: &Source, open: usize, end: usize, indent: &str) -> Result<Stri
     if is_one && indent.len() + 4 + "_ => ,".len() + statement.len() <= 100 {
         return Ok(format!("{statement},"));
     }
-    // (its lines are indented one step further than those of the else)
+    // (its lines are indented one step further than the lines of the else)
     Ok(format!("{{\n{indent}        {}\n{indent}    }}", indented(&body, "    ")))
 }
 
@@ -261,8 +261,8 @@ fn methods(source: &mut Source) {
     }
 }
 
-/// Rewrites `r.expect(rt, "..")` on a result: Rust's takes no handle, and prints the error, which may have no text
-/// here.
+/// Rewrites `r.expect(rt, "..")` on a result: Rust's method takes no handle, and prints the error, which may have no
+/// text here.
 fn expectations(source: &mut Source) {
     for at in source.words("expect") {
         let open = source.after(at);
@@ -298,8 +298,8 @@ fn traits(source: &mut Source) -> Result<(), Fault> {
     Ok(())
 }
 
-/// Rewrites `assert!(rt; ..)` and `panic!(rt; ..)`: Rust's take no handle. `println!(rt; ..)` becomes the kit's,
-/// because it can fail.
+/// Rewrites `assert!(rt; ..)` and `panic!(rt; ..)`: Rust's macros take no handle. `println!(rt; ..)` becomes the kit's
+/// macro, because it can fail.
 fn handles(source: &mut Source) -> Result<(), Fault> {
     for name in ["assert", "assert_eq", "panic", "println"] {
         for at in source.words(name) {
@@ -323,7 +323,7 @@ fn handles(source: &mut Source) -> Result<(), Fault> {
     Ok(())
 }
 
-/// Rewrites `vec![in alloc; ..]` and `format!(in alloc; ..)` as the kit's, because they can fail.
+/// Rewrites `vec![in alloc; ..]` and `format!(in alloc; ..)` as the kit's macros, because they can fail.
 fn allocators(source: &mut Source) {
     for name in ["vec", "format"] {
         for at in source.words(name) {

@@ -107,7 +107,7 @@ impl Source {
         it.text.len() == 1 && matches!(it.kind, Kind::Sign) && signs.contains(it.text.as_str())
     }
 
-    /// Returns the bracket that closes the one at this token.
+    /// Returns the bracket that closes the bracket at this token.
     pub fn closing(&self, open: usize) -> Result<usize, Fault> {
         let mut depth = 0;
         for at in open..self.tokens.len() {
@@ -160,7 +160,7 @@ impl Source {
         }
     }
 
-    /// Erases tokens, and the space after them: those on a separate line before the line that they belong to.
+    /// Erases tokens, and the space after them, for tokens on a separate line before the line to which they belong.
     pub fn erase_line(&mut self, begin: usize, end: usize) {
         self.clear(begin, end);
         for at in end..self.tokens.len() {
@@ -172,7 +172,7 @@ impl Source {
         }
     }
 
-    /// Replaces tokens by a text.
+    /// Replaces tokens with a text.
     pub fn replace(&mut self, begin: usize, end: usize, text: impl Into<String>) {
         self.clear(begin, end);
         self.tokens[begin].kind = Kind::Written;

@@ -5,11 +5,11 @@ use super::fault::Fault;
 /// The kind of a token.
 #[derive(Clone, Copy, Debug, PartialEq, Eq)]
 pub enum Kind {
-    /// Blanks and line ends.
+    /// Blanks and line breaks.
     Space,
     /// A comment to the end of its line, including `///` and `//!`.
     Comment,
-    /// A string or a character, including those of bytes.
+    /// A string or a character, including byte strings and bytes.
     Literal,
     /// A lifetime or a label.
     Life,
@@ -17,7 +17,7 @@ pub enum Kind {
     Word,
     /// A number.
     Number,
-    /// A sign: one character, or one of `SIGNS`.
+    /// A sign: a single character, or one of `SIGNS`.
     Sign,
     /// Text from a rewrite, which may contain several tokens.
     Written,

@@ -1,5 +1,5 @@
-//! All `unsafe` code of the kit, each use with its reason. What it exports is safe to call, except the slices from C's
-//! pointers and the handles of boxes, whose callers must meet the requirements of C's header.
+//! All `unsafe` code of the kit, each use with its reason. All calls that it exports are safe, except the slices from
+//! C's pointers and the handles of boxes, whose callers must meet the requirements of C's header.
 
 #[cfg(any(feature = "c", test))]
 mod keeping;
@@ -28,8 +28,8 @@ pub(super) fn boxed<T>(value: T) -> Result<Box<T>, T> {
     if layout.size() == 0 {
         return Ok(Box::new(value));
     }
-    // SAFETY: the layout has a size. The memory is new and has that layout. It is written before it becomes a box,
-    // which frees it as Rust's own boxes are freed.
+    // SAFETY: the layout's size isn't 0. The memory is new and has that layout. It is written before it becomes a box,
+    // which frees it like any of Rust's boxes.
     unsafe {
         let place = alloc(layout).cast::<T>();
         if place.is_null() {
@@ -40,8 +40,8 @@ pub(super) fn boxed<T>(value: T) -> Result<Box<T>, T> {
     }
 }
 
-/// Moves the elements to a block of their exact size. If the allocator refuses it, they stay in their block; Rust's
-/// vectors abort in that case.
+/// Moves the elements to a block of their exact size. If the allocator refuses that block, they stay in their old one;
+/// Rust's vectors abort in that case.
 pub(super) fn shrunk<T>(items: Vec<T>) -> Vec<T> {
     let (len, room) = (items.len(), items.capacity());
     if len == room || len == 0 || core::mem::size_of::<T>() == 0 {
@@ -50,8 +50,8 @@ pub(super) fn shrunk<T>(items: Vec<T>) -> Vec<T> {
     let mut items = ManuallyDrop::new(items);
     let at = items.as_mut_ptr();
     // SAFETY: the block belongs to the vector, which is no longer used, and has this layout, because it was allocated
-    // with it. The new size isn't 0. What `realloc` returns contains the elements and has that size; or it is null, and
-    // the block is unchanged.
+    // with it. The new size isn't 0. The result of `realloc` contains the elements and has that size; or it is null,
+    // and the block is unchanged.
     unsafe {
         let layout = Layout::from_size_align_unchecked(room * core::mem::size_of::<T>(), core::mem::align_of::<T>());
         let to = realloc(at.cast::<u8>(), layout, len * core::mem::size_of::<T>()).cast::<T>();
@@ -62,7 +62,7 @@ pub(super) fn shrunk<T>(items: Vec<T>) -> Vec<T> {
     }
 }
 
-/// Slots for `Copy` values; the first `count` are initialized.
+/// Slots for `Copy` values, of which the first `count` are initialized.
 #[derive(Clone, Copy)]
 pub(super) struct Slots<T: Copy, const N: usize> {
     items: [MaybeUninit<T>; N],
@@ -101,12 +101,12 @@ impl<T: Copy, const N: usize> Slots<T, N> {
     }
 }
 
-/// The C library's heap, by the three names that `c/Makefile` renames.
+/// The C library's heap, under the three names that `c/Makefile` renames.
 #[cfg(feature = "c")]
 mod heap {
     use core::alloc::{GlobalAlloc, Layout};
 
-    /// What a call returns: whether there was memory, and the pointer.
+    /// The result of a call: whether there was memory, and the pointer.
     #[repr(C)]
     struct Taken {
         is_there: usize,
@@ -134,9 +134,9 @@ mod heap {
     #[global_allocator]
     static HEAP: Heap = Heap;
 
-    // SAFETY: the calls are those of malloc, realloc and free (plain/heap.c). They return memory that nothing else
-    // uses, aligned for every type in the crate (no type needs more than malloc's alignment), keep its contents, and
-    // return null if there is none.
+    // SAFETY: the calls behave like malloc, realloc and free (plain/heap.c). They return memory that nothing else uses,
+    // aligned for every type in the crate (no type needs more than malloc's alignment), keep its contents, and return
+    // null if there is none.
     unsafe impl GlobalAlloc for Heap {
         #[inline]
         unsafe fn alloc(&self, layout: Layout) -> *mut u8 {
@@ -217,15 +217,15 @@ mod words {
     const SIGPIPE: c_int = 13;
     const SIG_IGN: usize = 1;
 
-    /// Runs a program with these arguments, for a `main` in C's form; only `program!` defines one. From now on, a write
-    /// that nothing reads fails instead of raising a signal.
+    /// Runs a program with these arguments, for a `main` with C's signature; only `program!` defines one. From now on,
+    /// a write to a closed pipe fails instead of raising a signal.
     ///
     /// # Safety
     /// The arguments must be `main`'s own parameters.
     pub unsafe fn run_with_words(count: c_int, words: *const *const c_char, main: fn() -> u8) -> c_int {
         COUNT.store(usize::try_from(count).unwrap_or(0), Ordering::SeqCst);
         FIRST.store(words as *mut *const c_char, Ordering::SeqCst);
-        // SAFETY: the numbers are those that C's headers define for this signal and for ignoring it.
+        // SAFETY: C's headers define these numbers for this signal and for ignoring it.
         unsafe { signal(SIGPIPE, SIG_IGN) };
         c_int::from(main())
     }

@@ -1,5 +1,5 @@
 //! The crate `rtrb`: a ring from one thread to another. The original has no locks. This one has a lock for each place,
-//! for which no thread waits: an end takes it only if the counts show that the other end is done with the place.
+//! but no thread waits for a lock: an end takes it only if the counts show that the other end is done with the place.
 
 use super::alloc::{AllocError, Global};
 use super::sync::Arc;
@@ -120,7 +120,7 @@ impl<T> Consumer<T> {
         self.0.held()
     }
 
-    /// Returns the number of items, for a caller that also holds the producer.
+    /// Returns the number of items, for a caller that also has the producer.
     pub fn slots_beside(&mut self, _: &mut Producer<T>) -> usize {
         self.0.held()
     }

@@ -1,4 +1,4 @@
-//! `std::simd`: the only one of its vectors that is used, 64 bytes compared with others at once, as eight words.
+//! `std::simd`: the only vector type that is used, 64 bytes that are compared in parallel, as eight words.
 
 pub mod prelude {
     /// A vector of 64 bytes.

@@ -1,4 +1,4 @@
-//! `String`: a text with allocations that may be refused. It wraps Rust's string, and grows it by its fallible calls.
+//! `String`: a text with allocations that may be refused. It wraps Rust's string, and grows it with fallible calls.
 
 use super::alloc::{AllocError, Global};
 use super::vec::Vec;
@@ -45,7 +45,7 @@ impl String {
         Ok(made)
     }
 
-    /// Converts bytes to a text, in their memory.
+    /// Converts bytes to a text, in the same memory.
     pub fn from_utf8(bytes: Vec<u8>) -> Result<Self, FromUtf8Error> {
         Text::from_utf8(bytes.into_std()).map(String).map_err(|refused| {
             let error = refused.utf8_error();
@@ -53,7 +53,7 @@ impl String {
         })
     }
 
-    /// Returns the text's bytes, in its memory.
+    /// Converts the text to bytes, in the same memory.
     pub fn into_bytes(self) -> Vec<u8> {
         Vec::of_std(self.0.into_bytes())
     }

@@ -1,4 +1,4 @@
-//! `std::sync`: shared values and locks. Taking a lock needs the right to wait, as Rattle's types require. No lock is
+//! `std::sync`: shared values and locks. Taking a lock needs the right to wait, as Rattle's types require. Locks aren't
 //! poisoned, because a panic ends the process or the device.
 
 use super::alloc::{AllocError, AllocFailed, Global};
@@ -7,7 +7,7 @@ use core::fmt;
 use core::ops::{Deref, DerefMut};
 use std::sync::PoisonError;
 
-/// A value with several owners, in any threads.
+/// A value with several owners, possibly in different threads.
 pub struct Arc<T>(Shared<T>);
 
 impl<T> Arc<T> {
@@ -95,7 +95,7 @@ impl<T> DerefMut for MutexGuard<'_, T> {
     }
 }
 
-/// A condition variable: threads that hold a lock wait for it.
+/// A condition variable: threads that hold the lock can wait for it.
 #[derive(Debug)]
 pub struct Condvar(std::sync::Condvar);
 

@@ -1,4 +1,4 @@
-//! `std::thread`: work split among threads. If a thread can't be created, the caller's thread does its work: running
+//! `std::thread`: work split among threads. If a thread can't be created, the caller's thread does the work, so running
 //! out of memory makes it slower, but loses nothing. A caller that needs a separate thread uses `beside`, which reports
 //! whether one was created.
 
@@ -10,7 +10,7 @@ pub trait Threads {}
 
 impl<R: Threads> Threads for &R {}
 
-/// What threads of a scope may borrow: in Rattle a value, in Rust a lifetime.
+/// What a scope's threads may borrow from: in Rattle a value, in Rust a lifetime.
 #[derive(Clone, Copy, Debug)]
 pub struct ScopeEnv;
 

@@ -1,5 +1,5 @@
-//! `Vec`: a vector with allocations that may be refused. It wraps Rust's vector, and grows it by its fallible calls,
-//! which request the same sizes as Rattle's.
+//! `Vec`: a vector with allocations that may be refused. It wraps Rust's vector, and grows it with fallible calls that
+//! request the same sizes as Rattle's.
 
 use super::alloc::{AllocError, AllocFailed, Global};
 use super::raw;
@@ -32,7 +32,7 @@ impl<T> Vec<T> {
 
     /// Creates a vector from an array's elements. Returns them if memory runs out.
     pub fn from_array<const N: usize>(alloc: Global, items: [T; N]) -> Result<Self, AllocFailed<[T; N]>> {
-        // (Rattle allocates room for one element if there are none.)
+        // (If there are no elements, Rattle allocates room for one.)
         match Vec::with_capacity(alloc, N.max(1)) {
             Ok(mut made) => {
                 made.0.extend(items);
@@ -141,7 +141,7 @@ impl<T> Vec<T> {
 }
 
 impl<T: Copy> Vec<T> {
-    /// Copies a slice. (Copying a device copies hundreds of empty ones.)
+    /// Copies a slice. (Copying a device copies hundreds of empty slices.)
     #[inline(always)]
     pub fn from_slice(alloc: Global, from: &[T]) -> Result<Self, AllocError> {
         if from.is_empty() {
@@ -192,7 +192,7 @@ pub trait CollectIn: Iterator + Sized {
         let mut rest = self;
         while let Some(it) = rest.next() {
             if made.0.len() == made.0.capacity() {
-                // The hint may be too high, so only a refused request for one element is an error.
+                // The size hint may be too high, so only a refused request for one element is an error.
                 let hint = rest.size_hint().0.saturating_add(1);
                 if made.reserve(hint).is_err() {
                     made.reserve(1)?;

@@ -1,13 +1,13 @@
 #!/usr/bin/env node
-// The program nicbench from its WebAssembly module, as a command: arguments, standard input, output and status are the
-// program's. NIC82599_WASM names a module other than the one that plain/wasm/make builds.
+// Runs nicbench's WebAssembly module as a command, with the program's arguments, standard input, output and status.
+// NIC82599_WASM names a module other than the one that plain/wasm/make builds.
 
 import { existsSync, readFileSync, writeSync } from "node:fs";
 import { compile } from "./nicbench.mjs";
 
 const module = process.env.NIC82599_WASM ?? new URL("../out/wasm/nicbench.wasm", import.meta.url);
 const MISSING = 2;
-// Commands that read nothing; the others wait for the end of the input, as the program does.
+// Commands that read nothing. Other commands wait for the end of the input, as the program does.
 const ALONE = new Set(["threads", "help"]);
 
 function writeAll(bytes) {
@@ -17,7 +17,7 @@ function writeAll(bytes) {
 }
 
 if (!existsSync(module)) {
-    console.error(`nicbench: there is no module ${module}: plain/wasm/make makes it, or NIC82599_WASM names another`);
+    console.error(`nicbench: there is no module ${module}: plain/wasm/make builds it, or NIC82599_WASM names another`);
     process.exit(MISSING);
 }
 const words = process.argv.slice(2);

@@ -1,11 +1,11 @@
-//! The program `nicbench` as a WebAssembly module, over the plain edition: it takes the command-line arguments and the
-//! input, and returns the output and the status. `nicbench.mjs` is the JavaScript interface.
+//! The program `nicbench` as a WebAssembly module, based on the plain edition: it takes the command-line arguments and
+//! the input, and returns the output and the status. `nicbench.mjs` is the JavaScript interface.
 //!
 //! Each text has a number: 0 is the arguments, each terminated by a 0 byte; 1 the input; 2 the output; 3 the fault that
-//! ended the program. The host calls `room` for the first two, writes them at the returned address, calls `run`, and
-//! reads the `length` bytes of the others at `address`. If a call doesn't return, the program hit a fault that the
+//! ended the program. The host calls `room` for the first two, writes them at the returned addresses, calls `run`, and
+//! reads the other texts, of `length` bytes at `address`. If a call doesn't return, the program hit a fault that the
 //! proofs rule out: the last text then describes it, and no other call is allowed. Each run has a fresh instance, so
-//! nothing is left from another one.
+//! nothing remains from another run.
 
 #![deny(unsafe_code)]
 
@@ -36,7 +36,8 @@ fn text(number: usize) -> MutexGuard<'static, Vec<u8>> {
 mod calls {
     use super::*;
 
-    /// Makes room for a text of this many bytes, and returns its address; 0 if memory runs out. A host calls it first.
+    /// Makes room for a text of this many bytes, and returns its address; 0 if memory runs out. The host calls this
+    /// first.
     #[no_mangle]
     extern "C" fn room(number: usize, length: usize) -> usize {
         std::panic::set_hook(Box::new(|fault| *text(FAULT) = fault.to_string().into_bytes()));

@@ -1,4 +1,5 @@
-// The program nicbench in a page, in a worker or in Node: arguments and input in, output and status out.
+// Runs the program nicbench in a page, in a worker or in Node: takes arguments and input, and returns output and
+// status.
 //
 //     import { compile } from "./nicbench.mjs";
 //     const bench = await compile(fetch("nicbench.wasm"));
@@ -28,7 +29,7 @@ function lineOf(words) {
     let at = 0;
     for (const part of parts) {
         if (part.includes(0)) {
-            throw new TypeError("a word has a byte 0 in it, which no command line can have");
+            throw new TypeError("an argument contains a zero byte, which no command line can contain");
         }
         line.set(part, at);
         at += part.length + 1;
@@ -84,7 +85,7 @@ class Bench {
 
     // Runs `nicbench WORDS..` on an input, a text or bytes. The result contains the program's exit status, and its
     // output as `bytes` and as `text`. The page is blocked until the program ends; to keep it responsive, use a worker.
-    // Each run starts with fresh memory, so none sees another.
+    // Each run starts with fresh memory, so it can't see another run's data.
     async run(words, input = "") {
         const calls = new Calls(await WebAssembly.instantiate(this.#module));
         calls.write(WORDS, lineOf(["nicbench", ...words]));

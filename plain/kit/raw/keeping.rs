@@ -13,8 +13,8 @@ impl Drop for Call {
     }
 }
 
-/// Runs a call in which a panic frees nothing. What it owns is then leaked, so a piece that other code still knows
-/// isn't freed. (What another thread drops because of its own panic during the call is leaked too.)
+/// Runs a call in which a panic frees nothing. What the call owns is then leaked, so an allocation to which other code
+/// still refers isn't freed. (What another thread drops because of its own panic during the call is leaked too.)
 #[inline]
 pub(in crate::kit) fn keeping<R>(call: impl FnOnce() -> R) -> R {
     CALLS.fetch_add(1, Ordering::Relaxed);
@@ -22,7 +22,7 @@ pub(in crate::kit) fn keeping<R>(call: impl FnOnce() -> R) -> R {
     call()
 }
 
-/// Whether to leak what this thread is dropping now.
+/// Whether to leak the values that this thread is dropping now.
 #[inline]
 pub(super) fn keeps() -> bool {
     CALLS.load(Ordering::Relaxed) != 0 && std::thread::panicking()

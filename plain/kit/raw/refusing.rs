@@ -1,4 +1,4 @@
-//! A heap for tests that refuses a thread's requests for memory from some request on.
+//! A heap for tests that refuses a thread's memory requests from a given request on.
 
 use core::alloc::{GlobalAlloc, Layout};
 use core::cell::Cell;
@@ -24,7 +24,7 @@ struct Refusing;
 #[global_allocator]
 static HEAP: Refusing = Refusing;
 
-// SAFETY: each call is the system's, or reports that there is no memory.
+// SAFETY: each call calls the system's heap, or reports that there is no memory.
 unsafe impl GlobalAlloc for Refusing {
     unsafe fn alloc(&self, layout: Layout) -> *mut u8 {
         // SAFETY: the caller guarantees it.
@@ -50,7 +50,7 @@ unsafe impl GlobalAlloc for Refusing {
     }
 }
 
-/// Returns the result of a call for which only the first `requests` requests for memory are granted.
+/// Returns the result of a call of which only the first `requests` memory requests are granted.
 pub(in crate::kit) fn granted<R>(requests: u64, call: impl FnOnce() -> R) -> R {
     GRANTS.with(|it| it.set(requests));
     let result = call();
@@ -58,7 +58,7 @@ pub(in crate::kit) fn granted<R>(requests: u64, call: impl FnOnce() -> R) -> R {
     result
 }
 
-/// Returns the result of a call, and the number of requests for memory that it makes.
+/// Returns the result of a call, and the number of its memory requests.
 pub(in crate::kit) fn counted<R>(call: impl FnOnce() -> R) -> (R, u64) {
     let before = ASKED.with(Cell::get);
     let result = call();

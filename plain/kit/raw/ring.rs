@@ -1,12 +1,12 @@
-//! A ring of slots, the basis of `VecDeque`. Rust's own aborts if memory runs out; before version 1.67 it does so even
-//! when it is new and empty.
+//! A ring of slots, the basis of `VecDeque`. Rust's own aborts if memory runs out; before version 1.67, even creating
+//! an empty one may abort.
 
 use alloc::vec::Vec;
 use core::mem::{ManuallyDrop, MaybeUninit};
 
 /// Elements in `len` slots of a block, starting at slot `head` and wrapping to slot 0.
 pub(in crate::kit) struct Ring<T> {
-    // Its length is its capacity: each slot exists, and holds an element or nothing.
+    // The block's length is the capacity: each slot exists, and contains an element or nothing.
     slots: Vec<MaybeUninit<T>>,
     head: usize,
     len: usize,
@@ -26,11 +26,11 @@ impl<T> Ring<T> {
         Ring { slots: Vec::new(), head: 0, len: 0 }
     }
 
-    /// Takes a vector's elements, in its block.
+    /// Converts a vector to a ring, in the same block.
     pub(in crate::kit) fn of(from: Vec<T>) -> Self {
         let mut from = ManuallyDrop::new(from);
         let (at, len, room) = (from.as_mut_ptr(), from.len(), from.capacity());
-        // SAFETY: the block belongs to the vector, which is no longer used. A slot may hold nothing, so all of them
+        // SAFETY: the block belongs to the vector, which is no longer used. A slot may contain nothing, so all of them
         // count.
         let slots = unsafe { Vec::from_raw_parts(at.cast::<MaybeUninit<T>>(), room, room) };
         Ring { slots, head: 0, len }
@@ -68,7 +68,7 @@ impl<T> Ring<T> {
     }
 
     /// Makes room for at least this many elements, doubling the capacity if that is enough. Returns false if memory
-    /// runs out; nothing then changes.
+    /// runs out; in that case nothing changes.
     #[cold]
     #[inline(never)]
     pub(in crate::kit) fn grow(&mut self, more: usize) -> bool {
@@ -76,7 +76,8 @@ impl<T> Ring<T> {
         if more <= old - self.len {
             return true;
         }
-        // (Rattle's queue counts from its elements if they don't start the block, otherwise from the block.)
+        // (Rattle's queue counts from the number of elements if these don't start the block, otherwise from the block's
+        // length.)
         let base = if self.head == 0 { old } else { self.len };
         let wanted = self.len.saturating_add(more).max(base.saturating_mul(2)).max(least::<T>());
         if self.slots.try_reserve_exact(wanted - old).is_err() {
@@ -85,7 +86,7 @@ impl<T> Ring<T> {
         let new = self.slots.capacity();
         self.slots.resize_with(new, MaybeUninit::uninit);
         if self.head + self.len > old {
-            // The elements from `head` to the old end move to the new end.
+            // The elements from `head` to the old end of the block move to its new end.
             let moved = old - self.head;
             for k in 1..=moved {
                 self.slots.swap(old - k, new - k);
@@ -121,7 +122,7 @@ impl<T> Ring<T> {
         let slot = self.head;
         self.head = self.slot(1);
         self.len -= 1;
-        // SAFETY: the first slot holds an element, and counts as empty from now on.
+        // SAFETY: the first slot contains an element, and counts as empty from now on.
         Some(unsafe { self.slots[slot].assume_init_read() })
     }
 
@@ -132,7 +133,7 @@ impl<T> Ring<T> {
         }
         self.len -= 1;
         let slot = self.slot(self.len);
-        // SAFETY: the last slot holds an element, and counts as empty from now on.
+        // SAFETY: the last slot contains an element, and counts as empty from now on.
         Some(unsafe { self.slots[slot].assume_init_read() })
     }
 
@@ -141,7 +142,7 @@ impl<T> Ring<T> {
         if place >= self.len {
             return None;
         }
-        // SAFETY: the slot of an index below `len` holds an element.
+        // SAFETY: the slot of an index below `len` contains an element.
         Some(unsafe { self.slots[self.slot(place)].assume_init_ref() })
     }
 
@@ -155,11 +156,11 @@ impl<T> Ring<T> {
         Some(unsafe { self.slots[slot].assume_init_mut() })
     }
 
-    /// Returns the elements in two parts, in order.
+    /// Returns the elements as two slices, in order.
     pub(in crate::kit) fn as_slices(&self) -> (&[T], &[T]) {
         let upper = self.len.min(self.slots.len() - self.head);
         let (first, second) = (&self.slots[self.head..self.head + upper], &self.slots[..self.len - upper]);
-        // SAFETY: all of these slots hold elements.
+        // SAFETY: all of these slots contain elements.
         unsafe {
             (
                 core::slice::from_raw_parts(first.as_ptr().cast(), first.len()),

@@ -29,7 +29,7 @@ impl<T> Shared<T> {
     }
 
     fn block(&self) -> &Block<T> {
-        // SAFETY: the block exists for as long as it has an owner, and this is one.
+        // SAFETY: the block exists for as long as it has an owner, and this value is an owner.
         unsafe { self.block.as_ref() }
     }
 
@@ -59,8 +59,8 @@ impl<T> Drop for Shared<T> {
             return;
         }
         fence(Ordering::Acquire);
-        // SAFETY: the block came from a box, and this was its last owner. The fence orders the other owners' accesses
-        // before it.
+        // SAFETY: the block came from a box, and this value was its last owner. The fence orders the other owners'
+        // accesses before it.
         drop(unsafe { Box::from_raw(self.block.as_ptr()) });
     }
 }

@@ -5,7 +5,7 @@ mod system {
     use std::os::raw::{c_int, c_void};
     use std::panic::{catch_unwind, AssertUnwindSafe};
 
-    /// `pthread_t`: a number or a pointer, of a word's size.
+    /// `pthread_t`: a number or a pointer, with the size of a machine word.
     type Thread = usize;
 
     extern "C" {
@@ -45,7 +45,7 @@ mod system {
         let at: *mut Task<'_> = &mut task;
         let mut thread = 0;
         // SAFETY: the task lives until the thread has ended, because `Joined` waits for it. It may move to another
-        // thread, because its call may.
+        // thread, because its closure is `Send`.
         let refused = unsafe { pthread_create(&mut thread, core::ptr::null(), run, at.cast()) };
         if refused != 0 {
             return false;

@@ -39,8 +39,8 @@ PAGES, HEADERS = PurePosixPath("/usr/share/doc/nic82599"), "/usr/include"
 CRATE = "../../nic82599/rust/nic82599"
 IN_CLONE = "    # in a clone"
 NOTE = (
-    "*This page lies in `share/doc/nic82599` of a package: run its commands in that folder. What is marked `in a "
-    "clone` needs the repository.*\n"
+    "*This page is in a package's folder `share/doc/nic82599`: run its commands there. Commands marked `in a "
+    "clone` need the repository.*\n"
 )
 LINK = re.compile(r"(!?)\[([^\[\]]*)\]\(([^()\s]+)\)")
 FENCE = re.compile(r"^(```|~~~).*?^\1$", re.M | re.S)

@@ -5,9 +5,9 @@
     dev/promise_pages.py --check    names the stale pages, and ends with status 1 if there are any
 
 A row of a page is a public function with its `ensures` clauses, which may be a law, or a public type with its
-invariants. It shows the doc comment, and for each clause the clause's comment and that of the definition that it
-applies, in full. If several contracts of a page have a clause by one definition, its comment has a separate row at the
-end of the page.
+invariants. It shows the doc comment, and for each clause its comment and the comment of the definition that it applies,
+in full. If clauses of several contracts on a page apply the same definition, its comment has a separate row at the end
+of the page.
 
 Both forms also end with status 1, and name the place, in these cases: a public contract has no doc comment, or has more
 clauses than its comments have statements (each ends with '.', ';' or ':'); a public contract is on no page; the
@@ -31,8 +31,8 @@ CITED = re.compile(r" *Intel 82599 datasheet, sections? on [^.]*\.")
 FOLDER = ROOT / "docs/promises"
 MARK = "<!-- Below this line dev/generate promises writes, from the comments of the sources. -->\n"
 
-# Each page with its sections. A section contains whole crates, certain files of a crate, or what follows a law. The
-# section that names only the crate gets what no other section of the crate has.
+# Each page with its sections. A section contains whole crates, certain files of a crate, or the contracts after a law.
+# The section that names only the crate gets the contracts that are in no other section of the crate.
 PAGES = """
 table.md
     Lines and words: text_format
@@ -117,7 +117,7 @@ class Section:
         self.contracts: list[tuple[Crate, Contract]] = []
 
     def rank(self, crate: str, module: str, laws: list[str]) -> int:
-        """Returns how specifically the section selects a contract of this module, given the laws before or at it; 0
+        """Returns how specifically the section selects a contract of this module, given the laws up to the contract; 0
         if it doesn't."""
         ranks = [0]
         for it in self.selectors:
@@ -180,8 +180,8 @@ def cell(text: str) -> str:
 
 
 def sentences_of(crate: Crate, it: Contract, shared: set[str]) -> Iterator[str]:
-    """Yields the doc comment of a contract; then for each clause its comment and that of the definition that it
-    applies, with the names of the clauses that share it. Text that the doc comment contains word for word isn't
+    """Yields the doc comment of a contract. Then yields, for each clause, its comment and the comment of the definition
+    that it applies, with the names of the clauses that share it. Text that the doc comment contains word for word isn't
     repeated."""
     own: dict[str, list[str]] = {}
     for clause in it.clauses:
@@ -195,7 +195,7 @@ def sentences_of(crate: Crate, it: Contract, shared: set[str]) -> Iterator[str]:
 
 
 def common(sections: list[Section]) -> dict[str, tuple[str, dict[str, list[str]]]]:
-    """Returns the definitions that several contracts of a page share: each comment, and the contracts by clause."""
+    """Returns the definitions that several contracts on a page share: each comment, and the contracts by clause."""
     found: dict[str, tuple[str, dict[str, list[str]]]] = {}
     for crate, it in (pair for section in sections for pair in section.contracts):
         for clause in it.clauses:
@@ -219,7 +219,7 @@ def section_text(section: Section, shared: set[str]) -> str:
 
 
 def shared_text(shared: dict[str, tuple[str, dict[str, list[str]]]]) -> str:
-    """Returns the clauses that several contracts share by one definition."""
+    """Returns the clauses of several contracts that apply the same definition."""
     rows = []
     for said, clauses in shared.values():
         places = [
@@ -254,7 +254,8 @@ def faults_of(crate: Crate, it: Contract) -> Iterator[str]:
 
 
 def named(text: str) -> Iterator[tuple[str, list[str]]]:
-    """Yields the contracts that a handwritten text names with their crates, each with the clauses named after it."""
+    """Yields the contracts that a handwritten text names together with their crates, each with the clauses that are
+    named after it."""
     for found in re.finditer(r"`(\w+(?:::\w+)+)`((?:, `\w+`)*): ((?:`\w+`(?:, )?)+)|`(\w+(?:::\w+)+)`", text):
         yield found[1] or found[4], re.findall(r"\w+", found[3] or "")
 

@@ -25,8 +25,8 @@ from nic82599.tools.regs import bits  # noqa: E402
 # The maximum width of a line of text or arguments, not counting what precedes it.
 WIDE = 92
 HEAD = """\
-/* Reasons why nothing happens, generated from python/nic82599/tools/reasons.txt by dev/generate reasons. A function
-   either adds a line if its reason applies, and returns whether it does, or returns a number. */
+/* Why nothing happens, made from python/nic82599/tools/reasons.txt by dev/generate reasons. Each function adds a line
+   if its reason applies, and returns whether it does; or it returns a number. */
 #define WORD(address) nicl_why_word(it, address)
 #define FIELD(address, bits) nicl_why_field(it, address, bits)
 #define BIT(address, bit) (WORD(address) >> (bit) & 1)

@@ -109,7 +109,7 @@ def typing(page: Page) -> None:
     page.until("shownText.refused.has(2)")
     page.value("goTo(1), 0")
     page.browser.press("F4")
-    page.holds("F4 goes to the word", "cursor().line === 2 && cursor().column === 2")
+    page.holds("F4 moves to the refused word", "cursor().line === 2 && cursor().column === 2")
 
 
 def other_text(page: Page) -> None:
@@ -211,7 +211,7 @@ def hostile(page: Page) -> None:
     # (even a script that the page wrongly inserts doesn't run, because the policy lists the permitted scripts)
     tried = "Object.assign(document.createElement('script'), { textContent: 'window.hacked = 1' })"
     page.value(f"document.body.append({tried}), 0")
-    page.holds("the policy holds", "window.hacked === undefined")
+    page.holds("the policy blocks a script", "window.hacked === undefined")
     page.browser.errors = [it for it in page.browser.errors if not POLICY.search(it)]
 
 
@@ -257,7 +257,7 @@ def by_keys(page: Page) -> None:
     page.value("document.getElementById('tab-work').focus(), 0")
     page.browser.press("ArrowRight")
     is_next = "document.activeElement.id === 'tab-lessons' && !element('lessons').hidden"
-    page.holds("an arrow goes to the next tab", is_next)
+    page.holds("an arrow key moves to the next tab", is_next)
     page.browser.press("Home")
     page.value("element('text').focus(), 0")
     page.browser.press("Tab")

@@ -104,7 +104,7 @@ def asked_in_node(page: Made, messages: list[tuple[str, list[Any]]]) -> list[dic
     made = subprocess.run(command, input=lines, capture_output=True, text=True, check=False)
     answers = made.stdout.split("\n")[:-1]
     if made.returncode or len(answers) != len(messages):
-        raise Failed(f"node ended with status {made.returncode} after {len(answers)} answers\n{made.stderr.strip()}")
+        raise Failed(f"node ended with status {made.returncode} after {len(answers)} replies\n{made.stderr.strip()}")
     return [json.loads(it) for it in answers]
 
 
@@ -144,7 +144,7 @@ def speed(checks: Checks) -> None:
     found = asked_in_node(checks.page, [("answers", ["it.nic", lines, {}])] * 6)
     took = min(it["ms"] for it in found)
     faults = [] if took <= MOST_MS else [f"{took:.0f} ms CPU; at most {MOST_MS} are allowed"]
-    checks.tell(f"speed: {LIMIT:,} lines answered in {took:.0f} ms CPU", 1, faults)
+    checks.tell(f"speed: {LIMIT:,} lines ran in {took:.0f} ms CPU", 1, faults)
 
 
 def answers(checks: Checks) -> None:

@@ -572,7 +572,7 @@ unfolding runs
 
 
 def first_runs(row: Row) -> tuple[int, int, int, int]:
-    """Returns a row's first addresses: first address, stride, count, and the further run's address, or 0."""
+    """Returns a row's first addresses: first address, stride, count, and the second run's address, or 0."""
     first, *more = row.first_runs
     return first.first, first.stride, first.count, more[0].first if more else 0
 

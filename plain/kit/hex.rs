@@ -3,7 +3,7 @@
 use super::alloc::{AllocError, Global};
 use super::vec::Vec;
 
-/// Why a text doesn't decode to whole bytes, or has no room.
+/// Why a text can't be decoded to whole bytes, or why there is no room for them.
 #[derive(Clone, Copy, Debug, PartialEq, Eq)]
 pub enum FromHexError {
     InvalidHexCharacter { c: char, index: usize },

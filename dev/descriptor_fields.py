@@ -124,7 +124,8 @@ def type_name(name: str) -> str:
 
 def rss_enum() -> str:
     """Returns the C enum of hash types."""
-    head = "/* The type by which a frame was hashed, NIC_RXWB_RSS_TYPE. MRQC enables types. */\nenum nic_rss_type {\n"
+    head = "/* The type by which a frame was hashed (NIC_RXWB_RSS_TYPE). Bits of MRQC enable the types. */\n"
+    head += "enum nic_rss_type {\n"
     rows = [(f"    NIC_RSS_{type_name(name)} = {code},", FRAMES[name]) for name, code in rss_types().items()]
     rows[-1] = (rows[-1][0].removesuffix(","), rows[-1][1])
     width = max(len(text) for text, _ in rows)

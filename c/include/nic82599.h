@@ -14,10 +14,10 @@
    it on the faulting thread.
 
    Pointers: none may be null, even for a buffer of length 0. Each points to what its type says. A buffer has as many
-   bytes or items as the length after it says, and buffers don't overlap. If nic_close has ended a controller, or it was
-   never opened ({0}), each call returns CLOSED. The same holds for a snapshot that was dropped or never made. A copy of
-   the struct doesn't know that the other copy was closed, so don't use it any longer. Every other argument may have any
-   value: the call checks it and returns a status. */
+   bytes or items as the length argument after it says, and buffers don't overlap. If a controller was closed by
+   nic_close or never opened ({0}), each call with it returns CLOSED. The same holds for a snapshot that was dropped or
+   never made. Closing one copy of the struct doesn't change the other copies, so don't use them any longer. Every other
+   argument may have any value: the call checks it and returns a status. */
 #ifndef NIC82599_H
 #define NIC82599_H
 
@@ -47,8 +47,9 @@ typedef struct nic_kept {
 
 /* The status of a call, as uint8_t. */
 enum nic_status {
-    /* the device's replies; NOT_LENT, NO_QUEUE and NO_GROUP refuse the call and change nothing */
-    NIC_DONE = 0,      /* done; for a read, the word is the register's */
+    /* the device's replies, each with the fields of nic_outcome that it sets after the colon. NOT_LENT, NO_QUEUE and
+       NO_GROUP refuse the call and change nothing */
+    NIC_DONE = 0,      /* done; for a read, the word is the register's value */
     NIC_STRAY = 1,     /* no register there; a read returns what a driver would see, a write changes nothing */
     NIC_IDLE = 2,      /* nothing to do */
     NIC_DROPPED = 3,   /* a frame was dropped: why */
@@ -66,18 +67,18 @@ enum nic_status {
        OUT_OF_MEMORY */
     NIC_OUT_OF_MEMORY = 32,
     NIC_NO_ROOM = 33,      /* nic_collect: the buffer is too small, so the frame stays; nic_hash: input too long */
-    NIC_TOO_MANY_VFS = 34, /* nic_new: above 63 */
-    NIC_BAD_FIFO = 35,     /* nic_new: not 1 to 4,096 */
-    NIC_BAD_BLOCKS = 36,   /* nic_new: not 1 to 65,536 */
+    NIC_TOO_MANY_VFS = 34, /* nic_new: `vfs` is above 63 */
+    NIC_BAD_FIFO = 35,     /* nic_new: `fifo` isn't 1 to 4,096 */
+    NIC_BAD_BLOCKS = 36,   /* nic_new: `blocks` isn't 1 to 65,536 */
     NIC_NO_BLOCK = 37,     /* nic_lend: the block is already lent or doesn't exist */
-    NIC_MORE = 38,         /* nic_settle: the array is full, more may be left to do; nic_next_step: a step ran */
+    NIC_MORE = 38,         /* nic_settle: the array is full, so steps may remain; nic_next_step: a step ran */
     NIC_BAD_MEMORY = 39,   /* nic_lend_memory: not a multiple of 2,048, or bytes already lent to this controller */
     NIC_CLOSED = 40,       /* the controller or the snapshot isn't open: it was closed or never opened */
     NIC_BROKEN = 41,       /* the library hit an internal fault, which it names on standard error, and this controller
                               may be half changed: all later calls return this status. nic_unlend_memory still takes
                               the caller's memory back, and nic_close ends the controller. A proved library has no such
                               fault */
-    /* an EEPROM image or text is invalid, for the first of these reasons that applies; the former image stays */
+    /* an EEPROM image or text is invalid, for the first of these reasons that applies; the previous image stays */
     NIC_IMAGE = 64, /* base of the following statuses */
     NIC_IMAGE_ODD_LENGTH = 65,
     NIC_IMAGE_BAD_SIZE = 66,        /* not 64, 128, .. 16,384 words */
@@ -129,7 +130,7 @@ enum nic_step {
     NIC_INTERRUPT = 5  /* nic_int_step of group `of` */
 };
 
-/* What an event reports; all other fields are 0. */
+/* What an event reports. Fields that its status doesn't set are 0. */
 typedef struct nic_outcome {
     uint64_t desc; /* WROTE: bus address of the descriptor written back */
     /* WROTE: bus address of the first byte written; ADVANCED, SENT: if `back` is 1, bus address of the descriptor or
@@ -181,10 +182,9 @@ const char *nic_edition(void);
    records the controllers that it makes itself, if the name contains %p. */
 bool nic_record(const char *path);
 
-/* Writes a comment into this controller's recording, in front of the next event: what the program knows but the
-   events don't show, such as the purpose of a block. `tools/nicview` shows it beside the next step. The text is
-   truncated to 200 bytes; a byte that isn't printable ASCII is written as `?`. Returns DONE, even if the controller
-   isn't recorded. */
+/* Writes a comment into this controller's recording, in front of the next event, for information that the events don't
+   show, such as the purpose of a block. `tools/nicview` shows it beside the next step. The text is truncated to 200
+   bytes; a byte that isn't printable ASCII is written as `?`. Returns DONE, even if the controller isn't recorded. */
 uint8_t nic_note(nic *n, const char *text);
 
 /* --- creation and end --- */
@@ -208,16 +208,17 @@ void nic_free(nic n);
    nic_drop_snapshot. A snapshot takes 2,048 bytes for each lent block, and none for the others. */
 uint8_t nic_snapshot(nic *n, nic_kept *kept);
 
-/* Restores a snapshot into its own controller or any other, which takes over the snapshot's number of blocks and
-   virtual functions. Returns DONE, and the controller's former state is gone, or OUT_OF_MEMORY, and the controller is
-   unchanged. Either way the snapshot stays and can be restored again. The snapshot's state is copied before the former
-   state is freed. The controller keeps its packet memory if it has as many blocks as the snapshot and all blocks lent
-   in the snapshot are lent now. Otherwise it gets new packet memory. No contract says which, or how much memory the
-   call takes. Like a handle, a snapshot isn't thread-safe. */
+/* Restores a snapshot into the controller that it was taken from or into any other. The controller then has the
+   snapshot's number of blocks and virtual functions. Returns DONE if the snapshot replaced the controller's former
+   state, or OUT_OF_MEMORY if the controller is unchanged. Either way the snapshot stays and can be restored again. The
+   snapshot's state is copied before the former state is freed. The controller keeps its packet memory if it has as many
+   blocks as the snapshot and all blocks lent in the snapshot are lent now. Otherwise it gets new packet memory. No
+   contract says which of the two happens, or how much memory the call takes. Like a handle, a snapshot isn't
+   thread-safe. */
 uint8_t nic_restore(nic *n, const nic_kept *kept);
 
-/* Frees a snapshot that nic_snapshot made and that isn't freed yet. A null `kept` is a no-op. No controller is
-   affected. nic_drop_snapshot, below, does the same with a pointer, and you may call it again. */
+/* Frees a snapshot that was made by nic_snapshot and isn't freed yet. A null `kept` is a no-op. No controller is
+   affected. nic_drop_snapshot, below, does the same with a pointer to the struct, and may be called again. */
 void nic_free_snapshot(nic_kept kept);
 
 /* --- registers --- */
@@ -228,8 +229,9 @@ void nic_free_snapshot(nic_kept kept);
 uint8_t nic_read32(nic *n, uint32_t address, uint32_t *word);
 uint8_t nic_write32(nic *n, uint32_t address, uint32_t word);
 
-/* The same for virtual function `vf`, by the offset of its own register. It also returns STRAY if the device doesn't
-   have this function or the mode (GCR_EXT) has no pool for it; the register then reads as 0xFFFFFFFF. */
+/* Reads and writes a register of virtual function `vf` in the same way, by its offset in the function's registers. It
+   also returns STRAY if the device doesn't have this function or the mode (GCR_EXT) has no pool for it; the register
+   then reads as 0xFFFFFFFF. */
 uint8_t nic_vf_read32(nic *n, uint8_t vf, uint32_t offset, uint32_t *word);
 uint8_t nic_vf_write32(nic *n, uint8_t vf, uint32_t offset, uint32_t word);
 
@@ -248,7 +250,8 @@ uint8_t nic_vf_address(uint32_t gcr_ext, uint8_t vf, uint32_t offset, uint32_t *
 /* --- packet memory --- */
 
 /* Packet memory is what the device reads and writes by bus address. Bus address a is byte a % 2048 of block a / 2048,
-   so b blocks have the addresses below 2048 * b. The device touches only lent blocks; needing any other is a fault. */
+   so b blocks have the addresses below 2048 * b. The device accesses only lent blocks; if it needs any other block,
+   that is a fault. */
 #define NIC_BLOCK_BYTES 2048u
 
 /* Lends a block, filled with zeros. Returns DONE, NO_BLOCK (it is already lent or doesn't exist) or OUT_OF_MEMORY. */
@@ -273,11 +276,11 @@ uint8_t nic_lend_all(nic *n);
    of them may continue to make calls. */
 uint8_t nic_lend_memory(nic *n, uint64_t bus, void *memory, size_t bytes);
 /* Takes memory lent by nic_lend_memory back, or part of it. Returns DONE; BAD_MEMORY if `bus` or `bytes` isn't a
-   multiple of 2,048; NOT_LENT if not all of these blocks hold the caller's memory, and then none is taken back. */
+   multiple of 2,048; NOT_LENT if any of these blocks isn't the caller's memory; then none is taken back. */
 uint8_t nic_unlend_memory(nic *n, uint64_t bus, size_t bytes);
 
-/* Reads and writes lent memory as the driver does: `length` bytes from any bus address on, across blocks. Returns DONE,
-   or NOT_LENT if one of the bytes isn't lent: then nothing is read or written. */
+/* Reads and writes lent memory as the driver does: `length` bytes from any bus address on, even across blocks. Returns
+   DONE, or NOT_LENT if one of the bytes isn't lent: then nothing is read or written. */
 uint8_t nic_dma_read(nic *n, uint64_t bus, uint8_t *bytes, size_t length);
 uint8_t nic_dma_write(nic *n, uint64_t bus, const uint8_t *bytes, size_t length);
 
@@ -290,21 +293,21 @@ size_t nic_next_out(nic *n);
 /* Collects that frame into a buffer. Returns FRAME (`queue`, `len`), IDLE if there is none, or NO_ROOM if it is longer
    than `length`; then it stays. */
 uint8_t nic_collect(nic *n, uint8_t *room, size_t length, nic_outcome *outcome);
-/* Sets the link up or down. Returns DONE, or IDLE if it is so already. Initially it is up. */
+/* Sets the link up or down. Returns DONE, or IDLE if the link already is in that state. Initially it is up. */
 uint8_t nic_link(nic *n, bool up);
 
 /* --- the steps of the device; a step is IDLE if it has nothing to do, and while CTRL bit 2 is 1 --- */
 
-/* Writes one buffer's worth of the oldest waiting frame: WROTE, DROPPED, FAULT, IDLE. */
+/* Writes one buffer's worth of the oldest waiting frame. Returns WROTE, DROPPED, FAULT or IDLE. */
 uint8_t nic_rx_step(nic *n, nic_outcome *outcome);
-/* Fetches one descriptor of a transmit queue: ADVANCED, SENT, FAULT, IDLE, NO_QUEUE, OUT_OF_MEMORY. */
+/* Fetches one descriptor of a transmit queue. Returns ADVANCED, SENT, FAULT, IDLE, NO_QUEUE or OUT_OF_MEMORY. */
 uint8_t nic_tx_step(nic *n, uint16_t queue, nic_outcome *outcome);
-/* Enables or disables one side of a queue, as RXDCTL or TXDCTL bit 25 requests: DONE, IDLE, NO_QUEUE. */
+/* Enables or disables one side of a queue, as RXDCTL or TXDCTL bit 25 requests. Returns DONE, IDLE or NO_QUEUE. */
 uint8_t nic_queue_step(nic *n, bool transmit, uint16_t queue, nic_outcome *outcome);
-/* Completes the EEPROM read that EERD requests: DONE, IDLE. */
+/* Completes the EEPROM read that EERD requests. Returns DONE or IDLE. */
 uint8_t nic_eeprom_step(nic *n, nic_outcome *outcome);
-/* Sends the next interrupt message of a group, 0 for the physical function, v + 1 for function v: MESSAGE, IDLE,
-   NO_GROUP. */
+/* Sends the next interrupt message of a group, 0 for the physical function, v + 1 for virtual function v. Returns
+   MESSAGE, IDLE or NO_GROUP. */
 uint8_t nic_int_step(nic *n, uint8_t group, nic_outcome *outcome);
 
 /* Runs steps in rounds until none has anything to do. A round is: for each queue below `queues`, its receive enable,
@@ -342,14 +345,14 @@ uint8_t nic_next_step(nic *n, nic_settling *where, nic_outcome *outcome);
    slot until the driver advances the tail". Empty text means that nothing waits and nothing was dropped. Sent frames
    don't wait. Dropped frames are counted by the reason for the drop, since the controller was made or a snapshot was
    restored into it. A queue switched off by a fault keeps its reason as long as the slot is still there. A transmit
-   ring at rest has a line if its last descriptor ends a frame with the type of a context, or if no descriptor has RS.
-   If an address isn't lent, but is a pointer into memory that the caller has lent, the text says which bus address it
-   stands for. Like snprintf, the call writes at most `size` bytes, including the terminating 0, and returns the length
-   of the whole text without it. It writes only whole lines, up to the first that doesn't fit. `size` may be 0. A closed
-   controller has no text. The call changes nothing. Registers don't show which frames wait, what was requested of a
-   queue, and what was reported. The call finds this out on a copy of the controller, which takes the memory of a
-   snapshot and a restored controller, 4,096 bytes for each lent block, until it returns. If there isn't enough memory,
-   the last line says so, and the lines that need the copy are missing. */
+   ring at rest has a line if its last descriptor is a context descriptor with EOP, or if no descriptor has RS. If an
+   address isn't lent, but is a pointer into memory that the caller has lent, the text says which bus address that
+   memory has. Like snprintf, the call writes at most `size` bytes, including the terminating 0, and returns the length
+   of the whole text without it. It writes only whole lines, up to the first that doesn't fit. `size` may be 0. For a
+   closed controller the text is empty. The call changes nothing. Registers don't show which frames wait, what was
+   requested of a queue, and what was reported. The call determines this on a copy of the controller. Until it returns,
+   the copy takes as much memory as a snapshot and a restored controller: 4,096 bytes for each lent block. If there
+   isn't enough memory, the last line says so, and the lines that need the copy are missing. */
 size_t nic_why(nic *n, char *text, size_t size);
 
 /* --- the EEPROM --- */
@@ -367,7 +370,8 @@ uint8_t nic_hash(const uint8_t key[40], const uint8_t *input, size_t length, uin
 
 /* --- convenience functions --- */
 
-/* nic_new and nic_free with a struct. A refused nic_open leaves a null device, for which nic_close is a no-op. */
+/* Like nic_new and nic_free, but with a struct. A refused nic_open leaves a null device, for which nic_close is a
+   no-op. */
 static inline uint8_t nic_open(nic *n, uint8_t vfs, uint16_t fifo, uint32_t blocks)
 {
     n->device = NULL;
@@ -381,7 +385,7 @@ static inline void nic_close(nic *n)
     n->device = NULL;
 }
 
-/* nic_free_snapshot with a pointer; a no-op for a null snapshot. */
+/* Like nic_free_snapshot, but with a pointer to the struct; a no-op for a null snapshot. */
 static inline void nic_drop_snapshot(nic_kept *kept)
 {
     if (kept->kept)

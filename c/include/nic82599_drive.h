@@ -1,6 +1,6 @@
 /* A report card for a driver. You name your driver's functions in a struct, and the card runs them in its own
-   scenarios: each under many orders of steps (nic82599_explore.h), each judged by what the device did.
-   docs/report-card.md begins with an example.
+   scenarios. It runs each scenario under many orders of steps (nic82599_explore.h), and judges it by what the device
+   did. docs/report-card.md begins with an example.
 
        static const nicd_driver driver = {.name = "mine", .open = my_open, .close = my_close, ..};
 
@@ -16,15 +16,16 @@
    nicx_pause, nicx_point. Each of them is a point at which other actors may run. DMA memory comes from nicd_dma_alloc,
    below. Your driver declares no tasks, handlers or frames: the card does.
 
-   Each schedule begins with `open`, on a controller as after power-up. Reset your driver's state there, or in `begin`.
-   A schedule can end without `close`, so allocate memory with nicd_alloc, which the card reclaims, or make it static.
+   Each schedule begins with `open`, on a controller in its power-up state. Reset your driver's state there, or in
+   `begin`. A schedule can end without `close`, so allocate memory with nicd_alloc, which the card reclaims, or make it
+   static.
 
    This part is tested, not proved. */
 #ifndef NIC82599_DRIVE_H
 #define NIC82599_DRIVE_H
 
 #ifdef _WIN32
-#error "the report card isn't there on Windows: it stands on the explorer"
+#error "the report card isn't available on Windows, because it is built on the explorer"
 #endif
 
 #include "nic82599_explore.h"
@@ -59,11 +60,11 @@ typedef struct nicd_frame {
     uint8_t bytes[NICD_FRAME_MOST];
 } nicd_frame;
 
-/* Which frames to accept, besides those to the port's own address. */
+/* Which frames to accept, in addition to frames to the port's own address. */
 typedef struct nicd_filter {
     bool all_unicast, all_multicast, broadcast;
     uint32_t count;        /* 0 to 4 */
-    uint8_t address[4][6]; /* unicast or multicast addresses, besides the port's own */
+    uint8_t address[4][6]; /* unicast or multicast addresses, in addition to the port's own */
 } nicd_filter;
 
 /* The driver's counts since `open`. */
@@ -83,7 +84,7 @@ enum nicd_can {
     NICD_SHARED_SEND = 1, /* several threads may call `send` for one queue concurrently */
     NICD_FUNCTIONS = 2,   /* `open` supports the port of a virtual function */
     NICD_HOST = 8,        /* `open` supports functions above 0 */
-    /* `open` and `close` leave alone what they aren't asked to use, and don't reset the device */
+    /* `open` and `close` don't change what the setup doesn't use, and don't reset the device */
     NICD_SHARED_DEVICE = 4,
 
     /* What the driver never does, by design. Rows that require it aren't applicable. Without the bit they are reported
@@ -97,27 +98,27 @@ enum nicd_can {
     NICD_CAN = 511 /* all of these bits */
 };
 
-/* A driver: its functions, null if it lacks one. Rows that need a missing function are reported as not applicable.
-   `open` and `close` are required, and `receive` (or threads that call nicd_deliver) or `send`.
+/* A driver: its functions; a function that it lacks is null. Rows that need a missing function are reported as not
+   applicable. `open` and `close` are required, and so is `send` or `receive` (or threads that call nicd_deliver).
 
    For each queue the card calls `receive` in one thread at a time, and likewise `send` and `reclaim` (but see
    NICD_SHARED_SEND). Calls for different queues may overlap. `interrupt` may run at any time between open and close, on
    top of any thread or concurrently with all of them, but never concurrently with itself for one vector. One thread
    makes the other calls (close, reset, filter, rss, mtu, resize, suspend, resume), and no receive, send or reclaim runs
    during them. mailbox_send and mailbox_receive are called by one thread at a time, and mailbox_ready may run
-   concurrently with them. You synchronize your driver's own threads. */
+   concurrently with them. Your driver synchronizes its own threads. */
 typedef struct nicd_driver {
     const char *name; /* 1 to 40 letters, digits, '-' and '_' */
     uint32_t can;     /* bits of enum nicd_can */
-    uint16_t queues;  /* the largest number of queues that `open` supports, 1 to NICD_QUEUES; 1 if 0 */
-    uint16_t slots;   /* the smallest ring that `open` supports, 8, 16, .. 64; 8 if 0 */
-    uint32_t frame;   /* the longest frame that it supports; 1,514 if 0 */
+    uint16_t queues;  /* the largest number of queues that `open` supports, 1 to NICD_QUEUES; 0 means 1 */
+    uint16_t slots;   /* the smallest ring that `open` supports, 8, 16, .. 64; 0 means 8 */
+    uint32_t frame;   /* the longest frame that it supports; 0 means 1,514 */
 
     /* Resets the driver's state when a schedule begins. It must not access the device. May be null. */
     void (*begin)(void);
     /* Sets up the controller, from power-up or from the state that `close` left, and returns true when frames can be
-       received and sent. Returns false if it fails, for example because memory is refused. Then it keeps nothing that
-       it allocated, and may be called again. */
+       received and sent. Returns false if it fails, for example because memory is refused. In that case it has freed
+       everything that it allocated, and may be called again. */
     bool (*open)(const nicd_setup *setup);
     /* Shuts down. On return the device accesses none of the driver's memory and sends no message, and the driver has
        freed its memory. */
@@ -127,9 +128,8 @@ typedef struct nicd_driver {
        driver delivers frames from its own threads, call nicd_deliver in them and leave `receive` null. Then the card
        always opens the driver with interrupts, if it has `interrupt`. */
     bool (*receive)(uint16_t queue, nicd_frame *frame);
-    /* Sends a frame of at least 60 bytes and at most the setup's `frame`. Returns true if it is accepted: the caller
-       may then reuse `bytes`. Returns false if the ring has no room now, or the frame is longer than the setup
-       allows. */
+    /* Sends a frame of 60 bytes up to the setup's `frame`. Returns true if it is accepted: the caller may then reuse
+       `bytes`. Returns false if the ring has no room now, or the frame is longer than the setup allows. */
     bool (*send)(uint16_t queue, const uint8_t *bytes, uint32_t length);
     /* Reclaims sent frames. Returns how many frames of the queue are still unsent, as far as the driver knows. */
     uint32_t (*reclaim)(uint16_t queue);
@@ -160,11 +160,11 @@ typedef struct nicd_driver {
 
     /* The mailbox, as a host (port 0, to function vf) or as a function (its own mailbox; vf is 0). mailbox_send writes
        1 to NICD_WORDS words for the other side; it returns false if the mailbox isn't free now. mailbox_receive reads
-       and acknowledges a message of the other side; it returns false if there is none. */
+       and acknowledges a message from the other side; it returns false if there is none. */
     bool (*mailbox_send)(uint8_t vf, const uint32_t *words, uint32_t count);
     bool (*mailbox_receive)(uint8_t vf, uint32_t words[NICD_WORDS]);
-    /* For a function: returns whether the device is ready because its host has set it up (RSTD, or a host that was
-       already there). */
+    /* For a function: returns whether the device is ready because its host has set it up (RSTD is set, or the host was
+       already up). */
     bool (*mailbox_ready)(void);
 
     /* Stores the counts since `open`. Any thread may call it concurrently with all other calls. The frames and bytes of
@@ -177,20 +177,20 @@ typedef struct nicd_driver {
 
 /* Allocates DMA memory of 1 to 524,288 zeroed bytes. Returns the bus address of its first byte, a multiple of 128. The
    memory after it isn't lent, so any access there by the driver or the device is reported. Returns 0 if memory has run
-   out, or if the scenario refuses it. There is room for 123 pieces of 2 KB, or for one of 503,808 bytes. The card opens
-   at most two queues of 16 slots, four of 8, or two of the fewest slots that the driver supports. Two queues of 64
-   slots, with 2 KB for each slot in both directions, don't fit. */
+   out, or if the scenario refuses it. There is room for 123 allocations of 2 KB, or for one of 503,808 bytes. The card
+   opens at most two queues of 16 slots, four of 8, or two of the fewest slots that the driver supports. Two queues of
+   64 slots, with 2 KB for each slot in both directions, don't fit. */
 uint64_t nicd_dma_alloc(size_t bytes);
 /* Frees DMA memory by its first address. The device must no longer use it. */
 void nicd_dma_free(uint64_t bus);
 
-/* Returns where byte `bus` of memory from nicd_dma_alloc is in this process, for a driver that accesses its memory
-   through pointers. Memory of one nicd_dma_alloc is contiguous, and pointers are valid until nicd_dma_free. What the
-   device writes is visible immediately. What the driver stores reaches the device before the driver's next call of
+/* Returns a pointer to the byte at bus address `bus` in memory from nicd_dma_alloc, for a driver that accesses its
+   memory through pointers. Memory of one nicd_dma_alloc is contiguous, and pointers are valid until nicd_dma_free. What
+   the device writes is visible immediately. What the driver stores reaches the device before the driver's next call of
    nic82599_explore.h, barriers included: each run of changed bytes is written at a point, as nicx_dma_write does. Loads
-   aren't points, so a loop that only waits for memory must call nicx_pause. A store past the end of a piece, or into a
-   freed one, fails the schedule at that call; with -fsanitize=address it is reported at the store. If nicd_dma_alloc
-   didn't allocate the byte, the schedule fails and the result is null. This call isn't a point. */
+   aren't points, so a loop that only waits for memory must call nicx_pause. A store past the end of an allocation, or
+   into freed memory, fails the schedule at that call; with -fsanitize=address it is reported at the store. If
+   nicd_dma_alloc didn't allocate the byte, the schedule fails and the result is null. This call isn't a point. */
 void *nicd_dma_pointer(uint64_t bus);
 
 /* Allocates memory for the driver itself, zeroed as by calloc. Returns null if it is refused. */

@@ -1,22 +1,22 @@
 /* Searches for the order of steps that breaks a driver. A scenario is a driver's code, written as tasks and interrupt
    handlers over one controller of nic82599.h. Each access of a task is a point at which any actor may run: another
-   task, a handler, a step of the device, the next frame, the link. A schedule lists the actor of each point, so a run
-   can be repeated. A failing schedule is shrunk, saved in a file, and written as a script of the device's side.
-   docs/explore.md starts with an example.
+   task, a handler, a step of the device, the next frame, the link. A schedule lists the actor at each point, so a run
+   can be repeated. A failing schedule is shrunk and saved in a file, and the device's side of it is written as a
+   script. docs/explore.md starts with an example.
 
    This part is tested, not proved. One process runs its schedules one after the other on one thread; each task has its
    own stack. Make the calls below only in the scenario's functions, in tasks and in handlers. A task that is still
-   running when its schedule ends doesn't finish: what it took from malloc leaks. So make your driver's state static,
-   and set it up in `begin`.
+   running when its schedule ends doesn't finish, so memory that it got from malloc leaks. So make your driver's state
+   static, and set it up in `begin`.
 
    Other threads of the process may use their own controllers while a search runs. A controller that the scenario's
-   functions open returns to its state after the bring-up for each schedule, and is closed by nicx_close. Don't use a
-   controller in these functions that was opened before nicx_open. */
+   functions open begins each schedule in its state after the bring-up, and is closed by nicx_close. In these functions,
+   don't use a controller that was opened before nicx_open. */
 #ifndef NIC82599_EXPLORE_H
 #define NIC82599_EXPLORE_H
 
 #ifdef _WIN32
-#error "the explorer isn't there on Windows: its engine gives each driver a stack of its own, as on Linux"
+#error "the explorer isn't available on Windows, because its engine switches between stacks as on Linux"
 #endif
 
 #include "nic82599.h"
@@ -35,9 +35,9 @@ enum nicx_allowed {
 
 /* How a driver's stores to lent memory and its loads from it may be reordered (docs/explore.md, "Missing barriers"). */
 enum nicx_memory {
-    NICX_WEAK = 1,         /* stores may be late and loads old, as with --memory weak */
-    NICX_WRITES_ORDER = 2, /* a register write comes after all earlier stores, as with Linux's writel() */
-    NICX_READS_ORDER = 4,  /* no load after a register read is older than the read, as after Linux's readl() */
+    NICX_WEAK = 1,         /* stores may be late and loads stale, as with --memory weak */
+    NICX_WRITES_ORDER = 2, /* a register write is ordered after all earlier stores, as with Linux's writel() */
+    NICX_READS_ORDER = 4,  /* no load after a register read is older than that read, as with Linux's readl() */
     NICX_TSO = 8           /* instead of NICX_WEAK: stores may be late but stay in order, as on x86 (--memory tso) */
 };
 
@@ -53,7 +53,7 @@ typedef struct nicx_scenario {
        EEPROM's step, and the messages of the physical function and of each virtual function can always run. */
     uint16_t queues;
 
-    /* Runs once in each process. Sets the device up by nicx_ calls, which aren't points here. Returns null, or why it
+    /* Runs once in each process. Sets the device up with nicx_ calls, which aren't points here. Returns null, or why it
        failed. Every schedule starts from the device's state when it returns. A wait or a pause here lets the device run
        its steps, and so does a loop that keeps reading the same value. */
     const char *(*bring_up)(void);
@@ -92,7 +92,7 @@ enum {
 
 /* Names a task: a thread of the driver, or a processor. Returns its number, counted from 0. Names are unique. */
 int nicx_task(const char *name, void (*function)(void *), void *argument);
-/* Names a task that may wait forever, such as a loop that serves interrupts. Its waiting at the end isn't a
+/* Names a task that may wait forever, such as a loop that serves interrupts. If it still waits at the end, that isn't a
    deadlock. */
 int nicx_service(const char *name, void (*function)(void *), void *argument);
 
@@ -105,21 +105,21 @@ void nicx_handler(const char *name, uint16_t group, uint8_t vector, void (*funct
 
 /* Names a timer. When it fires, it starts the function beside all tasks, as a message starts a handler. It counts as
    one of the handlers, and fires once each time it is armed. `within` is NICX_AT_REST, to fire when no other actor can
-   run, or a number of points, at least 1. The timer then fires at any of that many points after the one that armed it;
-   at the last of them it goes before all other actors. Returns its number for nicx_arm. */
+   run, or a number of points, at least 1. The timer then fires at any of that many points after the point that armed
+   it; at the last of them it runs before all other actors. Returns its number for nicx_arm. */
 int nicx_timer(const char *name, void (*function)(void *), void *argument, uint32_t within);
 
-/* Names a frame of at most 16,384 bytes, which comes after those already named. The bytes are copied. */
+/* Names a frame of at most 16,384 bytes, which arrives after the frames already named. The bytes are copied. */
 void nicx_frame(const uint8_t *frame, size_t length);
 /* Names a link change, down or up. Link changes happen in the order of these calls, independently of frames. */
 void nicx_link_change(bool up);
-/* The number of frames that have arrived so far, including dropped ones. Shrinking leaves frames out of a failure, so
-   let `end` compare with this number instead of with how many were named. */
+/* Returns the number of frames that have arrived so far, including dropped ones. Shrinking leaves frames out of a
+   failure, so let `end` compare with this number instead of the number of frames named. */
 uint32_t nicx_came(void);
 
 /* --- in tasks and handlers: each of these is a point --- */
 
-/* These work and answer like the calls of nic82599.h with the same names. */
+/* These work like the calls of nic82599.h with the same names. */
 uint32_t nicx_read32(uint32_t address); /* the word as a driver sees it, also for a stray access */
 uint8_t nicx_write32(uint32_t address, uint32_t word);
 uint32_t nicx_vf_read32(uint8_t vf, uint32_t offset);
@@ -131,7 +131,7 @@ uint8_t nicx_dma_write(uint64_t bus, const uint8_t *bytes, size_t length);
 uint8_t nicx_lend(uint32_t block);
 uint8_t nicx_take(uint32_t block);
 
-/* Only a point, to put between two accesses of the driver's own memory. */
+/* A point without an access, to put between two accesses to the driver's own memory. */
 void nicx_point(void);
 
 /* Waits until another actor has run: while (!ready) nicx_wait(); */
@@ -144,8 +144,8 @@ static inline bool nicx_is_set(void *flag)
 {
     return *(const bool *)flag;
 }
-/* Lets other actors run before this task continues; if none can, it continues at once. For loops that poll a bounded
-   number of times. */
+/* Lets other actors run before this task continues; if none can, it continues immediately. For loops that poll a
+   bounded number of times. */
 void nicx_pause(void);
 
 /* A lock in the driver's memory. {0} is a free lock, and all locks are free when a schedule starts. If its holder takes
@@ -165,18 +165,20 @@ void nicx_arm(int timer);
 bool nicx_disarm(int timer);
 
 /* Barriers of weak memory; with strong memory they are no-ops and aren't points. When nicx_wmb returns, all earlier
-   stores of the task's processor to lent memory have reached memory. Its atomic stores to own memory may still be
-   pending, but come before all later stores. A load after nicx_rmb isn't older than it. nicx_mb does both, and leaves
-   no store pending. Locks are barriers too: taking one is a barrier of loads, releasing one a barrier of stores. */
+   stores of the task's processor to lent memory have reached memory. Its atomic stores to the driver's own memory may
+   still be pending, but take effect before all later stores. A load after nicx_rmb returns no value older than the
+   barrier. nicx_mb does both, and leaves no store pending. Locks are barriers too: taking one orders loads, and
+   releasing one orders stores. */
 void nicx_wmb(void);
 void nicx_rmb(void);
 void nicx_mb(void);
-/* The same barriers without a point, for code that has already had its point: an atomic operation that releases or
-   acquires. */
+/* The same barriers without a point, for code that has already had its point, such as an atomic operation that releases
+   or acquires. */
 void nicx_release(void);
 void nicx_acquire(void);
 
-/* While interrupts are off, no handler starts on this task. They are counted, so pairs nest. No points. */
+/* Turn interrupts off and on for this task: while they are off, no handler starts on it. Calls are counted, so pairs
+   nest. These calls aren't points. */
 void nicx_interrupts_off(void);
 void nicx_interrupts_on(void);
 
@@ -185,7 +187,7 @@ void nicx_interrupts_on(void);
    one before it. Also allowed in `begin`; in `bring_up`, `always`, `end` and conditions it is misuse. */
 uint32_t nicx_choose(uint32_t bound);
 
-/* Fails the schedule with these words, kept by pointer. Doesn't return. */
+/* Fails the schedule with this text, of which only the pointer is kept. Doesn't return. */
 void nicx_fail(const char *words);
 static inline void nicx_check(bool holds, const char *words)
 {
@@ -195,7 +197,7 @@ static inline void nicx_check(bool holds, const char *words)
 
 /* --- a kit for scenarios --- */
 
-/* Writes or reads a descriptor by one access at one point; two nicx_put64 would be two points. Reads zeros if the
+/* Writes or reads a descriptor with one access at one point; two nicx_put64 would be two points. Reads zeros if the
    memory isn't lent. */
 uint8_t nicx_put_desc(uint64_t ring, uint32_t slot, nic_desc d);
 nic_desc nicx_get_desc(uint64_t ring, uint32_t slot);
@@ -219,8 +221,8 @@ uint32_t nicx_frame_number(const uint8_t *frame, size_t length);
 /* In `begin`: names `count` numbered frames, at most NICX_FRAMES, from number 0 on. An invalid length is misuse. */
 void nicx_frames(uint32_t count, size_t length);
 
-/* The hash of a flow, 0 if none is computed, and the queue of its frames, by the current MRQC, RSSRK and RETA. The
-   queue is 0 without a hash or if bits 3:0 of MRQC aren't 1. No points. */
+/* Return the hash of a flow (0 if none is computed) and the queue of its frames, according to the current MRQC, RSSRK
+   and RETA. The queue is 0 without a hash or if bits 3:0 of MRQC aren't 1. These calls aren't points. */
 uint32_t nicx_rss_hash(const nicx_flow *flow);
 uint16_t nicx_rss_queue(const nicx_flow *flow);
 
@@ -231,9 +233,9 @@ typedef struct nicx_mailbox {
 } nicx_mailbox;
 
 /* Both sides of a mailbox, as their drivers use it. A sender waits for the mailbox and takes it, writes at most
-   NICX_MAILBOX words, and signals the other side. `receives` checks for a signal; if one came, it takes the mailbox,
-   reads it, and acknowledges. `is_acked` checks whether the other side has acknowledged the message. Each signal and
-   each acknowledgement is reported once. */
+   NICX_MAILBOX words, and signals the other side. `receives` checks for a signal; if there is one, it takes the
+   mailbox, reads it, and acknowledges. `is_acked` checks whether the other side has acknowledged the message. Each
+   signal and each acknowledgement is reported once. */
 void nicx_function_sends(nicx_mailbox *mailbox, const uint32_t *words, uint32_t count);
 bool nicx_function_receives(nicx_mailbox *mailbox, uint32_t *words, uint32_t count);
 bool nicx_function_is_acked(nicx_mailbox *mailbox);
@@ -279,7 +281,7 @@ enum nicx_outcome {
 typedef struct nicx_result {
     uint8_t outcome;   /* enum nicx_outcome */
     uint32_t points;   /* the number of choices */
-    uint32_t switches; /* number of points at which the actor differs from the one before */
+    uint32_t switches; /* number of points at which the actor differs from the previous point's */
     char words[256];   /* what is wrong; "" if nothing is */
 } nicx_result;
 
@@ -295,7 +297,7 @@ typedef struct nicx_chooser {
 const char *nicx_open(const nicx_scenario *scenario);
 /* Runs one schedule. Doesn't return if the driver crashes. */
 void nicx_run(const nicx_chooser *chooser, nicx_result *result);
-/* The actors of the last schedule, point by point, and the name of an actor, as in files. */
+/* Return the actors of the last schedule, point by point, and the name of an actor, as in files. */
 const uint16_t *nicx_schedule(uint32_t *points);
 const char *nicx_actor_name(uint16_t actor, char room[96]);
 /* Closes the scenario that nicx_open opened. */

@@ -14,7 +14,7 @@ from explore.check import Wrong
 from nic82599.pcap import ENHANCED, ETHERNET, INTERFACE, SECTION, SIMPLE, NoCapture, frames_of
 
 MASK = (1 << 64) - 1
-# Lengths, types and numbers that a corrupted word has more often than at random.
+# Lengths, types and numbers that corrupted words contain more often than random words would.
 ODD = (0, 1, 3, 4, 11, 12, 16, 20, 28, 0x7FFFFFFF, 0xFFFFFFFF, 0x0A0D0D0A, 0x1A2B3C4D, 0x4D3C2B1A, 1 << 24)
 
 
@@ -52,7 +52,7 @@ def _pcap(chance: random.Random) -> Iterator[bytes]:
 
 
 def spoilt(chance: random.Random) -> bytes:
-    """Returns a capture, unchanged or with some bytes and words changed, its end cut off or other bytes added."""
+    """Returns a capture, unchanged, or with some bytes and words changed, its end cut off, or bytes added."""
     made = bytearray(b"".join(chance.choice((_pcapng, _pcapng, _pcap))(chance)))
     for _ in range(chance.choice((0, 1, 1, 2, 5)) if made else 0):
         at = chance.randrange(len(made))

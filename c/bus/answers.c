@@ -14,7 +14,7 @@
 #define SECRXSTAT 0x08D04u
 #define SECURITY_READY 0x1u  /* security block is idle */
 #define SECURITY_OFF 0x2u    /* no IPsec: on the card, a fuse or a pin disables it */
-#define ANLP1_STATE 0x10000u /* bits 19:16, the negotiation's state: anything but 0 means it is going on */
+#define ANLP1_STATE 0x10000u /* bits 19:16, the state of autonegotiation: nonzero while it is in progress */
 
 static const struct {
     const char *name;

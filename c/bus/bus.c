@@ -38,7 +38,7 @@ static inline struct place place_at(const struct bus *it, uint32_t address)
 
 /* ---- registers ---- */
 
-/* Completes what the driver is polling for: a queue's enable or a word of the EEPROM. */
+/* Completes the operation that the driver is polling for: a queue's enable or a read of the EEPROM. */
 static void act(struct bus *it, struct place place)
 {
     if (it->is_held)
@@ -151,8 +151,8 @@ static void forget_reset(const struct bus *it, unsigned int function, uint32_t o
     }
 }
 
-/* Returns whether the write disables a side of a queue. A driver that doesn't poll for this clears the ring soon; by
-   then the card's queue is off. */
+/* Returns whether the write disables a side of a queue. A driver that doesn't poll for this soon clears the ring; by
+   then a card's queue is off. */
 static bool is_disable(struct place place, uint32_t word)
 {
     return place.part == BUS_SWITCH && !(word & NIC_RXDCTL_ENABLE);

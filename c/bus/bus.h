@@ -72,10 +72,10 @@ struct bus_calls {
     /* ---- registers ---- */
 
     void (*reading)(void *of, unsigned int function, uint32_t offset); /* before a read */
-    /* A read's word on its way to the driver. Returns the word that the driver gets. */
+    /* Called with the value that a read returned. Returns the value that the driver gets. */
     uint32_t (*read)(void *of, const struct bus_access *access, uint32_t word);
-    /* A written word before the device sees it. Returns the word that the device gets. A tail hands over descriptors,
-       and a head sets the first descriptor that the next tail hands over. */
+    /* Called with a written value before the device sees it. Returns the value that the device gets. A tail write hands
+       over descriptors, and a head write sets the first descriptor that the next tail write hands over. */
     uint32_t (*writing)(void *of, const struct bus_access *access, uint32_t word);
     void (*written)(void *of, const struct bus_access *access); /* after a write and the steps that it runs */
     void (*reset)(void *of, uint16_t queue);                    /* before a reset, which sets heads and tails to 0 */
@@ -96,20 +96,20 @@ struct bus_calls {
     /* A receive descriptor at this bus address was filled; `ends` if it is the last of a frame. */
     void (*filled)(void *of, uint16_t queue, uint64_t descriptor, bool ends);
     void (*message)(void *of, unsigned int function, unsigned int vector); /* delivers an interrupt message */
-    /* A fault of the device. If null, a line on standard error. */
+    /* Called for a fault of the device. If null, a line on standard error reports it. */
     void (*fault)(void *of, bool is_transmit, const nic_outcome *outcome);
-    /* Something that the bus can't do. If null, a line on standard error for each of the first twenty. */
+    /* Called when the bus can't do something. If null, a line on standard error reports each of the first twenty. */
     void (*problem)(void *of, const char *what);
 };
 
 struct bus_options {
-    /* MAC in the EEPROM, which a reset writes to RAL[0] and RAH[0]; zeros: 02:00:00:00:82:99 */
+    /* MAC in the EEPROM, which a reset writes to RAL[0] and RAH[0]; zeros mean 02:00:00:00:82:99 */
     uint8_t mac[6];
     uint8_t functions;         /* number of virtual functions, at most 63 */
     uint16_t fifo;             /* frames that can wait in front of the queues, 1 to 4,096 */
     unsigned int answers;      /* enum bus_answer, ORed together */
     bool acts_at_writes;       /* enables and the EEPROM take effect when requested, not when polled */
-    const char *const *phases; /* names of the run's parts, at most BUS_PHASES, then null; null: one part */
+    const char *const *phases; /* names of the run's phases, at most BUS_PHASES, then null; null: one phase */
     struct bus_calls calls;
     FILE *trace; /* gets a line for each access; null: none */
     /* For tests: corrupt one byte of the frame with this number, counted from 1, on its way; 0: none */

@@ -16,7 +16,7 @@
 #define TCP 6
 #define UDP 17
 #define OSPF 89
-#define LENGTH_STEP 433u /* coprime to the number of lengths, so each length has its turn */
+#define LENGTH_STEP 433u /* coprime to the number of lengths, so every length occurs */
 #define NOISE_STEP 2048u
 
 /* Returns a number that looks random but is the same in each run. */

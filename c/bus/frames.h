@@ -12,8 +12,8 @@
 #define FRAME_JUMBO 9014 /* the longest frame with an MTU of 9,000 */
 #define HASH_INPUT_MAX 36
 
-/* Seven kinds alternate: TCP, UDP and neither, over IPv4 and over IPv6, and a frame that isn't IP. IPv6 is used only if
-   the frame has room for TCP's ports. */
+/* Seven kinds of frames alternate: TCP, UDP and neither, over IPv4 and over IPv6, and a frame that isn't IP. IPv6 is
+   used only if the frame has room for TCP's ports. */
 enum frame_kind { FRAME_TCP4, FRAME_UDP4, FRAME_IPV4, FRAME_TCP6, FRAME_UDP6, FRAME_IPV6, FRAME_OTHER, FRAME_KINDS };
 
 struct frame {
@@ -44,7 +44,7 @@ struct line_up {
 bool line_up_begin(struct line_up *line_up, unsigned int room);
 void line_up_end(struct line_up *line_up);
 void line_up_put(struct line_up *line_up, uint32_t number);
-/* Takes the next number. Returns false, and leaves *number unchanged, if none is left. */
+/* Removes the next number and stores it in *number. Returns false, and leaves *number unchanged, if there is none. */
 bool line_up_take(struct line_up *line_up, uint32_t *number);
 unsigned int line_up_left(const struct line_up *line_up);
 

@@ -54,7 +54,7 @@ struct bus {
 /* steps.c: reports something that the bus can't do. */
 void bus_problem(struct bus *it, const char *format, ...) __attribute__((format(printf, 2, 3)));
 
-/* answers.c: what a read returns if the device has no register there or the bus answers with another word. */
+/* answers.c: what a read returns if the device has no register there or the bus answers with another value. */
 uint32_t answer_stray(struct bus *it, uint32_t address, uint32_t word);
 void answer_stray_write(struct bus *it, uint32_t address, uint32_t word);
 uint32_t answer_read(struct bus *it, uint32_t address, uint32_t word);

@@ -1,4 +1,4 @@
-/* Requests that functions sent to the host by their mailboxes, and its answers, as both wrote them. */
+/* Requests that functions sent to the host through their mailboxes, and the host's answers, as they were written. */
 #ifndef BUS_MAILBOX_H
 #define BUS_MAILBOX_H
 

@@ -14,7 +14,7 @@ static uint64_t print_of(const uint8_t *bytes, size_t length)
     return print;
 }
 
-/* Returns the index in `places` of the frame with this print, or of a free place. */
+/* Returns the index in `places` of the frame with this hash, or of a free place. */
 static uint32_t place_of(const struct numbered *it, uint64_t print)
 {
     uint32_t place = (uint32_t)(print >> 32) & (it->room - 1);
@@ -55,7 +55,7 @@ bool numbered_is_ready(const struct numbered *it)
     return it->made == it->count;
 }
 
-/* Records the arrival of a frame with this print. Returns false if no frame made so far has it. */
+/* Records the arrival of a frame with this hash. Returns false if no frame made so far has it. */
 static bool take_print(struct numbered *it, uint64_t print)
 {
     uint32_t number = it->places ? it->places[place_of(it, print)] : 0;

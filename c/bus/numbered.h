@@ -14,7 +14,7 @@ struct frame;
 struct numbered {
     unsigned int count, good, twice, wrong; /* wrong: frames that match none */
     uint64_t *prints;                       /* hash of each frame, at number - 1 */
-    uint32_t *places;                       /* numbers by print, 0: none */
+    uint32_t *places;                       /* numbers by hash, 0: none */
     bool *has_come;
     uint32_t room;
     /* used while the frames are being made: */
@@ -22,13 +22,13 @@ struct numbered {
     unsigned int made;
     uint16_t most;
     uint8_t to[6], from[6];
-    uint64_t *early; /* prints of frames that arrived and matched no frame made so far */
+    uint64_t *early; /* hashes of frames that arrived and matched no frame made so far */
     unsigned int early_count;
 };
 
 /* Builds `count` frames in a single pass, FRAME_MIN to `most` bytes long. Returns false if memory runs out. */
 bool numbered_begin(struct numbered *it, unsigned int count, uint16_t most, const uint8_t to[6], const uint8_t from[6]);
-/* Build the frames in pieces: numbered_start builds none, and each numbered_prepare builds about `bytes` bytes of
+/* Build the frames step by step: numbered_start builds none, and each numbered_prepare builds about `bytes` bytes of
    further frames. Frames may arrive meanwhile. If more than NUMBERED_EARLY arrive before they are built, the excess
    counts as wrong. */
 bool numbered_start(struct numbered *it, unsigned int count, uint16_t most, const uint8_t to[6], const uint8_t from[6]);

@@ -30,8 +30,8 @@ void pci_field(struct pci_config *it, unsigned int at, unsigned int bytes, uint3
 uint32_t pci_get(const struct pci_config *it, unsigned int at, unsigned int bytes);
 
 void pci_begin(struct pci_config *it, const struct pci_identity *identity);
-/* Adds a 64-bit prefetchable BAR, its size a power of two. If the size is 0, the client knows it and the BAR reads as
-   0. */
+/* Adds a 64-bit prefetchable BAR, whose size is a power of two. A size of 0 means that the client already knows the
+   size; the BAR then reads as 0. */
 void pci_add_bar64(struct pci_config *it, unsigned int bar, uint32_t bytes);
 void pci_add_power(struct pci_config *it, unsigned int at);
 /* Adds interrupts on pin A. The client may write the line's number. */
@@ -54,7 +54,7 @@ void pci_add_sriov(struct pci_config *it, unsigned int at, const struct pci_srio
    registers in BAR 0 at this address, power management and PCI Express, but no extended capabilities. */
 void pci_config_of_82599(struct pci_config *it, unsigned int function, uint64_t registers);
 
-/* An access of 1, 2 or 4 bytes. Outside the space all bits read as 1, and a write is a no-op. */
+/* Perform an access of 1, 2 or 4 bytes. Outside the space all bits read as 1, and a write is a no-op. */
 uint32_t pci_config_read(struct pci_config *it, unsigned int at, unsigned int bytes);
 void pci_config_write(struct pci_config *it, unsigned int at, unsigned int bytes, uint32_t value);
 

@@ -1,5 +1,5 @@
 /* Reads a file of frames with both readers of captures: the server's (pcap and pcapng), and the library header's
-   (pcap). Each ends, and returns no frame longer than its buffer. */
+   (pcap). Each must terminate, and must return no frame longer than its buffer. */
 #define _GNU_SOURCE
 #include "capture.h"
 #include "input.h"

@@ -1,6 +1,6 @@
 /* Accesses to a function's configuration space. An operation is a byte (1, 2 or 4 bytes; read or write; what to
-   check after it), two bytes of offset, and four of value. A write changes no read-only bit, and nothing outside its
-   bytes. */
+   check after it), two bytes of offset, and four of value. A write must change no read-only bit, and nothing outside
+   its bytes. */
 #include "input.h"
 #include "pci_config.h"
 

@@ -1,6 +1,7 @@
 /* Files of the explorer: schedules, read strictly and leniently, and results of searches. The input's first byte
    selects which. For a result, the rest is all but the last line, the checksum of the lines before it, which is added
-   here. An accepted schedule names actors of the scenario. An accepted result is accepted again after it is written. */
+   here. An accepted schedule must name only actors of the scenario. An accepted result must be accepted again after it
+   is written. */
 #define _GNU_SOURCE
 #include <fcntl.h>
 #include <inttypes.h>

@@ -131,7 +131,7 @@ uint8_t nicx_dma_write(uint64_t bus, const uint8_t *bytes, size_t length);
 uint8_t nicx_lend(uint32_t block);
 uint8_t nicx_take(uint32_t block);
 
-/* A point without an access, to put between two accesses to the driver's own memory. */
+/* Adds a point without an access, for example between two accesses to the driver's own memory. */
 void nicx_point(void);
 
 /* Waits until another actor has run: while (!ready) nicx_wait(); */

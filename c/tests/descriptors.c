@@ -115,7 +115,7 @@ static void receives_in_two_buffers(nic *n)
     CHECK(first.first == second.first);
 }
 
-/* A frame in two buffers is sent and its end is reported, by adding only DD to the descriptor. */
+/* A frame in two buffers is sent. Its end is reported by adding only DD to the descriptor. */
 static void sends(nic *n)
 {
     static uint8_t sent[1514];

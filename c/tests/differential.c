@@ -2,7 +2,7 @@
    script, and what `nicbench run` must print for it. With the same seed, the Rust crate's tests make the same calls
    (rust/nic82599/tests/common/differential.rs), so no expression draws two random numbers in an order that C leaves
    unspecified. This program itself checks what a script doesn't show: the fields of nic_outcome that it omits, ranges
-   of memory that begin and end anywhere, and looks without side effects. */
+   of memory that begin and end anywhere, and reads without side effects. */
 #include <string.h>
 
 #include "../library/reply.h"

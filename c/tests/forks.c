@@ -1,6 +1,6 @@
 /* Whether a process can fork while its other threads create threads, and the child can create one. A test in Rust needs
    this if it creates threads in a schedule's process. Status 0, or 1 if the child hangs: under QEMU's user emulation it
-   does, since one of the emulator's locks stays taken in the child. */
+   does, because one of the emulator's locks stays taken in the child. */
 #define _DEFAULT_SOURCE
 #include <pthread.h>
 #include <signal.h>

@@ -42,8 +42,8 @@ static void is_in_place(nic *n, uint8_t *host)
     ANSWERS(NIC_DONE, nic_unlend_memory(n, AT * BLOCK, OWN * BLOCK));
 }
 
-/* Returns whether a restore was refused of a snapshot with a different number of blocks, which allocates everything
-   again. */
+/* Restores a snapshot with a different number of blocks, which allocates everything again. Returns whether the restore
+   was refused. */
 static bool restore_refused(nic *n, const nic_kept *kept, uint8_t *host, long allowed)
 {
     uint8_t seen;

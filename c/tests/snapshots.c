@@ -1,5 +1,5 @@
-/* Snapshots: a restored controller returns the same for the same calls, even if it was another one before. A snapshot
-   can be restored any number of times. A restore that finds no memory changes nothing. */
+/* Snapshots: a restored controller returns the same for the same calls, even if its state was a different one before. A
+   snapshot can be restored any number of times. A restore that finds no memory changes nothing. */
 #define _XOPEN_SOURCE 700
 #include <string.h>
 #include <sys/resource.h>
@@ -367,7 +367,7 @@ int main(int count, char **words)
     restored();
     sizes();
     keeps_its_blocks();
-    /* (a sanitizer uses more address space than any limit would leave it) */
+    /* (a sanitizer uses more address space than any limit would allow) */
     if (count > 1 && strcmp(words[1], "limited") == 0) {
         if (space() && is_kept_to())
             CHECK(refused() > 0);

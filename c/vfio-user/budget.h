@@ -1,13 +1,13 @@
 /* Limits how much work the server does for one client before other clients have their turn. Work is measured in bytes
    moved; other work that takes time counts as a number of bytes. Each client pays for its own messages and for what its
    rings do. In each turn of the server's loop each payer gets BUDGET_PIECE, and a client that has spent it waits for
-   the next turn. A piece can be overdrawn by at most one step: a descriptor with its 65,535 bytes, a message of 4,096
-   bytes, a segment.
+   the next turn. The budget can be overdrawn by at most one step: a descriptor with its 65,535 bytes, a message of
+   4,096 bytes, a segment.
 
    The cost of a message isn't always known: the kernel notifies everything that watches an eventfd or a socket, and a
    client can have hundreds of thousands of watchers. So time is limited too: after BUDGET_MICROSECONDS the rest of a
-   client's messages, a function's interrupts and the wire's frames wait for the next turn. The first of each always
-   passes. */
+   client's messages, a function's interrupts and the wire's frames wait for the next turn. The first of each is always
+   processed. */
 #ifndef VFU_BUDGET_H
 #define VFU_BUDGET_H
 
@@ -23,7 +23,7 @@
 #define BUDGET_MAP 8192u           /* cost of mapping or unmapping a range of memory */
 #define BUDGET_RING 32768u         /* cost of a change of a ring's length */
 #define BUDGET_RESET 32768u        /* cost of a reset of the card, or of a function by its client */
-#define BUDGET_EXPECTED (1u << 20) /* bytes of expected frames made in each turn */
+#define BUDGET_EXPECTED (1u << 20) /* bytes of expected frames built in each turn */
 #define BUDGET_INTERRUPTS 64u      /* interrupt messages of a function in each turn */
 #define BUDGET_MICROSECONDS 5000u  /* in each turn, for a client's messages, a function's interrupts, frames */
 

@@ -91,7 +91,7 @@ static void one_out(void *to, const uint8_t *frame, size_t length)
         it->sink(it->sink_to, it->budget.payer, frame, length);
 }
 
-/* Sends the rest of a large send as far as the budget allows. Returns false if some is left. */
+/* Sends the rest of a large send as far as the budget allows. Returns false if part of it remains. */
 static bool send_rest(struct card *it, uint16_t queue)
 {
     if (!it->offload || !offload_is_cutting(it->offload, queue))
@@ -194,7 +194,7 @@ static uint64_t now(void)
     return (uint64_t)time.tv_sec * 1000000000u + (uint64_t)time.tv_nsec;
 }
 
-/* Performs the pending reset if its time is over. */
+/* Performs the pending reset if its duration has passed. */
 static void end_reset(struct card *it)
 {
     if (it->stepper.reset.word && stepper_is_reset(&it->stepper, now()))

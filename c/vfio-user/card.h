@@ -58,7 +58,7 @@ struct card {
     struct stepper stepper;
     struct budget budget;
     struct dma writer;  /* during a register write: the client that writes */
-    bool is_busy;       /* work is left, but only because this turn's budget is spent */
+    bool is_busy;       /* work remains, but only because this turn's budget is spent */
     struct watch watch; /* accesses at which to hold the device */
     /* by function number: its sockets, first its own guest's, then the host's shadow; and the one that accessed it
        last */
@@ -108,7 +108,8 @@ void card_begin_turn(struct card *it);
    soon. card_is_busy returns whether to do so immediately. */
 bool card_pump(struct card *it);
 bool card_is_busy(const struct card *it);
-/* Steps requested at the control socket, as many as BUDGET_ASKED allows. Return numbers of descriptors and messages. */
+/* Run steps requested at the control socket, as many as BUDGET_ASKED allows. Return the number of descriptors or
+   messages. */
 unsigned int card_receive(struct card *it);
 unsigned int card_messages(struct card *it);
 void card_transmit(struct card *it, uint16_t queue);

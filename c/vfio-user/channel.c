@@ -38,7 +38,7 @@ static void settle(struct channel *it)
     it->in_at = 0;
 }
 
-/* Files came with the last of the bytes up to in_end. Closes the files for which there is no room. */
+/* Called when files arrived with the last of the bytes up to in_end. Closes the files for which there is no room. */
 static bool take_files(struct channel *it, struct msghdr *head)
 {
     bool fits = !(head->msg_flags & MSG_CTRUNC);
@@ -61,7 +61,7 @@ static bool take_files(struct channel *it, struct msghdr *head)
     return fits;
 }
 
-/* The kernel ends a read at the piece that carries files, so they belong to the last message in it. */
+/* The kernel ends a read after the bytes that were sent with files, so the files belong to the last message in it. */
 enum channel_state channel_receive(struct channel *it)
 {
     union {

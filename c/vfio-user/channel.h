@@ -1,6 +1,6 @@
-/* One client's socket. Bytes and files arrive in any pieces, and whole messages are taken out. Nothing in this file
-   blocks: the caller polls for a client that sends in pieces. If a client doesn't read, its replies are kept, and it
-   isn't served while they exceed CHANNEL_KEPT bytes. */
+/* One client's socket. Bytes and files arrive in chunks of any size, and are read as whole messages. Nothing in this
+   file blocks: the caller polls for a client that sends in pieces. If a client doesn't read, its replies are kept, and
+   it isn't served while they exceed CHANNEL_KEPT bytes. */
 #ifndef VFU_CHANNEL_H
 #define VFU_CHANNEL_H
 
@@ -51,7 +51,7 @@ enum channel_state {
 void channel_begin(struct channel *it, int file, unsigned int owner);
 void channel_end(struct channel *it);
 
-/* Receives as much as has arrived and there is room for. */
+/* Receives what has arrived, as far as there is room for it. */
 enum channel_state channel_receive(struct channel *it);
 /* Takes the next whole message. Returns true, with *state unchanged. Returns false if there is none yet, or if *state
    becomes CHANNEL_WRONG and there will be none. */

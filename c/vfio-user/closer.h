@@ -1,8 +1,8 @@
 /* Closes files received from clients, in separate threads. Closing the last file of a gigabyte of memory takes a while.
    Closing a foreign file (of a FUSE file system, a terminal, a network) can take as long as its owner likes. Each
-   owner's foreign files have their own thread, so they wait for no other owner's, and files of kernel memory wait for
-   neither. Sockets count as foreign because their other end may have sent files that were never received. So do
-   eventfds, because a process that watches one with epoll can hold what closing it waits for. */
+   owner's foreign files have their own thread, so they don't wait for another owner's files. Files of kernel memory
+   don't wait for any foreign file. Sockets count as foreign because their other end may have sent files that were never
+   received. So do eventfds, because a process that watches one with epoll can delay its close. */
 #ifndef VFU_CLOSER_H
 #define VFU_CLOSER_H
 
@@ -12,7 +12,7 @@
 
 #define CLOSER_OWNERS 16
 #define CLOSER_WIRE 15u        /* the owner of files from the wire's other end; lower numbers are clients */
-#define CLOSER_FOREIGN_MOST 32 /* files of an owner that may wait before its client does */
+#define CLOSER_FOREIGN_MOST 32 /* files of an owner that may be waiting before its client has to wait */
 #define CLOSER_OWN_MOST 32
 
 /* Starts the threads, once per process. Returns false with errno set if it can't. Before that, files are closed

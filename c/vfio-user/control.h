@@ -35,7 +35,7 @@ struct control {
     const char *path;
     int listener; /* -1: there is no socket */
     struct control_client clients[CONTROL_CLIENTS];
-    unsigned int next_why; /* the client that may ask why next */
+    unsigned int next_why; /* the client whose `why` comes next */
 };
 
 /* Listens at a path, unless it is null. Returns null, or why it can't. */

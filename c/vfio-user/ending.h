@@ -1,5 +1,5 @@
-/* Ends the server: SIGTERM and SIGINT set a flag and make a file ready that the loop polls. They work wherever the
-   process is, so nothing that is always ready can starve them; a second one ends the process immediately. */
+/* Ends the server: SIGTERM and SIGINT set a flag and make a file ready that the loop polls. They work in any state of
+   the process, so no file that is always ready can starve them. A second signal ends the process immediately. */
 #ifndef VFU_ENDING_H
 #define VFU_ENDING_H
 

@@ -58,7 +58,7 @@ void function_accept(struct function *it);
 void function_serve(struct function *it, short events);
 /* Handles a possible unmasking of the line by its client's eventfd. */
 void function_unmask(struct function *it);
-/* Whether its client can take messages. */
+/* Whether its client can receive messages. */
 enum function_ready {
     FUNCTION_ABSENT, /* there is no client */
     FUNCTION_DEAF,   /* the client's MSI-X is off: messages are lost */

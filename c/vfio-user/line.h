@@ -25,8 +25,8 @@ void line_clear(struct line *it);
 void line_clear_pin(struct line *it);
 /* Masks the line for the client, or unmasks it, as it does after handling an interrupt. */
 void line_mask(struct line *it, bool is_masked);
-/* Takes an eventfd, which the line then owns: it unmasks the line whenever the client signals it, and immediately if it
-   is already signalled. -1 removes it. Returns false, and the caller keeps the file, if it isn't an eventfd or this
+/* Sets the eventfd that unmasks the line whenever the client signals it, and immediately if it is already signalled.
+   The line then owns it. -1 removes it. Returns false, and the caller keeps the file, if it isn't an eventfd or this
    kernel can't read it without blocking. */
 bool line_unmask_by(struct line *it, int file);
 /* Returns the file to poll; -1: none. */
@@ -39,7 +39,7 @@ bool line_level(struct line *it, bool level);
 bool line_causes(struct line *it, uint32_t causes);
 /* Sets the pending causes after an access. A cause that is no longer pending counts as new when it is raised again. */
 void line_after_access(struct line *it, uint32_t causes);
-/* A reset: no cause was seen, and no message waits. */
+/* Called at a reset: no cause was seen, and no message waits. */
 void line_forget(struct line *it);
 
 #endif

@@ -1,8 +1,8 @@
-/* A client's memory as it mapped it for the device: ranges of DMA addresses. Each is a piece of a file mapped into this
-   process, or one that can't be accessed, such as a ROM's. However many ranges of a file a client has, the file is
-   mapped in a few large pieces, windows, which its ranges share, because each mapping of a file makes the kernel's work
-   slower when the file is mapped, truncated or unmapped. An unmapped range can't be accessed any longer, and its memory
-   is returned to the kernel in pieces, because that takes time. */
+/* A client's memory as it mapped it for the device: ranges of DMA addresses. Each range is part of a file mapped into
+   this process, or can't be accessed, such as a ROM's range. However many ranges of a file a client has, the file is
+   mapped in a few large pieces, the windows, which its ranges share, because each mapping of a file makes the kernel's
+   work slower when the file is mapped, truncated or unmapped. An unmapped range can't be accessed any longer, and its
+   memory is returned to the kernel in pieces, because that takes time. */
 #ifndef VFU_MEMORY_MAP_H
 #define VFU_MEMORY_MAP_H
 
@@ -56,11 +56,11 @@ void memory_map_begin(struct memory_map *it, unsigned int owner);
    ENOBUFS for more files, ranges, bytes or windows than a client may have; EEXIST if it overlaps another; or mmap's
    error. The caller keeps the file. */
 int memory_map_add(struct memory_map *it, const struct memory_range *range, int file, uint64_t offset);
-/* Removes all ranges inside the given one. Returns 0, or EINVAL if one crosses its border. */
+/* Removes all ranges inside the given one. Returns 0, or EINVAL if a range crosses its boundary. */
 int memory_map_remove(struct memory_map *it, uint64_t address, uint64_t size);
 void memory_map_clear(struct memory_map *it);
 
-/* Unmaps a bounded piece of the removed memory. Returns whether some is left. */
+/* Unmaps a bounded part of the removed memory. Returns whether some remains. */
 bool memory_map_give_back(struct memory_map *it);
 /* Returns whether too much removed memory is still mapped, so that the client has to wait. */
 bool memory_map_is_busy(const struct memory_map *it);
@@ -68,14 +68,14 @@ bool memory_map_is_busy(const struct memory_map *it);
 void memory_map_end(struct memory_map *it);
 
 /* Returns a pointer to the byte at an address, or null if there is none. *length is the wanted number of bytes, and
-   becomes the number available in one piece. */
+   becomes the number that is contiguous here. */
 void *memory_map_run(const struct memory_map *it, uint64_t address, size_t *length, bool write);
 
 /* A client may truncate its file; then an access beyond the file's end would end this process with SIGBUS. After this
    call the access reads zeros instead, and the rest of the window can't be accessed from then on. Ranges added later
    get another window. */
 bool memory_map_guard(void);
-/* Returns how many windows were cut off like this. */
+/* Returns how many windows were cut off this way. */
 unsigned long memory_map_cuts(void);
 
 #endif

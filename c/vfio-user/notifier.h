@@ -7,9 +7,9 @@
 
 #include <stdbool.h>
 
-/* Prepares this, once per process. Returns false if the kernel has no asynchronous reads. Then notifier_send writes
-   after poll reports that there is room, and a client that fills its counter in between blocks the server until a
-   signal. */
+/* Prepares the module, once per process. Returns false if the kernel has no asynchronous reads. Then notifier_send
+   writes after poll reports that there is room, and a client that fills its counter in between blocks the server until
+   a signal. */
 bool notifier_open(void);
 /* Returns whether the kernel has no asynchronous reads, so that notifier_takes reads names of files in /proc. */
 bool notifier_reads_names(void);
@@ -25,7 +25,7 @@ enum notifier_taken {
     NOTIFIER_CANT /* this kernel can't read an eventfd without blocking */
 };
 
-/* Takes an eventfd's signals since the last time. */
+/* Reads and clears an eventfd's signals since the last call. */
 enum notifier_taken notifier_take(int file);
 
 #endif

@@ -85,7 +85,7 @@ struct descriptor {
 
 /* --- packets --- */
 
-/* All packets of one side, in one piece of memory, and the free ones among them. */
+/* All packets of one side, in one block of memory, and a list of the free ones. */
 struct pool {
     struct packet *packets;
     uint64_t bus;
@@ -140,7 +140,8 @@ static void close_pool(struct pool *pool)
     os_dma_free(pool->packets, pool->bus);
 }
 
-/* Gives a packet to the device. Its header is poisoned meanwhile, to catch an overflow of the packet before it. */
+/* Hands a packet to the device. Its header stays poisoned until the device returns it, to catch an overflow of the
+   packet before it. */
 static uint64_t give(struct ring *ring, unsigned slot, struct packet *packet)
 {
     uint64_t bus = packet->bus;
@@ -263,7 +264,7 @@ bool driver_open(const uint8_t address[6], unsigned wanted, bool interrupts)
     start_receive();
     start_transmit();
     if (interrupts)
-        start_interrupts(); /* before reception, so that the first frame has its vector */
+        start_interrupts(); /* before receive is enabled, so that the first frame already has its vector */
     os_write32(RXCTRL, 1);
     return true;
 }

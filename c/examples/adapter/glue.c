@@ -1,6 +1,7 @@
 /* The only file between driver.c and the bench. Called directly, the program runs the driver: 10,000 frames, or as many
-   as its argument says, come in and go out again, with each byte compared. Called by nicdrive, it gives the driver to
-   the report card. In both cases the driver accesses its own memory by pointers, and the device uses it in place. */
+   as its argument says, are received and sent back, and each byte is compared. Called by nicdrive, it gives the driver
+   to the report card. In both cases the driver accesses its own memory through pointers, and the device uses it in
+   place. */
 #include <stdio.h>
 #include <stdlib.h>
 #include <string.h>
@@ -14,7 +15,7 @@ enum { BLOCKS = 4096, PIECES = 8, SLOTS = 64, FRAMES = 10000, BURST = 7, VECTORS
 static bool is_card; /* otherwise a run, with the controller `n` */
 static nic n;
 
-/* --- the device of a run: it acts when the driver waits, and when the run lets it --- */
+/* --- the device of a run: it acts when the driver waits, and when the run calls for it --- */
 
 static bool was_raised[VECTORS]; /* a message of this vector arrived */
 
@@ -199,7 +200,7 @@ static void compare(const char *what, unsigned number, const uint8_t *bytes, uin
     uint8_t wanted[LONGEST];
     if (make(number, wanted) == length && !memcmp(bytes, wanted, length))
         return;
-    printf("frame %u: what was %s isn't what came\n", number, what);
+    printf("frame %u: the bytes that were %s aren't the frame's\n", number, what);
     exit(1);
 }
 

@@ -4,7 +4,7 @@
      allowed ptrace | personality | executable-memory | low-memory=MEBIBYTES ..
 
    Status 0 if everything named is allowed. Otherwise one line on standard output says what is refused and why, and the
-   status is 2. For an unknown argument the status is 3. */
+   status is 2. The status is 3 for an unknown argument. */
 #define _GNU_SOURCE
 #include <errno.h>
 #include <signal.h>

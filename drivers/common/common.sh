@@ -2,8 +2,8 @@
 # Shared by the scripts drivers/*/run: Debian's packages and sources, the C library, what the machine allows, checksums.
 #
 # apt's lists, cache and source lines are kept in a private folder. The system's apt isn't changed, and only installing
-# a package needs root. The sourcing script sets NAME, the prefix of messages, and ROOT, the repository. Everything that
-# runs keep is in the folder WORK.
+# a package needs root. The sourcing script sets NAME, the prefix of messages, and ROOT, the repository. All files that
+# runs keep are in the folder WORK.
 
 WORK=${DRIVERS_WORK:-${XDG_CACHE_HOME:-${HOME:-/tmp}/.cache}/zinggapul-drivers}
 
@@ -24,7 +24,7 @@ usage() {
 # is_number WORD: whether it is a decimal number from 1 to 99,999,999.
 is_number() { [[ ${1-} =~ ^[1-9][0-9]{0,7}$ ]]; }
 
-# no_more WORDS..: rejects arguments that are left over.
+# no_more WORDS..: rejects the remaining arguments.
 no_more() { [ $# = 0 ] || usage "what is $1?"; }
 
 # allowed WHAT..: ends the script with one line if the machine or the container refuses any of ptrace, personality,
@@ -173,7 +173,7 @@ install_package() {
 # out_folder NAME: prints this checkout's build folder. Each checkout has a different one.
 out_folder() { echo "$WORK/$1-$(printf %s "$ROOT" | sha256sum | cut -c 1-8)"; }
 
-# has_sanitizers FOLDER: whether a program that is built with the compiler's sanitizers runs. It doesn't under an
+# has_sanitizers FOLDER: whether a program that is built with the compiler's sanitizers runs. It doesn't run under an
 # emulator or where tracing is refused.
 has_sanitizers() {
     echo 'int main(void) { return 0; }' >"$1/empty.c"

@@ -93,7 +93,7 @@ static void give(struct dma_memory *it, bool is_transmit, uint16_t queue, uint32
     give_slots(it, ring, from, tail);
 }
 
-/* ---- calls of the bus ---- */
+/* ---- callbacks of the bus ---- */
 
 uint32_t copies_writing(void *memory, const struct bus_access *access, uint32_t word)
 {

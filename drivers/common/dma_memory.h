@@ -1,6 +1,6 @@
-/* DMA memory of one of two kinds:
-   - in place: the device works in the driver's memory, and each device step sees what the driver stored before it.
-   - copied, for memory that another process may store into during a step: copies.c keeps the driver's copy and the
+/* DMA memory, of one of two kinds: - in place: the device works in the driver's memory, and each device step sees what
+   the driver stored before it. - copied, for memory that another process may store into during a step: copies.c keeps
+   the driver's copy and the
      bench's up to date. A tail write copies its descriptors, and the buffers of transmit descriptors, to the device.
      Each range that a device step reports as written is copied to the driver. A change without a tail write isn't
      seen. */
@@ -34,8 +34,8 @@ struct dma_memory {
 /* Starts with no memory lent. Set its bus first. */
 void memory_begin(struct dma_memory *it, bool is_copied);
 
-/* Sets the calls that the memory needs from the bus, with `it` as their `of`. An existing `writing` or `reset` stays;
-   with copied memory it must call copies_writing or copies_reset. */
+/* Sets the bus callbacks that the memory needs, with `it` as their `of`. An existing `writing` or `reset` stays; with
+   copied memory it must call copies_writing or copies_reset. */
 void memory_calls(struct dma_memory *it, struct bus_calls *calls);
 
 /* Lends `length` bytes to the device, with the byte at `host` at bus address `bus`. Both `bus` and `length` are
@@ -52,8 +52,8 @@ void *memory_at(const struct dma_memory *it, uint64_t bus, size_t length);
 void copies_to_device(struct dma_memory *it, uint64_t bus, size_t length);
 void copies_to_driver(struct dma_memory *it, uint64_t bus, size_t length);
 
-/* Calls of the bus. A tail write copies the descriptors since the last one to the device. A head write or a reset sets
-   where the next copy begins. */
+/* Callbacks of the bus. A tail write copies the descriptors handed over since the last tail write to the device. A head
+   write or a reset sets where the next copy begins. */
 uint32_t copies_writing(void *memory, const struct bus_access *access, uint32_t word);
 void copies_reset(void *memory, uint16_t queue);
 void copies_wrote(void *memory, uint64_t bus, size_t length);

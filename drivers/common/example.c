@@ -18,7 +18,7 @@ static unsigned int came_back;
 
 static void set_up(void)
 {
-    bus_write(run_bus, BUS_PHYSICAL, NIC_CTRL, NIC_CTRL_RST); /* from here on the MAC address is the EEPROM's */
+    bus_write(run_bus, BUS_PHYSICAL, NIC_CTRL, NIC_CTRL_RST); /* from here on, the EEPROM's MAC address is set */
     bus_write(run_bus, BUS_PHYSICAL, NIC_RDBAL(0), BUS);
     bus_write(run_bus, BUS_PHYSICAL, NIC_RDLEN(0), SLOTS * sizeof *rx);
     bus_write(run_bus, BUS_PHYSICAL, NIC_SRRCTL(0),
@@ -38,7 +38,7 @@ static void set_up(void)
     bus_write(run_bus, BUS_PHYSICAL, NIC_RXCTRL, NIC_RXCTRL_RXEN);
 }
 
-/* Sends each frame from the buffer that it arrived in, and returns the slot to the device after that. */
+/* Sends each frame from the buffer that it arrived in, and then returns the slot to the device. */
 static void poll(void)
 {
     static unsigned int next;
@@ -61,7 +61,7 @@ static void on_frame(void *of, uint16_t queue, const uint8_t *bytes, size_t leng
     struct frame wanted;
     frame_make(&wanted, came_back, FRAME_MAX, card, peer);
     if (queue || !frame_is(&wanted, bytes, length))
-        problem("frame %u went out wrong", came_back);
+        problem("frame %u was sent with wrong bytes", came_back);
     came_back++;
 }
 
@@ -83,7 +83,7 @@ int main(void)
         poll();
     }
     if (same("frames that came back", came_back, FRAMES))
-        printf("%u frames came back, each byte as it went in\n", came_back);
+        printf("%u frames came back unchanged\n", came_back);
     run_check_counts(0, 0); /* no drops and no faults expected */
     run_close();
     free(memory);

@@ -1,6 +1,6 @@
 /* A minimal host for one virtual function: it enables pools, sets the function's address and serves the host's half of
-   the mailbox. It replies to requests as Linux's host does (API 1.0 and 1.1). For runs of a VF driver without a host
-   driver. */
+   the mailbox. It replies to requests as Linux's host does (API 1.0 and 1.1). It is for runs of a VF driver without a
+   host driver. */
 #ifndef DRIVERS_FUNCTION_HOST_H
 #define DRIVERS_FUNCTION_HOST_H
 
@@ -14,7 +14,7 @@
    broadcast frames. */
 void function_host_begin(unsigned int vf, const uint8_t mac[6]);
 
-/* For the bus's call `written`: replies to the function's request if one is waiting. */
+/* For the bus's callback `written`: replies to the function's request if one is waiting. */
 void function_host_written(void *of, const struct bus_access *access);
 
 /* Sends a control message, as after a link change, so that the function reads the link state. Returns false if the

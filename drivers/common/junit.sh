@@ -2,7 +2,7 @@
 # Records the verdicts of runs as JUnit XML, for scripts that take --junit FILE. Source common.sh first.
 
 JUNIT=   # the file; empty: runs aren't recorded
-RECORDS= # the folder of what is known of the runs so far
+RECORDS= # the folder with the records of the runs so far
 COUNT=0
 FAILED=0
 

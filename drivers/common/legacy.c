@@ -93,7 +93,7 @@ static void give(const struct dma_memory *memory, const struct bus_access *acces
     }
 }
 
-/* ---- calls of the bus ---- */
+/* ---- callbacks of the bus ---- */
 
 uint32_t legacy_writing(void *memory, const struct bus_access *access, uint32_t word)
 {

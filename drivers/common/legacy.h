@@ -1,6 +1,6 @@
 /* Legacy descriptors, which the bench doesn't model. Each is translated to the advanced form before the device reads
-   it, and back after the device writes it. The functions serve as the bus's calls `writing` and `filled`, with memory
-   in place (dma_memory.h) as `of`. */
+   it, and back after the device writes it. The functions serve as the bus's callbacks `writing` and `filled`, with
+   memory in place (dma_memory.h) as `of`. */
 #ifndef DRIVERS_LEGACY_H
 #define DRIVERS_LEGACY_H
 
@@ -18,11 +18,11 @@ void legacy_end(void);
 uint32_t legacy_writing(void *memory, const struct bus_access *access, uint32_t word);
 uint32_t legacy_read(void *memory, const struct bus_access *access, uint32_t word);
 
-/* A receive descriptor was filled. If the queue's driver selected type 0, restores the legacy form and buffer
-   address. */
+/* Called when a receive descriptor was filled. If the driver selected type 0 for the queue, restores the legacy format
+   and the buffer address. */
 void legacy_filled(void *memory, uint16_t queue, uint64_t descriptor, bool ends);
 
-/* The number of transmit descriptors translated. */
+/* Returns the number of transmit descriptors translated. */
 uint64_t legacy_sent(void);
 uint64_t legacy_received(void);
 

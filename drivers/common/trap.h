@@ -1,5 +1,5 @@
-/* Trapping register windows (window.h). A compiled driver accesses its registers by plain 32-bit loads and stores; each
-   faults, is performed on the bus, and is then skipped. For Linux on x86-64, with one thread. */
+/* Trapping register windows (window.h). A compiled driver accesses its registers with plain 32-bit loads and stores.
+   Each of them faults, is performed on the bus, and is then skipped. For Linux on x86-64, with one thread. */
 #ifndef DRIVERS_TRAP_H
 #define DRIVERS_TRAP_H
 
@@ -18,7 +18,7 @@ bool trap_open(const struct trap_hooks *hooks);
 /* Restores both signal handlers. */
 void trap_close(void);
 
-/* The number of accesses performed this way. */
+/* Returns the number of accesses performed this way. */
 uint64_t trap_count(void);
 
 #endif

@@ -21,7 +21,7 @@ bool read_number(const char *word, unsigned long least, unsigned long most, unsi
 /* Parses a PCI device ID such as "10fb". Returns false if it isn't one. */
 bool read_device(const char *word, uint16_t *device);
 
-/* Elapsed seconds since the first call. */
+/* Returns the elapsed seconds since the first call. */
 double seconds(void);
 
 #endif

@@ -1,4 +1,4 @@
-/* The bench that a program's driver reaches: either the bus, whose device works in the driver's memory (bench_bus.c),
+/* The bench that a program's driver runs on: either the bus, whose device works in the driver's memory (bench_bus.c),
    or the guests' server's card in this process, which copies rings and has offloads (server/bench_card.c). */
 #ifndef BENCH_H
 #define BENCH_H

@@ -6,12 +6,12 @@
 #include <stdbool.h>
 #include <stdint.h>
 
-/* Has the driver for `device_id` probe a function, with that function's window as its registers. Returns 0, or the
-   driver's error. `max_vfs` is the number of virtual functions of a host. `vectors` is the number of MSI-X vectors for
-   queues, besides the one for other causes; 0 for a single interrupt without MSI-X. */
+/* Makes the driver for `device_id` probe a function, with that function's window as its registers. Returns 0, or the
+   driver's error. `max_vfs` is the number of a host's virtual functions. `vectors` is the number of MSI-X vectors for
+   queues, in addition to the one for other causes; 0 for a single interrupt without MSI-X. */
 int card_probe(unsigned int function, uint16_t device_id, uint16_t max_vfs, unsigned int vectors);
 
-/* Gives a function new vectors, as a bus does at each start, because a driver releases them when it stops. */
+/* Assigns new vectors to a function, as a bus does at each start, because a driver releases them when it stops. */
 void card_give_vectors(unsigned int function, unsigned int vectors);
 
 /* Removes a function's card. Returns 0, or the driver's error. */
@@ -26,7 +26,7 @@ uint16_t card_port(unsigned int function);
 /* Calls a function's interrupt handler. Returns false if the driver registered none. */
 bool card_interrupt(unsigned int function);
 
-/* The number of these handler calls. */
+/* Returns the number of these handler calls. */
 uint64_t card_interrupts(unsigned int function);
 
 #endif

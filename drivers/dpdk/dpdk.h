@@ -1,4 +1,4 @@
-/* Starts DPDK over the bench, with the functions for ports that every run needs. */
+/* Starts DPDK on the bench, and contains the functions for ports that every run needs. */
 #ifndef DPDK_H
 #define DPDK_H
 
@@ -14,14 +14,14 @@
 #define BURST 32
 
 struct dpdk_options {
-    struct bus_options bus; /* its MAC address is ignored: card_mac is used */
+    struct bus_options bus; /* its MAC address is ignored: card_mac is used instead */
     const char *name;       /* the program's name */
     unsigned int mebibytes; /* size of DPDK's memory */
     unsigned int packets;   /* packets in the pool: a power of two less one */
     uint16_t buffer;        /* data bytes of a packet */
     bool scalar, loud;      /* no vector functions in the driver; print everything that DPDK logs */
     bool has_null_driver;
-    unsigned int lcores; /* lcores besides the main one */
+    unsigned int lcores; /* lcores in addition to the main one */
     const char *strays;  /* the file for strays; null for none */
 };
 
@@ -46,20 +46,21 @@ void begin(unsigned int phase, const char *name);
 /* Returns whether a call failed; if so, reports a problem. */
 bool failed(const char *what, int status);
 
-/* Configures a port with `queues` queues each way. Returns 0, or the error of the call that `what` names. */
+/* Configures a port with `queues` queues each way. Returns 0, or the error of the failed call, whose name is stored in
+   `what`. */
 int port_configure(uint16_t port, const struct rte_eth_conf *configuration, unsigned int queues, unsigned int slots,
                    const char **what);
 
 /* Requests RSS for every frame type that the driver supports, with rss_key. */
 void ask_for_rss(struct rte_eth_conf *configuration);
 
-/* Takes and frees all packets waiting in a queue, and returns their number. `look`, unless null, sees each one
-   first. */
+/* Receives and frees all packets waiting in a queue, and returns their number. `look`, unless null, is called with each
+   packet first. */
 typedef void look_at(const struct rte_mbuf *packet, uint16_t queue, void *argument);
 unsigned int take_packets(uint16_t port, uint16_t queue, look_at *look, void *argument);
 
-/* Returns the name of the driver's function that a port uses. Its static vector functions for sending have no name
-   outside the driver. */
+/* Returns the name of the driver's function that a port uses. The driver's static vector functions for sending have no
+   name outside the driver. */
 const char *receives_by(uint16_t port);
 const char *sends_by(uint16_t port);
 

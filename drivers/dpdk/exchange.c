@@ -1,4 +1,4 @@
-/* Runs DPDK's ixgbe driver over the bench: probe, start, frames each way over four queues with RSS, counters, filters,
+/* Runs DPDK's ixgbe driver on the bench: probe, start, frames each way over four queues with RSS, counters, filters,
    restart of a queue, stop, start, frames, close. drivers/dpdk/run compiles and calls it.
 
      exchange [--scalar | --segments] [--frames N] [--device ID] [--without SWSM | ANLP1] [--with EICS | EERD]

@@ -13,7 +13,7 @@
 extern unsigned int frames_of_pass; /* each way */
 extern bool in_segments;            /* frames span several buffers, both ways */
 
-/* Parts of the run: frames in and out; the drivers' counters; which frames the filters accept. */
+/* Parts of the run: frames in and out, the driver's counters, and the frames that the filters accept. */
 void traffic(uint16_t port);
 void counters(uint16_t port);
 void filters(uint16_t port);
@@ -21,7 +21,7 @@ void restart_queues(uint16_t port);
 /* Sets the run's own redirection table. Returns 0, or 1 if the driver refuses it. */
 uint16_t choose(uint16_t port);
 
-/* Measures frames per second over the bench and over DPDK's null driver, alternately. */
+/* Measures frames per second on the bench and with DPDK's null driver, alternately. */
 int measure(uint16_t card, uint16_t null);
 
 #endif

@@ -15,11 +15,11 @@
 enum plant { NOTHING_PLANTED, TURN, ORDER };
 extern enum plant planted;
 
-/* ---- points: one for each access of the driver to a ring ---- */
+/* ---- points: one for each access to a ring by the driver ---- */
 
-/* Forgets all rings. */
+/* Removes all rings from the list. */
 void points_begin(void);
-/* Registers a ring: the descriptors at `at` in the process have bus address `bus`. */
+/* Registers a ring: the descriptors at address `at` in the process have bus address `bus`. */
 void points_ring(volatile void *at, uint64_t bus, size_t length);
 /* Makes the last store visible. Call it before each call of the explorer and after each call of the driver. */
 void points_flush(void);
@@ -44,10 +44,10 @@ const char *layer_start(void);
 /* Creates a pool of `count` packets, with bus addresses from BUS_BUFFERS on. Call it once. Returns null, or why it
    failed. */
 const char *layer_pool(unsigned int count);
-/* Creates the port as it is before any setup, with the driver's own functions for an 82599. Returns null, or why it
+/* Creates the port in its state before any setup, with the driver's own functions for an 82599. Returns null, or why it
    failed. */
 const char *layer_port(unsigned int virtual_functions);
-/* While bring-up lasts, each register read first takes the device's steps. */
+/* During bring-up, each register read first takes the device's steps. */
 void seam_bring_up(bool begins);
 
 /* ---- the runs ---- */

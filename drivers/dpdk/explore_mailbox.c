@@ -29,7 +29,7 @@ static struct ixgbe_vf_info *host_knows(unsigned int vf)
 
 /* ---- the tasks ---- */
 
-/* The requests of a function's driver at start: a reset, the API version, its queues, an address. */
+/* Makes the requests of a function's driver at start: a reset, the API version, its queues, an address. */
 static void function(void *argument)
 {
     unsigned int vf = (unsigned int)(uintptr_t)argument, classes = 0, first = 0;
@@ -44,7 +44,7 @@ static void function(void *argument)
     done++;
 }
 
-/* Like the driver's own handler: masks causes, serves the mailbox, unmasks them again. */
+/* Does what the driver's own handler does: masks causes, serves the mailbox, and unmasks them again. */
 static void serve(void *unused)
 {
     (void)unused;
@@ -54,7 +54,7 @@ static void serve(void *unused)
     nicx_write32(NIC_EIMS, MAILBOX);
 }
 
-/* The host's application sends function 0 a message, at any time. */
+/* Acts as the host's application, which sends function 0 a message at any time. */
 static void ping(void *unused)
 {
     (void)unused;

@@ -1,5 +1,5 @@
 /* DPDK's functions that receive and send (ixgbe_rxtx.c, ixgbe_rxtx_vec_sse.c), each in its own scenario. Frames
-   arrive or are sent one by one, more of them than a ring has slots. Each must come through in order with its bytes
+   arrive or are sent one by one, more of them than a ring has slots. Each must arrive in order with its bytes
    unchanged. */
 #include <rte_ring.h>
 #include <rte_vect.h>
@@ -49,7 +49,7 @@ static size_t fill(uint8_t *bytes, unsigned int number)
     return length;
 }
 
-/* Fills in a frame as it arrives or is handed over, with a byte changed if that bug is planted. */
+/* Fills in a frame that arrives or is handed over, with a byte changed if that bug is planted. */
 static size_t fill_for_driver(uint8_t *bytes, unsigned int number)
 {
     size_t length = fill(bytes, number);
@@ -244,7 +244,7 @@ static const char *set_up(void)
     return ixgbe_dev_rxtx_start(port) == 0 ? NULL : "ixgbe_dev_rxtx_start fails";
 }
 
-/* Whether the driver selected the intended function. */
+/* Returns whether the driver selected the intended function. */
 static bool is_this_way(void)
 {
     static const struct {

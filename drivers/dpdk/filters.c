@@ -1,5 +1,5 @@
-/* Checks which frames the driver receives with these filters: its own address, further addresses, promiscuous and
-   multicast modes. */
+/* Checks which frames the driver receives with each of these filters: its own address, further addresses, promiscuous
+   and multicast modes. */
 #include "exchange.h"
 
 #include <string.h>

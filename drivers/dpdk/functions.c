@@ -1,4 +1,4 @@
-/* Runs DPDK's ixgbe driver as host over the bench, and its driver of virtual functions on functions of the same device,
+/* Runs DPDK's ixgbe driver as host on the bench, and its driver for virtual functions on functions of the same device,
    all in one process. drivers/dpdk/run --vf compiles and calls it.
 
      functions [--max-vfs N] [--functions N] [--queues N] [--vf-queues N] [--no-rss] [--slots N] [--frames N]
@@ -7,9 +7,9 @@
                [--scalar] [--turn in | out] [--strays FILE] [--trace FILE] [--loud]
 
    The shim's answers are SWSM and ANLP1 (on by default), EICS, EERD and ABSENT. The courses are `whole` (a host with
-   two functions), `traffic` (frames alone), and three known differences from the card. Each difference must turn out as
-   docs/CARD.md says. Status 0: all was correct; 1: something was wrong; 2: a file can't be written; 3: unknown
-   arguments. */
+   two functions), `traffic` (frames alone), and three known differences from the card. Each difference must have the
+   outcome that docs/CARD.md says. Status 0: all was correct; 1: something was wrong; 2: a file can't be written; 3:
+   unknown arguments. */
 #include <errno.h>
 #include <inttypes.h>
 #include <stdio.h>
@@ -146,7 +146,7 @@ static bool whole(void)
     if (!begin_host())
         return false;
     port_probe_early(1);
-    /* a function that is probed this early learns of only one queue, so it is removed and probed again later */
+    /* a function that is probed this early sees only one queue, so it is removed and probed again later */
     if ((ports[1].is_there && !port_remove(1)) || !port_start(HOST))
         return false;
     pass(0, 0);
@@ -200,7 +200,7 @@ static bool without_rss(void)
     return differs(all_to_one);
 }
 
-/* RSS spreads a pool's frames over its queues. A function with one queue never gets those of the second. */
+/* RSS spreads a pool's frames over its queues. A function with one queue never gets the frames of the second queue. */
 static void first_queue_alone(unsigned int gets[2])
 {
     gets[0] = DIFFERENT;
@@ -217,7 +217,7 @@ static bool fewer_queues(void)
     return differs(first_queue_alone);
 }
 
-/* When the driver closes the card it leaves the master disabled. Its next probe reads the EEPROM before it resets the
+/* When the driver closes the card, it leaves master disable set. Its next probe reads the EEPROM before it resets the
    card. The bench doesn't complete that read unless the shim clears the bit (--with EERD). */
 static bool second_probe(void)
 {
@@ -338,7 +338,7 @@ static bool read_words(int count, char **words, struct words *it)
     return setting.functions <= setting.max_vfs && (setting.functions == 2 || strcmp(it->course, "whole") != 0);
 }
 
-/* ---- the whole ---- */
+/* ---- the program ---- */
 
 static void tell_handlers(const struct handlers_way *way)
 {

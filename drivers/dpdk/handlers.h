@@ -1,4 +1,4 @@
-/* Decides when the drivers' interrupt handlers are called: one after the other, as on one processor, and never
+/* Decides when the drivers' interrupt handlers are called. They run one after another, as on one processor, and never
    nested. */
 #ifndef HANDLERS_H
 #define HANDLERS_H
@@ -27,7 +27,7 @@ void handlers_reading(void *of, unsigned int function, uint32_t offset);
 void handlers_written(void *of, const struct bus_access *access);
 void handlers_message(void *of, unsigned int function, unsigned int vector);
 
-/* The number of the host's handler calls by the line. */
+/* Returns how often the line called the host's handler. */
 uint64_t handlers_by_line(void);
 
 #endif

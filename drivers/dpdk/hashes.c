@@ -8,7 +8,7 @@
 
 #include "dpdk.h"
 
-#define SAID_MOST 20 /* wrong hashes to print, the limit that problem() has */
+#define SAID_MOST 20 /* number of wrong hashes to print; problem() has the same limit */
 
 /* Whether to print this wrong hash. */
 static bool is_said(void)

@@ -10,12 +10,12 @@
 
 enum hash { HASH_NONE, HASH_RIGHT, HASH_WRONG };
 
-/* NONE: the frame should have no hash, and has none. WRONG: the caller reports a problem; the reason is printed
+/* NONE: the frame should have no hash, and has no hash. WRONG: the caller reports a problem; the reason is printed
    here. */
 enum hash hash_compare(const struct rte_mbuf *packet, const struct frame *frame, const struct rss *rss);
 
-/* Sets a redirection table over `queues` queues that isn't the driver's own. Fills `rss` with what the run then
-   expects: rss_key, this table, and all frame types. Returns 0, or 1 if the driver refuses the table. */
+/* Sets a redirection table over `queues` queues that differs from the driver's own. Fills `rss` with the settings that
+   the run then expects: rss_key, this table, and all frame types. Returns 0, or 1 if the driver refuses the table. */
 uint16_t choose_queues(uint16_t port, unsigned int queues, struct rss *rss);
 
 #endif

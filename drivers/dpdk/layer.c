@@ -1,5 +1,5 @@
-/* As much of DPDK as the explorer's runs need: its memory, a pool of packets, and a port without a bus. The driver's
-   own functions bring it up, register by register, and its accesses go to the explorer. */
+/* The parts of DPDK that the explorer's runs need: its memory, a pool of packets, and a port without a bus. The
+   driver's own functions bring the port up, register by register, and their accesses go to the explorer. */
 #include <bus_pci_driver.h>
 #include <rte_cycles.h>
 #include <rte_eal.h>
@@ -18,7 +18,8 @@
 #include "window.h"
 
 enum { MEBIBYTES = 32, MOST_KEPT = 512, SEED = 82599, BACKPLANE = 0x10F7, MOST_QUEUES = 1 };
-enum { SECRXSTAT = 0x08D04, SECRX_READY = 1 }; /* not in the table; without an answer the driver polls it 4,000 times */
+/* not in the register table; without an answer the driver polls it 4,000 times */
+enum { SECRXSTAT = 0x08D04, SECRX_READY = 1 };
 
 struct rte_eth_dev *port;
 struct rte_mempool *packets;
@@ -34,7 +35,7 @@ void seam_bring_up(bool begins)
     is_bringing_up = begins;
 }
 
-/* Whether a register is a tail: a planted late store takes effect only after a write to one. */
+/* Returns whether a register is a tail: a planted late store takes effect only after a write to a tail. */
 static bool is_tail(uint32_t offset)
 {
     return (offset & 0xFF3F) == (NIC_RDT(0) & 0xFF3F) || (offset & 0xFF3F) == (NIC_TDT(0) & 0xFF3F);
@@ -70,7 +71,7 @@ void seam_write(uint32_t word, volatile void *address)
     points_flush();
 }
 
-/* Time isn't modelled: lets other tasks run. */
+/* Lets other tasks run, because time isn't modelled. */
 void seam_wait(unsigned int microseconds)
 {
     (void)microseconds;

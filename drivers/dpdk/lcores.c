@@ -1,4 +1,4 @@
-/* Two of DPDK's lcores in one process, each with its own receive and transmit queue. A third one plays the wire.
+/* Two of DPDK's lcores in one process, each with its own receive and transmit queue. A third lcore acts as the wire.
    drivers/dpdk/run --lcores compiles and calls it.
 
      lcores [--frames N] [--scalar] [--strays FILE] [--loud] [--turn in | out]
@@ -25,7 +25,7 @@ enum { LCORES = 2, FIFO = 64, MEBIBYTES = 48, PACKETS = 4095, BUFFER = 2048, FRA
 #define REST 10               /* microseconds */
 #define PATIENCE 20           /* seconds without a frame before a run gives up */
 
-/* A queue each way. `in`, which the wire fills, and frames sent are accessed only with the device taken. */
+/* A queue each way. `in`, which the wire fills, and frames sent are accessed only while the device is acquired. */
 static struct lcore {
     uint16_t queue;
     struct line_up in, out;
@@ -60,7 +60,7 @@ static void receive(struct lcore *it)
     atomic_fetch_add(&passed, count);
 }
 
-/* The two queues share the frame numbers: each sends every second one. */
+/* The two queues share the frame numbers: each sends every second frame. */
 static struct rte_mbuf *next_packet(struct lcore *it)
 {
     struct frame frame;
@@ -143,7 +143,7 @@ static uint32_t let_in(uint32_t number)
     return number;
 }
 
-/* Stops the lcores if nothing has passed for a long time. */
+/* Stops the lcores if no frame has passed for a long time. */
 static void watch(unsigned int *before, double *since)
 {
     unsigned int now = passed;

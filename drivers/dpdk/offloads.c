@@ -1,4 +1,4 @@
-/* DPDK's driver with its transmit offloads. It runs over the guests' server's card in this process. The card computes
+/* Runs DPDK's driver with its transmit offloads, on the guests' server's card in this process. The card computes
    checksums, cuts large sends and inserts tags. drivers/dpdk/run --offloads compiles and calls it.
 
      offloads [--frames N] [--loud] [--turn out]
@@ -141,7 +141,7 @@ static void ask(const struct packet *it, struct rte_mbuf *head)
     }
 }
 
-/* The payload continues in as many buffers as it needs. */
+/* The payload continues in as many buffers as it takes. */
 static bool put_payload(const struct packet *it, struct rte_mbuf *head, uint32_t number)
 {
     struct rte_mbuf *part = head;
@@ -178,7 +178,7 @@ static struct rte_mbuf *packet_of(const struct packet *it, uint32_t number)
     return put_payload(it, head, number) ? head : NULL;
 }
 
-/* ---- what must go out ---- */
+/* ---- the frames that must be sent ---- */
 
 static uint32_t sum(const uint8_t *bytes, size_t length, uint32_t so_far)
 {
@@ -194,7 +194,7 @@ static bool is_right(uint32_t all)
     return all == 0xFFFF;
 }
 
-/* The payload bytes of segment number `segment`. */
+/* Returns the number of payload bytes in segment number `segment`. */
 static uint32_t part_of(const struct packet *it, unsigned int segment)
 {
     return it->mss ? RTE_MIN(it->payload - segment * it->mss, (uint32_t)it->mss) : it->payload;
@@ -254,7 +254,7 @@ static bool is_l2_right(const struct packet *it, const uint8_t *frame)
            type[1] == (it->is_v6 ? 0xDD : 0x00);
 }
 
-/* Returns the fault of a frame that went out, or null. */
+/* Returns what is wrong with a frame that was sent, or null. */
 static const char *compare(const struct packet *it, uint32_t number, unsigned int segment, bool is_last)
 {
     const uint8_t *frame = out[segment].bytes;

@@ -27,7 +27,7 @@ static uint64_t all_in[BUS_FUNCTIONS], all_out[BUS_FUNCTIONS];
 static uint64_t alike_in, alike_out, hashes;
 static unsigned int gone; /* frames that went out without being compared */
 
-/* Each port has its own range of frame numbers. */
+/* Each port has a separate range of frame numbers. */
 static uint32_t number_of(unsigned int which, unsigned int frame)
 {
     return which * setting.frames + frame;
@@ -227,7 +227,7 @@ void pass(unsigned int first, unsigned int last)
         problem("the device has something left to do");
 }
 
-/* The host counts all frames of the device, its functions' included; each function counts its own. */
+/* The host counts all frames of the device, including its functions' frames; each function counts its own. */
 void pass_counters(void)
 {
     bus_enter(run_bus, IN_COUNTERS);
@@ -274,7 +274,7 @@ static void make_one(struct frame *frame, const uint8_t to[6], uint16_t tag)
     frame->length += TAG_BYTES;
 }
 
-/* The frames that may reach a port; any other is a problem. */
+/* The frames that may reach a port; any other frame is a problem. */
 struct known {
     unsigned int which, many;
     const struct frame *frames;

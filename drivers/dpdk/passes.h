@@ -5,8 +5,8 @@
 #include <stdbool.h>
 #include <stdint.h>
 
-/* Sends setting.frames frames to and from each of these ports. Checks their bytes, their order on each queue, their
-   hashes, and that each is on the queue that its hash selects or that sent it. */
+/* Sends setting.frames frames to and from each of these ports. Checks their bytes, their order on each queue, and their
+   hashes. Each frame must be on the queue that its hash selects, or that sent it. */
 void pass(unsigned int first, unsigned int last);
 
 /* Compares the drivers' counters with all passes so far. */
@@ -16,18 +16,18 @@ void pass_counters(void);
 void pass_totals(void);
 
 /* Sends one frame to this address, with a VLAN tag unless `tag` is 0. Returns the number of the port that receives it,
-   or -1 if none does. A duplicate, or a frame with other bytes, is a problem. */
+   or -1 if none does. A duplicate, or a frame with different bytes, is a problem. */
 int who_gets(const uint8_t to[6], uint16_t tag);
 
 /* Sends one frame from a port to an address. Returns the number of frames that go out as a result. */
 unsigned int send_one(unsigned int which, const uint8_t to[6]);
 
-/* Sends frames to two ports' addresses alternately. Adds the numbers that the first and the second receive to got[0]
-   and got[1]. Any other frame is a problem. */
+/* Sends frames to two ports' addresses alternately. Adds the numbers of frames that the first and the second port
+   receive to got[0] and got[1]. Any other frame is a problem. */
 void frames_of_two(unsigned int frames, unsigned int got[2]);
 
-/* Sends this many frames to a port's address, numbered from `first` by `step`, and takes all receive steps. No port is
-   polled. */
+/* Sends this many frames to a port's address, numbered from `first` in steps of `step`, and takes all receive steps. No
+   port is polled. */
 void flood(unsigned int which, unsigned int first, unsigned int step, unsigned int frames);
 
 #endif

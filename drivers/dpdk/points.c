@@ -2,8 +2,9 @@
    rings are compiled with -fsanitize=thread, so the compiler calls the functions below before each memory access. The
    sanitizer's own library isn't linked: these are its only functions. Accesses outside the rings are ignored.
 
-   A ring has two copies: the process's, which the driver accesses, and the bench's. Before a load, its bytes are copied
-   from the bench. The bench sees a store at the next access to any address; no other task runs in between. */
+   A ring has two copies: the process's copy, which the driver accesses, and the bench's copy. Before a load, the bytes
+   to load are copied from the bench. The bench sees a store at the next access to any address; no other task runs in
+   between. */
 #include <string.h>
 
 #include "explore.h"
@@ -105,7 +106,7 @@ UNALIGNED(4)
 UNALIGNED(8)
 UNALIGNED(16)
 
-/* Longer accesses, descriptor by descriptor. */
+/* Performs longer accesses descriptor by descriptor. */
 static void each(void (*what)(volatile uint8_t *, size_t), volatile uint8_t *at, size_t length)
 {
     for (size_t done = 0; done < length; done += 16)

@@ -36,7 +36,7 @@ unsigned int port_queues(unsigned int which)
     return which == HOST ? setting.queues : setting.vf_queues;
 }
 
-/* The host's pool, VT_CTL's default, comes after those of its functions. */
+/* The host's pool, the default pool in VT_CTL, comes after the functions' pools. */
 uint16_t device_queue(unsigned int which, uint16_t queue)
 {
     unsigned int pool_number = which == HOST ? setting.max_vfs : which - 1;

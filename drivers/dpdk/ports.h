@@ -1,4 +1,4 @@
-/* The ports of a run with virtual functions: number 0 is the host's, v + 1 that of function v. */
+/* The ports of a run with virtual functions: port 0 is the host's, and port v + 1 is function v's. */
 #ifndef PORTS_H
 #define PORTS_H
 
@@ -55,8 +55,8 @@ unsigned int port_queues(unsigned int which);
 /* Returns the device's queue for a port's queue. */
 uint16_t device_queue(unsigned int which, uint16_t queue);
 
-/* Each prints its action. Returns false, and reports a problem, if the action fails. A port that exists isn't probed
-   again. */
+/* Each of these prints its action. It returns false, and reports a problem, if the action fails. A port that exists
+   isn't probed again. */
 bool port_probe(unsigned int which);
 bool port_start(unsigned int which); /* configures the port first if needed */
 bool port_stop(unsigned int which);
@@ -65,10 +65,11 @@ bool port_remove(unsigned int which);
 /* Like port_probe, but reports no problem. Returns 0, or the driver's error. */
 int port_try_probe(unsigned int which);
 
-/* Probes a function while the host isn't started: its driver gives up, unless the shim answers it. */
+/* Probes a function while the host isn't started. Its driver gives up unless the shim answers the function. */
 void port_probe_early(unsigned int which);
 
-/* Takes the frames waiting in a port's queues, as take_packets does, if the port is started. Returns their number. */
+/* Receives the frames waiting in a port's queues, as take_packets does, if the port is started. Returns their
+   number. */
 unsigned int port_take(unsigned int which, look_at *look, void *argument);
 unsigned int port_drain(unsigned int which); /* port_take without `look` */
 

@@ -14,12 +14,12 @@
 #include "verdict.h"
 
 #define REQUESTS 16
-#define F0 1u /* the ports of functions 0 and 1 */
+#define F0 1u /* ports of functions 0 and 1 */
 #define F1 2u
 #define VLAN 100
 #define OTHER_VLAN 200
 #define COLUMNS 9
-#define FLOOD 140      /* frames: more than a ring and this test's receive list hold */
+#define FLOOD 140      /* number of frames: more than fit in a ring and this test's receive list */
 #define AFTER_FLOOD 10 /* frames to the host after the flood */
 
 static struct rte_ether_addr further = {{0x02, 0, 0, 0, 0, 0x77}}, another = {{0x02, 0, 0, 0, 0, 0x78}},

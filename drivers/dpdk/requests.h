@@ -7,7 +7,7 @@
 /* Checks which port receives frames to each address, after each request of a function and each action of the host. */
 void requests(void);
 
-/* Checks where the bench and the card differ for a host with functions. Returns how many frames are dropped in the
+/* Checks the differences between bench and card for a host with functions. Returns how many frames are dropped in the
    process. */
 uint64_t limits(void);
 

@@ -18,7 +18,7 @@
 #define rte_write32_wc(word, address) seam_write(word, address)
 #define rte_write32_wc_relaxed(word, address) seam_write(word, address)
 
-/* waits: nothing happens on the bench by itself, so they take no time */
+/* waits, which take no time because nothing happens on the bench by itself */
 #define rte_delay_us_sleep(microseconds) seam_wait(microseconds)
 
 /* where the driver registers with the PCI bus */

@@ -1,13 +1,13 @@
 # shellcheck shell=bash
-# Finds the DPDK of a run: Debian's, or the one that --source names. Shared by drivers/dpdk/run and c/drive/dpdk/run;
+# Finds the DPDK for a run: Debian's, or the one that --source names. Shared by drivers/dpdk/run and c/drive/dpdk/run;
 # source common.sh first.
 #
 # find_source sets SOURCE (a complete source, for headers that aren't installed), DRIVER (the driver's folder), PLACE
 # (its name in output), VERSION (DPDK's, as text) and, for a tree's libraries, PKG_CONFIG_PATH.
 
 WHERE=  # what --source names
-BISECT= # not empty: statuses are those that `git bisect run` knows
-TREE=   # the tree whose libraries are taken; empty: those of libdpdk-dev
+BISECT= # not empty: the statuses are for `git bisect run`
+TREE=   # the tree whose libraries are used; empty: libdpdk-dev's libraries
 LAYOUTS="drivers/net/intel/ixgbe drivers/net/ixgbe"
 NEEDED=bus/pci,bus/vdev,mempool/ring,net/null # the driver itself is compiled by the Makefile
 
@@ -29,7 +29,7 @@ driver_in() {
     done
 }
 
-# tree_of FOLDER: prints the tree that contains a driver's folder; nothing if none does.
+# tree_of FOLDER: prints the tree that contains a driver's folder; nothing if there is none.
 tree_of() {
     local layout
     for layout in $LAYOUTS; do
@@ -146,7 +146,8 @@ find_source() {
 # Prints the checksums of the driver's C files.
 sums_of_driver() { (cd "$DRIVER" && find . -name '*.[ch]' -exec sha256sum {} + | LC_ALL=C sort -k 2); }
 
-# forget_changed OUT: has changed files, and files that include them, recompiled whatever their timestamps.
+# forget_changed OUT: makes sure that changed files, and files that include them, are recompiled whatever their
+# timestamps.
 forget_changed() {
     local name
     sums_of_driver >"$1/driver.now"

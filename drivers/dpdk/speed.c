@@ -1,5 +1,5 @@
-/* Measures frames of 60 bytes, received and sent per second, by DPDK's ixgbe driver over the bench and by DPDK's null
-   driver. */
+/* Measures how many frames of 60 bytes DPDK's ixgbe driver receives and sends per second on the bench, compared with
+   DPDK's null driver. */
 #include "exchange.h"
 
 #include <stdlib.h>
@@ -12,7 +12,7 @@
 
 #define ROUNDS 5
 #define SECONDS 1.0
-#define TURNS 64     /* bursts between readings of the clock */
+#define TURNS 64     /* bursts between two readings of the clock */
 #define ALL_KINDS 64 /* frames with different addresses, so that every queue gets some */
 
 static uint8_t frames[ALL_KINDS][FRAME_MIN];
@@ -55,7 +55,7 @@ static unsigned int echo(uint16_t port)
     return all;
 }
 
-/* The CPU seconds of this thread alone. */
+/* Returns the CPU seconds of this thread alone. */
 static double clock_seconds(void)
 {
     struct timespec now;
@@ -63,7 +63,7 @@ static double clock_seconds(void)
     return (double)now.tv_sec + (double)now.tv_nsec / 1e9;
 }
 
-/* Measures frames in a CPU second, for about SECONDS. */
+/* Measures frames per CPU second, for about SECONDS. */
 static double round_of(uint16_t port, bool is_bench)
 {
     double start = clock_seconds(), spent;

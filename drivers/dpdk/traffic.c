@@ -18,7 +18,7 @@ static struct line_up in[QUEUES], out[QUEUES]; /* frames expected from each queu
 static uint64_t received[QUEUES], sent[QUEUES];
 static unsigned int alike, hashes, unhashed;
 
-/* Empties the lists, with room for a pass and a full ring. */
+/* Makes empty lists, with room for a pass and a full ring. */
 static void clear(struct line_up *lists)
 {
     for (unsigned int queue = 0; queue < QUEUES; queue++) {
@@ -264,7 +264,8 @@ static void restart_transmit(uint16_t port)
     same("frames out of the queue that was started again", sent[0] - before, BURST);
 }
 
-/* Delivers the first frame for this queue from `*number` on. Returns how many descriptors the device writes. */
+/* Delivers the next frame for this queue, starting the search at `*number`. Returns how many descriptors the device
+   writes. */
 static unsigned int arrive_at(uint16_t queue, unsigned int *number)
 {
     struct frame frame;

@@ -1,6 +1,6 @@
-/* Lets lcores share the device. The device has one user at a time. While it is called, no thread may store into the
-   driver's memory, which is lent in place (nic_lend_memory). Threads in the driver therefore share a lock; a call of
-   the device holds it exclusively. */
+/* Lets lcores share the device. The device has one user at a time. During a call to it, no thread may store into the
+   driver's memory, which is lent in place (nic_lend_memory). So threads in the driver hold a lock in shared mode; a
+   call to the device holds it exclusively. */
 #ifndef TURNS_H
 #define TURNS_H
 

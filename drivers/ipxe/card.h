@@ -17,7 +17,7 @@ struct card_setting {
 bool card_open(const struct card_setting *setting);
 void card_close(void);
 
-/* The number of iPXE's function on the bus. */
+/* Returns the number of iPXE's function on the bus. */
 unsigned int card_function(void);
 
 /* Changes the link. A virtual function's host then notifies its function. */

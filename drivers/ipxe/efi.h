@@ -1,5 +1,5 @@
-/* As much of UEFI as iPXE's drivers need, in this process: handles, events and time, memory, PCI, a console, one file,
-   images. Its types are those of the package gnu-efi. */
+/* The parts of UEFI that iPXE's drivers need, in this process: handles, events and time, memory, PCI, a console, one
+   file, images. Its types are those of the package gnu-efi. */
 #ifndef IPXE_EFI_H
 #define IPXE_EFI_H
 
@@ -10,7 +10,7 @@
 #include <stddef.h>
 #include <stdint.h>
 
-/* UEFI calls have their own calling convention, whatever this process uses. */
+/* UEFI calls have a separate calling convention, whatever this process uses. */
 #define CALL EFI_STATUS EFIAPI
 
 /* Memory shared by application, driver and device. Addresses equal bus addresses. */
@@ -23,7 +23,7 @@ struct efi_setting {
     const char *image;      /* the application's file */
     const char *keys;       /* keys to type at its console */
     void (*on_start)(void); /* called when the application starts an image */
-    bool is_silent;         /* don't show its console */
+    bool is_silent;         /* whether to hide its console */
 };
 
 /* Runs an application. Returns whether it succeeded: false, with a line on standard error, if it can't be loaded. */
@@ -63,9 +63,9 @@ void pools_serve(EFI_BOOT_SERVICES *services);
 /* ---- console (console.c) ---- */
 
 void console_open(const char *keys, bool is_silent);
-/* Whether a key is available. There is a pause between keys. */
+/* Returns whether a key is available. There is a pause between keys. */
 bool console_has_key(void);
-/* The event that a key signals. */
+/* Returns the event that a key signals. */
 extern char console_event;
 
 /* ---- PCI (pci.c) ---- */

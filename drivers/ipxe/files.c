@@ -1,4 +1,4 @@
-/* The one file that the application may start. Starting it calls the run's own code. */
+/* The only file that the application may start. Starting it calls the run's own code. */
 #include <string.h>
 
 #include "efi.h"

@@ -169,7 +169,7 @@ static CALL handle_protocol(EFI_HANDLE handle, EFI_GUID *name, void **interface)
     return open_protocol(handle, name, interface, NULL, NULL, 0);
 }
 
-/* Reports that no agent has a protocol open. */
+/* Returns an empty list: no agent has a protocol open. */
 static CALL open_information(EFI_HANDLE handle, EFI_GUID *name, EFI_OPEN_PROTOCOL_INFORMATION_ENTRY **entries,
                              UINTN *count)
 {
@@ -237,7 +237,7 @@ static CALL locate_protocol(EFI_GUID *name, void *key, void **interface)
     return *interface ? EFI_SUCCESS : EFI_NOT_FOUND;
 }
 
-/* The length of a device path in bytes, without its end. */
+/* Returns the length of a device path in bytes, without its end node. */
 static size_t path_length(const uint8_t *path)
 {
     size_t length = 0;

@@ -119,8 +119,8 @@ static CALL unsupported(void)
 
 /* ---- the root bridge ---- */
 
-/* From its low byte up, an address contains register, function, device and bus. A register above 255 is in its high
-   half. */
+/* An address contains register, function, device and bus, from its low byte up. A register number above 255 is in the
+   high half. */
 static bool is_the_device(UINT64 address)
 {
     return (address >> 8 & 0xFFFFFF) == BUS_NUMBER << 16;

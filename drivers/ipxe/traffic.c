@@ -56,7 +56,7 @@ static void compare_in(const uint8_t *bytes, size_t length)
         problem("frame %u comes in with %zu bytes, and isn't what was sent: %u bytes", number, length, frame.length);
 }
 
-/* Lets frames arrive while the ring has room, only a few ahead of the driver. Returns the next number. */
+/* Delivers frames while the ring has room, only a few ahead of the driver. Returns the next number. */
 static uint32_t give(uint32_t next, uint32_t end)
 {
     static struct frame frame;
@@ -107,7 +107,7 @@ static void sent(void *of, uint16_t queue, const uint8_t *bytes, size_t length)
         problem("frame %u goes out with %zu bytes, and isn't what was sent: %u bytes", number, length, frame.length);
 }
 
-/* Takes back the buffers of sent frames. Returns how many there were. */
+/* Collects the buffers of sent frames. Returns how many there were. */
 static unsigned int recycle(void)
 {
     unsigned int count = 0;
@@ -153,7 +153,7 @@ static void go_out(uint32_t first)
 
 /* ---- other requests ---- */
 
-/* Takes frames until the driver has had none for a while. Returns how many there were. */
+/* Receives frames until the driver has had none for a while. Returns how many there were. */
 static unsigned int poll_all(void)
 {
     static uint8_t room[ROOM];
@@ -196,7 +196,7 @@ static void link_changes(void)
     }
 }
 
-/* More frames at once than fit: the function's ring is full, and the device drops the rest because of DROP_EN. */
+/* Sends more frames at once than fit: the function's ring is full, and the device drops the rest because of DROP_EN. */
 static void burst(void)
 {
     static struct frame frame;

@@ -1,7 +1,7 @@
-/* The register self-test of Linux's ixgbe driver, on the bench. The table and patterns are the driver's (table.py); the
-   code is our own. The driver stops at the first register that fails. This program continues: for each row of the table
-   it prints how many registers pass, and how the others differ. After each write the device takes all steps that it
-   can, as a card does by itself.
+/* The register self-test of Linux's ixgbe driver, on the bench. The table and patterns come from the driver (table.py);
+   the code is our own. The driver stops at the first register that fails. This program continues: for each row of the
+   table it prints how many registers pass, and how the others differ. After each write the device takes all steps that
+   it can, as a card does by itself.
 
      selftest [--turn]        --turn: one bit of one value read is changed, to test the report
 
@@ -28,8 +28,8 @@ struct test {
 
 /* the result for a row of the table */
 struct result {
-    unsigned int passed, failed, absent; /* absent: failed ones at addresses without a register */
-    uint32_t address, got, wanted;       /* those of the first failure */
+    unsigned int passed, failed, absent; /* absent: failed registers at addresses without a register */
+    uint32_t address, got, wanted;       /* the first failure's address and values */
     uint32_t more, fewer;                /* bits that read 1 but should be 0, and the reverse */
     bool without;                        /* no address of the row has a register */
 };
@@ -68,7 +68,7 @@ static bool is_there(uint32_t address)
     return nic_peek32(&device, address, &word) == NIC_DONE;
 }
 
-/* Writes a value, records whether it reads back as wanted, and restores the old value. */
+/* Writes a value, records whether it reads back as expected, and restores the old value. */
 static bool reads_back(uint32_t address, uint32_t write, uint32_t mask, uint32_t wanted, struct result *result)
 {
     uint32_t before = get(address);

@@ -191,7 +191,7 @@ static void put64(uint32_t offset, uint64_t value)
     memcpy(host_memory + offset, &value, sizeof value);
 }
 
-/* Runs before the device sees the write, so the value written here is what the device gets. */
+/* Called before the device sees the write, so the value stored here is what the device gets. */
 static uint32_t on_writing(void *memory, const struct bus_access *access, uint32_t word)
 {
     if (access->part == BUS_TAIL) {
@@ -434,7 +434,7 @@ static void on_reset(void *memory, uint16_t queue)
     resets++;
 }
 
-/* Tests calls of a run that manages its own memory and holds the device's steps. */
+/* Tests the callbacks of a run that manages its own memory and holds the device's steps. */
 static void a_held_bus_makes_no_step(void)
 {
     const struct bus_calls own = {.writing = plus_one, .read = plus_one, .stepping = on_stepping, .reset = on_reset};

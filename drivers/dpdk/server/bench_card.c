@@ -195,7 +195,7 @@ bool watch_meets(struct watch *it, unsigned int function, bool is_write, uint32_
     return false;
 }
 
-/* What the server would log: a fault, or a refused access. */
+/* Reports what the server would log: a fault, or a refused access. */
 void log_client(unsigned int client, enum log_kind kind, const char *format, ...)
 {
     char line[LINE];

@@ -5,9 +5,9 @@
 #include <stddef.h>
 #include <stdint.h>
 
-/* Sets where the card's frames go. */
+/* Sets the function that gets the card's frames. */
 void bench_card_send_to(void (*sink)(const uint8_t *frame, size_t length));
-/* Counts large sends that were cut, and their segments. */
+/* Stores how many large sends were cut, and into how many segments. */
 void bench_card_counts(uint64_t *large, uint64_t *segments);
 
 #endif

@@ -41,7 +41,7 @@ bool same(const char *what, uint64_t reported, uint64_t counted)
 
 int verdict(void)
 {
-    printf(problem_count ? "%u things are wrong\n" : "nothing is wrong\n", problem_count);
+    printf(problem_count ? "problems found: %u\n" : "nothing is wrong\n", problem_count);
     fflush(stdout);
     return problem_count ? 1 : 0;
 }

@@ -131,7 +131,7 @@ bool failed(const char *what, int status)
 {
     if (status == 0)
         return false;
-    problem("%s answers %d (%s)", what, status, rte_strerror(-status));
+    problem("%s returns %d (%s)", what, status, rte_strerror(-status));
     return true;
 }
 

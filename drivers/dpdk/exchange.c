@@ -54,7 +54,7 @@ static bool probe(uint16_t device, uint16_t *port)
         return false;
     if (memcmp(mac.addr_bytes, card_mac, sizeof card_mac) != 0)
         problem("the driver's address isn't the EEPROM's");
-    printf("  %s takes device 8086:%04x, address " RTE_ETHER_ADDR_PRT_FMT " from the EEPROM\n",
+    printf("  %s drives device 8086:%04x, address " RTE_ETHER_ADDR_PRT_FMT " from the EEPROM\n",
            card_driver(BUS_PHYSICAL), device, RTE_ETHER_ADDR_BYTES(&mac));
     return true;
 }
@@ -88,7 +88,7 @@ static bool start(uint16_t port)
         return false;
     printf("  %u receive and %u transmit queues of %u descriptors; link %s, %u Mb/s\n", QUEUES, QUEUES, SLOTS,
            link.link_status ? "up" : "down", link.link_speed);
-    printf("  it receives by %s, sends by %s\n", receives_by(port), sends_by(port));
+    printf("  it receives with %s, sends with %s\n", receives_by(port), sends_by(port));
     if (!link.link_status)
         problem("the link is down");
     return true;

@@ -17,7 +17,7 @@ int main(int argc, char **argv)
     if (argc > 1 && !scenario)
         scenario = mailbox_scenario(argv[1]);
     if (!scenario) {
-        fprintf(stderr, "explore: which? recv, recv-bulk, recv-vec, recv-segments, recv-segments-bulk,\n"
+        fprintf(stderr, "explore: name one of recv, recv-bulk, recv-vec, recv-segments, recv-segments-bulk,\n"
                         "recv-segments-vec, xmit, xmit-simple, xmit-vec, mailbox or mailbox-ping\n");
         return 2;
     }

@@ -36,10 +36,11 @@ static void function(void *argument)
     struct ixgbe_hw *hw = &functions[vf];
     nicx_check(hw->mac.ops.reset_hw(hw) == 0, "a function's reset isn't answered");
     nicx_check(!memcmp(hw->mac.perm_addr, host_knows(vf)->vf_mac_addresses, 6),
-               "a function got another address than its host has for it");
-    nicx_check(ixgbevf_negotiate_api_version(hw, ixgbe_mbox_api_13) == 0, "a function's version isn't agreed on");
-    nicx_check(ixgbevf_get_queues(hw, &classes, &first) == 0, "a function doesn't learn its queues");
-    nicx_check(hw->mac.ops.set_rar(hw, 0, asked[vf].addr_bytes, 0, 1) == 0, "a function's address isn't taken");
+               "a function got an address that differs from its host's entry");
+    nicx_check(ixgbevf_negotiate_api_version(hw, ixgbe_mbox_api_13) == 0,
+               "a function and its host don't agree on a version");
+    nicx_check(ixgbevf_get_queues(hw, &classes, &first) == 0, "a function doesn't get its number of queues");
+    nicx_check(hw->mac.ops.set_rar(hw, 0, asked[vf].addr_bytes, 0, 1) == 0, "a function's address isn't accepted");
     points_flush();
     done++;
 }
@@ -132,9 +133,9 @@ static const char *end(void)
         return "a function isn't done";
     for (unsigned int vf = 0; vf < MOST_FUNCTIONS; vf++) {
         if (host_knows(vf)->api_version != ixgbe_mbox_api_13)
-            return "the host took another version than was agreed on";
+            return "the host has a different version from the one agreed on";
         if (memcmp(host_knows(vf)->vf_mac_addresses, asked[vf].addr_bytes, 6) != 0)
-            return "the host has another address than a function asked for";
+            return "the host has a different address from the one that a function requested";
     }
     return host()->mbx.stats.msgs_rx < 4 * MOST_FUNCTIONS ? "the host read fewer messages than were sent" : NULL;
 }

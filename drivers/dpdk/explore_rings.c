@@ -79,10 +79,10 @@ static void take(struct rte_mbuf *packet)
 {
     uint8_t bytes[MOST_LENGTH], wanted[MOST_LENGTH];
     size_t length = read_packet(packet, bytes);
-    nicx_check(done < way->frames, "a frame came that nobody sent");
-    nicx_check(length == fill(wanted, done), "a frame came with another length");
-    nicx_check(packet->pkt_len == length, "a packet's length isn't that of its segments");
-    nicx_check(memcmp(bytes, wanted, length) == 0, "a frame came with other bytes, or out of order");
+    nicx_check(done < way->frames, "an unexpected frame arrived");
+    nicx_check(length == fill(wanted, done), "a frame arrived with a wrong length");
+    nicx_check(packet->pkt_len == length, "a packet's length isn't the sum of its segments' lengths");
+    nicx_check(memcmp(bytes, wanted, length) == 0, "a frame arrived with changed bytes, or out of order");
     rte_pktmbuf_free(packet);
     done++;
 }
@@ -165,7 +165,7 @@ static const char *went_out(void)
         if (nic_collect(nicx_device(), bytes, sizeof bytes, &outcome) != NIC_FRAME)
             return "a frame was never transmitted";
         if (outcome.len != fill(wanted, k) || memcmp(bytes, wanted, outcome.len) != 0)
-            return "a frame went out with other bytes, or out of order";
+            return "a frame was sent with changed bytes, or out of order";
     }
     return nic_next_out(nicx_device()) ? "a frame was transmitted twice" : NULL;
 }

@@ -66,15 +66,15 @@ static const struct {
     int (*ask)(uint16_t port);
     bool other, group, second;
 } rows[] = {
-    {"as it starts", nothing, false, false, false},
+    {"initially", nothing, false, false, false},
     {"promiscuous", rte_eth_promiscuous_enable, true, true, true},
-    {"no longer", rte_eth_promiscuous_disable, false, false, false},
+    {"promiscuous off", rte_eth_promiscuous_disable, false, false, false},
     {"all multicast", rte_eth_allmulticast_enable, false, true, true},
-    {"no longer", rte_eth_allmulticast_disable, false, false, false},
+    {"all multicast off", rte_eth_allmulticast_disable, false, false, false},
     {"a second address", add, true, false, false},
-    {"no longer", take_away, false, false, false},
+    {"address removed", take_away, false, false, false},
     {"a multicast address", list, false, true, false},
-    {"no longer", list_none, false, false, false},
+    {"address removed", list_none, false, false, false},
 };
 
 static const char *verdict(uint16_t port, const struct rte_ether_addr *to, bool expected, const char *what)

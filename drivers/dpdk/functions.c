@@ -102,7 +102,7 @@ static bool restart_function(void)
     if (!port_stop(1))
         return false;
     if (who_gets(mac.addr_bytes, 0) >= 0)
-        problem("a function that is stopped gets a frame");
+        problem("a stopped function gets a frame");
     known_drops++; /* its queue is disabled */
     if (!port_start(1))
         return false;
@@ -225,7 +225,7 @@ static bool second_probe(void)
     if (!begin_host() || !port_start(HOST) || !port_stop(HOST) || !port_remove(HOST))
         return false;
     int status = port_try_probe(HOST);
-    printf("a second probe of the same card answers %d\n", status);
+    printf("a second probe of the same card returns %d\n", status);
     if (status != (is_answered ? 0 : -EIO))
         problem("a second probe returns %d instead of the known %d", status, is_answered ? 0 : -EIO);
     return status != 0 || (port_start(HOST) && port_stop(HOST) && port_remove(HOST));
@@ -346,8 +346,8 @@ static void tell_handlers(const struct handlers_way *way)
     for (unsigned int which = 1; which <= setting.functions; which++)
         functions += card_interrupts(which);
     printf("handlers: the host's was called %" PRIu64 " times, %" PRIu64
-           " of them by the line, those of functions %" PRIu64 "; messages of the host %" PRIu64
-           "\n  requests that the host's driver passed to its application: %u\n",
+           " of them by the line; functions' handlers %" PRIu64 " times; messages of the host %" PRIu64
+           "\n  requests passed by the host's driver to its application: %u\n",
            card_interrupts(HOST), handlers_by_line(), functions, bus_counts(run_bus)->messages[BUS_PHYSICAL],
            mailbox_events);
     if (!way->by_line)
@@ -361,7 +361,7 @@ static void run(const struct words *words)
     bus_tell_answers(words->options.bus.answers);
     handlers_begin(words->way);
     if (!run_course(words->course)) {
-        problem("the run ends before its end");
+        problem("the run ends early");
         return;
     }
     pass_totals();
@@ -375,7 +375,7 @@ int main(int count, char **arguments)
 {
     struct words words;
     if (!read_words(count, arguments, &words)) {
-        fprintf(stderr, "functions: words that it doesn't know; its source tells those that it does\n");
+        fprintf(stderr, "functions: unknown arguments; its source file lists them\n");
         return 3;
     }
     FILE *trace = words.trace ? fopen(words.trace, "w") : NULL;

@@ -35,7 +35,7 @@ enum hash hash_compare(const struct rte_mbuf *packet, const struct frame *frame,
     uint32_t expected = 0, bench = 0;
     if (!rss_hash(rss, frame, &expected)) {
         if (is_reported && is_said())
-            fprintf(stderr, "a frame of %u bytes has a hash\n", frame->length);
+            fprintf(stderr, "a frame of %u bytes has a hash, but should have none\n", frame->length);
         return is_reported ? HASH_WRONG : HASH_NONE;
     }
     uint32_t soft = soft_hash(frame->bytes + at, length, rss->key);
@@ -43,7 +43,7 @@ enum hash hash_compare(const struct rte_mbuf *packet, const struct frame *frame,
     if (is_reported && packet->hash.rss == soft && packet->hash.rss == bench && packet->hash.rss == expected)
         return HASH_RIGHT;
     if (is_said())
-        fprintf(stderr, "the driver tells %s hash, %08x; rte_softrss %08x, nic_hash %08x, drivers/common %08x\n",
+        fprintf(stderr, "the driver reports %s hash, %08x; rte_softrss %08x, nic_hash %08x, drivers/common %08x\n",
                 is_reported ? "a" : "no", is_reported ? packet->hash.rss : 0, soft, bench, expected);
     return HASH_WRONG;
 }

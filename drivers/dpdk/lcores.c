@@ -193,17 +193,17 @@ static bool launch(void)
 
 static void tell(const struct lcore *it)
 {
-    printf("  lcore %u, queue %u: %u in and %u out, the same byte by byte and in order\n", it->queue + 1u, it->queue,
-           it->alike_in, it->alike_out);
+    printf("  lcore %u, queue %u: %u in and %u out, unchanged and in order\n", it->queue + 1u, it->queue, it->alike_in,
+           it->alike_out);
     if (it->other_in || it->other_out)
-        problem("queue %u: %u frames in and %u out are others than were sent, or out of order", it->queue, it->other_in,
+        problem("queue %u: %u frames in and %u out are changed or out of order", it->queue, it->other_in,
                 it->other_out);
 }
 
 static void traffic(void)
 {
     bus_enter(run_bus, IN_TRAFFIC);
-    printf("two lcores, a queue each way each\n");
+    printf("two lcores, each with one queue each way\n");
     fflush(stdout);
     bus_send_to(run_bus, go_out, NULL);
     turns_share();
@@ -225,7 +225,7 @@ static void traffic(void)
     printf("  in all %u frames in and %u out; both lcores were in the driver at the same time %u times\n", in, out,
            together);
     if (!bus_is_settled(run_bus, BUS_QUEUES))
-        problem("the device has something left to do");
+        problem("the device isn't at rest");
 }
 
 static void run(const struct dpdk_options *options)

@@ -261,30 +261,30 @@ static const char *compare(const struct packet *it, uint32_t number, unsigned in
     uint32_t part = part_of(it, segment), l2 = ETHERNET + (it->has_tag ? TAG_BYTES : 0);
     const uint8_t *l3 = frame + l2, *l4 = l3 + l3_bytes(it), *payload = l4 + l4_bytes(it);
     if (out[segment].length != l2 + l3_bytes(it) + l4_bytes(it) + part)
-        return "its length";
+        return "length";
     if (!is_l2_right(it, frame))
-        return "addresses, tag or type";
+        return "address, tag or type";
     if (!is_l3_right(it, l3, segment))
-        return "the header of IP";
+        return "IP header";
     for (uint32_t i = 0; i < part; i++)
         if (payload[i] != byte_of(number, segment * it->mss + i))
-            return "its payload";
+            return "payload";
     if (!is_l4_right(it, l4, segment, is_last))
-        return "the header of TCP or UDP";
-    return is_l4_sum_right(it, l3, l4, l4_bytes(it) + part) ? NULL : "the checksum of TCP or UDP";
+        return "TCP or UDP header";
+    return is_l4_sum_right(it, l3, l4, l4_bytes(it) + part) ? NULL : "TCP or UDP checksum";
 }
 
 static void look(const struct packet *it, uint32_t number)
 {
     unsigned int wanted = it->mss ? (it->payload + it->mss - 1) / it->mss : 1;
     if (out_count != wanted) {
-        problem("packet %u of %u bytes goes out in %u frames, not in %u", number, it->payload, out_count, wanted);
+        problem("packet %u of %u bytes is sent in %u frames instead of %u", number, it->payload, out_count, wanted);
         return;
     }
     for (unsigned int segment = 0; segment < wanted; segment++) {
         const char *what = compare(it, number, segment, segment + 1 == wanted);
         if (what)
-            problem("packet %u of %u bytes, frame %u: %s", number, it->payload, segment, what);
+            problem("packet %u of %u bytes, frame %u: wrong %s", number, it->payload, segment, what);
     }
 }
 
@@ -295,7 +295,7 @@ static bool give(uint16_t port, const struct packet *it, uint32_t number)
     struct rte_mbuf *packet = packet_of(it, number);
     out_count = 0;
     if (!packet || rte_eth_tx_prepare(port, QUEUE, &packet, 1) != 1 || rte_eth_tx_burst(port, QUEUE, &packet, 1) != 1) {
-        problem("packet %u isn't taken", number);
+        problem("packet %u isn't accepted", number);
         return false;
     }
     payload_bytes += it->payload;
@@ -331,7 +331,7 @@ static bool start(uint16_t *port)
     int status = port_configure(*port, &configuration, 1, SLOTS, &what);
     if (failed(what, status) || failed("rte_eth_dev_start", rte_eth_dev_start(*port)))
         return false;
-    printf("  %s sends by %s\n", card_driver(BUS_PHYSICAL), sends_by(*port));
+    printf("  %s sends with %s\n", card_driver(BUS_PHYSICAL), sends_by(*port));
     bench_card_send_to(take);
     return true;
 }

@@ -64,7 +64,7 @@ static void arrive(unsigned int which, unsigned int frame_number)
     frame_make(&frame, number, FRAME_MAX, ports[which].mac.addr_bytes, peer_mac);
     line_up_put(&in[which][rss_queue(&rss, &frame, port_queues(which))], number);
     if (!bus_arrive(run_bus, frame.bytes, frame.length))
-        problem("%s: frame %u isn't let in", port_name(which), frame_number);
+        problem("%s: the device doesn't accept frame %u", port_name(which), frame_number);
 }
 
 static void compare_in(const struct rte_mbuf *packet, uint16_t queue, void *port_number)
@@ -74,13 +74,13 @@ static void compare_in(const struct rte_mbuf *packet, uint16_t queue, void *port
     tallies[which].by_queue_in[queue]++;
     all_in[which]++;
     if (!make_next(&in[which][queue], &frame, ports[which].mac.addr_bytes, peer_mac)) {
-        problem("%s, queue %u: a frame that isn't expected", port_name(which), queue);
+        problem("%s, queue %u: an unexpected frame", port_name(which), queue);
         return;
     }
     if (packet->nb_segs == 1 && frame_is(&frame, rte_pktmbuf_mtod(packet, const void *), rte_pktmbuf_pkt_len(packet)))
         tallies[which].alike_in++;
     else
-        problem("%s, queue %u: a frame of %u bytes comes as %u others", port_name(which), queue, frame.length,
+        problem("%s, queue %u: a frame of %u bytes arrives changed: %u bytes", port_name(which), queue, frame.length,
                 rte_pktmbuf_pkt_len(packet));
     enum hash hash = hash_compare(packet, &frame, &rss);
     tallies[which].hashes += hash == HASH_RIGHT;
@@ -122,7 +122,7 @@ static void compare_out(void *of, uint16_t device, const uint8_t *bytes, size_t 
     uint16_t queue;
     if (!find_queue(device, &which, &queue) ||
         !make_next(&out[which][queue], &frame, peer_mac, ports[which].mac.addr_bytes)) {
-        problem("queue %u of the device: a frame of %zu bytes goes out that isn't expected", device, length);
+        problem("queue %u of the device: an unexpected frame of %zu bytes is sent", device, length);
         return;
     }
     tallies[which].by_queue_out[queue]++;
@@ -130,7 +130,7 @@ static void compare_out(void *of, uint16_t device, const uint8_t *bytes, size_t 
     if (frame_is(&frame, bytes, length))
         tallies[which].alike_out++;
     else
-        problem("%s, queue %u: a frame of %u bytes goes out as %zu others", port_name(which), queue, frame.length,
+        problem("%s, queue %u: a frame of %u bytes goes out changed: %zu bytes", port_name(which), queue, frame.length,
                 length);
 }
 
@@ -159,7 +159,7 @@ static void send_burst(unsigned int which, uint16_t queue, unsigned int frame_nu
     }
     unsigned int sent = rte_eth_tx_burst(ports[which].number, queue, packets, (uint16_t)burst);
     if (sent < burst)
-        problem("%s, queue %u takes %u of %u frames", port_name(which), queue, sent, burst);
+        problem("%s, queue %u accepts %u of %u frames", port_name(which), queue, sent, burst);
     rte_pktmbuf_free_bulk(packets + sent, burst - sent);
 }
 
@@ -196,9 +196,9 @@ static void tell_queues(const unsigned int *by_queue, unsigned int queues)
 static void tell(unsigned int which)
 {
     const struct tally *it = &tallies[which];
-    printf("  %-4s  in  %u of %u alike; by queue", port_name(which), it->alike_in, setting.frames);
+    printf("  %-4s  in  %u of %u correct; by queue", port_name(which), it->alike_in, setting.frames);
     tell_queues(it->by_queue_in, port_queues(which));
-    printf("; %u hashes right\n        out %u of %u alike; by queue", it->hashes, it->alike_out, setting.frames);
+    printf("; %u hashes correct\n        out %u of %u correct; by queue", it->hashes, it->alike_out, setting.frames);
     tell_queues(it->by_queue_out, port_queues(which));
     printf("\n");
     alike_in += it->alike_in;
@@ -212,7 +212,7 @@ void pass(unsigned int first, unsigned int last)
     if (first == last)
         printf("frames of %s alone\n", port_name(first));
     else
-        printf("frames of all at once\n");
+        printf("frames of all ports at the same time\n");
     fflush(stdout);
     clear(first, last);
     frames_in(first, last);
@@ -224,7 +224,7 @@ void pass(unsigned int first, unsigned int last)
         tell(which);
     }
     if (!bus_is_settled(run_bus, BUS_QUEUES))
-        problem("the device has something left to do");
+        problem("the device isn't at rest");
 }
 
 /* The host counts all frames of the device, including its functions' frames; each function counts its own. */
@@ -253,8 +253,8 @@ void pass_totals(void)
 {
     if (alike_in + alike_out == 0)
         return;
-    printf("in all passes %" PRIu64 " frames in and %" PRIu64 " out, alike byte by byte and in order; %" PRIu64
-           " hashes right\n",
+    printf("in all passes %" PRIu64 " frames in and %" PRIu64 " out, unchanged and in order; %" PRIu64
+           " hashes correct\n",
            alike_in, alike_out, hashes);
 }
 
@@ -293,14 +293,14 @@ static void expect_the_one(const struct rte_mbuf *packet, uint16_t queue, void *
 {
     (void)queue;
     if (!is_known(known, packet))
-        problem("%s gets another frame than was sent", port_name(((struct known *)known)->which));
+        problem("%s gets a frame that differs from the one sent", port_name(((struct known *)known)->which));
 }
 
 static void expect_one_of_them(const struct rte_mbuf *packet, uint16_t queue, void *known)
 {
     (void)queue;
     if (!is_known(known, packet))
-        problem("%s gets a frame of %u bytes that nobody sent", port_name(((struct known *)known)->which),
+        problem("%s gets an unexpected frame of %u bytes", port_name(((struct known *)known)->which),
                 rte_pktmbuf_pkt_len(packet));
 }
 
@@ -315,7 +315,7 @@ int who_gets(const uint8_t to[6], uint16_t tag)
         struct known one = {which, 1, &frame};
         unsigned int count = port_take(which, expect_the_one, &one);
         if (count > 1 || (count == 1 && who >= 0))
-            problem("one frame comes more than once, to %s", port_name(which));
+            problem("one frame arrives more than once, at %s", port_name(which));
         if (count)
             who = (int)which;
     }

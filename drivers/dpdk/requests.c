@@ -120,25 +120,25 @@ static const struct {
     int answer;
     char who[COLUMNS + 1];
 } rows[] = {
-    {"as they start", F0, nothing, 0, "H01---H00"},
+    {"initially", F0, nothing, 0, "H01---H00"},
     {"VF0: a further address", F0, add, 0, "H010--H00"},
-    {"VF0: no longer", F0, take_away, 0, "H01---H00"},
+    {"VF0: address removed", F0, take_away, 0, "H01---H00"},
     {"VF0: another address", F0, change, 0, "H-1-0-H--"},
-    {"VF0: its former one", F0, change_back, 0, "H01---H00"},
+    {"VF0: its former address", F0, change_back, 0, "H01---H00"},
     {"VF0: a multicast address", F0, list, 0, "H01---H00"},
     {"VF0: all multicast", F0, rte_eth_allmulticast_enable, 0, "H01---H00"},
     {"VF0: promiscuous", F0, rte_eth_promiscuous_enable, -ENOTSUP, "H01---H00"},
     {"VF0: VLAN 100", F0, vlan, 0, "H01---H00"},
-    {"VF0: no longer", F0, vlan_off, 0, "H01---H00"},
+    {"VF0: VLAN removed", F0, vlan_off, 0, "H01---H00"},
     {"VF0: MTU 1,400", F0, shorter, 0, "H01---H00"},
     {"VF0: MTU 1,500", F0, longer, 0, "H01---H00"},
     {"host: gives VF0 another address", HOST, host_gives, 0, "H-1-0-H--"},
-    {"host: the former one", HOST, host_gives_back, 0, "H01---H00"},
-    {"host: VF0 takes broadcasts", HOST, host_broadcast, 0, "H01---H00"},
+    {"host: the former address", HOST, host_gives_back, 0, "H01---H00"},
+    {"host: VF0 accepts broadcasts", HOST, host_broadcast, 0, "H01---H00"},
     {"host: all multicast", HOST, rte_eth_allmulticast_enable, 0, "H01--HH00"},
-    {"host: no longer", HOST, rte_eth_allmulticast_disable, 0, "H01---H00"},
+    {"host: all multicast off", HOST, rte_eth_allmulticast_disable, 0, "H01---H00"},
     {"host: promiscuous", HOST, rte_eth_promiscuous_enable, 0, "H01HHHH00"},
-    {"host: no longer", HOST, rte_eth_promiscuous_disable, 0, "H01---H00"},
+    {"host: promiscuous off", HOST, rte_eth_promiscuous_disable, 0, "H01---H00"},
     {"host: VF0 doesn't receive", HOST, host_stops_receive, 0, "H-1---H--"},
     {"host: VF0 receives", HOST, host_starts_receive, 0, "H01---H00"},
     {"host: pings VF0", HOST, host_pings, 0, "H01---H00"},
@@ -148,7 +148,7 @@ static const char *const heads[COLUMNS] = {"host", "VF0", "VF1", ":77", ":78", "
 
 static void tell_head(void)
 {
-    printf("  %-32s", "who gets a frame to");
+    printf("  %-32s", "receiver of a frame to");
     for (unsigned int i = 0; i < COLUMNS; i++)
         printf(i + 1 < COLUMNS ? " %-5s" : " %s", heads[i]);
     printf("\n");
@@ -180,21 +180,21 @@ static void try_row(size_t row)
     printf("%s\n", answer ? " refused by the driver" : "");
     known_refusals += rows[row].answer != 0;
     if (answer != rows[row].answer)
-        problem("%s: the driver answers %d", rows[row].what, answer);
+        problem("%s: the driver returns %d", rows[row].what, answer);
     if (strcmp(who, rows[row].who) != 0)
-        problem("%s: %s get the frames, where %s is known", rows[row].what, who, rows[row].who);
+        problem("%s: %s get the frames, but %s was expected", rows[row].what, who, rows[row].who);
 }
 
 void requests(void)
 {
     bus_enter(run_bus, IN_REQUESTS);
-    printf("what functions ask for, and what the host does\n");
+    printf("requests of functions, and actions of the host\n");
     former = ports[F0].mac;
     tell_head();
     for (size_t row = 0; row < RTE_DIM(rows); row++)
         try_row(row);
-    printf(
-        "  (:77 and :78 are addresses of nobody's, V100 and V200 VF0's with a VLAN tag, group a multicast address)\n");
+    printf("  (:77 and :78 are nobody's addresses, V100 and V200 are VF0's with a VLAN tag, group is a multicast "
+           "address)\n");
 }
 
 /* ---- limits ---- */
@@ -212,7 +212,7 @@ static void block(const char *what, unsigned int at_once)
     bus_receive(run_bus);
     unsigned int later = port_drain(HOST);
     waited += port_drain(F0);
-    printf("  %-36s the host gets %u of %u at once, %u once VF0 polls; VF0 gets %u of %u\n", what, came, AFTER_FLOOD,
+    printf("  %-36s the host gets %u of %u at once, %u after VF0 polls; VF0 gets %u of %u\n", what, came, AFTER_FLOOD,
            later, waited, FLOOD);
     same("frames to the host after a full ring", came, at_once);
     same("frames to the host, and later", came + later, AFTER_FLOOD);
@@ -223,9 +223,9 @@ static void blocks(void)
 {
     uint16_t host = ports[HOST].number;
     printf("  %u frames to VF0, which doesn't poll, then %u to the host:\n", FLOOD, AFTER_FLOOD);
-    block("as they start", 0);
+    block("initially", 0);
     failed("rte_pmd_ixgbe_set_all_queues_drop_en", rte_pmd_ixgbe_set_all_queues_drop_en(host, 1));
-    block("with QDE, which isn't there", 0);
+    block("with QDE, which the bench lacks", 0);
     failed("rte_pmd_ixgbe_set_vf_split_drop_en", rte_pmd_ixgbe_set_vf_split_drop_en(host, 0, 1));
     block("with DROP_EN in VF0's SRRCTL", AFTER_FLOOD);
     failed("rte_pmd_ixgbe_set_vf_split_drop_en", rte_pmd_ixgbe_set_vf_split_drop_en(host, 0, 0));
@@ -249,7 +249,7 @@ static void stop_sending(void)
     unsigned int off = send_one(F0, peer_mac);
     failed("rte_pmd_ixgbe_set_vf_tx", rte_pmd_ixgbe_set_vf_tx(host, 0, 1));
     unsigned int on = send_one(F0, peer_mac);
-    printf("  the host has VF0 not send, and then send: %u frames go out, then %u of 2\n", off, on);
+    printf("  the host disables and enables sending for VF0: %u frames are sent, then %u of 2\n", off, on);
     same("frames of a function that may not send", off, 0);
     same("frames of a function that may send again", on, 2);
 }
@@ -271,13 +271,13 @@ uint64_t limits(void)
 void requests_tell(void)
 {
     uint64_t refused = 0;
-    printf("what functions asked by their mailboxes, and what the host answered\n");
+    printf("functions' requests through their mailboxes, and the host's answers\n");
     mailbox_tell(run_bus);
     for (unsigned int request = 1; request <= REQUESTS; request++) {
         struct mailbox_counts it = mailbox_counts(run_bus, request);
         refused += it.refused;
         if (it.acknowledged + it.refused != it.asked)
-            problem("request %u: %" PRIu64 " of %" PRIu64 " are answered", request, it.acknowledged + it.refused,
+            problem("request %u: %" PRIu64 " of %" PRIu64 " were answered", request, it.acknowledged + it.refused,
                     it.asked);
     }
     same("requests that the host refuses", refused, known_refusals);

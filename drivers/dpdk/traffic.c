@@ -35,7 +35,7 @@ static void make_next(struct line_up *list, struct frame *frame, const uint8_t *
         frame_make(frame, number, FRAME_MAX, to, from);
         return;
     }
-    problem("a frame that isn't expected");
+    problem("an unexpected frame");
     frame->length = 0;
     frame->kind = FRAME_OTHER;
 }
@@ -60,7 +60,7 @@ static void arrive(unsigned int number)
     frame_make(&frame, number, FRAME_MAX, card_mac, peer_mac);
     line_up_put(&in[queue_of(&frame)], number);
     if (!bus_arrive(run_bus, frame.bytes, frame.length))
-        problem("frame %u isn't let in", number);
+        problem("the device doesn't accept frame %u", number);
 }
 
 static void compare_hash(const struct rte_mbuf *packet, const struct frame *frame, uint16_t queue)
@@ -90,7 +90,8 @@ static void compare(const struct rte_mbuf *packet, uint16_t queue, void *unused)
     if (is_alike(packet, &frame))
         alike++;
     else
-        problem("queue %u: a frame of %u bytes comes as %u others", queue, frame.length, rte_pktmbuf_pkt_len(packet));
+        problem("queue %u: a frame of %u bytes arrives changed: %u bytes", queue, frame.length,
+                rte_pktmbuf_pkt_len(packet));
     compare_hash(packet, &frame, queue);
 }
 
@@ -124,7 +125,7 @@ static void compare_sent(void *of, uint16_t queue, const uint8_t *bytes, size_t 
     if (frame_is(&frame, bytes, length))
         alike++;
     else
-        problem("queue %u: a frame of %u bytes goes out as %zu others", queue, frame.length, length);
+        problem("queue %u: a frame of %u bytes goes out changed: %zu bytes", queue, frame.length, length);
     sent[queue]++;
 }
 
@@ -167,7 +168,7 @@ static void hand_over(uint16_t port, uint16_t queue, unsigned int number, unsign
     for (unsigned int tries = 0; gone < made && tries < BURST; tries++)
         gone += rte_eth_tx_burst(port, queue, packets + gone, (uint16_t)(made - gone));
     if (gone < made)
-        problem("queue %u takes %u of %u frames", queue, gone, made);
+        problem("queue %u accepts %u of %u frames", queue, gone, made);
     rte_pktmbuf_free_bulk(packets + gone, made - gone);
 }
 
@@ -184,7 +185,7 @@ static void frames_out(uint16_t port)
 
 static void tell(const char *way, const uint64_t *by_queue)
 {
-    printf("  %s: %u of %u frames alike, byte by byte and in order; by queue", way, alike, frames_of_pass);
+    printf("  %s: %u of %u frames correct, byte by byte and in order; by queue", way, alike, frames_of_pass);
     for (unsigned int queue = 0; queue < QUEUES; queue++)
         printf(" %" PRIu64, by_queue[queue]);
     printf("\n");
@@ -198,12 +199,12 @@ void traffic(uint16_t port)
     alike = hashes = unhashed = 0;
     frames_in(port);
     tell("in ", received);
-    printf("       %u hashes are those of rte_softrss and of nic_hash, %u frames have none\n", hashes, unhashed);
+    printf("       %u hashes equal those of rte_softrss and nic_hash, %u frames have none\n", hashes, unhashed);
     alike = 0;
     frames_out(port);
     tell("out", sent);
     if (!bus_is_settled(run_bus, QUEUES))
-        problem("the device has something left to do");
+        problem("the device isn't at rest");
 }
 
 /* ---- counters ---- */
@@ -245,10 +246,11 @@ void counters(uint16_t port)
     same("frames in", stats.ipackets, all_in);
     same("frames out", stats.opackets, all_out);
     same("missed and bad frames", stats.imissed + stats.ierrors + stats.oerrors, 0);
-    printf("  frames in %" PRIu64 ", out %" PRIu64 ", queue by queue as the run counts them; ", stats.ipackets,
+    printf("  frames in %" PRIu64 ", out %" PRIu64 ", as the run counts them on each queue; ", stats.ipackets,
            stats.opackets);
     printf("missed and bad %" PRIu64 "\n", stats.imissed + stats.ierrors + stats.oerrors);
-    printf("  bytes in %" PRId64 ", out %" PRId64 ": their registers aren't there; the driver takes off 4 a frame\n",
+    printf("  bytes in %" PRId64 ", out %" PRId64
+           ": the bench lacks their registers; the driver subtracts 4 per frame\n",
            (int64_t)stats.ibytes, (int64_t)stats.obytes);
 }
 
@@ -258,9 +260,9 @@ static void restart_transmit(uint16_t port)
 {
     uint64_t before = sent[0];
     if (rte_eth_dev_tx_queue_stop(port, 0) != 0 || rte_eth_dev_tx_queue_start(port, 0) != 0)
-        problem("the transmit queue 0 isn't started again");
+        problem("transmit queue 0 doesn't start again");
     hand_over(port, 0, 0, BURST);
-    printf("  transmit queue 0: %" PRIu64 " of %u frames go out after it\n", sent[0] - before, BURST);
+    printf("  transmit queue 0: %" PRIu64 " of %u frames are sent after the restart\n", sent[0] - before, BURST);
     same("frames out of the queue that was started again", sent[0] - before, BURST);
 }
 
@@ -280,7 +282,7 @@ static void restart_receive(uint16_t port)
 {
     unsigned int number = 0, frames = 0, written, later;
     if (rte_eth_dev_rx_queue_stop(port, 0) != 0 || rte_eth_dev_rx_queue_start(port, 0) != 0)
-        problem("the receive queue 0 isn't started again");
+        problem("receive queue 0 doesn't start again");
     unsigned int head = bus_peek(run_bus, NIC_RDH(0)), tail = bus_peek(run_bus, NIC_RDT(0));
     while ((written = arrive_at(0, &number)) > 0)
         frames++;

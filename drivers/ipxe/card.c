@@ -39,7 +39,7 @@ static void nap(void)
 
 static bool fails(const char *what)
 {
-    fprintf(stderr, "card: %s: %s\n", what, errno ? strerror(errno) : "it is not to be had");
+    fprintf(stderr, "card: %s: %s\n", what, errno ? strerror(errno) : "it isn't available");
     return false;
 }
 

@@ -46,14 +46,15 @@ static void compare_in(const uint8_t *bytes, size_t length)
     static struct frame frame;
     uint32_t number = 0;
     if (!line_up_take(&due_in, &number)) {
-        problem("a frame of %zu bytes comes in that nobody sent", length);
+        problem("an unexpected frame of %zu bytes arrives", length);
         return;
     }
     frame_make(&frame, number, FRAME_MAX, own, peer);
     if (frame_is(&frame, bytes, length))
         alike_in++;
     else
-        problem("frame %u comes in with %zu bytes, and isn't what was sent: %u bytes", number, length, frame.length);
+        problem("frame %u arrives with %zu bytes, and differs from the frame sent: %u bytes", number, length,
+                frame.length);
 }
 
 /* Delivers frames while the ring has room, only a few ahead of the driver. Returns the next number. */
@@ -66,7 +67,7 @@ static uint32_t give(uint32_t next, uint32_t end)
         if (bus_arrive(run_bus, frame.bytes, frame.length))
             line_up_put(&due_in, next);
         else
-            problem("frame %u isn't let in", next);
+            problem("the device doesn't accept frame %u", next);
     }
     return next;
 }
@@ -97,14 +98,15 @@ static void sent(void *of, uint16_t queue, const uint8_t *bytes, size_t length)
     uint32_t number = 0;
     (void)queue;
     if (!line_up_take(&due_out, &number)) {
-        problem("a frame of %zu bytes goes out that nobody sent", length);
+        problem("an unexpected frame of %zu bytes is sent", length);
         return;
     }
     frame_make(&frame, number, FRAME_MAX, peer, own);
     if (frame_is(&frame, bytes, length))
         alike_out++;
     else
-        problem("frame %u goes out with %zu bytes, and isn't what was sent: %u bytes", number, length, frame.length);
+        problem("frame %u is sent with %zu bytes, and differs from the frame expected: %u bytes", number, length,
+                frame.length);
 }
 
 /* Collects the buffers of sent frames. Returns how many there were. */
@@ -145,9 +147,9 @@ static void go_out(uint32_t first)
         recycled += recycle();
     }
     bus_send_to(run_bus, NULL, NULL);
-    printf("out: %u of %u frames, byte by byte and in order; %u buffers given back\n", alike_out, frames, recycled);
+    printf("out: %u of %u frames, byte by byte and in order; %u buffers returned\n", alike_out, frames, recycled);
     if (alike_out != frames || recycled != frames)
-        problem("of %u frames %u were taken, %u went out, and %u buffers came back", frames, taken, alike_out,
+        problem("of %u frames %u were accepted, %u were sent, and %u buffers came back", frames, taken, alike_out,
                 recycled);
 }
 
@@ -174,7 +176,7 @@ static void arrives(const char *what, const uint8_t to[6], bool is_wanted)
     bool is_let_in = bus_arrive(run_bus, frame.bytes, frame.length);
     unsigned int got = poll_all();
     if (is_let_in != is_wanted || got != is_wanted)
-        problem("a frame for %s: let in %d, and the driver has %u", what, is_let_in, got);
+        problem("a frame for %s: the device accepts %d, and the driver receives %u", what, is_let_in, got);
 }
 
 static void addresses(void)
@@ -192,7 +194,7 @@ static void link_changes(void)
         card_link(is_up);
         poll_all();
         if (network->Mode->MediaPresent != is_up)
-            problem("the link is %s, and the driver doesn't say so", is_up ? "up" : "down");
+            problem("the link is %s, but the driver doesn't report it", is_up ? "up" : "down");
     }
 }
 
@@ -206,10 +208,10 @@ static void burst(void)
         let_in += bus_arrive(run_bus, frame.bytes, frame.length);
     }
     unsigned int got = poll_all();
-    printf("%u frames at once: %u let in, %u at the driver\n", BURST, let_in, got);
+    printf("%u frames at once: %u accepted by the device, %u received by the driver\n", BURST, let_in, got);
     if (let_in != LET_IN || got != wanted || bus_peek(run_bus, NIC_MPC) != BURST - LET_IN)
-        problem("of %u frames at once %u were let in, %u counted as missed, and the driver has %u", BURST, let_in,
-                bus_peek(run_bus, NIC_MPC), got);
+        problem("of %u frames at once, %u were accepted, %u counted as missed, and the driver received %u", BURST,
+                let_in, bus_peek(run_bus, NIC_MPC), got);
 }
 
 /* ---- the run ---- */
@@ -254,7 +256,7 @@ void traffic_run(void)
 {
     network = handle_find(&efi_network);
     if (!network) {
-        problem("the driver makes no network");
+        problem("the driver provides no network interface");
         return;
     }
     memcpy(own, network->Mode->CurrentAddress.Addr, sizeof own);

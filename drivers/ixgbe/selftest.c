@@ -151,9 +151,9 @@ static void compare_with_known(const struct test *test, const char *name, const 
 {
     uint32_t address = address_of(test, 0);
     if (result->failed && !is_known(address))
-        problem("%s at 0x%05" PRIX32 ": %u registers fail of which that isn't known", name, address, result->failed);
+        problem("%s at 0x%05" PRIX32 ": %u registers fail unexpectedly", name, address, result->failed);
     if (result->passed && is_known(address))
-        problem("%s at 0x%05" PRIX32 ": %u registers pass that were known to fail", name, address, result->passed);
+        problem("%s at 0x%05" PRIX32 ": %u registers pass that should fail", name, address, result->passed);
 }
 
 static const char *kind_of(const struct test *test)

@@ -20,7 +20,7 @@ KINDS = ["PATTERN_TEST", "SET_READ_TEST", "WRITE_NO_TEST", "TABLE32_TEST", "TABL
 def found(pattern: str, text: str, what: str) -> re.Match[str]:
     match = re.search(pattern, text, re.DOTALL)
     if not match:
-        sys.exit(f"drivers/ixgbe/table.py: {what} isn't found: the driver's source has another form than was known")
+        sys.exit(f"drivers/ixgbe/table.py: {what} isn't found: the driver's source has an unknown layout")
     return match
 
 

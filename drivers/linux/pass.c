@@ -42,14 +42,14 @@ bool pass_begin(void)
 static void put_word(unsigned int at, uint32_t word)
 {
     if (pwrite(config, &word, sizeof word, at) != sizeof word)
-        problem("an order isn't given: %s", strerror(errno));
+        problem("can't write an order: %s", strerror(errno));
 }
 
 static uint32_t get_word(unsigned int at)
 {
     uint32_t word = 0;
     if (pread(config, &word, sizeof word, at) != sizeof word)
-        problem("a result isn't given: %s", strerror(errno));
+        problem("can't read a result: %s", strerror(errno));
     return word;
 }
 
@@ -113,7 +113,7 @@ static unsigned int out_batch(int socket, const struct interface *it, uint32_t f
             problem("%s: frame %u isn't sent: %s", it->name, first + i, strerror(errno));
     }
     uint32_t alike = order(ORDER_SENT, 0);
-    equal("frames that came out, and that were sent", get_word(ORDER_RESULT_2), count);
+    equal("frames that came out, and frames sent", get_word(ORDER_RESULT_2), count);
     return alike;
 }
 
@@ -151,7 +151,7 @@ static void take(struct batch *batch, const struct interface *it, const uint8_t 
     unsigned int i = find(batch, bytes, length);
     batch->came++;
     if (i == batch->count) {
-        problem("%s: a frame of %zu bytes came in that is like none of %u to %u", it->name, length, batch->first,
+        problem("%s: a frame of %zu bytes arrived that is none of %u to %u", it->name, length, batch->first,
                 batch->first + batch->count - 1);
         return;
     }
@@ -229,8 +229,8 @@ void pass(const struct interface *it, unsigned int count, unsigned int most, uns
     unsigned int sent = out(file, it, count, most);
     unsigned int got = in(file, it, count, most, &ordered);
     struct counters after = counters_of(it);
-    equal("frames out alike, and sent", sent, count);
-    equal("frames in alike, and sent", got, count);
+    equal("frames out correct, and sent", sent, count);
+    equal("frames in correct, and sent", got, count);
     if (queues == 1)
         equal("frames in that came in order, and all", ordered, count);
     equal("frames in by the driver's statistics, and by the run's", after.in - before.in, count);
@@ -239,8 +239,8 @@ void pass(const struct interface *it, unsigned int count, unsigned int most, uns
           after.messages - before.messages);
     check_socket(file);
     close(file);
-    printf("guest: %s: out %u of %u frames alike, byte by byte; in %u of %u%s; %u interrupts\n", it->name, sent, count,
-           got, count, queues == 1 && ordered == count ? ", in order" : "",
+    printf("guest: %s: out %u of %u frames correct, byte by byte; in %u of %u%s; %u interrupts\n", it->name, sent,
+           count, got, count, queues == 1 && ordered == count ? ", in order" : "",
            (unsigned int)(after.interrupts - before.interrupts));
 }
 
@@ -253,7 +253,7 @@ static int open_datagrams(const struct interface *it)
     inet_aton(PEER_ADDRESS, &peer.sin_addr);
     interface_set_address(it, ADDRESS, PEER_ADDRESS, peer_mac);
     if (connect(file, (struct sockaddr *)&peer, sizeof peer) != 0)
-        problem("%s: no way to the peer: %s", it->name, strerror(errno));
+        problem("%s: no route to the peer: %s", it->name, strerror(errno));
     return file;
 }
 
@@ -283,11 +283,10 @@ void pass_datagrams(const struct interface *it, unsigned int count)
     for (unsigned int i = 0; i < count; i++)
         alike += goes_and_comes(file, i);
     close_datagrams(it, file);
-    equal("datagrams that came back alike, and sent", alike, count);
-    equal("datagrams that the peer sent back, and got", order(ORDER_ECHOES, 0) - before, count);
-    printf("guest: %s: %u of %u UDP datagrams by the kernel's stack came back "
-           "alike\n",
-           it->name, alike, count);
+    equal("datagrams returned unchanged, and sent", alike, count);
+    equal("datagrams that the peer returned, and datagrams sent", order(ORDER_ECHOES, 0) - before, count);
+    printf("guest: %s: %u of %u UDP datagrams through the kernel's stack came back unchanged\n", it->name, alike,
+           count);
 }
 
 void pass_offloaded(const struct interface *it, unsigned int count)
@@ -301,8 +300,8 @@ void pass_offloaded(const struct interface *it, unsigned int count)
     close_datagrams(it, file);
     equal("datagrams that went out, and none", order(ORDER_ECHOES, 0) - echoes, 0);
     equal("faults, and datagrams", order(ORDER_FAULTS, count) - faults, count);
-    printf("guest: %s: %u UDP datagrams by the kernel's stack with the driver's offloads: each is a fault\n", it->name,
-           count);
+    printf("guest: %s: %u UDP datagrams through the kernel's stack with the driver's offloads: each is a fault\n",
+           it->name, count);
 }
 
 /* ---- filters ---- */
@@ -322,15 +321,15 @@ static const struct {
     const uint8_t *address;
     bool comes[DESTINATIONS];
 } filters[] = {
-    {"as it starts", -1, NULL, {true, false, false, false, true}},
+    {"initially", -1, NULL, {true, false, false, false, true}},
     {"promiscuous", PACKET_MR_PROMISC, other_mac, {true, true, true, true, true}},
-    {"no longer", -1, NULL, {true, false, false, false, true}},
+    {"promiscuous off", -1, NULL, {true, false, false, false, true}},
     {"all multicast", PACKET_MR_ALLMULTI, group_mac, {true, false, true, true, true}},
-    {"no longer", -1, NULL, {true, false, false, false, true}},
+    {"all multicast off", -1, NULL, {true, false, false, false, true}},
     {"a second address", PACKET_MR_UNICAST, other_mac, {true, true, false, false, true}},
-    {"no longer", -1, NULL, {true, false, false, false, true}},
+    {"address removed", -1, NULL, {true, false, false, false, true}},
     {"a multicast address", PACKET_MR_MULTICAST, group_mac, {true, false, true, false, true}},
-    {"no longer", -1, NULL, {true, false, false, false, true}},
+    {"address removed", -1, NULL, {true, false, false, false, true}},
 };
 
 /* Whether one frame reaches the socket. */

@@ -77,7 +77,7 @@ void peer_filled(void *of, uint16_t queue, uint64_t descriptor, bool ends)
         return;
     all.compared_queues++;
     if (wanted_queue != queue)
-        problem("a frame goes to queue %u, where its hash names queue %u", queue, wanted_queue);
+        problem("a frame goes to queue %u, but its hash selects queue %u", queue, wanted_queue);
     wanted_queue = ANY_QUEUE;
 }
 
@@ -101,7 +101,7 @@ static void go_on(void)
         uint32_t number = now.next++;
         now.left--;
         if (!send_one(number))
-            problem("frame %" PRIu32 " isn't let in", number);
+            problem("the device doesn't accept frame %" PRIu32, number);
     }
 }
 
@@ -124,7 +124,7 @@ static void compare(uint16_t queue, const uint8_t *bytes, size_t length)
     if (frame_is(&frame, bytes, length))
         now.alike++;
     else
-        problem("out: what comes as frame %" PRIu32 ", %zu bytes, isn't as it was made", number, length);
+        problem("out: frame %" PRIu32 ", %zu bytes, differs from the frame made", number, length);
 }
 
 static void swap(uint8_t *one, uint8_t *other, size_t length)
@@ -168,7 +168,7 @@ void peer_takes(void *of, uint16_t queue, const uint8_t *frame, size_t length)
         echo(frame, length);
     } else {
         all.others++;
-        problem("a frame of %zu bytes on queue %u that nobody was to send", length, queue);
+        problem("a frame of %zu bytes on queue %u that wasn't expected", length, queue);
     }
 }
 
@@ -207,7 +207,7 @@ static void end(const struct order_words *words)
     all.guest_wrong = words->count;
     all.guest_compared = words->first;
     if (words->count)
-        problem("the guest tells that %" PRIu32 " things are wrong", words->count);
+        problem("the guest found %" PRIu32 " problems", words->count);
 }
 
 void peer_orders(uint32_t what, struct order_words *words)

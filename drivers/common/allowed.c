@@ -107,7 +107,7 @@ int main(int count, char **words)
         int error = 0;
         const char *what = what_of(words[i], &error);
         if (!what) {
-            fprintf(stderr, "allowed: what is %s?\n", words[i]);
+            fprintf(stderr, "allowed: unknown argument: %s\n", words[i]);
             return 3;
         }
         if (error) {

@@ -25,7 +25,7 @@ usage() {
 is_number() { [[ ${1-} =~ ^[1-9][0-9]{0,7}$ ]]; }
 
 # no_more WORDS..: rejects the remaining arguments.
-no_more() { [ $# = 0 ] || usage "what is $1?"; }
+no_more() { [ $# = 0 ] || usage "unknown argument: $1"; }
 
 # allowed WHAT..: ends the script with one line if the machine or the container refuses any of ptrace, personality,
 # executable-memory (shared memory) and low-memory=MEBIBYTES (from address 0x400000).
@@ -178,7 +178,7 @@ out_folder() { echo "$WORK/$1-$(printf %s "$ROOT" | sha256sum | cut -c 1-8)"; }
 has_sanitizers() {
     echo 'int main(void) { return 0; }' >"$1/empty.c"
     gcc -fsanitize=address,undefined -o "$1/empty" "$1/empty.c" 2>/dev/null && "$1/empty" 2>/dev/null && return
-    say "no sanitizers: a program with them isn't linked here, or doesn't run, so all runs plain"
+    say "no sanitizers: a program with them doesn't link or run here, so everything runs plain"
     return 1
 }
 

@@ -62,7 +62,7 @@ static bool read_words(int count, char **given, struct words *words)
     for (int i = 2, taken; i < count; i += taken) {
         taken = read_option(words, given[i], i + 1 < count ? given[i + 1] : NULL);
         if (!taken) {
-            fprintf(stderr, "main: what is %s?\n", given[i]);
+            fprintf(stderr, "main: unknown argument: %s\n", given[i]);
             return false;
         }
     }

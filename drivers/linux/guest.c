@@ -88,7 +88,7 @@ static void read_parts(void)
         for (unsigned int i = 0; i < sizeof parts / sizeof *parts; i++)
             bit |= strcmp(word, parts[i].name) == 0 ? parts[i].bit : 0;
         if (!bit)
-            problem("what is the part %s?", word);
+            problem("unknown part: %s", word);
         wanted |= bit;
     }
 }

@@ -706,7 +706,7 @@ def own_words(words: list[str]) -> tuple[dict[str, str], list[str], list[str]]:
         elif name in OWN_FILES and rest and rest[0] != "--":
             given[name] = rest.pop(0)
         else:
-            raise Wrong(f"{name} needs a file" if name in OWN_FILES else f"what is {name}?")
+            raise Wrong(f"{name} needs a file" if name in OWN_FILES else f"unknown argument: {name}")
     return given, for_server, rest[1:]
 
 
@@ -762,7 +762,8 @@ def main(words: list[str]) -> int:
         print(f"drivers/qemu/run: {no_sets[0]} is no set; sets are {', '.join(needs_of([]))}", file=sys.stderr)
         return 3
     if unknown or not names:
-        print(f"drivers/qemu/run: what is {' '.join(unknown) or '--only of nothing'}? --list tells", file=sys.stderr)
+        reason = f"unknown name: {' '.join(unknown)}" if unknown else "--only needs a name"
+        print(f"drivers/qemu/run: {reason}; --list prints the names", file=sys.stderr)
         return 3
     if asks:
         return ask(asks, words)

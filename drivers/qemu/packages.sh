@@ -112,7 +112,7 @@ get() {
             kernel-6.1) kernel kernel-6.1 bookworm amd64 ;;
             kernel-6.12) kernel kernel-6.12 trixie amd64 ;;
             kernel-sid) kernel kernel-sid sid amd64 ;;
-            *) die "what is $name?" ;;
+            *) die "unknown set: $name" ;;
         esac
     done
     forget_lists

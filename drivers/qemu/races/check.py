@@ -200,7 +200,7 @@ def own_guests() -> None:
     given = {"--kernel": "vmlinuz", "--gdb": ""}
     assert own_words(words) == (given, ["--wire=none", "--bare"], ["-m", "--kernel"])
     for wrong, said in ((["--disk"], "--disk needs a file"), (["--kernel", "--"], "--kernel needs a file"),
-                        (["--kernel", "k", "--serve=x"], "what is --serve=x?")):
+                        (["--kernel", "k", "--serve=x"], "unknown argument: --serve=x")):
         try:
             own_words(wrong)
         except Wrong as fault:

@@ -32,7 +32,7 @@
 #define FEW 10 /* frames that show that an interface still works */
 #define DATAGRAMS 200
 #define OFFLOADED 5       /* datagrams sent with an offload */
-#define FUNCTION_QUEUES 2 /* ixgbevf's limit, because it has three vectors */
+#define FUNCTION_QUEUES 2 /* ixgbevf's limit, because its function has three vectors */
 #define UNDER_SECONDS 5
 #define LOG_BYTES (1 << 18)
 #define READ_LOG 3 /* syslog's action */

@@ -16,7 +16,7 @@ struct interface {
 /* Call this first. */
 void interface_begin(void);
 
-/* Compares two counts, and counts the comparison. */
+/* Compares two values, and counts the comparison. */
 bool equal(const char *what, uint64_t reported, uint64_t counted);
 unsigned int compared(void);
 
@@ -26,7 +26,7 @@ bool interface_find(struct interface *it, const char *driver, unsigned int funct
 
 void interface_set_up(const struct interface *it, bool up);
 bool interface_has_link(const struct interface *it);
-/* Waits up to 20 seconds until the link is as wanted, and then until the kernel has noticed it. */
+/* Waits up to 20 seconds until the link has the requested state, and then until the kernel has noticed it. */
 bool interface_wait_link(const struct interface *it, bool wanted);
 void interface_set_mac(struct interface *it, const uint8_t mac[6]);
 void interface_set_mtu(const struct interface *it, unsigned int mtu);
@@ -34,7 +34,7 @@ void interface_set_queues(const struct interface *it, unsigned int queues);
 void interface_set_key(const struct interface *it);
 /* Fills the redirection table with `queues` queues in turn. */
 void interface_redirect(const struct interface *it, unsigned int queues);
-/* Disables the offloads of checksums and segments, and those that change the order of frames. */
+/* Disables checksum and segmentation offloads, and offloads that change the order of frames. */
 void interface_turn_offloads_off(const struct interface *it);
 /* Returns a statistic by its name in `ethtool -S`. */
 uint64_t interface_statistic(const struct interface *it, const char *name);
@@ -50,7 +50,8 @@ struct test_result {
 };
 unsigned int interface_test(const struct interface *it, struct test_result *results, unsigned int most);
 
-/* Sets an address, and the peer's next to it, for UDP through the kernel's stack. A null address removes it. */
+/* Sets an address, and the peer's address on the same network, for UDP through the kernel's stack. A null address
+   removes it. */
 void interface_set_address(const struct interface *it, const char *address, const char *peer, const uint8_t mac[6]);
 
 /* Opens a socket for an interface's raw frames. Returns -1, and reports a problem, if it can't. */

@@ -26,8 +26,8 @@ void pass(const struct interface *it, unsigned int count, unsigned int most, uns
 /* Sends `count` datagrams through the kernel's stack; the peer sends them back. */
 void pass_datagrams(const struct interface *it, unsigned int count);
 
-/* Sends `count` datagrams that each request a checksum from the card. None goes out, and each is a fault. Waits after
-   each until the driver has reset its card. */
+/* Sends `count` datagrams that each request a checksum from the card. No datagram is sent, and each is a fault. Waits
+   after each until the driver has reset its card. */
 void pass_offloaded(const struct interface *it, unsigned int count);
 
 /* Checks which destination addresses are received as the interface's filters change. */

@@ -344,7 +344,8 @@ bool pci_open(const char *path, uint16_t device, unsigned int virtual_functions)
     return true;
 }
 
-/* Lends the guest's memory to the device as soon as it is known. Bus addresses are the guest's physical ones. */
+/* Lends the guest's memory to the device as soon as the guest has reported it. Bus addresses are the guest's physical
+   ones. */
 static bool lend(void)
 {
     static bool is_lent;

@@ -26,10 +26,10 @@ struct order_words {
 typedef void pci_orders(uint32_t what, struct order_words *words);
 void pci_order_to(pci_orders *orders);
 
-/* The bus's call `message`. */
+/* The bus's callback `message`. */
 void pci_message(void *of, unsigned int function, unsigned int vector);
 
-/* The number of messages that a function has sent, and of all messages. */
+/* Return the number of messages that a function has sent, and the number of all messages. */
 uint64_t pci_messages(unsigned int function);
 
 /* Prints a line for each function: accesses of configuration space and of registers, messages by vector. */

@@ -1,5 +1,5 @@
-/* The far end of the wire. It sends the frames that the guest's program orders, compares those that it gets, and sends
-   back datagrams to UDP port 7. */
+/* The far end of the wire. It sends the frames that the guest's program orders, compares the frames that it receives,
+   and sends back datagrams to UDP port 7. */
 #ifndef LINUX_PEER_H
 #define LINUX_PEER_H
 
@@ -10,7 +10,7 @@
 #include "bus.h"
 #include "pci.h"
 
-/* Calls and sink of the bus. */
+/* Callbacks and sink for the bus. */
 void peer_takes(void *of, uint16_t queue, const uint8_t *frame, size_t length);
 void peer_filled(void *of, uint16_t queue, uint64_t descriptor, bool ends);
 void peer_goes_on(void *of, const struct bus_access *access);
@@ -20,7 +20,7 @@ void peer_orders(uint32_t what, struct order_words *words);
 /* Prints what went over the wire, and compares it with the bus's counts. */
 void peer_tell(void);
 
-/* The number of offload faults that the guest expects. */
+/* Returns the number of offload faults that the guest expects. */
 uint32_t peer_faults(void);
 
 #endif

@@ -29,7 +29,7 @@ enum request {
     SET_SLAVE_REQ_FD = 21,
     VRING_KICK = 35
 };
-#define CALL_REQUEST 4u /* request of this end: interrupts the guest for a ring */
+#define CALL_REQUEST 4u /* request from this end: interrupts the guest for a ring */
 
 /* request flags */
 #define VERSION 1u

@@ -20,11 +20,11 @@ struct vhost_ring {
 struct vhost {
     int listener, socket, calls; /* file descriptors; -1: none */
     struct vhost_ring rings[VHOST_RINGS];
-    void (*kicked)(void *owner, unsigned int ring); /* called when the guest put something into a ring */
+    void (*kicked)(void *owner, unsigned int ring); /* called when the guest has put something into a ring */
     void *owner;
 };
 
-/* A message of the guest, and the place for the reply. */
+/* A message of the guest, and the buffer for the reply. */
 struct vhost_chain {
     uint16_t head;
     size_t out_length, in_length;
@@ -35,7 +35,7 @@ struct vhost_chain {
 /* Returns the address of `length` bytes of the guest's memory in this process, or null if they aren't in it. */
 void *vhost_memory(uint64_t address, uint64_t length);
 
-/* The first address of the guest's memory and its length in bytes; 0 until the guest has reported it. */
+/* Return the first address of the guest's memory and its length in bytes; 0 until the guest has reported it. */
 uint64_t vhost_memory_first(void);
 uint64_t vhost_memory_bytes(void);
 

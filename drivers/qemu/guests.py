@@ -319,7 +319,7 @@ LIBRARY = (HERE / "guest/library.sh").read_text()
 def has(text: str, what: str, pattern: str) -> None:
     """Requires a line that matches the pattern."""
     if not re.search(pattern, text, re.MULTILINE):
-        raise Wrong(f"{what}: no line is like {pattern!r}; the last are:\n" + "\n".join(text.splitlines()[-15:]))
+        raise Wrong(f"{what}: no line matches {pattern!r}; the last are:\n" + "\n".join(text.splitlines()[-15:]))
 
 
 def clean(output: str) -> None:
@@ -335,7 +335,7 @@ def passed_frames(text: str, many: int, count: int = FRAMES) -> None:
                     rf"^frames: received {count} of {count} .* twice 0, wrong 0$"):
         found = len(re.findall(pattern, text, re.MULTILINE))
         if found != many:
-            raise Wrong(f"{found} of {many} lines are like {pattern!r}:\n" + "\n".join(text.splitlines()[-25:]))
+            raise Wrong(f"{found} of {many} lines match {pattern!r}:\n" + "\n".join(text.splitlines()[-25:]))
 
 
 def seconds_of(text: str) -> str:
@@ -434,7 +434,7 @@ def boots(kernel: str, processors: int = 1) -> Callable[[Place], str]:
         has(text, "guest", "3 packets received")
         passed_frames(text, 1)
         clean(output)
-        return f"{FRAMES} frames each way, each byte; {seconds_of(text)}"
+        return f"{FRAMES} frames each way, every byte correct; {seconds_of(text)}"
 
     return run
 
@@ -501,7 +501,7 @@ def removal(place: Place) -> str:
         text = guest.end()
     has(text, "guest", r"Adapter removed")
     has(text, "guest", r"^STILL HERE$")
-    return 'the driver says "Adapter removed", the guest goes on'
+    return 'the driver reports "Adapter removed", the guest continues'
 
 
 def iommu(place: Place) -> str:
@@ -572,7 +572,7 @@ def dpdk(place: Place) -> str:
     has(text, "testpmd", rf"TX-packets: {FRAMES} +TX-dropped: 0 ")
     clean(output)
     (package,) = [it for it in (place.fetched / "dpdk/packages").read_text().split() if it.startswith("dpdk-dev_")]
-    return f"testpmd {package.split('_')[1]}, macswap: {FRAMES} frames in and out, each byte"
+    return f"testpmd {package.split('_')[1]}, macswap: {FRAMES} frames in and out, every byte correct"
 
 
 def back_to_back(place: Place, name: str, scripts: Sequence[str]) -> tuple[str, str, str]:
@@ -742,7 +742,7 @@ def all_runs(place: Place, names: list[str]) -> int:
             print(f"{name:11} WRONG: {fault}\n  (logs: {place.folder})", flush=True)
             place.is_kept = True
             failed += 1
-    print("all was as it should be" if not failed else f"{failed} of {len(names)} runs weren't as they should be")
+    print("all runs passed" if not failed else f"{failed} of {len(names)} runs failed")
     return 1 if failed else 0
 
 
@@ -759,7 +759,7 @@ def main(words: list[str]) -> int:
     unknown = [it for it in names if it not in RUNS and it != "turn"]
     no_sets = [it for it in words[1:] if it not in needs_of([])] if words[:1] == ["--fetch"] else []
     if no_sets:
-        print(f"drivers/qemu/run: {no_sets[0]} is no set; sets are {', '.join(needs_of([]))}", file=sys.stderr)
+        print(f"drivers/qemu/run: {no_sets[0]} isn't a set; the sets are {', '.join(needs_of([]))}", file=sys.stderr)
         return 3
     if unknown or not names:
         reason = f"unknown name: {' '.join(unknown)}" if unknown else "--only needs a name"

@@ -115,7 +115,7 @@ MACS = ("02:00:00:00:82:99", "02:00:00:00:82:9a")
 def seconds_in(text: str, pattern: str) -> float:
     found = re.search(pattern, text, re.MULTILINE)
     if not found:
-        raise Wrong(f"no line is like {pattern!r}; the last are:\n" + "\n".join(text.splitlines()[-20:]))
+        raise Wrong(f"no line matches {pattern!r}; the last are:\n" + "\n".join(text.splitlines()[-20:]))
     return max(1e-6, float(found[1]))
 
 

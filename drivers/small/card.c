@@ -11,14 +11,14 @@ enum {
     COMMANDS = 0x0006, /* memory space and bus master */
     NO_LINE = 0x0400,
     SLOTS = 64,
-    QUEUE_CAUSE = 0, /* for RTxQ: both sides of queue 0 raise it */
+    QUEUE_CAUSE = 0, /* for RTxQ: both sides of queue 0 raise this cause */
     MOST_WAITS = 100000
 };
 
 /* Device IDs of the 82599's physical function. */
 static const uint16_t devices[] = {0x10F7, 0x10FB, 0x10F8, 0x10F9, 0x10FC};
 
-/* A descriptor as four words. This processor reads 64 bits by two loads in any order, so the length could be read
+/* A descriptor as four words. This processor reads 64 bits with two loads in any order, so the length could be read
    before DD and be stale. */
 struct slot {
     volatile uint32_t words[4];
@@ -46,8 +46,8 @@ static uint32_t read(uint32_t address)
 
 static void write(uint32_t address, uint32_t word)
 {
-    /* Earlier stores must be in memory first, because a tail write lets the card read it. x86 keeps stores in order, so
-       a compiler barrier is enough. */
+    /* Earlier stores must be in memory first, because after a tail write the card reads memory. x86 keeps stores in
+       order, so a compiler barrier is enough. */
     __asm__ volatile("" : : : "memory");
     *(volatile uint32_t *)(card.window + address) = word;
 }
@@ -160,7 +160,7 @@ static bool start_sending(void)
     return wait_for(NIC_TXDCTL(0), NIC_TXDCTL_ENABLE, true);
 }
 
-/* Queue 0 raises cause 0 both ways. With one line, every unmasked cause raises it until EICR is read. */
+/* Both sides of queue 0 raise cause 0. Every unmasked cause raises the only interrupt line until EICR is read. */
 static void start_interrupts(void)
 {
     write(NIC_IVAR(0), NIC_IVAR_INT_ALLOC_0_IS(QUEUE_CAUSE) | NIC_IVAR_INT_ALLOC_VAL_0 |

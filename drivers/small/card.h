@@ -8,9 +8,9 @@ enum { FRAME_ROOM = 2048 };
 
 /* Finds the card and sets it up. Returns false if there is none or it doesn't respond. */
 bool card_open(void);
-/* The card's MAC address. */
+/* Returns the card's MAC address. */
 const uint8_t *card_address(void);
-/* Whether the link is up. */
+/* Returns whether the link is up. */
 bool card_has_link(void);
 
 /* Returns the next received frame, with its length in bytes, or null. The caller owns it until card_next. */
@@ -20,7 +20,7 @@ void card_next(void);
 /* Sends a copy of a frame. Returns false if all slots are in flight. */
 bool card_send(const uint8_t *frame, uint16_t length);
 
-/* The causes that raised the line since the last call. */
+/* Returns the causes that raised the line since the last call. */
 enum { CARD_FRAMES = 1, CARD_LINK = 2 };
 unsigned card_causes(void);
 /* Unmasks the driver's causes, so that they can raise the line again. */

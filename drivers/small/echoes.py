@@ -124,13 +124,13 @@ def run(kernel: Kernel, path: Path, frames: int) -> None:
     wire = Wire(path)
     began = time.monotonic()
     echo_all(wire, card, frames, chance)
-    print(f"{frames:,} frames came back, each right, in {time.monotonic() - began:.1f} s", flush=True)
+    print(f"{frames:,} frames came back unchanged, in {time.monotonic() - began:.1f} s", flush=True)
     wire.socket.close()
     kernel.wait_for("^kernel: link down$")
     wire = Wire(path)
     kernel.wait_for("^kernel: link up$")
     echo_all(wire, card, LATER, chance)
-    print(f"the wire went and came back, and so did {LATER} frames more", flush=True)
+    print(f"the wire was unplugged and plugged in again, and {LATER} more frames came back", flush=True)
     wire.socket.close()
 
 

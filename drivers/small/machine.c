@@ -49,7 +49,7 @@ void say_hex(uint32_t number, unsigned digits)
         put("0123456789abcdef"[number >> 4 * digits & 0xF]);
 }
 
-/* --- PCI configuration, by ports 0xCF8 and 0xCFC --- */
+/* --- PCI configuration, through ports 0xCF8 and 0xCFC --- */
 
 enum { CONFIG_ADDRESS = 0xCF8, CONFIG_DATA = 0xCFC };
 
@@ -139,8 +139,8 @@ void end_of_interrupt(uint8_t number)
     out8(FIRST, END);
 }
 
-/* If a line drops too early, the controllers report line 15. The second controller doesn't count it as in service. The
-   first one does, and blocks the second one's interrupts until it gets an EOI. */
+/* If a line drops too early, the controllers report line 15. The second controller doesn't count line 15 as in service.
+   The first controller does, and blocks the second controller's interrupts until it gets an EOI. */
 void end_of_spurious(void)
 {
     out8(FIRST, END);

@@ -21,7 +21,7 @@ struct pci_function pci_find(uint16_t vendor, uint16_t device);
 uint32_t pci_read(struct pci_function it, uint8_t offset);
 void pci_write(struct pci_function it, uint8_t offset, uint32_t word);
 
-/* Uses line `number` (0 to 15) of the interrupt controller: `line_is_up` is called while it is up. */
+/* Uses line `number` (0 to 15) of the interrupt controller: `line_is_up` is called while the line is up. */
 void take_line(uint8_t number);
 /* Acknowledges an interrupt of that line at the interrupt controller. */
 void end_of_interrupt(uint8_t number);

@@ -292,7 +292,7 @@ class Bench:
         outcome = Outcome(self.kernel.name, self.plan.driver, seed, worst_first(findings), rounds,
                           time.time() - began, lines)
         if outcome.fails:
-            outcome.why = "\n".join(self.server.ask("why") or ["the device waits for nothing"])
+            outcome.why = "\n".join(self.server.ask("why") or ["nothing in the device waits"])
             outcome.output = "\n".join([self.server.output.read_text(), *self.server.ask("counts"), ""])
         self.server.ask("seed off")
         return outcome
@@ -316,7 +316,7 @@ class Bench:
             if "@search stuck was reported" in lines:
                 return f"an operation takes more than {STUCK_SECONDS * patience} s"
             if time.time() - self.guest.last > silent:
-                return f"nothing was said for {silent} s"
+                return f"the guest printed nothing for {silent} s"
             time.sleep(0.1)
 
     def last_operation(self, lines: Sequence[str]) -> str:

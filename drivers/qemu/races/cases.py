@@ -20,8 +20,8 @@ class Case:
 CASES = {
     "ixgbe-down-lockup": Case(
         "linux-6.1", "ixgbe", "lockup", "ixgbe_clean_tx_ring", 20,
-        "ixgbe_watchdog_subtask looks at __IXGBE_DOWN, finds that the link is up, and wakes the transmit queues; "
-        "ixgbe_down, which doesn't wait for it, has stopped them and emptied their rings in between. A frame enters "
-        "such a ring, and the next ixgbe_down goes round it without end",
+        "ixgbe_watchdog_subtask checks __IXGBE_DOWN, finds that the link is up, and wakes the transmit queues. "
+        "In between, ixgbe_down, which doesn't wait for it, stopped them and emptied their rings. A frame enters "
+        "such a ring, and the next ixgbe_down loops over it forever",
     ),
 }  # fmt: skip

@@ -26,7 +26,7 @@ class Words(argparse.ArgumentParser):
     status = 3
 
     def error(self, message: str) -> NoReturn:
-        print(f"{NAME}: {message}; --help prints the words", file=sys.stderr)
+        print(f"{NAME}: {message}; --help lists the options", file=sys.stderr)
         sys.exit(self.status)
 
 
@@ -34,13 +34,13 @@ def seeds_of(text: str) -> list[int]:
     """Parses "3", or "3-9"."""
     found = re.fullmatch(r"(\d{1,9})(?:-(\d{1,9}))?", text)
     if not found or int(found[2] or found[1]) < int(found[1]):
-        raise argparse.ArgumentTypeError(f"{text} is no range of seeds, as 1-20")
+        raise argparse.ArgumentTypeError(f"{text} isn't a range of seeds, such as 1-20")
     return list(range(int(found[1]), int(found[2] or found[1]) + 1))
 
 
 def positive(text: str) -> int:
     if not re.fullmatch(r"[1-9]\d{0,4}", text):
-        raise argparse.ArgumentTypeError(f"{text} is no number from 1 on")
+        raise argparse.ArgumentTypeError(f"{text} isn't a number from 1 on")
     return int(text)
 
 
@@ -48,31 +48,32 @@ def pattern(text: str) -> str:
     try:
         re.compile(text)
     except re.error as fault:
-        raise argparse.ArgumentTypeError(f"{text} is no pattern: {fault}") from None
+        raise argparse.ArgumentTypeError(f"{text} isn't a pattern: {fault}") from None
     return text
 
 
 def parser() -> Words:
-    it = Words(prog=NAME, description="A search for the races of a kernel's driver.", allow_abbrev=False)
+    it = Words(prog=NAME, description="Searches a kernel's driver for races.", allow_abbrev=False)
     it.add_argument("linux", nargs="?", choices=sorted(KERNELS), help="Debian's kernel (linux-6.1)")
     it.add_argument("--kernel", type=Path, help="your own x86 kernel, with --modules or --initrd")
-    it.add_argument("--modules", type=Path, help="its folder lib/modules/VERSION")
-    it.add_argument("--initrd", type=Path, help="an initial file system that has its modules")
+    it.add_argument("--modules", type=Path, help="the kernel's folder lib/modules/VERSION")
+    it.add_argument("--initrd", type=Path, help="an initial file system that contains the kernel's modules")
     it.add_argument("--module", type=Path, help="your own ixgbe.ko or ixgbevf.ko instead of the kernel's")
-    it.add_argument("--function", action="store_true", help="ixgbevf in a second guest is searched")
-    it.add_argument("--seeds", type=seeds_of, default="1-20", metavar="A-B", help="which seeds (1-20)")
-    it.add_argument("--rounds", type=positive, help="rounds of operations a seed (4; with --case 2)")
-    it.add_argument("--processors", type=positive, default=4, help="of the guest (4)")
+    it.add_argument("--function", action="store_true", help="search ixgbevf, in a second guest")
+    it.add_argument("--seeds", type=seeds_of, default="1-20", metavar="A-B", help="seeds to try (1-20)")
+    it.add_argument("--rounds", type=positive, help="rounds of operations per seed (4; with --case 2)")
+    it.add_argument("--processors", type=positive, default=4, help="the guest's processors (4)")
     it.add_argument("--jobs", type=positive, default=max(1, (os.cpu_count() or 2) // 2), help="guests at a time")
-    it.add_argument("--seeds-a-boot", type=positive, default=8, metavar="N", help="before a fresh guest (8)")
+    it.add_argument("--seeds-a-boot", type=positive, default=8, metavar="N",
+                    help="seeds to try in a guest before it is replaced (8)")
     it.add_argument("--again", choices=("each", "new", "none"),
-                    help="failing seeds that are tried again, alone and recorded: each, or the first of each verdict "
+                    help="failing seeds to try again, alone and recorded: each, or the first with each verdict "
                     "(each; with --bisect none)")
-    it.add_argument("--record", action="store_true", help="record each guest, not only those that are tried again")
+    it.add_argument("--record", action="store_true", help="record each guest, not only guests that try a seed again")
     it.add_argument("--record-most", type=positive, default=512, metavar="MB",
-                    help="a guest whose recording has more is followed by a fresh one (512)")
-    it.add_argument("--out", type=Path, help="the folder for what came out, which must be new")
-    it.add_argument("--case", choices=sorted(CASES), help="a known defect, until it shows")
+                    help="replace a guest when its recording is larger than this (512)")
+    it.add_argument("--out", type=Path, help="folder for the results, which must be new")
+    it.add_argument("--case", choices=sorted(CASES), help="search for a known defect until it shows")
     it.add_argument("--workload", type=positive, metavar="SEED", help="print what a guest does with this seed, and end")
     it.add_argument("--draw", type=Path, metavar="RECORDING", help="draw the end of a recording, and end")
     add_own(it)
@@ -85,23 +86,23 @@ def add_own(it: Words) -> None:
     own = it.add_argument_group("a workload of your own")
     own.add_argument("--script", type=Path, metavar="FILE",
                      help="a shell script that the guest runs each round in place of the drawn operations")
-    own.add_argument("--beside", action="store_true", help="--script runs beside them")
-    own.add_argument("--limit", type=positive, metavar="SECONDS", help="that --script may take in a round (60)")
-    own.add_argument("--no-traffic", action="store_true", help="no frames but yours and the check's")
+    own.add_argument("--beside", action="store_true", help="run --script concurrently with the drawn operations")
+    own.add_argument("--limit", type=positive, metavar="SECONDS", help="time limit for --script in a round (60)")
+    own.add_argument("--no-traffic", action="store_true", help="send no frames except the script's and the check's")
     own.add_argument("--add", type=Path, action="append", default=[], metavar="FILE",
                      help="a program of this machine for the guest's /bin, with its libraries, or another file")
-    sought = it.add_argument_group("what is sought")
+    sought = it.add_argument_group("what to search for")
     sought.add_argument("--match", type=pattern, metavar="PATTERN",
-                        help="only what matches counts: a finding, or after a fatal one a line of the console")
+                        help="count only matches: a finding or, after a fatal finding, a line of the console")
     sought.add_argument("--bisect", action="store_true",
-                        help="statuses for `git bisect run`, and an end at the first that is found")
+                        help="use statuses for `git bisect run`, and end at the first failing seed")
 
 
 def add_machine(it: Words) -> None:
     machine = it.add_argument_group("the guest's machine")
     machine.add_argument("--patience", type=positive, default=1, metavar="N",
-                         help="all limits of time are N times as long: for kernels with lockdep, KASAN or KCSAN (1)")
-    machine.add_argument("--memory", type=positive, default=384, metavar="MB", help="of each guest (384)")
+                         help="multiply all time limits by N, for kernels with lockdep, KASAN or KCSAN (1)")
+    machine.add_argument("--memory", type=positive, default=384, metavar="MB", help="memory of each guest (384)")
 
 
 def read_words(words: Sequence[str]) -> argparse.Namespace:
@@ -132,7 +133,7 @@ def check(it: Words, given: argparse.Namespace) -> None:
     if given.module and given.module.name not in ("ixgbe.ko", "ixgbevf.ko"):
         it.error(f"{given.module} is neither ixgbe.ko nor ixgbevf.ko")
     if given.out and given.out.exists():
-        it.error(f"{given.out} is there already")
+        it.error(f"{given.out} already exists")
     given.limit = given.limit or 60
     given.rounds = given.rounds or (2 if given.case else 4)
     given.again = given.again or ("none" if given.bisect else "each")

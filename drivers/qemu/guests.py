@@ -4,9 +4,9 @@
     guests.py FETCHED OUT SERVER [--quick | --only NAME .. | --turn | --kernel PATH ..]
     guests.py --list | --needs [the same words]
 
-drivers/qemu/run calls it and documents its options. A guest's script is part of its initial file system. When the
-script prints a line "@control WORDS", these words go to the server's control socket, and the answer goes to the guest's
-log.
+drivers/qemu/run calls this program and documents its options. A guest's script is part of its initial file system. When
+the script prints a line "@control WORDS", these words go to the server's control socket, and the answer goes to the
+guest's log.
 """
 
 from __future__ import annotations
@@ -33,14 +33,14 @@ from initrd import Initrd  # noqa: E402
 
 HERE = Path(__file__).resolve().parent
 FRAMES = 2000
-SECONDS = 1800  # limit for a guest: most take 15 to 40, but 500 on a machine with ten times the load
+SECONDS = 1800  # limit in seconds for a guest: most take 15 to 40, but 500 on a machine with ten times the load
 
 
 class Wrong(Exception):
     """A run failed."""
 
 
-# ---- processes that end with this one ----
+# ---- processes that end with this process ----
 
 processes: list[subprocess.Popen[bytes]] = []
 
@@ -76,7 +76,7 @@ def end_on_signals() -> None:
 
 @dataclass
 class Place:
-    """The paths of everything that runs use."""
+    """The paths that runs use."""
 
     fetched: Path
     out: Path
@@ -110,7 +110,7 @@ class Place:
 
 
 def begin(place: Place) -> None:
-    """Ensures that, however this process ends, the other processes end and then their folder is removed."""
+    """Makes sure that the other processes end and then their folder is removed, however this process ends."""
     atexit.register(place.forget)
     atexit.register(end_all)
     end_on_signals()
@@ -164,7 +164,7 @@ class Server:
 
 
 class Peer(Protocol):
-    """Answers a guest's requests: a server, or another process with the same control protocol."""
+    """Something that answers a guest's requests: a server, or another process with the same control protocol."""
 
     folder: Path
 
@@ -222,8 +222,8 @@ class Guest:
             is_over = time.time() > end or not self.reader.is_alive()
 
     def end(self) -> str:
-        """Waits until its script is over. Returns all lines. (A guest that switches itself off may cut the last
-        ones.)"""
+        """Waits until its script is over. Returns all lines. (A guest that switches itself off may lose the last
+        lines.)"""
         try:
             self.wait_for("guest: end at", max(1, self.began + SECONDS - time.time()))
         finally:
@@ -245,7 +245,7 @@ class Guest:
 
 
 def device(path: Path, **more: object) -> list[str]:
-    """QEMU's arguments for a card in a root port's slot."""
+    """Returns QEMU's arguments for a card in a root port's slot."""
     parts = ['"driver":"vfio-user-pci"', '"bus":"rp"', f'"socket":{{"type":"unix","path":"{path}"}}']
     parts += [f'"{key}":{str(value).lower() if isinstance(value, bool) else f"{chr(34)}{value}{chr(34)}"}'
               for key, value in more.items()]
@@ -253,7 +253,7 @@ def device(path: Path, **more: object) -> list[str]:
 
 
 def memory(size: str) -> list[str]:
-    """Arguments for memory that the server can map."""
+    """Returns arguments for memory that the server can map."""
     return ["-m", size, "-object", f"memory-backend-memfd,id=ram,size={size},share=on"]
 
 
@@ -262,7 +262,7 @@ def port() -> list[str]:
 
 
 def machine_words(place: Place, memory_size: str, processors: int) -> list[str]:
-    """Arguments for an x86 machine with no other devices."""
+    """Returns arguments for an x86 machine with no other devices."""
     return [*place.qemu("qemu-system-x86_64"), "-machine", "q35,accel=tcg,memory-backend=ram", *QUIET,
             *memory(memory_size), "-cpu", "max", "-smp", str(processors)]
 
@@ -330,7 +330,7 @@ def clean(output: str) -> None:
 
 
 def passed_frames(text: str, many: int, count: int = FRAMES) -> None:
-    """Requires that frames went each way `many` times, every byte correct."""
+    """Requires that frames passed each way `many` times with every byte correct."""
     for pattern in (rf"^control: {count} of {count}, twice 0, wrong 0$",
                     rf"^frames: received {count} of {count} .* twice 0, wrong 0$"):
         found = len(re.findall(pattern, text, re.MULTILINE))
@@ -339,7 +339,7 @@ def passed_frames(text: str, many: int, count: int = FRAMES) -> None:
 
 
 def seconds_of(text: str) -> str:
-    """Describes when the guest got its carrier, and how long frames took."""
+    """Returns a text with the time at which the guest got its carrier, and the rates of frames."""
     carrier = re.search(r"carrier at ([\d.]+) s", text)
     sent = re.search(r"^frames: sent (\d+) .* in ([\d.]+) s", text, re.MULTILINE)
     got = re.search(r"^frames: received \d+ of (\d+) .* in ([\d.]+) s", text, re.MULTILINE)
@@ -576,8 +576,8 @@ def dpdk(place: Place) -> str:
 
 
 def back_to_back(place: Place, name: str, scripts: Sequence[str]) -> tuple[str, str, str]:
-    """Runs two guests on one wire; the second starts when the first one serves. Returns the second guest's log, and the
-    output of its server and of the first guest's server."""
+    """Runs two guests on one wire; the second guest starts when the first guest's script prints SERVES. Returns the
+    second guest's log, its server's output, and the output of the first guest's server."""
     left = Server(place, f"left{name}", f"--wire=listen:{place.folder}/wire{name}")
     right = Server(place, f"right{name}", f"--wire=stream:{place.folder}/wire{name}", "--mac=02:00:00:00:82:9a")
     server = Machine(place, "kernel-6.1", scripts[0]).start("guest", left, *device(left.path))
@@ -636,7 +636,7 @@ def flipped(place: Place) -> str:
 
 @dataclass
 class Run:
-    """A run, and what must be fetched for it besides QEMU."""
+    """A run, and the sets that must be fetched for it in addition to QEMU."""
 
     run: Callable[[Place], str]
     needs: tuple[str, ...] = ("tools", "kernel-6.1")

@@ -4,7 +4,7 @@
     measure.py FETCHED OUT SERVER TURNS
 
 drivers/qemu/run --measure calls it. The cards take turns, and the best of each figure is printed, because other work on
-the machine can only make it worse. The output is a Markdown table.
+the machine can only make a figure worse. The output is a Markdown table.
 """
 
 from __future__ import annotations
@@ -96,7 +96,7 @@ class OtherEnd:
 
 @contextmanager
 def plugged(place: Place, card: Card, name: str, wire: str, mac: str) -> Iterator[list[str]]:
-    """QEMU's arguments that give a guest the card; `wire` is stream:PATH or listen:PATH."""
+    """Returns QEMU's arguments for a guest with the card; `wire` is stream:PATH or listen:PATH."""
     way, _, path = wire.partition(":")
     if card.name == "82599":
         server = Server(place, name, f"--wire={wire}", f"--mac={mac}")
@@ -142,15 +142,15 @@ def alone(place: Place, card: Card) -> list[float]:
 
 
 def none_wrong(text: str, card: Card) -> None:
-    """Requires that no frame arrived twice or with changed bytes. Frames lost to a full ring or a late guest only lower
-    the rate."""
+    """Requires that no frame arrived twice or with changed bytes. Frames that are lost because of a full ring or a late
+    guest only lower the rate."""
     for end in (rf"^control: \d+ of {FRAMES}, twice 0, wrong 0", rf"^frames: received \d+ of {FRAMES} .* wrong 0$"):
         if len(re.findall(end, text, re.MULTILINE)) != 2:
             raise Wrong(f"{card.name}: frames are wrong:\n" + "\n".join(text.splitlines()[-20:]))
 
 
 def rates_in(text: str, begin: str) -> list[float]:
-    """Returns the frames a second in each line that begins so."""
+    """Returns the frames per second from each line with this beginning."""
     found = re.findall(rf"^{begin}(\d+) of {FRAMES}\b.* in ([\d.]+) s", text, re.MULTILINE)
     return [int(came) / max(1e-6, float(time)) for came, time in found]
 
@@ -165,7 +165,7 @@ def figures_of(text: str, guest: Guest) -> list[float]:
 
 
 def between_two(place: Place, card: Card) -> float:
-    """Megabytes a second by HTTP from one guest to another."""
+    """Returns the megabytes per second by HTTP from one guest to another."""
     folder = Path(tempfile.mkdtemp(prefix="two.", dir=place.folder))
     scripts = []
     for name in ("serve", "get"):

@@ -28,7 +28,7 @@
 static const uint8_t card[6] = {0x02, 0x00, 0x00, 0x00, 0x82, 0x99}, own[6] = {0x02, 0x00, 0x00, 0x00, 0x00, 0x01};
 static struct wire wire;
 static struct traffic traffic;
-static double first, last; /* arrival of the first and the last expected frame */
+static double first, last; /* arrival times of the first and the last expected frame */
 
 static double now(void)
 {
@@ -91,7 +91,7 @@ static void take_frame(size_t length)
     first = before ? first : last;
 }
 
-/* Takes some of the card's frames. Returns whether there may be more. */
+/* Receives some of the card's frames. Returns whether there may be more. */
 static bool take_frames(void)
 {
     for (unsigned int i = 0; i < AT_ONCE; i++) {

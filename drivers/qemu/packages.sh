@@ -1,6 +1,6 @@
 # shellcheck shell=bash
-# Debian's packages for the guests, each set unpacked in a separate folder in $FETCHED. A suite's signed lists are read
-# once a run, and removed with it. drivers/qemu/run sources this after drivers/common/common.sh.
+# Fetches Debian's packages for the guests, each set unpacked in a separate folder in $FETCHED. A suite's signed lists
+# are downloaded once per run, and removed at its end. drivers/qemu/run sources this after drivers/common/common.sh.
 
 KEYS=/usr/share/keyrings/debian-archive-keyring.gpg
 
@@ -52,8 +52,8 @@ suite() {
 # Removes the lists, however the run ends.
 forget_lists() { rm -rf "$FETCHED/lists"; }
 
-# archives NAME SUITE WORDS..: prints the size of what apt-get fetches for these words, fetches it and unpacks it.
-# NAME/packages lists the packages with their checksums.
+# archives NAME SUITE WORDS..: prints the size of the packages that apt-get fetches for these words, fetches and unpacks
+# them. NAME/packages lists the packages with their checksums.
 archives() {
     local name=$1 from=$2 at=$FETCHED/$1 deb count total
     shift 2

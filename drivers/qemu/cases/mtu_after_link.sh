@@ -1,5 +1,5 @@
 # For drivers/qemu/search --script: ten times, changes the MTU 50 ms after the link has come up. The change takes the
-# card down. At that time the driver's watchdog may have seen the link but not yet woken the queues.
+# card down. At that time the driver's watchdog may have seen that the link is up but not yet woken the queues.
 is_up() { read -r carrier <"/sys/class/net/$IFACE/carrier" && [ "$carrier" = 1 ]; }
 n=0
 while [ $n -lt 10 ]; do

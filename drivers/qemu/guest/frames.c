@@ -1,4 +1,4 @@
-/* Runs in a guest: sends frames that are computed from their numbers (c/bus/frames.h), or receives and compares them.
+/* Runs in a guest: sends frames computed from their numbers (c/bus/frames.h), or receives and compares them.
 
      frames send INTERFACE COUNT MOST            numbers 1 to COUNT, of 60 to MOST bytes, to 02:00:00:00:00:01
      frames receive INTERFACE COUNT MOST SECONDS waits for these from 02:00:00:00:00:01, at most SECONDS
@@ -55,8 +55,8 @@ static bool open_interface(struct interface *it, const char *name)
     return bind(it->file, (const struct sockaddr *)&at, sizeof at) == 0;
 }
 
-/* Frames, each after its length. All are made before the first is sent, or compared after the last has arrived, so
-   neither affects the timing. */
+/* Frames, each after its length. All of them are built before the first is sent, or compared after the last has
+   arrived, so neither affects the timing. */
 struct store {
     uint8_t *bytes;
     size_t room, end;
@@ -82,7 +82,7 @@ static const uint8_t *next_of(const struct store *it, size_t *at, uint32_t *leng
     return bytes;
 }
 
-/* Accounts for a frame that was written after the last one. */
+/* Adds a frame that was written after the last one. */
 static void add_to(struct store *it, uint32_t length)
 {
     memcpy(it->bytes + it->end, &length, sizeof length);

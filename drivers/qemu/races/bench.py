@@ -31,7 +31,7 @@ from workload import Plan, script  # noqa: E402
 
 # Limits of a search that isn't patient; --patience multiplies each.
 BOOT_SECONDS = 300
-SILENT_SECONDS = 90  # a healthy guest prints something within this time
+SILENT_SECONDS = 90  # a healthy guest prints something within this many seconds
 LOCKED_SECONDS = 60  # after a reported lockup, a guest that recovers begins another operation within this time
 STUCK_SECONDS = 40  # limit for an operation
 WATCHDOG_SECONDS, WATCHDOG_MOST = 5, 60  # the kernel's threshold, and its maximum
@@ -71,7 +71,7 @@ class NoBoot(Wrong):
 @dataclass(frozen=True)
 class Setting:
     """A search's settings for its guests, except the kernel: memory, the factor for all limits, the reporter's own
-    script, and programs for it."""
+    script, and programs for the script."""
 
     memory: str = "384M"
     patience: int = 1
@@ -112,7 +112,7 @@ class Outcome:
     output: str = field(default="", repr=False)
     why: str = field(default="", repr=False)
     record: Path | None = None
-    again: Outcome | None = None  # its result alone, in a fresh guest; None if that wasn't tried
+    again: Outcome | None = None  # the result when tried alone, in a fresh guest; None if that wasn't tried
 
     @property
     def is_fatal(self) -> bool:
@@ -124,12 +124,13 @@ class Outcome:
 
     @property
     def is_broken(self) -> bool:
-        """Whether nothing was tried, because the server or the guest failed first."""
+        """Returns whether nothing was tried, because the server or the guest failed first."""
         return any(it.kind in ("server", "boot") for it in self.findings)
 
     @property
     def is_untried(self) -> bool:
-        """Whether the reporter's script reports that it can't be tried in this guest, and nothing else failed."""
+        """Returns whether the reporter's script reports that it can't be tried in this guest, and nothing else
+        failed."""
         return not self.fails and any(it.kind == "not tried" for it in self.findings)
 
     @property
@@ -137,7 +138,7 @@ class Outcome:
         return self.findings[0].kind if self.fails else "not tried" if self.is_untried else "ok"
 
     def matches(self, pattern: str) -> bool:
-        """Returns whether the pattern matches a finding, or the guest's output if the guest was given up."""
+        """Returns whether the pattern matches a finding, or the guest's output if the guest was discarded."""
         if any(re.search(pattern, f"{it.kind}: {it.text}") for it in self.findings):
             return True
         return self.is_fatal and any(re.search(pattern, line) for line in self.lines)

@@ -7,7 +7,8 @@ from dataclasses import dataclass
 
 @dataclass(frozen=True)
 class Case:
-    """A defect: the kernel and driver that have it, the verdict that shows it, and how many seeds it takes to show."""
+    """A defect: the kernel and driver that have it, the verdict that shows it, and the number of seeds within which
+    it shows."""
 
     kernel: str
     driver: str

@@ -91,8 +91,8 @@ def workloads() -> None:
 
 
 def own_workloads(folder: Path) -> None:
-    """A reporter's script replaces the drawn operations in a seed's script, or runs beside them without changing
-    them. Its output and status are found."""
+    """A reporter's script replaces the drawn operations in a seed's script, or runs concurrently without changing them.
+    Its output and status are found."""
     own = folder / "own.sh"
     own.write_text("exit 0\n")
     drawn = script(7, Plan(rounds=1)).splitlines()

@@ -21,7 +21,8 @@ calm() {
     done
 }
 
-# The function's check: numbered frames go out. Frames from the wire have the host's address, so pings check the way in.
+# The function's check: numbered frames go out. Frames from the wire have the host's address, so pings check the receive
+# side.
 exchange() {
     doing exchange
     neighbour

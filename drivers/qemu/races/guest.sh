@@ -71,7 +71,7 @@ host() {
 round() { doing round "$@"; }
 
 # own SEED ROUND SECONDS: starts the reporter's script, with a limit of SECONDS. Each line of its output is printed with
-# "script: " in front; a line "@control WORDS" among them is a request to the server.
+# "script: " in front; a line "@control WORDS" is a request to the server.
 own() {
     doing own "$2"
     own_round=$2
@@ -82,7 +82,8 @@ own() {
     own=$!
 }
 
-# own_ends: the drawn operations are over. Waits for the script, then ends what it left in the background.
+# own_ends: called when the drawn operations are over. Waits for the script, then ends the processes that it left in the
+# background.
 own_ends() {
     doing own_ends "$own_round"
     : >/tmp/over
@@ -150,13 +151,13 @@ settle() {
         | sed -n 's/^\([0-9]*\) packets transmitted, \([0-9]*\) .*/@search pings \1 \2/p'
 }
 
-# Restores other settings; the virtual function's guest replaces this.
+# Restores other settings; the virtual function's guest redefines this.
 calm() { :; }
 
 # Sets the other end's ARP entry, so that the kernel sends no requests, which aren't numbered frames.
 neighbour() { arp -s 10.0.0.1 02:00:00:00:00:01; }
 
-# Has the other end print which frames have arrived. Only its last report counts, because a busy machine is late.
+# Makes the other end print which frames have arrived. Only its last report counts, because a busy machine is late.
 sent() {
     grep eth0 /proc/net/dev
     ethtool -S eth0 | grep -E "^ *(tx|rx)_[a-z_]*: [1-9]"
@@ -211,7 +212,7 @@ watcher() {
     done
 }
 
-# Runs the commands that the runner sends, one a line.
+# Runs the commands that the runner sends, one per line.
 obey() {
     step=0
     echo $((20 * PATIENCE)) >/proc/sys/kernel/hung_task_timeout_secs 2>/dev/null

@@ -1,4 +1,5 @@
-# The guest with the physical function while another has the virtual one. It obeys commands and has no traffic.
+# The guest with the physical function, while another guest has the virtual function. It runs commands and has no
+# traffic.
 start() {
     up 10.0.0.2
     echo 1 >/sys/bus/pci/devices/0000:01:00.0/sriov_numvfs

@@ -71,7 +71,7 @@ class Search:
             self.end(bench)
 
     def has_enough(self, bench: Bench) -> bool:
-        """Returns whether the recording is long enough: drawing a longer one takes minutes."""
+        """Returns whether the recording has reached its limit: drawing a longer one takes minutes."""
         record = bench.record
         return record is not None and record.exists() and record.stat().st_size > self.words.record_most << 20
 
@@ -110,7 +110,7 @@ class Search:
         return it.fails and (not self.words.match or it.matches(self.words.match))
 
     def judge(self, task: Task, outcome: Outcome) -> None:
-        """Records a seed's result, or has the seed tried again."""
+        """Records a seed's result, or makes the search try the seed again."""
         with self.lock:
             if task.first:
                 task.first.again = outcome

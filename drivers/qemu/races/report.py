@@ -1,4 +1,4 @@
-"""A search's output: a line a seed, a table, JUnit, and a folder for each failure."""
+"""A search's output: one line per seed, a table, JUnit, and a folder for each failure."""
 
 from __future__ import annotations
 
@@ -19,14 +19,14 @@ from windows import Window, text_of, with_tails
 
 ROOT = Path(__file__).resolve().parents[3]
 EVENTS = 3000  # events on the page of a recording
-EVENTS_DOWN = 12_000  # the most events on the page of one time that the card was down
-AFTER = 60  # lines of the recording that follow that time
-TELL_SECONDS = 10  # between two progress lines
+EVENTS_DOWN = 12_000  # maximum number of events on the page of one time that the card was down
+AFTER = 60  # lines of the recording to show after that time
+TELL_SECONDS = 10  # seconds between two progress lines
 
 
 @contextmanager
 def telling(what: Callable[[], str]) -> Iterator[None]:
-    """Prints progress, at once and every ten seconds, with the time taken."""
+    """Prints progress, immediately and every ten seconds, with the time taken."""
     is_over, began = threading.Event(), time.time()
 
     def tell() -> None:
@@ -135,7 +135,7 @@ def keep_record(record: Path) -> None:
 
 
 class Lines:
-    """The lines of a file, and the number of bytes read."""
+    """Iterates over the lines of a file, and counts the bytes read."""
 
     def __init__(self, file: Path) -> None:
         self.file, self.read = file, 0

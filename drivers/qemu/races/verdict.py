@@ -15,7 +15,7 @@ class Finding:
     text: str
 
 
-# Kinds of finding, the worst first, and their meaning. After the first ones (FATAL) a guest isn't used again.
+# Kinds of finding, the worst first, and their meaning. After one of the first kinds (FATAL) a guest isn't used again.
 KINDS = {
     "server": "the server ended",
     "boot": "the guest doesn't boot, or its driver has no interface",
@@ -41,7 +41,7 @@ KINDS = {
 }
 FATAL = frozenset(list(KINDS)[: list(KINDS).index("frames") + 1])
 # Findings that aren't failures, by driver. A busy machine causes them too. A host's reset causes them in its functions,
-# which can't know of it before they are notified.
+# which don't know of the reset before they are notified.
 NOTES = {
     "ixgbe": frozenset(["slow", "not tried"]),
     "ixgbevf": frozenset(["slow", "not tried", "driver", "reset", "tail outside", "tail off"]),
@@ -59,7 +59,7 @@ SPOKEN: Sequence[tuple[str, str]] = (
                r"|not cleared|Failed to|PF still (resetting|in reset)"),
 )  # fmt: skip
 SCRIPT = "script: "  # prefix of each line that the reporter's script prints
-FINE, WRONG, UNTRIED, KILLED = 0, 1, 125, 137  # its statuses; the last means that it was killed
+FINE, WRONG, UNTRIED, KILLED = 0, 1, 125, 137  # the script's statuses; the last one means that it was killed
 RIP = re.compile(r"RIP: \S*?:?([A-Za-z_]\w*)\+0x")
 WARNED = re.compile(r"WARNING: CPU.* at (\S+)|WARNING: (\S+) at (\S+)")
 COUNTED = {
@@ -76,8 +76,8 @@ def without_time(line: str) -> str:
 
 
 def spoken(lines: Sequence[str]) -> Iterator[Finding]:
-    """Yields findings in the kernel's messages, each kind once, with the function if one is named. Ignores the script's
-    output."""
+    """Yields findings in the kernel's messages, each kind once, with the function if the message names one. Ignores the
+    script's output."""
     lines = [it for it in lines if not it.startswith(SCRIPT)]
     for kind, pattern in SPOKEN:
         at = next((i for i, line in enumerate(lines) if re.search(pattern, line)), None)

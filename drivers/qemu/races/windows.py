@@ -1,5 +1,5 @@
-"""Windows in which a driver has its card down: a recording's accesses between RXCTRL = 0 and RXCTRL.RXEN. The card
-may be given no frame in this time; reports tails that moved nevertheless."""
+"""Windows in which a driver has its card down: a recording's accesses between RXCTRL = 0 and RXCTRL.RXEN. The driver
+mustn't give the card a frame in this time. Reports tails that moved nevertheless."""
 
 from __future__ import annotations
 
@@ -34,7 +34,7 @@ class Access:
 
     @property
     def gives(self) -> bool:
-        """Whether the access gives a frame to the card."""
+        """Returns whether the access gives a frame to the card."""
         return self.way == "w" and self.word != 0 and TAIL.fullmatch(self.name) is not None
 
     @property
@@ -53,7 +53,7 @@ class Access:
 
 @dataclass
 class Window:
-    """The accesses while the card was down, and those right before."""
+    """The accesses while the card was down, and the accesses right before."""
 
     before: list[Access]
     accesses: list[Access] = field(default_factory=list)
@@ -96,7 +96,8 @@ def windows(lines: Iterable[str]) -> Iterator[Window]:
 
 
 def rows_of(window: Window) -> Iterator[str]:
-    """Yields the lines for a window: one for each access that matters, and one for all accesses between two of them."""
+    """Yields the lines for a window: one line for each access that matters, and one for all accesses between two such
+    accesses."""
     run: list[Access] = []
     for it in [*window.before, *window.accesses]:
         if not it.mark:

@@ -1,5 +1,5 @@
-"""A guest's work for a seed: a shell script of what people do to an interface, under traffic both ways. The same
-seed and plan make the same script, from the commands in races/guest.sh."""
+"""A guest's work for a seed: a shell script of operations that people perform on an interface, under traffic both ways.
+The same seed and plan make the same script, from the commands in races/guest.sh."""
 
 from __future__ import annotations
 
@@ -7,7 +7,7 @@ import random
 from collections.abc import Callable, Sequence
 from dataclasses import dataclass
 
-# Microseconds between two operations: mostly none, because a race needs two at the same time.
+# Microseconds between two operations: mostly 0, because a race needs two operations at the same time.
 NAPS = (0, 0, 0, 0, 20_000, 100_000, 300_000)
 MTUS = (1500, 1500, 2000, 2500, 3000, 9000)
 FUNCTION_MTUS = (1500, 1400, 1000, 1492)
@@ -17,7 +17,7 @@ SLOTS = (64, 96, 128, 192, 256, 320, 512, 1024)
 @dataclass(frozen=True)
 class Plan:
     """The common settings of all seeds of a search. `own` is "alone" if the reporter's own script replaces the drawn
-    operations, or "beside" if it runs beside them, for at most `limit` seconds a round."""
+    operations, or "beside" if it runs concurrently with them, for at most `limit` seconds per round."""
 
     driver: str = "ixgbe"
     rounds: int = 4

@@ -6,7 +6,7 @@
 #include "mailbox.h"
 
 #define BUS_FRAME_ROOM 65536 /* bytes: the device sends at most 65,531, as MAXFRS limits it, and pads up to 60 */
-#define MAILBOX_REQUESTS 17  /* numbers of requests; the last counts all others */
+#define MAILBOX_REQUESTS 17  /* numbers of requests; the last number counts all others */
 #define MAILBOX_SHOWN 3      /* words of a message that are printed */
 
 /* A register of the physical function, as the bus classifies it. */
@@ -31,7 +31,7 @@ struct request {
 
 struct mailboxes {
     struct request requests[MAILBOX_REQUESTS];
-    int pending[BUS_FUNCTIONS]; /* by function: the unanswered request; 0 if there is none */
+    int pending[BUS_FUNCTIONS]; /* by function: the unanswered request, 0 if there is none */
     uint64_t own_messages;
 };
 

@@ -17,7 +17,7 @@ struct numbered {
     uint32_t *places;                       /* numbers by hash, 0: none */
     bool *has_come;
     uint32_t room;
-    /* used while the frames are being made: */
+    /* used only while the frames are being made: */
     struct frame *frame;
     unsigned int made;
     uint16_t most;

@@ -141,8 +141,8 @@ static void sent(void *of, uint16_t queue, const uint8_t *frame, size_t length)
 }
 
 /* Both sockets of a virtual function see its registers, but each client has its own vectors. The message is sent to the
-   client that has set up its vector. If both have, it is sent to the function's own guest, whichever client accessed a
-   register last. */
+   client that has set up its vector. If both clients have, it is sent to the function's own guest, whichever client
+   accessed a register last. */
 static void on_message(void *of, unsigned int number, unsigned int vector)
 {
     const struct card *it = of;
@@ -170,7 +170,7 @@ void card_add(struct card *it, struct function *function)
         sockets[count] = function;
 }
 
-/* Holds the device if this is an access at which to hold it. */
+/* Holds the device if it is to be held at this access. */
 static void watch(struct card *it, const struct function *function, bool is_write, uint32_t offset, uint32_t word)
 {
     if (!it->stepper.is_held && watch_meets(&it->watch, function->number, is_write, offset, word))
@@ -201,7 +201,7 @@ static void end_reset(struct card *it)
         reset(it, it->stepper.reset.word);
 }
 
-/* With MSI, a cause that an access cleared counts as new when it is raised again, even if both happen in one turn. */
+/* With MSI, a cause that an access clears counts as new when it is raised again, even if both happen in one turn. */
 static void follow_causes(const struct card *it, struct function *function)
 {
     if (function_has_line(function))
@@ -324,7 +324,7 @@ bool card_may_go_on(struct card *it, const struct function *function)
 
 /* ---- steps ---- */
 
-/* Returns whether only its tag makes a frame longer than the device accepts. */
+/* Returns whether a frame is longer than the device accepts only because of its tag. */
 static bool is_long_by_its_tag(const struct card *it, const uint8_t *frame, size_t length)
 {
     bool is_tagged = length > TAG_AT + 1 && frame[TAG_AT] == TAG_HIGH && frame[TAG_AT + 1] == 0;
@@ -559,7 +559,7 @@ bool card_pump(struct card *it)
     return it->is_busy;
 }
 
-/* A pending reset isn't held, because it has begun. */
+/* A pending reset isn't held, because it has already begun. */
 void card_hold(struct card *it)
 {
     if (it->stepper.reset.word)

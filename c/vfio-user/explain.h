@@ -12,7 +12,7 @@
 bool explain_start(void);
 /* Returns a file that becomes readable when there is an answer; -1 if there is no thread. */
 int explain_file(void);
-/* Returns whether the thread can take a question now. */
+/* Returns whether the thread is free for a question. */
 bool explain_is_free(void);
 /* Starts explaining the card's current state. Returns false if memory runs out. */
 bool explain_ask(struct card *card);

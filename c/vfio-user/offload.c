@@ -226,7 +226,8 @@ static void sum_ip(const struct offload_job *job, uint8_t *frame, size_t length)
     put16(ip + IP_SUM, folded(sum_of(0, ip, job->ip_length)));
 }
 
-/* The driver has left the pseudo header's sum in the field; `more` is the part of it that depends on the length. */
+/* The driver has stored the pseudo header's sum in the field; `more` is the part of the sum that depends on the
+   length. */
 static void sum_l4(const struct offload *it, const struct offload_job *job, uint8_t *frame, size_t length,
                    uint32_t more)
 {
@@ -280,7 +281,7 @@ static void put_out(struct offload *it, const struct offload_job *job, size_t le
     sink(to, it->frame, length);
 }
 
-/* Writes the headers of a large send's segment: `many` bytes from offset `at` of the whole send. */
+/* Writes the headers of a large send's segment, which has `many` bytes from offset `at` of the whole send. */
 static void put_headers(struct offload *it, const struct offload_queue *of, size_t head, size_t at, size_t many)
 {
     const struct offload_job *job = &of->job;

@@ -18,7 +18,7 @@
 
 #define OFFLOAD_QUEUES 128
 #define OFFLOAD_CONTEXTS 2
-#define OFFLOAD_LARGEST (256u * 1024 + 512) /* bytes of a large send: 18 bits of PAYLEN, and headers */
+#define OFFLOAD_LARGEST (256u * 1024 + 512) /* bytes of a large send: PAYLEN's 18 bits, and headers */
 #define OFFLOAD_FRAME_MOST 65536u           /* bytes of a frame passed to the sink */
 #define OFFLOAD_STAND_IN 60u                /* bytes of the frame that the device sends in a large send's place */
 
@@ -61,13 +61,15 @@ void offload_free(struct offload *it);
 struct offload *offload_copy(const struct offload *it);
 void offload_become(struct offload *it, struct offload *copy);
 
-/* Takes a context descriptor on its way to the device. */
+/* Reads a context descriptor on its way to the device. */
 void offload_context(struct offload *it, unsigned int queue, uint64_t first, uint64_t second);
-/* Takes a data descriptor with its bytes. Returns the second half that the device gets, and sets *length to the number
-   of bytes that it gets. `legacy` is null, or what a legacy descriptor requests; then `tag` is its tag. */
+/* Processes a data descriptor with its bytes. Returns the second half that the device gets, and sets *length to the
+   number of bytes that it gets. `legacy` is null, or the checksum that a legacy descriptor requests; then `tag` is its
+   tag. */
 uint64_t offload_data(struct offload *it, unsigned int queue, uint64_t second, const uint8_t *bytes, size_t *length,
                       const struct legacy_sum *legacy, uint16_t tag);
-/* Completes a frame that the device sent from this queue, and passes it to the sink. A large send waits to be cut. */
+/* Completes a frame that the device sent from this queue, and passes it to the sink. A large send waits to be cut into
+   segments. */
 void offload_sent(struct offload *it, unsigned int queue, const uint8_t *frame, size_t length, offload_sink *sink,
                   void *to);
 /* Returns whether segments of a large send wait in this queue: then its next descriptors have to wait too. */
@@ -75,7 +77,7 @@ bool offload_is_cutting(const struct offload *it, unsigned int queue);
 /* Sends segments until the budget is spent or none is left. */
 void offload_cut(struct offload *it, unsigned int queue, struct budget *budget, offload_sink *sink, void *to);
 
-/* Discards the frame that a queue had begun, because the queue was enabled again. */
+/* Discards the unfinished frame of a queue that was enabled again. */
 void offload_give_up(struct offload *it, unsigned int queue);
 /* Discards everything of a queue that was reset or got another owner. */
 void offload_forget(struct offload *it, unsigned int queue);

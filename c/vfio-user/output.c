@@ -47,7 +47,7 @@ void output_begin(struct output *it, int file)
 }
 
 /* Returns the number of bytes written; 0 if none can be now; -1 if none ever will. A pipe that couldn't be opened again
-   gets one piece at a time, when poll reports room. */
+   gets one chunk at a time, when poll reports room. */
 static ssize_t try_to_write(struct output *it, const uint8_t *bytes, size_t length)
 {
     struct pollfd room = {it->file, POLLOUT, 0};

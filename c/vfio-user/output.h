@@ -1,5 +1,5 @@
 /* A file that is written without waiting for its reader. If a pipe, a terminal or a socket accepts no more, whole
-   records are lost and counted, but never a part of one. A file on a disk accepts everything. */
+   records are lost and counted, but never part of a record. A file on a disk accepts everything. */
 #ifndef VFU_OUTPUT_H
 #define VFU_OUTPUT_H
 
@@ -10,7 +10,7 @@
 
 #include "buffer.h"
 
-#define OUTPUT_KEPT (256u << 10) /* maximum of bytes that wait for a reader */
+#define OUTPUT_KEPT (256u << 10) /* maximum number of bytes that wait for a reader */
 
 struct output {
     int file; /* -1: none */
@@ -30,7 +30,7 @@ void output_begin(struct output *it, int file);
 void output_put(struct output *it, const void *bytes, size_t length);
 /* Writes the kept bytes as far as possible. */
 void output_flush(struct output *it);
-/* Writes the kept bytes as far as possible in this many milliseconds, and closes the file unless output_begin got
+/* Writes the kept bytes as far as possible in this many milliseconds, and closes the file unless output_begin was given
    it. */
 void output_end(struct output *it, int milliseconds);
 /* Returns a stream that makes each line a record of the output; null if memory runs out. */

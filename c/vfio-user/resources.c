@@ -15,7 +15,7 @@
 
 #define OWN_FILES 40u      /* standard files, control, wire, and outputs */
 #define MEMORY_LEAST 4u    /* memory files of each client */
-#define FILES_MOST 65536u  /* the most files to request */
+#define FILES_MOST 65536u  /* the largest number of files to request */
 #define OWN_MAPPINGS 2048u /* mappings of the program itself */
 #define MAPPINGS_USUAL 65530u
 #define ADDRESSES (UINT64_C(1) << 46) /* bytes for clients' memory, half of a process's address space */
@@ -60,7 +60,8 @@ static unsigned int ranges_of(unsigned int clients)
     return between(each > MEMORY_RETIRED_MOST ? each - MEMORY_RETIRED_MOST : 0, MEMORY_RETIRED_MOST, VFU_MAPS_MOST);
 }
 
-/* Returns the limit of a client's memory for the requested one. Removed memory counts again until it is unmapped. */
+/* Returns the limit of a client's memory for the requested limit. Removed memory counts a second time until it is
+   unmapped. */
 static uint64_t bytes_of(unsigned int clients, uint64_t asked)
 {
     struct sysinfo machine;

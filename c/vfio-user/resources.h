@@ -1,5 +1,5 @@
-/* Shares the files, mappings and addresses that this process may have among its clients, so that none takes
-   another's. */
+/* Divides the files, mappings and addresses that this process may have among its clients, so that no client takes
+   another client's share. */
 #ifndef VFU_RESOURCES_H
 #define VFU_RESOURCES_H
 
@@ -7,8 +7,8 @@
 #include <stdint.h>
 
 /* Raises the number of open files to the limit (ulimit -Hn), and limits the memory of each client to `bytes`, or (0) to
-   as much as the machine has. `vectors` is the number of all their vectors. Returns false if there are too few files,
-   after a line that says how many are needed. */
+   as much as the machine has. `vectors` is the total number of their vectors. If there are too few files, prints how
+   many are needed and returns false. */
 bool resources_share(unsigned int clients, unsigned int vectors, uint64_t bytes, bool trusts_files);
 
 #endif

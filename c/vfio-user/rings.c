@@ -31,10 +31,10 @@ struct ahead {
 };
 
 struct ring {
-    struct dma_address base; /* belongs to the client that set the ring up */
-    struct dma_address head; /* a transmit queue's head write-back, belongs to the client that set it */
+    struct dma_address base; /* address in the memory of the client that set up the ring */
+    struct dma_address head; /* a transmit queue's head write-back, in the memory of the client that set it */
     uint32_t place, blocks;  /* blocks in the device's memory; 0: none */
-    uint32_t lent;           /* the lent one of these blocks; 0: none, or all if the device is recorded */
+    uint32_t lent;           /* the block that is lent; 0: none, or all if the device is recorded */
     uint32_t slots;
     bool is_legacy;  /* receive: the driver selected legacy descriptors */
     bool has_drop;   /* receive: the server set SRRCTL.DROP_EN, not the driver */
@@ -90,8 +90,8 @@ static uint32_t block_of(const struct ring *ring, uint32_t slot)
     return ring->place + slot * NIC_DESC_BYTES / NIC_BLOCK_BYTES;
 }
 
-/* Lends the device only the block of a ring that contains its next slot. So a long ring doesn't make the device larger
-   than a short one, and copying it takes no longer. A recording contains whole rings, to draw them. */
+/* Lends the device only the block of a ring that contains its next slot. So a device with long rings is no larger than
+   a device with short rings, and copying it takes no longer. A recording contains whole rings, to draw them. */
 static void lend_slot(struct rings *it, struct ring *ring, uint32_t slot)
 {
     uint32_t block = block_of(ring, slot);
@@ -115,7 +115,7 @@ static void refuse(struct rings *it, const char *what, struct dma_address where,
     it->options.refused(it->options.of, what, where.of, queue, where, length);
 }
 
-/* Reports what a client did to a ring, which may be another's. */
+/* Reports what a client did to a ring, which may be another client's. */
 static void refuse_ring(struct rings *it, const char *what, struct dma by, const struct ring *ring, uint16_t queue)
 {
     it->counts.refused++;
@@ -237,7 +237,7 @@ static bool is_nobody(struct dma client)
     return dma_is(client, (struct dma){0});
 }
 
-/* Discards what an offload knows of the side's queue, so that the next client can't see it. */
+/* Discards the offload's state for the side's queue, so that the next client can't see it. */
 static void forget_offload(struct rings *it, enum side side, uint16_t queue)
 {
     if (it->options.offload && side == TRANSMIT)
@@ -304,15 +304,15 @@ static bool check_owner(struct rings *it, enum side side, uint16_t queue, struct
 
 /* ---- register accesses ---- */
 
-/* Makes the device drop frames for a virtual function that has no room, because waiting in front of the queues they
-   would block everybody's. On the card, the host does this with QDE, which the device doesn't have. */
+/* Makes the device drop frames for a virtual function that has no room. If they waited in front of the queues, they
+   would block everybody's frames. On the card, the host does this with QDE, which the device doesn't have. */
 static uint32_t add_drop(struct ring *ring, struct dma client, uint32_t control)
 {
     ring->has_drop = dma_function(client) && !(control & NIC_SRRCTL_DROP_EN);
     return ring->has_drop ? control | NIC_SRRCTL_DROP_EN : control;
 }
 
-/* If a queue's SRRCTL was never written, it is as on the card: legacy descriptors, 2 KB. */
+/* A queue's SRRCTL that was never written has the card's initial value: legacy descriptors, 2 KB. */
 static uint32_t add_legacy(struct ring *ring, uint32_t control)
 {
     ring->is_legacy = true;
@@ -333,8 +333,7 @@ static void start_receiving(struct rings *it, uint16_t queue, struct dma client)
         nic_write32(it->options.device, NIC_SRRCTL(queue), control);
 }
 
-/* A queue that is enabled again doesn't begin with old descriptors read ahead, or with the offload of an unfinished
-   frame. */
+/* A queue that is enabled again begins without old descriptors read ahead and without an unfinished frame's offload. */
 static void enable(struct rings *it, enum side side, uint16_t queue, struct dma client, uint32_t word)
 {
     struct ring *ring = &it->rings[side][queue];
@@ -493,7 +492,7 @@ static uint32_t slots_between(const struct ring *ring, uint32_t from, uint32_t t
     return to >= from ? to - from : ring->slots - from + to;
 }
 
-/* Discards old descriptors of slots that are handed over, and reads the first new ones, as many as fit. */
+/* Discards old descriptors of slots that are handed over, and reads as many of the new ones as fit. */
 static void read_ahead(struct rings *it, struct ring *ring, uint32_t from, uint32_t to, bool fetches)
 {
     uint32_t given = slots_between(ring, from, to), reads = given < RINGS_AHEAD ? given : RINGS_AHEAD;
@@ -535,7 +534,8 @@ void rings_tail(struct rings *it, struct dma client, bool is_transmit, uint16_t 
     ring->next_ahead = tail;
 }
 
-/* A ring's next slot: head and tail meet; the device has it, or can't have it; or it is due. */
+/* A ring's next slot. NO_SLOT: head and tail meet. SLOT_IS_GIVEN: the device has the slot, or can't get it.
+   SLOT_TO_GIVE: the slot is due. */
 enum next { NO_SLOT, SLOT_IS_GIVEN, SLOT_TO_GIVE };
 
 /* Finds the slot that the device processes next. */
@@ -593,11 +593,11 @@ static void give_receive(struct rings *it, uint16_t queue)
         note_slot(it, RECEIVE, queue, slot, ring->buffer.at);
         descriptor = (nic_desc){bus_of(place), 0};
     }
-    /* if the guest's descriptor isn't readable, this one points to nothing: a fault */
+    /* if the guest's descriptor isn't readable, this descriptor points to nothing: a fault */
     put_slot(it, ring, slot, descriptor);
 }
 
-/* Translates a guest's data descriptor for the device, with its bytes copied to its queue's place. */
+/* Translates a guest's data descriptor for the device, and copies its bytes to the queue's buffer. */
 static nic_desc data_for_device(struct rings *it, struct ring *ring, uint16_t queue, nic_desc guest)
 {
     struct offload *offload = it->options.offload;

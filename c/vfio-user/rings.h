@@ -1,13 +1,13 @@
-/* Maps guests' memory of any size into the device's 128 MiB of bus addresses. To the guest, base registers and
-   descriptors contain the guest's addresses; to the device, the device's. Each ring has a place of its length in the
-   device's memory, and each queue has a place for its current buffer. The first descriptors that a tail hands over are
+/* Maps guests' memory of any size into the device's 128 MiB of bus addresses. The guest sees its own addresses in base
+   registers and descriptors; the device sees the device's addresses. Each ring has blocks for its length in the
+   device's memory, and each queue has blocks for its current buffer. The first descriptors that a tail hands over are
    read immediately, as the card prefetches; later ones are read when the device reaches them. A buffer is read when the
    device acts on it.
 
    A ring belongs to the client that set it up: its descriptors and buffers are in that client's memory. When another
    client writes the base or the length, everything about the ring is discarded. When another client writes the tail or
    the buffer size, or enables the ring, or its own client leaves, the ring stops: the queue is disabled, and any
-   further fetch of the device is a fault.
+   further fetch by the device is a fault.
 
    Only the 2 KB of a ring around its next slot are lent to the device. So the cost of keeping, copying or examining the
    device is bounded by the number of rings.
@@ -32,8 +32,8 @@
 #define RING_BYTES_MOST 0x80000u /* 32,768 descriptors: the card's maximum */
 #define RINGS_AHEAD 64u          /* descriptors of a ring that are read ahead */
 
-/* Reports a failed access or a driver's mistake. `what` is a noun, `by` is the client with this driver, and `where` is
-   an address of the ring's client. */
+/* Reports a failed access or a driver's mistake. `what` is a noun, `by` is the client whose driver did it, and `where`
+   is an address in the memory of the ring's client. */
 typedef void rings_refused(void *of, const char *what, struct dma by, uint16_t queue, struct dma_address where,
                            size_t length);
 
@@ -65,15 +65,15 @@ void rings_become(struct rings *it, struct rings *copy);
 uint32_t rings_to_device(struct rings *it, struct dma client, const struct bus_access *at, uint32_t word);
 uint32_t rings_to_driver(const struct rings *it, const struct bus_access *at, uint32_t word);
 
-/* A client is about to write a tail. If `fetches`, the first descriptors up to it are read now. */
+/* Called when a client is about to write a tail. If `fetches`, the first descriptors up to the tail are read now. */
 void rings_tail(struct rings *it, struct dma client, bool is_transmit, uint16_t queue, uint32_t tail, bool fetches);
-/* A head was written, or a queue reset: discards what was read ahead. */
+/* Called when a head was written or a queue was reset: discards what was read ahead. */
 void rings_head(struct rings *it, bool is_transmit, uint16_t queue, uint32_t head);
 void rings_reset(struct rings *it, uint16_t queue);
 
 /* Stops the rings of a client that leaves or is reset. */
 void rings_stop_all(struct rings *it, struct dma client);
-/* The client's ranges of memory changed: discards what was read ahead from rings that lost their memory. */
+/* Called when the client's ranges of memory changed: discards what was read ahead from rings that lost their memory. */
 void rings_remapped(struct rings *it, struct dma client);
 /* Returns the ring's owner; without a function if the ring was stopped or not set up. */
 struct dma rings_owner(const struct rings *it, bool is_transmit, uint16_t queue);
@@ -88,9 +88,9 @@ void rings_prepare_receive(struct rings *it);
    device and these rings are copies, or, if it is recorded, the originals. */
 void rings_fill(struct rings *it, nic *device);
 
-/* The device wrote these bytes: part of a frame, or a receive descriptor. */
+/* Called when the device wrote these bytes: part of a frame, or a receive descriptor. */
 void rings_written(struct rings *it, uint64_t bus, size_t length);
-/* The device wrote back a transmit descriptor of this queue, or its head. */
+/* Called when the device wrote back a transmit descriptor of this queue, or its head. */
 void rings_written_back(struct rings *it, uint16_t queue, uint64_t bus);
 
 #endif

@@ -12,8 +12,8 @@
 #include "log.h"
 #include "resources.h"
 
-#define FRAMES_MOST 64 /* frames that arrive before others have their turn */
-#define LATE_MS 1      /* between the times when delayed steps may run */
+#define FRAMES_MOST 64 /* number of frames that may arrive before others have their turn */
+#define LATE_MS 1      /* time between two runs of delayed steps */
 
 /* The files to poll, by their owners. */
 struct events {
@@ -86,7 +86,7 @@ static bool open_functions(struct server *it)
     return true;
 }
 
-/* Each function has a socket, and a virtual one a second for its shadow. */
+/* Each function has a socket, and each virtual function has a second socket for its shadow. */
 static bool share_resources(const struct options *options)
 {
     unsigned int clients = 1 + 2 * options->card.functions;
@@ -127,7 +127,7 @@ void server_close(struct server *it)
 
 /* ---- run ---- */
 
-/* Frames of a file wait until the card receives. */
+/* Frames from a file wait until the card can receive. */
 static bool plays(const struct server *it)
 {
     return it->wire.played && bus_peek(it->card.bus, NIC_RXCTRL) & NIC_RXCTRL_RXEN && card_has_room(&it->card);
@@ -205,7 +205,7 @@ static void serve_functions(struct server *it, const struct events *events)
     }
 }
 
-/* Unmaps removed memory of clients, a piece of each in a turn. */
+/* Unmaps removed memory of clients, some of each client's memory in each turn. */
 static bool give_back(struct server *it)
 {
     bool left = false;
@@ -214,7 +214,7 @@ static bool give_back(struct server *it)
     return left;
 }
 
-/* Returns whether there is work that waits for no event, only for the next turn. */
+/* Returns whether there is work that waits only for the next turn, not for an event. */
 static bool has_more(const struct server *it)
 {
     if (card_has_room(&it->card) && (wire_has_more(&it->wire, plays(it)) || traffic_has_more(&it->traffic)))

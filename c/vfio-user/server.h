@@ -29,7 +29,7 @@ struct server {
 
 /* Opens everything. Returns false after a line on standard error that says what couldn't be opened. */
 bool server_open(struct server *it);
-/* Serves until an end is requested (ending.h), or the client of --fd has gone. */
+/* Serves until an end is requested (ending.h), or the client of --fd has disconnected. */
 void server_run(struct server *it);
 void server_close(struct server *it);
 

@@ -12,7 +12,7 @@
 
 #define CAPABILITIES_MOST 200 /* maximum size of the text in bytes */
 
-/* A message being answered. `reply` is the number of bytes of its body in the reply. */
+/* A message being answered. `reply` is the number of bytes in the reply's body. */
 struct work {
     struct session *session;
     struct message *message;
@@ -24,7 +24,7 @@ struct work {
 
 /* ---- common checks ---- */
 
-/* The only place that compares a range with what exists. */
+/* The only place where a range is checked against what exists. */
 static bool is_inside(uint64_t first, uint64_t count, uint64_t all)
 {
     return count <= all && first <= all - count;
@@ -191,7 +191,7 @@ static int irq_info(struct work *it)
     return 0;
 }
 
-/* Returns whether others have their turn before the rest of a message. */
+/* Returns whether other clients have their turn before the rest of a message. */
 static bool may_not_go_on(const struct work *it)
 {
     return budget_is_late(it->began) || !it->session->calls->may_go_on(it->session->function);
@@ -206,7 +206,7 @@ static int give_files(struct work *it, struct vectors *to, uint32_t start, uint3
             continue;
         error = EINVAL;
         if (i < it->message->file_count)
-            it->message->files[i] = file; /* closed with the message's others */
+            it->message->files[i] = file; /* closed together with the message's other files */
     }
     return error;
 }
@@ -243,7 +243,7 @@ static int give_unmask(struct work *it)
 {
     int file = take_file(it->message, 0);
     if (!line_unmask_by(&it->session->line, file)) {
-        it->message->files[0] = file; /* closed with the message's others */
+        it->message->files[0] = file; /* closed together with the message's other files */
         return EINVAL;
     }
     it->session->calls->rearmed(it->session->function);
@@ -513,7 +513,7 @@ static bool end_unless_open(struct session *it, enum channel_state state)
     return false;
 }
 
-/* Messages that a client sent before it left are served too, unless they have to wait. */
+/* Messages that a client sent before it disconnected are served too, unless they have to wait. */
 bool session_serve(struct session *it)
 {
     uint64_t began = budget_time();

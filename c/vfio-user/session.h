@@ -21,7 +21,7 @@ struct session_calls {
     void (*remapped)(void *function);
     /* called after the client changed how it receives interrupts while MSI-X is off */
     void (*rearmed)(void *function);
-    /* a message was served; returns false if others have their turn before the next one */
+    /* called after a message was served; returns false if others have their turn before the next message */
     bool (*may_serve)(void *function);
     /* called after part of a message; returns false if others have their turn before the rest of it */
     bool (*may_go_on)(void *function);
@@ -40,9 +40,9 @@ struct session {
     void *function;
     const char *name; /* name of the socket, for lines on standard error */
     bool has_version, has_reported_memory;
-    bool is_stalled;   /* received messages wait for replies to be sent, or for memory to be unmapped */
-    bool is_paused;    /* received messages wait for the next turn */
-    bool is_continued; /* the rest of the current message waits for the next turn too */
+    bool is_stalled;   /* whether received messages wait for replies to be sent, or for memory to be unmapped */
+    bool is_paused;    /* whether received messages wait for the next turn */
+    bool is_continued; /* whether the rest of the current message waits for the next turn too */
     struct message message;
     uint64_t done; /* parts of the current message that are done: writes, or vectors */
     int error;     /* result of the current message so far */
@@ -61,15 +61,15 @@ bool session_serve(struct session *it);
 bool session_flush(struct session *it);
 /* Reads the eventfd with which the client unmasks the line, once and without blocking. */
 void session_unmask(struct session *it);
-/* Returns whether the session receives more now: not while replies wait to be read, nor while much removed memory of
-   its client is still mapped. */
+/* Returns whether the session receives more now. It doesn't while replies wait to be read, or while much of its
+   client's removed memory is still mapped. */
 bool session_is_ready(const struct session *it);
 /* Returns whether received messages wait for the next turn, in which session_serve continues. */
 bool session_is_paused(const struct session *it);
 void session_close(struct session *it);
-/* Returns whether the client is waiting for work that the server does in pieces. */
+/* Returns whether the client is waiting for work that the server does in several turns. */
 bool session_is_busy(const struct session *it);
-/* Unmaps a piece of the client's removed memory. Returns whether some is left. */
+/* Unmaps part of the client's removed memory. Returns whether some remains. */
 bool session_give_back(struct session *it);
 /* Unmaps everything at the end, after the session was closed. */
 void session_end(struct session *it);

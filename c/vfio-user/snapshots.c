@@ -22,7 +22,7 @@ static struct snapshot *find(struct snapshots *it, const char *name)
     return NULL;
 }
 
-/* Takes everything, or returns false and takes nothing. */
+/* Saves everything, or returns false and saves nothing. */
 static bool take(struct snapshot *it, const struct card *card)
 {
     it->rings = rings_copy(card->rings);

@@ -12,7 +12,7 @@ struct snapshot {
     char name[SNAPSHOT_NAME];
     nic_kept device;
     struct rings *rings;
-    struct offload *offload; /* null: the card has none */
+    struct offload *offload; /* null: the card has no offloads */
     struct stepper stepper;
     struct arrivals arrivals;
 };

@@ -2,7 +2,7 @@
 
 #include <stddef.h>
 
-#define RESET_TOSSES 4u /* they select one of sixteen durations of a reset, up to 0.9 ms */
+#define RESET_TOSSES 4u /* coin tosses that select one of sixteen durations of a reset, up to 0.9 ms */
 #define RESET_STEP 60000u
 
 void stepper_begin(struct stepper *it)

@@ -25,9 +25,9 @@ struct traffic {
 
 void traffic_begin(struct traffic *it, const uint8_t card[6]);
 void traffic_end(struct traffic *it);
-/* Sends `count` frames of FRAME_MIN to `most` bytes to the card; or expects them from it, and returns false if memory
-   runs out. Expected frames are made in pieces: while traffic_is_busy, traffic_prepare makes about `bytes` bytes of
-   frames. */
+/* traffic_send sends `count` frames of FRAME_MIN to `most` bytes to the card. traffic_expect expects them from it, and
+   returns false if memory runs out. Expected frames are made in pieces: while traffic_is_busy, traffic_prepare makes
+   about `bytes` bytes of frames. */
 void traffic_send(struct traffic *it, unsigned int count, uint16_t most);
 bool traffic_expect(struct traffic *it, unsigned int count, uint16_t most, const uint8_t from[6]);
 void traffic_prepare(struct traffic *it, size_t bytes);
@@ -35,7 +35,7 @@ bool traffic_is_busy(const struct traffic *it);
 /* Returns the next frame for the card; null if there is none. */
 const struct frame *traffic_next(struct traffic *it);
 bool traffic_has_more(const struct traffic *it);
-/* Compares a frame of the card if its destination is the peer's address. */
+/* Compares a frame from the card if its destination is the peer's address. */
 void traffic_take(struct traffic *it, const uint8_t *frame, size_t length);
 
 #endif

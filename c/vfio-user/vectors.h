@@ -1,4 +1,5 @@
-/* The MSI-X vectors of a function: the eventfd that signals each to its client, and the messages waiting for one. */
+/* The MSI-X vectors of a function: the eventfd that signals each vector to its client, and the messages that wait for
+   an eventfd. */
 #ifndef VFU_VECTORS_H
 #define VFU_VECTORS_H
 

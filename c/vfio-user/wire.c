@@ -137,7 +137,7 @@ static void flush(struct wire *it)
         flush_stream(it);
 }
 
-/* Keeps a frame after its length. Beyond `most` bytes, frames are lost. */
+/* Stores a frame after its length. Beyond `most` bytes, frames are lost. */
 static bool keep(struct wire *it, struct buffer *buffer, size_t most, const uint8_t *frame, size_t length)
 {
     uint8_t head[LENGTH_BYTES];
@@ -198,7 +198,7 @@ void wire_send(struct wire *it, unsigned int sender, const uint8_t *frame, size_
 
 /* ---- frames for the card ---- */
 
-/* Returns the sender with waiting frames that has its turn; WIRE_SENDERS if nothing is waiting. */
+/* Returns the sender with waiting frames whose turn it is; WIRE_SENDERS if nothing is waiting. */
 static unsigned int next_local(const struct wire *it)
 {
     for (unsigned int i = 0; i < WIRE_SENDERS; i++) {
@@ -222,7 +222,7 @@ static size_t from_local(struct wire *it)
     return length;
 }
 
-/* Returns whether a whole frame has arrived, or something that can't be a frame. Until then the stream is read. */
+/* Returns whether a whole frame has arrived, or bytes that can't be a frame. Until then the stream is read. */
 static bool has_frame(const struct wire *it)
 {
     size_t waiting = buffer_waiting(&it->in);

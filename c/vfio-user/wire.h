@@ -16,9 +16,9 @@
 #include "connector.h"
 
 #define WIRE_FRAME_MOST 65536u  /* bytes: no card sends or accepts a longer frame */
-#define WIRE_LENGTH_MOST 69632u /* QEMU sends nothing longer, so a longer frame isn't in its format */
+#define WIRE_LENGTH_MOST 69632u /* QEMU sends no longer frame, so a longer one isn't valid */
 #define WIRE_KEPT (16u << 20)
-#define WIRE_COMING_BACK (1u << 20) /* bytes kept of replies and hairpins for each sender */
+#define WIRE_COMING_BACK (1u << 20) /* bytes of replies and hairpins kept for each sender */
 #define WIRE_SENDERS BUDGET_PAYERS  /* senders of frames: clients by their sockets, and the other payers */
 #define WIRE_POLLS 2
 
@@ -52,7 +52,7 @@ struct wire {
     struct buffer in;                  /* bytes received from a stream */
     struct buffer local[WIRE_SENDERS]; /* replies and hairpins for each sender, after their lengths */
     unsigned int next_local;           /* the sender with the next turn */
-    bool others_turn;                  /* before `local`, the other end or the played file has its turn */
+    bool others_turn;                  /* whether the other end or the played file has its turn before `local` */
     struct output capture;
     FILE *played;
     struct capture_reader play;
@@ -64,15 +64,15 @@ bool wire_open(struct wire *it, const struct wire_options *options);
 void wire_close(struct wire *it);
 
 /* With `is_cut`, the card's link goes down: a stream's other end is disconnected, and can't connect until the link is
-   up again. Without it, the link goes up; if it is up already, the only effect is that an end that has gone counts as
-   never connected. */
+   up again. Without it, the link goes up; if it is already up, the only effect is that an end that has disconnected
+   counts as never connected. */
 void wire_cut(struct wire *it, bool is_cut);
 /* Returns whether a stream's other end was connected and has disconnected. */
 bool wire_is_gone(const struct wire *it);
 
 /* Sends a frame of the card. `sender` is the owner of its ring. */
 void wire_send(struct wire *it, unsigned int sender, const uint8_t *frame, size_t length);
-/* Takes the next frame for the card, padded to 60 bytes, into it->frame. Returns its length; 0 if none is waiting. With
+/* Stores the next frame for the card, padded to 60 bytes, in it->frame. Returns its length; 0 if none is waiting. With
    `plays`, this includes the file's frames. Replies and hairpins for each sender and frames from the other end take
    turns, so none starves the others. */
 size_t wire_next(struct wire *it, bool plays);

@@ -1,5 +1,5 @@
-/* A guest's requests are served in pieces, with other clients' turns in between, and each is answered correctly or
-   refused by name: endless large sends, frames of every length, tails all around a ring, abandoned offloads, IPsec.
+/* A guest's requests are served in pieces, with other clients' turns in between, and each request is answered correctly
+   or refused by name: endless large sends, frames of every length, tails all around a ring, abandoned offloads, IPsec.
    bounds FOLDER */
 #define _GNU_SOURCE
 #include <signal.h>
@@ -18,7 +18,7 @@
 
 #define RAM_BYTES (2u << 20)
 #define RAM 0x40000000u
-#define BUFFER 0x100000u /* after the longest ring */
+#define BUFFER 0x100000u /* after the longest possible ring */
 #define SLOTS_MOST 32768u
 #define SECTXSTAT 0x08804u
 #define SECRXSTAT 0x08D04u
@@ -168,8 +168,8 @@ static void lengths(struct peer *it)
 
 /* ---- offloads ---- */
 
-/* Begins a frame that requests an offload. The driver or a fault disables its queue, and it is enabled again. The next
-   frame isn't affected. */
+/* Begins a frame that requests an offload. The driver or a fault disables its queue, and the queue is enabled again.
+   The next frame isn't affected. */
 static void given_up(struct peer *it, uint64_t asks, bool faults)
 {
     memset(ram + BUFFER, 'o', 200);
@@ -259,7 +259,8 @@ static void pass_both_ways(struct peer *host)
     CHECK(memcmp(ram + buffer, frame, 60) == 0);
 }
 
-/* During the function's endless work, the host is served and its frames pass. A request at the control socket ends. */
+/* During the function's endless work, the host is served and its frames pass. A request at the control socket
+   terminates. */
 static void endless(struct peer *host, struct peer *function)
 {
     uint32_t tail = make_endless();
@@ -296,8 +297,8 @@ static void ends(void)
 
 /* ---- expected frames ---- */
 
-/* The host gets its answers while a million frames are made. Returns false if they were made first, which can happen if
-   this process gets the CPU late. */
+/* The host gets its answers while a million frames are made. Returns false if the frames were made first, which can
+   happen if this process gets the CPU late. */
 static bool is_served_meanwhile(struct peer *host)
 {
     CHECK(strstr(peer_request(control, "expect 1000000 9014"), "ok"));

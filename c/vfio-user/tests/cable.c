@@ -1,5 +1,5 @@
-/* The link follows the wire: the card's link goes down when a stream's other end disconnects, and up when it is back.
-   `link down` disconnects the other end, so that the peer's link can follow too. */
+/* The link follows the wire: the card's link goes down when a stream's other end disconnects, and up when it
+   reconnects. `link down` disconnects the other end, so that the peer's link can follow too. */
 #define _GNU_SOURCE
 #include <poll.h>
 #include <string.h>
@@ -40,7 +40,7 @@ static bool is_let_go(int file)
     return poll(&end, 1, WAIT_MS) == 1 && recv(file, &byte, 1, MSG_DONTWAIT) == 0;
 }
 
-/* Checks that a frame from this connection reaches the device, which counts it whether or not it lets it in. */
+/* Checks that a frame from this connection reaches the device, which counts the frame whether or not it accepts it. */
 static void arrives(int file, int control)
 {
     static const uint8_t frame[60] = {0xFF, 0xFF, 0xFF, 0xFF, 0xFF, 0xFF, 0x02};
@@ -79,7 +79,7 @@ static void is_unplugged(int second, int control)
     CHECK(strncmp(peer_request(control, "link up"), "done", 4) == 0);
     CHECK(is_up());
     arrives(third, control);
-    /* the link already was up: the connection stays */
+    /* the link was already up, so the connection stays */
     CHECK(strstr(peer_request(control, "link up"), "ok") && is_up());
     arrives(third, control);
     close(third);

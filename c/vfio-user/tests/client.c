@@ -16,7 +16,7 @@
 #include "peer/peer.h"
 
 #define RAM_BYTES (1u << 20)
-#define RAM 0x40000000u /* start of memory: above what the device can address */
+#define RAM 0x40000000u /* start of memory: above the addresses that the device can use */
 #define PAGE 4096u
 #define RX_RING 0x1000u
 #define TX_RING 0x2000u
@@ -120,8 +120,8 @@ static void bad_accesses(struct peer *it)
     CHECK(reply[16] == 0xFF && reply[17] == 0xFF);
 }
 
-/* This process keeps no end of the socket: the server closes received files later. Until then, an open end here would
-   hide that its client has left. */
+/* This process keeps neither end of the socket, because the server closes received files later. Until then, an open end
+   here would hide that its client has left. */
 static void map_socket(struct peer *it)
 {
     int other = socket(AF_UNIX, SOCK_STREAM | SOCK_CLOEXEC, 0);
@@ -142,7 +142,7 @@ static void map_memory(struct peer *it)
     CHECK(peer_map(it, RAM, RAM_BYTES, 0, 3, ram_file) == 0);
     CHECK(peer_map(it, RAM, PAGE, 0, 3, ram_file) == EEXIST);
     CHECK(peer_map(it, RAM + RAM_BYTES - PAGE, 2 * PAGE, 0, 3, ram_file) == EEXIST);
-    /* the firmware has RAM mapped again, in pieces */
+    /* the firmware makes QEMU map RAM again, in pieces */
     CHECK(peer_unmap(it, RAM, PAGE) == EINVAL && peer_unmap(it, RAM - PAGE, RAM_BYTES + 2 * PAGE) == 0);
     CHECK(peer_map(it, RAM, 3 * PAGE, 0, 3, ram_file) == 0);
     CHECK(peer_map(it, RAM + 3 * PAGE, RAM_BYTES - 3 * PAGE, 3 * PAGE, 3, ram_file) == 0);
@@ -204,7 +204,7 @@ static void make_arp(uint8_t *frame)
     memcpy(frame, head, sizeof head);
 }
 
-/* An ARP request in two buffers is sent, the reply arrives, and its interrupt. */
+/* An ARP request in two buffers is sent; the reply and its interrupt arrive. */
 static void pass_one(struct peer *it, uint32_t slot, int event)
 {
     uint64_t count;
@@ -413,7 +413,7 @@ static void hostile_snapshots(void)
     CHECK(says("snapshot more", "error: there are already 16") && says("snapshot s3", "ok") && says("snapshot", "s14"));
 }
 
-/* A restore brings back registers, the rings' locations and waiting frames. The guest's memory doesn't change. */
+/* A restore restores registers, the rings' locations and waiting frames. The guest's memory doesn't change. */
 static void snapshots(struct peer *it)
 {
     give_frame(it, 0);
@@ -552,7 +552,7 @@ static void in_pieces(const char *path)
         usleep(200);
     }
     CHECK(peer_reply(&peer, 7, reply, sizeof reply) == 0);
-    /* files with the first piece of their message, and another message after the last piece */
+    /* files with the first part of their message, and another message after the last part */
     struct {
         struct vfu_header head;
         struct vfu_dma_map map;
@@ -672,7 +672,7 @@ int main(int count, char **own_words)
     const char *path = server_start(words);
     snprintf(function_path, sizeof function_path, "%s.vf1", path);
     as_qemu_does(path);
-    as_qemu_does(path); /* the next one finds the card as the first did */
+    as_qemu_does(path); /* the next client finds the card as the first client did */
     held(path, control_path);
     kept(path, function_path, control_path);
     in_pieces(path);

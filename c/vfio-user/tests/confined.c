@@ -1,4 +1,4 @@
-/* What a confined process may and may not do, each tried in a separate process; compiled without sanitizers. */
+/* Tries what a confined process may and may not do, each in a separate process. Compiled without sanitizers. */
 #define _GNU_SOURCE
 #include "confine.h"
 
@@ -100,7 +100,7 @@ static bool notifies(void)
            count == 1;
 }
 
-/* Takes a client's signal, and doesn't wait for an eventfd without one. */
+/* Reads a client's signal, and doesn't wait for an eventfd without a signal. */
 static bool is_notified(void)
 {
     uint64_t one = 1;
@@ -161,8 +161,8 @@ static const struct trial {
     {"tidies", tidies, CONFINE_JANITOR, true},
 };
 
-/* Returns whether this kernel, and this process's environment, filters system calls (checked without the module), and
-   there is a list for this processor. */
+/* Returns whether this kernel and this process's environment can filter system calls (checked without the module), and
+   whether there is a list for this processor. */
 static bool is_filtered(void)
 {
 #if defined(__x86_64__) || defined(__aarch64__)
@@ -173,8 +173,8 @@ static bool is_filtered(void)
 #endif
 }
 
-/* Returns whether the trial has the expected result. Helpers are made without the server's threads, since they may not
-   wait for these. */
+/* Returns whether the trial has the expected result. Helpers are started without the server's threads, because they may
+   not wait for these threads. */
 static bool try(const struct trial *trial)
 {
     CHECK(notifier_open() || !kernel_has_reads());
@@ -196,7 +196,7 @@ static void give_name(const char *path)
     janitor_adopt(&given);
 }
 
-/* It removes only sockets among the names that it gets, and none after the last name. */
+/* The janitor removes only sockets among the names that it gets, and nothing after the last name. */
 static void janitor_keeps_others(void)
 {
     struct sockaddr_un name;

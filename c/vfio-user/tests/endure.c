@@ -1,5 +1,5 @@
-/* Clients that try to block the server, run against the program itself. Whatever one does, another is answered, the
-   server sleeps when there is nothing to do, and it ends on request. endure PROGRAM FOLDER [TRIAL] */
+/* Clients that try to block the server, run against the program itself. Whatever one client does, another client is
+   answered, the server sleeps when there is nothing to do, and it ends on request. endure PROGRAM FOLDER [TRIAL] */
 #define _GNU_SOURCE
 #include <arpa/inet.h>
 #include <errno.h>
@@ -54,7 +54,7 @@ static void another_is_answered(void)
     peer_close(&peer);
 }
 
-/* The beginning and the end of each trial. */
+/* Begins and ends each trial. */
 static pid_t begin(struct peer *it, const char *more, const char *other)
 {
     pid_t server = start(more, other);
@@ -184,7 +184,7 @@ static void many_files(void)
 
 /* ---- files that don't close ---- */
 
-/* A connection with a last close that takes five minutes, because its other end accepts nothing. */
+/* A connection whose last close takes five minutes, because its other end accepts nothing. */
 static int lingering(int *other)
 {
     struct sockaddr_in name = {.sin_family = AF_INET, .sin_addr.s_addr = htonl(INADDR_LOOPBACK)};
@@ -205,8 +205,8 @@ static int lingering(int *other)
     return file;
 }
 
-/* Sends a message with this file, and keeps no copy of the file, before the server looks. Returns the file's other end,
-   or -1 without a network. */
+/* Sends a message with this file, and keeps no copy of the file, before the server reads it. Returns the file's other
+   end, or -1 without a network. */
 static int send_lingering(struct peer *it, pid_t server)
 {
     static const uint8_t bytes[8000];
@@ -313,7 +313,7 @@ static void half_closed(void)
     end(&peer, server);
 }
 
-/* Returns the number that the next file of a process gets. */
+/* Returns the number that the next file opened by a process gets. */
 static unsigned int next_file(pid_t process)
 {
     char name[64], file[64];
@@ -420,7 +420,7 @@ static void unread_errors(void)
     close(file);
 }
 
-/* A FIFO without a reader is refused by name. A FIFO whose reader doesn't read loses lines. */
+/* A FIFO without a reader is refused by name. If a FIFO's reader doesn't read, lines are lost. */
 static void fifos(void)
 {
     static const char *const texts[] = {"--trace=", "--capture=", "--record=", "--strays="};

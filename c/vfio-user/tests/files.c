@@ -1,4 +1,5 @@
-/* The program itself, with a socket passed as a file: files PROGRAM. It must end as its manual page says. */
+/* The program itself, with a socket passed as a file: files PROGRAM. It must end with the status that its manual page
+   says. */
 #define _GNU_SOURCE
 #include <fcntl.h>
 #include <signal.h>
@@ -47,7 +48,7 @@ static void looks_like_the_card(struct peer *it)
     CHECK(peer_version(it) == 0 && peer_config(it, 0, 4) == 0x10F78086);
 }
 
-/* A client's socket: the program ends when the client has gone. */
+/* A client's socket: the program ends when the client has disconnected. */
 static void connected(void)
 {
     static const char *const words[] = {"server", WORD, NULL};
@@ -61,7 +62,7 @@ static void connected(void)
     CHECK(status_of(child) == 0);
 }
 
-/* A listening socket: clients come and go until SIGTERM. Its name stays, because another process made it. */
+/* A listening socket: clients come and go until SIGTERM. Its name stays, because another process created it. */
 static void listening(void)
 {
     static const char *const words[] = {"server", WORD, "--quiet", NULL};

@@ -1,6 +1,6 @@
 /* Sends random messages to a server, shaped as in the protocol and some of them corrupted, from three clients at the
-   same time, while the wire's other end and the control socket do likewise. It runs with the sanitizers. In the end the
-   server must still run, with no more open files than in the beginning.
+   same time, while the wire's other end and the control socket do likewise. It runs with the sanitizers. At the end the
+   server must still run, with no more open files than at the beginning.
 
      fuzz SEED MESSAGES FOLDER */
 #define _GNU_SOURCE
@@ -113,7 +113,7 @@ static void make_irqs(void)
         add_file();
 }
 
-/* Makes a value for a queue register that enables something: bases, lengths, enables and tails. */
+/* Makes a useful value for a queue register: a base, a length, an enable or a tail. */
 static void make_register(struct vfu_access *access, uint32_t *word)
 {
     const uint32_t registers[] = {
@@ -243,7 +243,7 @@ static void bring_up(struct peer *it)
 
 /* ---- clients, all at the same time ---- */
 
-#define CLIENTS 3 /* the host's guest, a function's, and the host's shadow of it */
+#define CLIENTS 3 /* the host's guest, a function's guest, and the host's shadow of the function */
 
 struct client {
     struct peer peer;
@@ -299,7 +299,7 @@ static void one_message(struct client *it)
 static struct peer wire = {-1, 0}, control = {-1, 0};
 static char wire_path[120], control_path[120];
 
-/* Sends as much as fits now; a partly sent frame is corrupt. */
+/* Sends as much as fits now; a frame that is sent only in part is corrupt. */
 static void send_some(struct peer *it, const char *path, const uint8_t *bytes, size_t count)
 {
     if (it->file < 0)
@@ -429,7 +429,7 @@ static void reopen(struct peer *it, const char *path)
 }
 
 /* Makes new connections for a client, a wire and a control socket, because the server may hang up late on random
-   messages. It answers after it has accepted the three, the wire if the link is up. */
+   messages. It answers after it has accepted all three (the wire only if the link is up). */
 static void reconnect(void)
 {
     struct peer *peer = &clients[0].peer;

@@ -1,5 +1,5 @@
 /* Slow operations: closing a client's eventfd and connecting the wire, which wait in the kernel and are blocked there,
-   and `why` for a large device. Guests are answered all the same. Runs against the program itself: holding PROGRAM
+   and `why` for a large device. Guests are answered nevertheless. Runs against the program itself: holding PROGRAM
    FOLDER */
 #define _GNU_SOURCE
 #include <dirent.h>
@@ -33,8 +33,8 @@ static const char *path, *other_path, *not_tried = "";
 
 /* ---- an eventfd that takes long to close ---- */
 
-/* Returns a page with a first access that waits until this process ends, even the kernel's; null if this process may
-   not have one. */
+/* Returns a page on which the first access, even by the kernel, waits until this process ends; null if this process may
+   not have such a page. */
 static void *page_that_nobody_gives(void)
 {
     int file = (int)syscall(SYS_userfaultfd, O_CLOEXEC);
@@ -75,7 +75,7 @@ static void give_and_hold(int said)
     CHECK(peer_version(&peer) == 0 && peer_vectors(&peer, 0, 1, &file, 1) == 0);
     CHECK(epoll_ctl(holder.epoll, EPOLL_CTL_ADD, file, &event) == 0);
     CHECK(pthread_create(&thread, NULL, hold, &holder) == 0);
-    usleep(100000); /* for the thread to start; if it hasn't, nothing is blocked and nothing fails */
+    usleep(100000); /* time for the thread to start; if it hasn't started, nothing is blocked and nothing fails */
     close(file);
     peer_close(&peer);
     CHECK(write(said, "x", 1) == 1);
@@ -183,7 +183,7 @@ static void connection_that_waits(const char *wire)
 #define RINGS 32u /* the maximum length */
 #define SLOTS 32768u
 #define SNAPSHOT_KB 8192 /* limit for a snapshot; the rings' memory is twice as large */
-#define MEANWHILE 20u    /* answers expected meanwhile; unblocked, there are thousands */
+#define MEANWHILE 20u    /* answers expected meanwhile; if nothing blocks, there are thousands */
 
 static bool has_answer(int control)
 {
@@ -191,7 +191,7 @@ static bool has_answer(int control)
     return poll(&answer, 1, 0) == 1;
 }
 
-/* All slots of the rings wait in a held card. */
+/* Fills all slots of the rings of a held card. */
 static void set_up_rings(struct peer *it)
 {
     for (uint32_t queue = 0; queue < RINGS; queue++) {

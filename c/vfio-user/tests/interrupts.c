@@ -59,8 +59,8 @@ static void take_away(struct guest *it, uint32_t vector)
     CHECK(peer_vectors(&it->peer, vector, 1, NULL, 0) == 0);
 }
 
-/* Makes a message of a vector due, with a client's register accesses. It is sent in the turn of the first reply, before
-   the second reply. */
+/* Makes a vector's message due, with a client's register accesses. The message is sent in the turn of the first reply,
+   before the second reply. */
 static void raise(struct guest *by, uint32_t vector)
 {
     peer_write(&by->peer, VTEIMS, 1u << vector);
@@ -114,7 +114,7 @@ static void both_have_it(void)
     take_away(&shadow, 0);
 }
 
-/* If neither client set up a vector, its message waits at one client, and the other client never gets it. */
+/* If neither client set up a vector, its message waits for one of the clients, and the other client never gets it. */
 static void nobody_has_it(void)
 {
     raise(&shadow, 2);
@@ -125,7 +125,7 @@ static void nobody_has_it(void)
     CHECK(raised(&own, 2) == 1 && raised(&shadow, 2) == 0 && pending(&own) == 0);
 }
 
-/* A client that leaves, or turns its MSI-X off, leaves the messages to the other client. */
+/* If a client leaves, or turns its MSI-X off, the other client gets the messages. */
 static void one_goes(void)
 {
     peer_set_config(&own.peer, MSIX_CONTROL, 2, 0);

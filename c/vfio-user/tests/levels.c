@@ -130,7 +130,7 @@ static void kept_down(void)
     CHECK(informed() == 1);
 }
 
-/* If a client passes its eventfd late, it is notified then. Without an eventfd no client is notified, and nothing
+/* A client that passes its eventfd late is notified at that time. Without an eventfd no client is notified, and nothing
    waits. */
 static void eventfd_comes_and_goes(void)
 {
@@ -143,8 +143,9 @@ static void eventfd_comes_and_goes(void)
     CHECK(set(INTX, EVENTFD | TRIGGER, 1) == 0 && informed() == 0);
 }
 
-/* A client has the line unmasked by an eventfd, as QEMU does with KVM. Each signal unmasks it once, and is read even if
-   the line isn't masked. Reading the eventfd would block (it isn't O_NONBLOCK), but the server doesn't wait for it. */
+/* A client unmasks the line with an eventfd, as QEMU does with KVM. Each signal unmasks the line once, and is read even
+   if the line isn't masked. Reading the eventfd would block (it isn't O_NONBLOCK), but the server doesn't wait for
+   it. */
 static void unmasked_by_an_eventfd(void)
 {
     begin();
@@ -214,7 +215,7 @@ static void no_eventfd(void)
     close(ends[1]);
 }
 
-/* MSI is an edge: one message for each new cause, even if it was cleared and set in one turn. */
+/* MSI is edge-triggered: there is one message for each new cause, even if the cause was cleared and set in one turn. */
 static void messages(void)
 {
     begin();

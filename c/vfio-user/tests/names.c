@@ -1,5 +1,5 @@
 /* Names of sockets, with the program itself. It takes over only a dead socket of its user, its sockets are accessible
-   only to one user, and a server that ends leaves another's name alone. names PROGRAM FOLDER */
+   only to that user, and a server that ends doesn't remove another server's name. names PROGRAM FOLDER */
 #define _GNU_SOURCE
 #include <fcntl.h>
 #include <signal.h>
@@ -27,7 +27,7 @@ static const struct way {
 
 static const char *path;
 
-/* Starts a server that makes its socket with this name in this way. */
+/* Starts a server that creates its socket with this name in this way. */
 static pid_t start(const struct way *way, int errors)
 {
     static char word[300];
@@ -52,7 +52,7 @@ static int bound(int type)
     return file;
 }
 
-/* A server that can't start says why, and leaves the existing file. */
+/* A server that can't start says why, and doesn't change the existing file. */
 static void is_refused(const struct way *way, const char *why)
 {
     char said[512] = "";
@@ -108,7 +108,7 @@ static void other_sockets(const struct way *way, bool is_long)
     }
 }
 
-/* The first server gets the name with mode 0600, whatever the umask. A second one is refused, and the first
+/* The first server gets the name with mode 0600, whatever the umask. A second server is refused, and the first
    continues. */
 static void two_servers(const struct way *way)
 {

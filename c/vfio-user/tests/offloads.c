@@ -43,7 +43,7 @@ static void forget(void)
     frame_length = 0;
 }
 
-/* For a large send, the device gets a short frame with the last descriptor, and nothing to send before. */
+/* For a large send, the device gets a short frame with the last descriptor, and nothing to send before that. */
 static void check_stand_in(uint64_t second, size_t length)
 {
     bool is_last = (second & NIC_TXD_EOP) != 0;

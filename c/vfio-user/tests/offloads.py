@@ -101,7 +101,7 @@ class Packet:
         return head[:at] + struct.pack(">H", 0xFFFF - checksum(self.pseudo(length))) + head[at + 2 :]
 
     def frames(self, mss: int, tag: int | None, sums_ip: bool, sums_l4: bool) -> list[bytes]:
-        """Returns the expected frames; a single one if mss is 0."""
+        """Returns the expected frames; a single frame if mss is 0."""
         step, found = mss or max(1, len(self.payload)), []
         for number, offset in enumerate(range(0, max(1, len(self.payload)), step)):
             part = self.payload[offset : offset + step]
@@ -166,8 +166,8 @@ def advanced(chance: random.Random) -> tuple[list[str], list[bytes]]:
     index, mss = chance.randrange(2), chance.randrange(200, 9000) if is_large else 0
     ip_bytes = (20 if packet.is_ipv4 else 40) + len(packet.options)
     first = ip_bytes | len(packet.ethernet) << 9 | (tag or 0) << 16
-    # the sums of a large send are always computed, except that IPv4's needs a request in the context or the data
-    # descriptor
+    # a large send's checksums are always computed, except that the IPv4 checksum needs a request in the context or the
+    # data descriptor
     asks_ip, asks_l4 = packet.is_ipv4 and chance.random() < 0.7, chance.random() < 0.7
     says_ipv4 = packet.is_ipv4 and is_large and chance.random() < 0.8
     sums_ip, sums_l4 = asks_ip or says_ipv4, asks_l4 or is_large
@@ -216,7 +216,7 @@ def legacy(chance: random.Random) -> tuple[list[str], list[bytes]]:
 
 
 def given_up(chance: random.Random) -> tuple[list[str], list[bytes]]:
-    """Returns a packet with its queue reset before its last descriptor, and a plain one."""
+    """Returns a packet whose queue is reset before its last descriptor, and a plain packet."""
     lines, _ = advanced(chance)
     last, frame = plain(chance)
     return [*(it for it in lines if not ends(it)), "forget", *last], frame

@@ -1,6 +1,6 @@
 /* Three guests of one card, each with its own memory: the host's, a virtual function's, and the host's shadow of that
    function. At random they set up rings, even in each other's queues, name each other's addresses, leave and connect.
-   No byte of one may be sent in another's frame or arrive in another's memory.
+   No byte of one guest's memory may be sent in another guest's frame or arrive in another guest's memory.
 
      owners SEED STEPS FOLDER */
 #define _GNU_SOURCE
@@ -22,7 +22,7 @@
 #define HEAD 0x2000u
 #define SENT 0x4000u /* bytes that a client's own descriptors send */
 #define RECEIVED 0x10000u
-#define SECRET 0x20000u /* bytes that no descriptor of the client names */
+#define SECRET 0x20000u /* bytes that none of the client's descriptors names */
 #define BYTES 0x40000u
 #define COMMON 0x80000000u /* second address of each client's memory */
 #define FROM_WIRE 0x77
@@ -31,7 +31,7 @@
 
 enum side { RECEIVE, TRANSMIT };
 
-/* The bytes of a memory identify it. */
+/* The bytes in a memory identify the memory. */
 static uint8_t *memories[MEMORIES];
 static int files[MEMORIES];
 static struct peer peers[GUESTS];
@@ -143,7 +143,7 @@ static void leave(unsigned int guest)
     come(guest);
 }
 
-/* The host gives the function queues, and enables reception. */
+/* The host assigns queues to the function, and enables reception. */
 static void set_up_card(void)
 {
     struct peer *host = &peers[0];
@@ -160,7 +160,7 @@ static void set_up_card(void)
     peer_write(host, NIC_CTRL, one_in(4) ? NIC_CTRL_MASTER_DISABLE : 0);
 }
 
-/* Returns an address in another memory that this one's client hasn't mapped. */
+/* Returns an address in another memory, which this memory's client hasn't mapped. */
 static uint32_t foreign(unsigned int guest)
 {
     unsigned int other = (guest + 1 + below(GUESTS - 1)) % GUESTS;

@@ -148,8 +148,8 @@ static void open_for(void)
     close(file);
 }
 
-/* A client has a maximum number of windows. Windows without ranges make room for others. They don't touch in the file:
-   a kernel that allocates memory upwards lists adjoining mappings as one. */
+/* A client has a maximum number of windows. Windows without ranges make room for others. The windows aren't adjacent in
+   the file, because a kernel that allocates memory upwards lists adjacent mappings as one. */
 static void windows_most(void)
 {
     const struct memory_limits before = *memory_map_limits();
@@ -166,7 +166,7 @@ static void windows_most(void)
     CHECK(add_piece(PAGE, PAGE, others[0], 0, true) == 0 && add_piece(2 * PAGE, PAGE, others[1], 0, true) == 0);
     CHECK(add_piece(4 * PAGE, PAGE, file, 32 * MEBIBYTE, true) == ENOBUFS);
     few.windows = before.windows;
-    few.bytes = 20 * MEBIBYTE; /* 40 MiB of windows: one wide, then as narrow as the range */
+    few.bytes = 20 * MEBIBYTE; /* 40 MiB of windows: one wide window, then windows as narrow as the range */
     memory_map_limit(&few);
     memory_map_clear(&map);
     pieces();
@@ -228,7 +228,7 @@ static bool huge(void)
     return true;
 }
 
-/* A reader that doesn't read loses whole records, and never gets a part of one. */
+/* A reader that doesn't read loses whole records, and never gets part of a record. */
 static void records(void)
 {
     struct output output;
@@ -269,7 +269,7 @@ static unsigned int times(const char *text, const char *words)
     return count;
 }
 
-/* Lines of a kind are limited, without affecting others. The remaining memory is counted. Control characters don't
+/* Lines of a kind are limited, without affecting other kinds. Lines left out are counted. Control characters don't
    reach a terminal. */
 static void lines(void)
 {

@@ -1,4 +1,5 @@
-/* A frame that only its VLAN tag makes too long for the card comes in, as on silicon. The driver's limits remain. */
+/* A frame that is too long for the card only because of its VLAN tag is received, as on silicon. The driver's limits
+   remain. */
 #define _GNU_SOURCE
 #include <string.h>
 #include <sys/mman.h>

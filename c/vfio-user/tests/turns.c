@@ -162,7 +162,7 @@ static uint64_t interrupts(int event)
 }
 
 /* Covers interrupts that are sent immediately, and interrupts that waited for their file. The kernel notifies
-   everything that watches an eventfd, and a client has as many watchers as it likes. */
+   everything that watches an eventfd, and a client can have any number of watchers. */
 static void many_interrupts(void)
 {
     static const struct session_calls slowly = {.rearmed = nothing, .may_serve = always, .may_go_on = never};

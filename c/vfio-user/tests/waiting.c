@@ -88,8 +88,8 @@ static void send_to(const uint8_t mac[6])
     CHECK(peer_put_frame(wire, frame, sizeof frame));
 }
 
-/* The host receives frames as long as none blocks forever: all frames sent before this one have left the front of the
-   queues by then. */
+/* The host receives frames as long as no frame blocks forever: all frames sent before this frame have left the front of
+   the queues by then. */
 static void host_gets_one(void)
 {
     const uint32_t at = NIC_RDBAL(HOST_QUEUE);
@@ -98,7 +98,7 @@ static void host_gets_one(void)
     for (unsigned int i = 0; i < 60000 && peer_read(&host, at + 0x10) == head; i++)
         usleep(1000);
     CHECK(peer_read(&host, at + 0x10) == (head + 1) % SLOTS);
-    peer_write(&host, at + 0x18, head); /* one more slot than was used, in the end */
+    peer_write(&host, at + 0x18, head); /* one more slot than is used in the end */
 }
 
 /* Returns whether frames wait in front of the queues, according to the control socket. */
@@ -157,7 +157,7 @@ static void off_in_the_middle(unsigned int how)
     CHECK(!some_wait());
 }
 
-/* A guest posts no buffers, whatever it sets DROP_EN to, and reads back what it wrote. */
+/* A guest posts no buffers, sets DROP_EN to any value, and reads back what it wrote. */
 static void nothing_posted(uint32_t control_word)
 {
     begin();

@@ -1,5 +1,5 @@
 /* Threads close files, so a client may become ready to be served at any moment, even between two checks of the server's
-   loop, and then the loop mustn't sleep. In this test, after memory was removed, the closer reports "full" exactly N
+   loop, and then the loop must not sleep. In this test, after memory was removed, the closer reports "full" exactly N
    times, for each N. The linker replaces the server's own calls (--wrap). */
 #define _GNU_SOURCE
 #include <poll.h>
@@ -11,7 +11,7 @@
 #include "nic82599.h"
 #include "peer/peer.h"
 
-#define TIMES_MOST 40u /* more than the loop's checks in two turns */
+#define TIMES_MOST 40u /* more than the number of the loop's checks in two turns */
 #define PAGE 4096u
 #define REPLY_MS 60000 /* for slow machines: a sleeping server never replies */
 

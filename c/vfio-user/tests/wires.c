@@ -170,7 +170,7 @@ static void streams(void)
     wire_close(&wire);
 }
 
-/* For an end that doesn't read, a limited amount is kept and arrives whole; the remaining frames are lost and
+/* For an end that doesn't read, a limited number of bytes is kept and arrives whole; the remaining frames are lost and
    counted. */
 static void a_full_end(void)
 {
@@ -332,7 +332,7 @@ static void spoilt_captures(void)
 
 /* ---- the responder ---- */
 
-/* Random requests: an answer has the request's length, and goes back to the sender. */
+/* Random requests: an answer has the request's length, and is sent back to the sender. */
 static void answers(void)
 {
     static const uint8_t own[6] = {2, 0, 0, 0, 0, 1};

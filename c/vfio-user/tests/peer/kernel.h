@@ -8,8 +8,8 @@
 #include <sys/syscall.h>
 #include <unistd.h>
 
-/* Whether there are asynchronous reads, by which the server takes a signal of an eventfd without waiting. QEMU's user
-   emulation has none; the server then does without, and so do those tests that need none. */
+/* Returns whether there are asynchronous reads, with which the server reads an eventfd's signal without waiting. QEMU's
+   user emulation has none. The server then works without them, and tests that need them are skipped. */
 static inline bool kernel_has_reads(void)
 {
     aio_context_t reads = 0;

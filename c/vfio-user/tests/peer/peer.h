@@ -57,7 +57,8 @@ const char *peer_answer(int control);
 const char *peer_request(int control, const char *words);
 /* Returns the number that follows these words in the answer to `counts`. */
 uint64_t peer_count(int control, const char *words);
-/* Receives the next whole frame on a wire, waiting up to this many milliseconds. Returns its length; 0 if none came. */
+/* Receives the next whole frame on a wire, waiting up to this many milliseconds. Returns its length; 0 if none
+   arrived. */
 size_t peer_frame(int wire, uint8_t *frame, size_t room, int milliseconds);
 /* Sends a frame on a wire. Returns false if the wire accepts no more now. */
 bool peer_put_frame(int wire, const uint8_t *frame, size_t length);

@@ -13,8 +13,8 @@
 
 #include "../../../tests/check.h"
 
-#define MINUTES_MS 600000 /* minimum: a check takes a millisecond, longer on a busy machine */
-#define RESTS 20          /* consecutive times that it sleeps */
+#define MINUTES_MS 600000 /* number of checks at least; each takes a millisecond, longer on a busy machine */
+#define RESTS 20          /* number of consecutive checks in which it sleeps */
 #define PATHS 32
 #define PATH_BYTES 200
 

@@ -14,11 +14,11 @@ const char *program_path(const char *text, const char *name);
 pid_t program_start(const char *const *words, void (*before)(void), int errors);
 /* Waits up to some minutes for its end. Returns its status, or -1 if a signal ended it. */
 int program_status(pid_t process);
-/* Ends it with SIGTERM. Returns what program_status does. */
+/* Ends it with SIGTERM. Returns the same as program_status. */
 int program_end(pid_t process);
 /* Stops it with SIGSTOP, and waits until it has stopped; SIGCONT continues it. */
 void program_stop(pid_t process);
-/* Returns whether it sleeps for more than a moment. Watches it for up to some minutes. */
+/* Returns whether it sleeps for more than a moment. Watches the process for up to some minutes. */
 bool program_rests(pid_t process);
 /* Returns a number in /proc/PID/status, in this base; -1 if there is no such line. */
 long long program_number(pid_t process, const char *name, int base);

@@ -77,7 +77,7 @@ static void tell_message(const struct message *message)
 
 void mailbox_tell(const struct bus *it)
 {
-    printf("  %-18s %5s %12s %7s  first request; its answer\n", "request", "many", "acknowledged", "refused");
+    printf("  %-18s %5s %12s %7s  first request; its answer\n", "request", "count", "acknowledged", "refused");
     for (unsigned int i = 0; i < MAILBOX_REQUESTS; i++) {
         const struct request *request = &it->mailboxes.requests[i];
         const struct mailbox_counts *counts = &request->counts;

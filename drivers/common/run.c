@@ -35,12 +35,13 @@ void run_close(void)
 void run_tell_counts(void)
 {
     const struct bus_counts *counts = bus_counts(run_bus);
-    printf("in all         reads    writes   ms of waits, left out\n");
+    printf("in all         reads    writes   ms of waits, skipped\n");
     for (unsigned int phase = 0; bus_phase_name(run_bus, phase); phase++)
         printf("  %-8s  %8" PRIu64 "  %8" PRIu64 "  %8" PRIu64 "\n", bus_phase_name(run_bus, phase),
                counts->in[phase].reads, counts->in[phase].writes, counts->in[phase].waited / 1000);
-    printf("the device filled %" PRIu64 " descriptors, fetched %" PRIu64 ", switched %" PRIu64 " sides of queues,\n"
-           "  gave %" PRIu64 " words of its EEPROM",
+    printf("the device filled %" PRIu64 " descriptors, fetched %" PRIu64 ", enabled or disabled %" PRIu64
+           " queue sides,\n"
+           "  read %" PRIu64 " EEPROM words",
            counts->receive_steps, counts->transmit_steps, counts->enables, counts->eeprom_words);
     if (run_memory.to_device || run_memory.to_driver)
         printf("; %" PRIu64 " bytes were copied to it, %" PRIu64 " from it", run_memory.to_device,

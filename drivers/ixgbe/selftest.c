@@ -170,7 +170,7 @@ static void tell_why(const struct result *result)
     if (result->failed && result->absent == result->failed)
         printf("  no such register");
     else if (result->failed && !result->fewer)
-        printf("  bits 0x%08" PRIX32 " keep what is written", result->more);
+        printf("  bits 0x%08" PRIX32 " keep written values", result->more);
     else if (result->failed)
         printf("  0x%05" PRIX32 " reads 0x%08" PRIX32 " for 0x%08" PRIX32, result->address, result->got,
                result->wanted);
@@ -195,7 +195,7 @@ static void try_status(void)
     put(address, STATUS_BITS);
     bool same = (get(address) & STATUS_BITS) == (before & STATUS_BITS);
     put(address, before);
-    printf("STATUS, 0x%08" PRIX32 ", is as it was after 0x%08" PRIX32 " is written: %s\n\n", before, STATUS_BITS,
+    printf("STATUS, 0x%08" PRIX32 ", is unchanged after 0x%08" PRIX32 " is written: %s\n\n", before, STATUS_BITS,
            same ? "passes" : "fails");
     if (!same)
         problem("STATUS can be written");
@@ -204,7 +204,7 @@ static void try_status(void)
 static void try_table(void)
 {
     unsigned int rows = 0, passed = 0, registers = 0, registers_passed = 0;
-    printf("register         address  many  test     writes     expects    passed failed\n");
+    printf("register         address count  test     writes     expects    passed failed\n");
     for (const struct test *test = tests; test->reg; test++) {
         struct result result = run(test);
         tell(test, names[test - tests], &result);

@@ -232,7 +232,7 @@ void pass(const struct interface *it, unsigned int count, unsigned int most, uns
     equal("frames out correct, and sent", sent, count);
     equal("frames in correct, and sent", got, count);
     if (queues == 1)
-        equal("frames in that came in order, and all", ordered, count);
+        equal("frames in that arrived in order, and all", ordered, count);
     equal("frames in by the driver's statistics, and by the run's", after.in - before.in, count);
     equal("frames out by the driver's statistics, and by the run's", after.out - before.out, count);
     equal("interrupts that the kernel counts, and messages sent", after.interrupts - before.interrupts,

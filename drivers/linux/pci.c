@@ -398,7 +398,7 @@ void pci_tell(void)
     for (unsigned int i = 0; i < function_count; i++) {
         const struct function *it = &functions[i];
         printf(i ? "virtual function %u" : "physical function ", i - 1);
-        printf(": %" PRIu64 " accesses of registers, %" PRIu64 " of configuration space; messages",
+        printf(": %" PRIu64 " register accesses, %" PRIu64 " of configuration space; messages",
                bus_counts(run_bus)->accesses[i], it->config_reads + it->config_writes);
         for (unsigned int vector = 0; vector < VECTORS; vector++)
             if (it->by_vector[vector])

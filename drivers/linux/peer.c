@@ -261,11 +261,11 @@ void peer_tell(void)
 {
     printf("the peer sent %" PRIu64 " frames; by queue", all.sent);
     tell_queues(all.by_queue_in);
-    printf("  the queue of %" PRIu64 " was compared with the one that RSS names\n", all.compared_queues);
-    printf("the peer got %" PRIu64 " frames that it compared; by queue", all.expected);
+    printf("  the queue of %" PRIu64 " of them was compared with the queue that RSS selects\n", all.compared_queues);
+    printf("the peer compared %" PRIu64 " frames; by queue", all.expected);
     tell_queues(all.by_queue_out);
     if (all.echoes)
-        printf("  and %" PRIu64 " datagrams, which it sent back\n", all.echoes);
+        printf("  and sent back %" PRIu64 " datagrams\n", all.echoes);
     if (all.faults)
         printf("the device reported %" PRIu64 " faults for offloads, as the guest expects\n",
                bus_counts(run_bus)->faults);
@@ -273,7 +273,7 @@ void peer_tell(void)
     same("frames that the device sent, and that came", bus_counts(run_bus)->frames_out,
          all.expected + all.echoes + all.others);
     if (all.has_verdict)
-        printf("the guest compared %" PRIu32 " things, of which %" PRIu32 " were wrong\n", all.guest_compared,
+        printf("the guest made %" PRIu32 " comparisons, of which %" PRIu32 " failed\n", all.guest_compared,
                all.guest_wrong);
     else
         problem("the guest gave no verdict");

@@ -240,14 +240,14 @@ def tell(left: dict[int, Touched], table: list[Family]) -> int:
     """Prints the families that contain touched addresses, then addresses in no family. Returns the number of the
     latter."""
     total, rows = len(left), 0
-    print(f"{'register':20} {'addresses':34} {'count':>5} {'reads':7} {'writes':7} in")
+    print(f"{'register':20} {'addresses':34} {'count':>5}  {'reads':7} {'writes':7} in")
     for family in table:
         found = [left.pop(address) for address in family.addresses() if address in left]
         if not found:
             continue
         rows += 1
         phases = list(dict.fromkeys(phase for it in found for phase in it.phases))
-        print(f"{family.name:20} {family.where():34} {len(found):5} {span([it.reads for it in found]):7} "
+        print(f"{family.name:20} {family.where():34} {len(found):5}  {span([it.reads for it in found]):7} "
               f"{span([it.writes for it in found]):7} {' '.join(phases)}")
     for address, it in left.items():
         print(f"in no family: 0x{address:05X}, {it.reads} reads, {it.writes} writes, in {' '.join(it.phases)}")

@@ -227,7 +227,7 @@ def try_access(program: str) -> None:
     host.verdict(0, 7)
     status, said = card.end()
     expect("a good run has status 0", status == 0, said)
-    expect("and the guest's counts", "the guest compared 7 things, of which 0 were wrong" in said, said)
+    expect("and the guest's counts", "the guest made 7 comparisons, of which 0 failed" in said, said)
 
 
 def try_interrupts(program: str) -> None:

@@ -16,7 +16,7 @@
 #define NIC82599_EXPLORE_H
 
 #ifdef _WIN32
-#error "the explorer isn't available on Windows, because its engine switches between stacks as on Linux"
+#error "the explorer isn't available on Windows, because it depends on Linux's stacks, threads and processes"
 #endif
 
 #include "nic82599.h"
@@ -293,7 +293,8 @@ typedef struct nicx_chooser {
     void *argument;
 } nicx_chooser;
 
-/* Brings a scenario's device up. Returns null, or why it failed; then nothing stays open. One scenario at a time. */
+/* Brings a scenario's device up. Returns null, or why it failed; then nothing stays open. Only one scenario can be open
+   at a time. */
 const char *nicx_open(const nicx_scenario *scenario);
 /* Runs one schedule. Doesn't return if the driver crashes. */
 void nicx_run(const nicx_chooser *chooser, nicx_result *result);

@@ -157,8 +157,8 @@ static unsigned long long of_blocks(uint32_t blocks, enum order order)
     return nicl_steps;
 }
 
-/* Counts the steps of controllers that each lend a block, common or separate, take it back and lend it again, and of
-   freeing memory next to it. */
+/* Counts the steps of controllers that each lend a common or a separate block, take it back and lend it again, and the
+   steps of freeing memory next to it. */
 static unsigned long long of_controllers(uint32_t controllers, enum order order)
 {
     static nic n[4096];

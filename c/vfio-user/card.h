@@ -69,7 +69,7 @@ struct card {
     struct arrivals arrivals;
     uint64_t lost_writes;   /* register writes while the card was being reset */
     uint64_t long_by_tag;   /* frames accepted although their tag made them longer than the device's limit */
-    uint32_t reported_lost; /* bit per client socket: its first lost write was reported */
+    uint32_t reported_lost; /* one bit per client socket: the first lost write was reported */
 };
 
 /* Opens the card. Returns false if memory runs out. */

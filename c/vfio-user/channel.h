@@ -36,7 +36,7 @@ struct channel {
     size_t in_at, in_end;
     struct {
         int file;
-        size_t end; /* they arrived before this byte of `in` */
+        size_t end; /* the files arrived before this byte of `in` */
     } files[CHANNEL_FILES];
     unsigned int file_count;
     struct buffer out;

@@ -52,7 +52,7 @@ void function_polls(const struct function *it, struct pollfd polls[FUNCTION_POLL
 bool function_has_more(const struct function *it);
 /* Returns whether its client is waiting for work that the server still has to do. */
 bool function_is_busy(const struct function *it);
-/* Accepts the client that waits at the socket, or turns it away if there already is one. */
+/* Accepts the client that waits at the socket, or rejects it if there is a client already. */
 void function_accept(struct function *it);
 /* Serves its client after these poll events of the socket. */
 void function_serve(struct function *it, short events);

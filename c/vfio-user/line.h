@@ -23,7 +23,7 @@ void line_begin(struct line *it, bool is_there, unsigned int owner);
 void line_clear(struct line *it);
 /* Removes the pin's file and its unmask file, as a client does when it changes to other interrupts. */
 void line_clear_pin(struct line *it);
-/* Masks the line for the client, or unmasks it, as it does after handling an interrupt. */
+/* Masks the line for the client, or unmasks it, as the client does after handling an interrupt. */
 void line_mask(struct line *it, bool is_masked);
 /* Sets the eventfd that unmasks the line whenever the client signals it, and immediately if it is already signalled.
    The line then owns it. -1 removes it. Returns false, and the caller keeps the file, if it isn't an eventfd or this

@@ -15,7 +15,7 @@
 #include "closer.h"
 #include "protocol.h"
 
-#define PIECE (UINT64_C(16) << 20) /* bytes unmapped at a time: some milliseconds if all were used */
+#define PIECE (UINT64_C(16) << 20) /* bytes unmapped at a time, which takes some milliseconds if all were used */
 #define WINDOWS_A_PIECE 64
 #define MAPS_MOST CLOSER_OWNERS
 #define GRAINS 16u                       /* maximum per file; a window is some consecutive grains */
@@ -314,7 +314,7 @@ static int map_file(struct memory_map *it, struct memory_range *range, int file,
     return 0;
 }
 
-/* Releases a removed range. If it was its file's last, the file's windows are released too. */
+/* Releases a removed range. If it was the last range of its file, the file's windows are released too. */
 static void release(struct memory_map *it, const struct memory_range *range)
 {
     struct memory_window *window = range->window;

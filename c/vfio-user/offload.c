@@ -124,7 +124,7 @@ static void begin(struct offload_queue *it, uint64_t second)
     it->length = 0;
 }
 
-/* Appends to a large send. Returns false if there is no room; then it is dropped when its frame is sent. */
+/* Appends to a large send. Returns false if there is no room; the large send is then dropped when its frame is sent. */
 static bool gather(struct offload_queue *it, const uint8_t *bytes, size_t length)
 {
     if (length > OFFLOAD_LARGEST - it->length)

@@ -33,8 +33,8 @@ struct offload_job {
 struct offload_queue {
     uint64_t contexts[OFFLOAD_CONTEXTS][2];
     struct offload_job job;
-    bool is_partial; /* a frame has begun, and its last descriptor hasn't arrived yet */
-    bool is_ready;   /* the last descriptor has arrived, and the device hasn't sent the frame yet */
+    bool is_partial; /* a frame has begun, but its last descriptor hasn't arrived yet */
+    bool is_ready;   /* the last descriptor has arrived, but the device hasn't sent the frame yet */
     uint8_t *bytes;  /* bytes of the large send */
     size_t length, room;
     size_t cut; /* offset of the next segment in a large send that the device has sent; 0: none is being cut */

@@ -36,7 +36,7 @@ bool dpdk_start(const struct dpdk_options *options);
 int dpdk_end(const struct dpdk_options *options);
 
 /* Parses an argument that every program takes: --scalar, --loud, or --turn or --strays with a value. Returns false for
-   any other. */
+   any other argument. */
 bool dpdk_word(const char *word, struct dpdk_options *options);
 bool dpdk_pair(const char *word, const char *next, struct dpdk_options *options);
 

@@ -287,7 +287,7 @@ static const char *bring_up(void)
         return fault;
     nicx_write32(NIC_FCTRL, NIC_FCTRL_UPE);
     if (!is_this_way())
-        return "the driver chose another function";
+        return "the driver chose a different function";
     return keep() ? NULL : "there is no memory for the driver's state";
 }
 

@@ -227,7 +227,7 @@ static bool second_probe(void)
     int status = port_try_probe(HOST);
     printf("a second probe of the same card returns %d\n", status);
     if (status != (is_answered ? 0 : -EIO))
-        problem("a second probe returns %d instead of the known %d", status, is_answered ? 0 : -EIO);
+        problem("a second probe returns %d instead of the expected %d", status, is_answered ? 0 : -EIO);
     return status != 0 || (port_start(HOST) && port_stop(HOST) && port_remove(HOST));
 }
 

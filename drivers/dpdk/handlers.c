@@ -38,7 +38,7 @@ void handlers_run(void)
             any = true;
         }
         if (any && ++calls > CALLS_MOST) {
-            problem("a handler is called %u times, and its cause stays", CALLS_MOST);
+            problem("a handler was called %u times, but its cause is still set", CALLS_MOST);
             break;
         }
     }

@@ -101,7 +101,7 @@ void port_probe_early(unsigned int which)
     printf("  the driver %s: %d, after %" PRIu64 " reads of a function that has no pool yet\n",
            status ? "gives up" : "succeeds", status, bus_counts(run_bus)->absent_reads - before);
     if (status != expected || bus_counts(run_bus)->absent_reads == before)
-        problem("an early probe returns %d instead of the known %d", status, expected);
+        problem("an early probe returns %d instead of the expected %d", status, expected);
 }
 
 /* ---- start ---- */

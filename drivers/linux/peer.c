@@ -47,7 +47,7 @@ static uint16_t wanted_queue = ANY_QUEUE;
 /* ---- in ---- */
 
 /* Returns the queue that the registers select for a frame to a function. The physical function's pool is the default
-   one. */
+   pool. */
 static uint16_t queue_of(const struct frame *frame, unsigned int function)
 {
     struct rss rss;
@@ -81,7 +81,7 @@ void peer_filled(void *of, uint16_t queue, uint64_t descriptor, bool ends)
     wanted_queue = ANY_QUEUE;
 }
 
-/* Sends one frame, which the device receives at once. Returns false if the device doesn't accept it. */
+/* Sends one frame, which the device receives immediately. Returns false if the device doesn't accept it. */
 static bool send_one(uint32_t number)
 {
     struct frame frame;

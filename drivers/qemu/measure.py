@@ -65,13 +65,13 @@ FIGURES = [
     Figure("QEMU's start to carrier", "s", False),
     Figure("driver's start to carrier", "s", False),
     Figure("QEMU's start to the first echo reply", "s", False),
-    Figure("reads of a register", "a second", True),
-    Figure("writes of a register", "a second", True),
-    Figure("frames of 60 bytes out", "a second", True),
-    Figure("frames of 60 bytes in", "a second", True),
-    Figure("frames of 60 to 1,514 bytes out", "a second", True),
-    Figure("frames of 60 to 1,514 bytes in", "a second", True),
-    Figure(f"HTTP of {MEGABYTES} MiB, guest to guest", "MB a second", True),
+    Figure("reads of a register", "per second", True),
+    Figure("writes of a register", "per second", True),
+    Figure("frames of 60 bytes out", "per second", True),
+    Figure("frames of 60 bytes in", "per second", True),
+    Figure("frames of 60 to 1,514 bytes out", "per second", True),
+    Figure("frames of 60 to 1,514 bytes in", "per second", True),
+    Figure(f"HTTP of {MEGABYTES} MiB, guest to guest", "MB per second", True),
 ]
 
 

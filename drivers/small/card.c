@@ -206,7 +206,7 @@ uint8_t *card_frame(uint16_t *length)
 void card_next(void)
 {
     give(card.next);
-    /* The tail is the slot taken last, so the ring never holds all slots. */
+    /* The tail is the slot taken last, so the card never owns all slots. */
     write(NIC_RDT(0), card.next);
     card.next = (card.next + 1) % SLOTS;
 }

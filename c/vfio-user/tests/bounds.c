@@ -186,7 +186,7 @@ static void given_up(struct peer *it, uint64_t asks, bool faults)
     CHECK(peer_frame(wire, frame, sizeof frame, FRAME_MS) == 100 && memcmp(frame, ram + BUFFER, 100) == 0);
 }
 
-/* An unsupported request isn't half done: the device reports a fault, and no byte is sent. */
+/* An unsupported request isn't performed in part: the device reports a fault, and no byte is sent. */
 static void ipsec(struct peer *it)
 {
     CHECK(peer_read(it, SECTXSTAT) & SECURITY_OFF && peer_read(it, SECRXSTAT) & SECURITY_OFF);

@@ -15,7 +15,7 @@
 #include "../../tests/check.h"
 #include "peer/peer.h"
 
-#define FILE_NUMBER 9 /* number of the socket in the program */
+#define FILE_NUMBER 9 /* file number of the socket in the program */
 #define WORD "--fd=9"
 
 static const char *program;

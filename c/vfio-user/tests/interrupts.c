@@ -135,7 +135,7 @@ static void one_goes(void)
     raise(&shadow, 2);
     CHECK(raised(&own, 2) == 1 && raised(&shadow, 2) == 0);
     leave(&own);
-    come(&own, paths[0]); /* the last client has gone by now */
+    come(&own, paths[0]); /* by now the last client has disconnected */
     raise(&own, 2);
     CHECK(raised(&own, 2) == 0 && raised(&shadow, 2) == 1);
 }

@@ -51,7 +51,7 @@ static void check_stand_in(uint64_t second, size_t length)
     CHECK(is_last ? length > 0 && length <= OFFLOAD_STAND_IN : length == 0);
 }
 
-/* Cuts large sends in pieces with budgets of all sizes, each good for at least one segment. */
+/* Cuts large sends in pieces with budgets of all sizes, each of which allows at least one segment. */
 static void cut_in_pieces(void)
 {
     static struct budget budget;

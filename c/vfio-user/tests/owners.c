@@ -16,7 +16,7 @@
 #define GUESTS 3u /* sockets; each has one client at a time, alternating between two kinds with separate memories */
 #define MEMORIES (2 * GUESTS)
 #define QUEUES 2u      /* number of the virtual function's queues */
-#define OWN_QUEUE 100u /* the host's first queue outside the function's */
+#define OWN_QUEUE 100u /* the host's first queue outside the function's queues */
 #define RINGS 0u       /* layout of a memory: rings, 1 KB each */
 #define RING 0x400u
 #define HEAD 0x2000u

@@ -14,7 +14,7 @@
 #include "respond.h"
 #include "wire.h"
 
-#define DATAGRAMS 2000u /* more than any queue holds, and less than the wire keeps */
+#define DATAGRAMS 2000u /* more than any queue can hold, but less than the wire keeps */
 
 static struct wire wire;
 static char first_path[200], second_path[200], file_path[200];

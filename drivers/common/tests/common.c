@@ -1,5 +1,5 @@
-/* Tests of what runs of real drivers share: frames, hashes and queues, windows, memory, replies, strays, mailboxes. The
-   test plays the driver. */
+/* Tests of the code shared by runs of real drivers: frames, hashes and queues, windows, memory, replies, strays,
+   mailboxes. The test plays the driver. */
 #include <string.h>
 
 #include "check.h"
@@ -263,7 +263,8 @@ static void memory_is_copied(void)
     run_close();
 }
 #else
-/* Memory in place: the device reads the driver's stores without a tail write, and the driver reads the device's. */
+/* Memory in place: the device reads the driver's stores without a tail write, and the driver reads the device's
+   stores. */
 static void memory_is_one(void)
 {
     uint8_t byte = 0;

@@ -1,4 +1,4 @@
-/* Tests of what runs of compiled drivers need: trapping registers, configuration space, a function's host, legacy
+/* Tests of the code for runs of compiled drivers: trapping registers, configuration space, a function's host, legacy
    descriptors. */
 #include <signal.h>
 #include <string.h>

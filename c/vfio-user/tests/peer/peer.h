@@ -51,7 +51,7 @@ uint32_t peer_vectors(struct peer *it, uint32_t first, uint32_t count, const int
 
 /* Connects a stream to a control socket, or to a listening wire, even while its server is just starting. */
 int peer_stream(const char *path);
-/* Send a request to the control socket, receive its whole answer (valid until the next one), and do both. */
+/* Send a request to the control socket, receive its whole answer (valid until the next answer), or do both. */
 void peer_send_request(int control, const char *words);
 const char *peer_answer(int control);
 const char *peer_request(int control, const char *words);

@@ -237,8 +237,8 @@ def span(numbers: list[int]) -> str:
 
 
 def tell(left: dict[int, Touched], table: list[Family]) -> int:
-    """Prints the families that contain touched addresses, then addresses in no family. Returns the number of the
-    latter."""
+    """Prints the families that contain touched addresses, then the addresses in no family. Returns the number of
+    addresses in no family."""
     total, rows = len(left), 0
     print(f"{'register':20} {'addresses':34} {'count':>5}  {'reads':7} {'writes':7} in")
     for family in table:

@@ -29,7 +29,7 @@ static const struct way {
 };
 static const struct way *way;
 
-static unsigned int done; /* frames received, or given to the driver */
+static unsigned int done; /* frames received, or handed to the driver */
 
 /* ---- frames ---- */
 

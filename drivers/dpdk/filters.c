@@ -82,7 +82,7 @@ static const char *verdict(uint16_t port, const struct rte_ether_addr *to, bool 
     bool in = comes_in(port, to);
     if (in != expected)
         problem("%s: a frame to " RTE_ETHER_ADDR_PRT_FMT " %s", what, RTE_ETHER_ADDR_BYTES(to),
-                in ? "comes in" : "doesn't come in");
+                in ? "arrives" : "doesn't arrive");
     return in ? "in" : "-";
 }
 

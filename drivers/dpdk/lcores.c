@@ -29,7 +29,7 @@ enum { LCORES = 2, FIFO = 64, MEBIBYTES = 48, PACKETS = 4095, BUFFER = 2048, FRA
 static struct lcore {
     uint16_t queue;
     struct line_up in, out;
-    unsigned int given; /* frames given to the driver */
+    unsigned int given; /* frames handed to the driver */
     unsigned int alike_in, alike_out, other_in, other_out;
 } lcores[LCORES];
 static atomic_uint passed, inside, together;

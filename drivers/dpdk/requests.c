@@ -132,7 +132,7 @@ static const struct {
     {"VF0: VLAN removed", F0, vlan_off, 0, "H01---H00"},
     {"VF0: MTU 1,400", F0, shorter, 0, "H01---H00"},
     {"VF0: MTU 1,500", F0, longer, 0, "H01---H00"},
-    {"host: gives VF0 another address", HOST, host_gives, 0, "H-1-0-H--"},
+    {"host: assigns VF0 another address", HOST, host_gives, 0, "H-1-0-H--"},
     {"host: the former address", HOST, host_gives_back, 0, "H01---H00"},
     {"host: VF0 accepts broadcasts", HOST, host_broadcast, 0, "H01---H00"},
     {"host: all multicast", HOST, rte_eth_allmulticast_enable, 0, "H01--HH00"},
@@ -199,8 +199,8 @@ void requests(void)
 
 /* ---- limits ---- */
 
-/* Floods VF0, which doesn't poll, then sends frames to the host. Checks how many of the latter arrive immediately and
-   after VF0 polls. */
+/* Floods VF0, which doesn't poll, then sends frames to the host. Checks how many of the host's frames arrive
+   immediately and after VF0 polls. */
 static void block(const char *what, unsigned int at_once)
 {
     uint64_t drops = bus_counts(run_bus)->drops;
@@ -212,8 +212,8 @@ static void block(const char *what, unsigned int at_once)
     bus_receive(run_bus);
     unsigned int later = port_drain(HOST);
     waited += port_drain(F0);
-    printf("  %-36s the host gets %u of %u at once, %u after VF0 polls; VF0 gets %u of %u\n", what, came, AFTER_FLOOD,
-           later, waited, FLOOD);
+    printf("  %-36s the host gets %u of %u immediately, %u after VF0 polls; VF0 gets %u of %u\n", what, came,
+           AFTER_FLOOD, later, waited, FLOOD);
     same("frames to the host after a full ring", came, at_once);
     same("frames to the host, and later", came + later, AFTER_FLOOD);
     same("frames to a function that doesn't poll", waited + (bus_counts(run_bus)->drops - drops), FLOOD);

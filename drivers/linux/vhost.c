@@ -36,7 +36,7 @@ enum request {
 #define IS_REPLY 4u
 #define NEEDS_REPLY 8u
 
-/* features: virtio 1 and protocol features; of the latter: replies, requests of this end, kicks in the socket */
+/* features: virtio 1 and protocol features; protocol features: replies, requests from this end, kicks in the socket */
 #define FEATURES (UINT64_C(1) << 32 | UINT64_C(1) << 30)
 #define PROTOCOL_FEATURES (UINT64_C(1) << 3 | UINT64_C(1) << 5 | UINT64_C(1) << 14)
 

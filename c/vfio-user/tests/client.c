@@ -383,7 +383,7 @@ static void held(const char *path, const char *control_path)
           says("why", "eestep"));
     CHECK(says("eestep", "done") && says("eestep", "idle") && !says("due", "eestep"));
     CHECK(says("link up", "done") && says("go", "ok") && peer_read(&peer, NIC_TXDCTL(2)) & NIC_TXDCTL_ENABLE);
-    /* unmapped memory can't be reached: a fault, not the former contents */
+    /* unmapped memory can't be reached: the access is a fault, and doesn't get the old contents */
     CHECK(peer_unmap(&peer, RAM, RAM_BYTES) == 0);
     peer_write(&peer, NIC_TDT(0), 2);
     until(&peer, NIC_TXDCTL(0), NIC_TXDCTL_ENABLE, 0);

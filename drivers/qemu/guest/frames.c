@@ -166,7 +166,7 @@ int main(int count, char **words)
     struct interface interface;
     setvbuf(stdout, NULL, _IOLBF, 0);
     if (count < 5 || !open_interface(&interface, words[2])) {
-        fprintf(stderr, "frames: no interface, or no words: %s\n", strerror(errno));
+        fprintf(stderr, "frames: arguments are missing, or the interface can't be opened: %s\n", strerror(errno));
         return 2;
     }
     unsigned int many = (unsigned int)atoi(words[3]), most = (unsigned int)atoi(words[4]);

@@ -35,7 +35,7 @@ int main(int count, char **words)
 {
     volatile uint32_t *registers = count > 3 ? registers_of(words[1]) : NULL;
     if (!registers) {
-        fprintf(stderr, "registers: no words, or no such card: %s\n", strerror(errno));
+        fprintf(stderr, "registers: arguments are missing, or the card can't be opened: %s\n", strerror(errno));
         return 2;
     }
     unsigned long offset = strtoul(words[2], NULL, 16), many = strtoul(words[3], NULL, 10);

@@ -65,12 +65,12 @@ int main(int count, char **words)
     }
     int program = program_that_says(answer);
     if (program < 0) {
-        fprintf(stderr, "xdp: no program: %s\n", strerror(errno));
+        fprintf(stderr, "xdp: can't load a program: %s\n", strerror(errno));
         return NOT_TRIED;
     }
     int link = attach(program, interface);
     if (link < 0) {
-        fprintf(stderr, "xdp: %s takes no program: %s\n", words[1], strerror(errno));
+        fprintf(stderr, "xdp: %s accepts no program: %s\n", words[1], strerror(errno));
         return 1;
     }
     usleep((useconds_t)(1000 * atoi(words[3])));

@@ -60,8 +60,8 @@ typedef struct nicx_scenario {
     /* Runs before each schedule. Initializes the driver's state, and names its tasks, its handlers, and the frames and
        link changes to come. Accesses happen immediately; waits work as in bring_up. */
     void (*begin)(void);
-    /* Runs after each step; may be null. Returns null, or what is wrong. It may look at the device by nicx_device() and
-       calls without effects (nic_peek32, nic_dma_read); a call that acts fails as misuse. */
+    /* Runs after each step; may be null. Returns null, or what is wrong. It may look at the device through
+       nicx_device(), with calls without effects (nic_peek32, nic_dma_read); a call that acts fails as misuse. */
     const char *(*always)(void);
     /* Runs when all is at rest: no task, handler or step of the device can continue. Returns null, or what is wrong. */
     const char *(*end)(void);

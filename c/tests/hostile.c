@@ -82,7 +82,8 @@ static void closed_steps(nic *n)
     CHECK(count == 0 && outcome.queue == 0x0707 && outcome.status == 7 && frame[0] == 2);
 }
 
-/* No call with a handle that was never opened, or that is closed, changes anything, not even what it points to. */
+/* A call with a handle that was never opened, or that is closed, changes nothing, not even what its arguments point
+   to. */
 static void closed(nic *n)
 {
     nic_kept none = {NULL};

@@ -150,7 +150,7 @@ static void goes_on_alike(nic *n, const nic_kept *kept, uint64_t before)
     }
 }
 
-/* Another controller, with other sizes, takes over the snapshot's state. */
+/* Another controller, with different sizes, gets the snapshot's state. */
 static void becomes_another(nic *n, nic *other, const nic_kept *kept, uint64_t before)
 {
     static uint64_t first[CALLS], again[CALLS];

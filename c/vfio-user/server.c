@@ -57,7 +57,7 @@ static bool listen_at(struct function *function)
     return !error;
 }
 
-/* Takes a given socket, either listening or a client's. */
+/* Uses a given socket, either a listening socket or a client's. */
 static bool take_file(struct function *function, int file)
 {
     int listens = 0;

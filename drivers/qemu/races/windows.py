@@ -1,4 +1,5 @@
-"""Windows in which a driver has its card down: a recording's accesses between RXCTRL = 0 and RXCTRL.RXEN. The driver must not give the card a frame in this time. Reports tails that moved nevertheless."""
+"""Windows in which a driver has its card down: a recording's accesses between RXCTRL = 0 and RXCTRL.RXEN. The driver
+must not give the card a frame in this time. Reports tails that moved nevertheless."""
 
 from __future__ import annotations
 

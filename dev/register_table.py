@@ -848,7 +848,7 @@ def proof_cell_row() -> str:
     """Returns the lemma about the words that the cells hold for a row."""
     lines = "".join(f"cell_row a {row.variant} h = absurd cc\n" for row in fields())
     return f"""\
--- A cell's words are those of its field.
+-- A cell's words are the words of its field.
 pub cell_row : (a : Inside) (row : RowId) → is_cell row ≡ true → row_words (rows_of a) row ≡ cells_of a.cells row
 {lines}cell_row a other h = refl
 """

@@ -83,7 +83,7 @@ pub fn frames_leave_at_their_end()
 
 /// A written slot is the one at the head: its number n is RDH, its descriptor is 16n bytes after the base in RDBAH and
 /// RDBAL, modulo 2^64, and SRRCTL bits 27 to 25 are 1. Its bytes go to the buffer that the descriptor names, at most as
-/// many KB as SRRCTL bits 4 to 0 say. A piece from the middle of a frame fills the buffer.
+/// many KB as SRRCTL bits 4 to 0 say. A piece from the middle of a frame has exactly that many KB.
 pub fn slots_are_written_at_the_head()
     ensures { SlotsAreWrittenAtHead }
 {}

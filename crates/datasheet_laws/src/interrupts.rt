@@ -41,8 +41,8 @@ pub fn causes_are_set()
 
 /// A write of EICR or PVTEICR clears the causes of the bits written as 1, and no others. A read clears all of them; a
 /// read of EICR while GPIE bit 5 is 1 clears only bits 29 to 16. While the auto-mask acts on accesses, a write clears
-/// the masks of the written bits that EIAM or PVTEIAM contains. A read then clears the masks of all bits that this
-/// register contains. Neither changes another bit, or another group.
+/// the masks of the written bits that EIAM or PVTEIAM contains. While it does, a read clears the masks of all bits that
+/// EIAM or PVTEIAM contains. Neither changes another bit, or another group.
 #[tactic(auto, using(crate::proofs::Causes::causes_clear, crate::proofs::Causes::read_clears))]
 pub fn causes_are_cleared()
     ensures write { WriteOfCausesClears }
@@ -99,8 +99,8 @@ pub fn holders_hold_on()
 {}
 
 /// From one reset of the device to the next, at most one read of PVFMAILBOX[v], through either port, returns bit 7,
-/// RSTD, which says that a reset is done. A write of CTRL_EXT with bit 14 sets RSTD for each function that reads 1 in
-/// bit 6, RSTI, which says that a reset began, or already in RSTD. It clears bit 6.
+/// RSTD, which says that a reset is done. Bit 6, RSTI, says that a reset began. A write of CTRL_EXT with bit 14 sets
+/// RSTD for each function that reads 1 in RSTI or already in RSTD. It clears RSTI for all functions.
 pub fn ends_are_reported_once()
     ensures once { EndIsReportedOnce }
     ensures reported { EndIsReported }
@@ -115,10 +115,11 @@ pub fn requests_are_apart()
 /// An interrupt step gets the reply `NoGroup` exactly for a virtual function that the device doesn't have or that has
 /// no pool: from `vfs` on, or from 16 on with GCR_EXT bits 1 to 0 at 1, 32 with 2, 64 with 3, and 0 with 0. Otherwise
 /// it is idle exactly while CTRL bit 2 is 1 or no bit is due. A bit is due if its cause and mask are 1, it isn't
-/// reported, and it has a vector. Neither reply changes anything. In every other case, the step reports the lowest due
-/// bit, and no other. The vector of bits 0 to 15 of EICR and of the bits of PVTEICR is their own number. For bits 16 to
-/// 29, it is IVAR_MISC bits 13 to 8 if bit 15 is 1, and for bit 30 its bits 5 to 0 if bit 7 is 1, each below 16. The
-/// bit's cause is cleared if EIAC contains it, and its mask if GPIE bit 30 is 1 and EIAM contains it.
+/// reported, and it has a vector. A step that gets `NoGroup` or is idle changes nothing. In every other case, the step
+/// reports the lowest due bit, and no other. The vector of bits 0 to 15 of EICR and of the bits of PVTEICR is their own
+/// number. For bits 16 to 29, it is IVAR_MISC bits 13 to 8 if bit 15 is 1, and for bit 30 its bits 5 to 0 if bit 7 is
+/// 1, each below 16. The bit's cause is cleared if EIAC contains it, and its mask if GPIE bit 30 is 1 and EIAM contains
+/// it.
 #[tactic(auto, using(crate::proofs::Telling::steps))]
 pub fn message_steps_tell_what_is_due()
     ensures { MessageStepsTellWhatIsDue }
@@ -150,9 +151,9 @@ pub fn heads_move_on()
 
 /// The end of a frame on queue q, which belongs to no virtual function, raises the cause in EICR that byte 2(q mod 2)
 /// of IVAR[q/2] names. A report of the queue raises the cause that the next byte names. For queue x of virtual function
-/// v with k queues, the bytes are in PVTIVAR[v*k/2 + x/2], and the cause is in PVTEICR[v]. A byte with bit 7 at 1 names
-/// the cause in its bits 5 to 0: at most 15 in EICR, at most 2 in PVTEICR[v]. No other bit of EICR, EIMS, EIAC and EIAM
-/// changes, in any group.
+/// v with k queues, the same holds of byte 2(x mod 2) of PVTIVAR[v*k/2 + x/2] and the next byte. The cause is then in
+/// PVTEICR[v]. A byte with bit 7 at 1 names the cause in its bits 5 to 0: at most 15 in EICR, at most 2 in PVTEICR[v].
+/// No other bit of EICR, EIMS, EIAC and EIAM changes, in any group.
 #[tactic(auto, using(crate::proofs::Raising::ivar_names, crate::proofs::Raising::pvtivar_names))]
 pub fn vectors_name_causes()
     ensures ivar { IvarNamesCauses }

@@ -118,8 +118,9 @@ pub fn pool_resets_take_the_pools_registers()
 /// A unicast frame passes the filter exactly if bit 9 of FCTRL, at 0x05080, is 1, or one of the 128 receive addresses
 /// is its destination, byte by byte. Bytes 0 to 3 are in bits 7 to 0, 15 to 8, 23 to 16 and 31 to 24 of 0x0A200 + 8i;
 /// bytes 4 and 5 are in bits 7 to 0 and 15 to 8 of 0x0A204 + 8i, and its bit 31 marks it as valid. A multicast frame
-/// passes if bit 8 is 1, or if a receive address is its destination. While bit 2 of MCSTCTRL, at 0x05090, is 1, it also
-/// passes if its bit of MTA, from 0x05200 on, is 1. A broadcast frame passes if bit 10 or bit 8 is 1.
+/// passes exactly if bit 8 is 1, a receive address is its destination, or it is listed in MTA. It is listed if bit 2 of
+/// MCSTCTRL, at 0x05090, is 1, and so is its bit of MTA, from 0x05200 on. A broadcast frame passes exactly if bit 10 or
+/// bit 8 is 1.
 #[tactic(auto, using(crate::proofs::Filter::frames_let_in))]
 pub fn frames_are_let_in()
     ensures { FramesAreLetIn }
@@ -214,7 +215,7 @@ pub fn settings_are_bits()
 
 /// An EEPROM image has 64, 128, 256 and so on up to 16,384 words of 16 bits. Words 0x03 to 0x0E, and no others, point
 /// to a word of the image, which says how many words follow it, all of them in the image. 0 and 0xFFFF point to no
-/// word, and say that no words follow. Words 0x00 to 0x3F, with all words that follow the ones pointed to, add up to
+/// word, and say that no words follow. Words 0x00 to 0x3F, with the words that follow each word pointed to, add up to
 /// 0xBABA, modulo 2^16. Word 0x0D points to the register writes, of three words each: a quarter of the register's
 /// offset, then the low and the high half of the data. In a file, the low byte of each word is first. Of a file's
 /// faults, the first in this order is reported: an odd number of bytes, the size, what a word points to, the sum, the

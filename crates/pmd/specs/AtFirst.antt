@@ -27,9 +27,9 @@ NeverAskedIsQuiet =
     JustBefore w.vfs fifo w.pass old h
     (IsQuiet w.queue (record { port = given.port; queue = given.queue }) given.frame)
 
--- If a legal history's entries show that nobody else lends an arena's blocks, the following holds. No other pass tries
--- to lend any of these blocks that the driver's pass tries to lend, and none of these is lent just before the driver's
--- first event.
+-- If a legal history's entries show that nobody else lends an arena's blocks, the following holds. After the first
+-- entry of the driver's pass, no other pass tries to lend any of these blocks that the driver's pass tries to lend.
+-- None of these is lent just before the driver's first event.
 abbrev pub OthersLendNoneIsAlone : Type 0
 OthersLendNoneIsAlone =
     (w : Watched) (fifo : ℕ) (old : List Call) (a : Numbers) (h : List Entry) → IsLegal (new_state w.vfs fifo) h →

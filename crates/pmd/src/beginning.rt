@@ -53,7 +53,7 @@ fn begins(watched: Watched, settings: Settings, given: Given) -> bool
 }
 
 /// Returns whether a driver begins well in a history of a new device. Just before the driver's first event, its port
-/// and queue must name the watched queue, and the device's frame limit must be the one that the driver was given. That
+/// and queue must name the watched queue, and the device's frame limit must be the limit of the driver's frames. That
 /// event comes after `from` calls of its pass and isn't a device step. Returns true if there is no such event. It
 /// allocates nothing.
 pub fn begins_well(watched: Watched, from: usize, given: Given, history: &[Entry]) -> bool

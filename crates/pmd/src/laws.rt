@@ -36,9 +36,9 @@ pub fn worker_starts_quiet()
     ensures { NeverAskedIsQuiet }
 {}
 
-/// Take a legal history of a new device in which `others_lend_none` is true of a driver and of its arena's blocks. No
-/// other pass tries to lend any of these blocks that the driver's pass tries to lend. None of those blocks is lent just
-/// before the driver's first event. Three laws require this of blocks:
+/// Take a legal history of a new device in which `others_lend_none` is true of a driver and of its arena's blocks.
+/// After the first entry of the driver's pass, no other pass tries to lend any of these blocks that the driver's pass
+/// tries to lend. None of those blocks is lent just before the driver's first event. Three laws require this of blocks:
 /// `driver_laws::no_call_finds_the_device_at_fault`, `no_start_finds_the_device_at_fault` and
 /// `blocks_out_are_lent_at_the_device`.
 pub fn worker_has_its_blocks_alone()

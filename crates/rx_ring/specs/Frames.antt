@@ -71,9 +71,10 @@ pub record MakeFrame (frame : Rest) (pieces : List Piece) : Type 0 where
       (before : List Piece) (p : Piece) (after : List Piece) → pieces ≡ before ++ p ∷ after
       → IsPieceOf frame before p after
 
--- The pieces that a driver reads, joined in order, are a prefix of the frame. At every fill each lent block is whole
--- and the buffer shares no byte with its descriptor; the first half is below 2^64. A piece has EOP exactly when the
--- frame is complete with it, and then no piece follows. Each piece reports the same packet.
+-- The pieces that a driver reads, joined in order, are a prefix of the frame. This requires that at every fill each
+-- lent block is whole and the buffer shares no byte with its descriptor. It also requires the first half to be below
+-- 2^64. A piece has EOP exactly when the frame is complete with it, and then no piece follows. Each piece reports the
+-- same packet.
 abbrev pub PiecesMakeFrame : Type 0
 PiecesMakeFrame =
     (turns : List Turn) (frame : Rest) → All IsSound turns → frame.first < 2 ^ 64

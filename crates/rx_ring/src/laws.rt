@@ -31,9 +31,10 @@ pub fn read_back()
     ensures { DriverReads }
 {}
 
-/// The pieces that a driver reads, joined in order, are a prefix of the frame. At every fill each lent block is whole
-/// and the buffer shares no byte with its descriptor; the first half is below 2^64. A piece has EOP exactly when the
-/// frame is complete with it, and then no piece follows. Each piece reports the same packet.
+/// The pieces that a driver reads, joined in order, are a prefix of the frame. This requires that at every fill each
+/// lent block is whole and the buffer shares no byte with its descriptor. It also requires the first half to be below
+/// 2^64. A piece has EOP exactly when the frame is complete with it, and then no piece follows. Each piece reports the
+/// same packet.
 pub fn frames()
     ensures { PiecesMakeFrame }
 {}

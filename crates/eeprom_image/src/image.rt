@@ -74,7 +74,7 @@ impl Image {
     /// Returns the 16-bit words of the image, in order.
     pub fn words(&self) -> &[u16]
         ensures words { result.now ≡ self.now }
-        // The words are the words of an image.
+        // The words form an image.
         ensures image { IsImage self.now }
     {
         &self.words

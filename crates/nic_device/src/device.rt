@@ -108,10 +108,10 @@ impl Device {
     /// has at most 65,535 bytes.
     ///
     /// Registers are sound if each place of the table exists, and the following holds. A word has only bits of its
-    /// row's reset value and bits that can become 1 there. These bits are the mask's bits if the register is written,
-    /// also bit 25 in an enable register, all bits in a counter and in EERD, bits 2 to 7 in PVFMAILBOX, and none in
-    /// PFMAILBOX or in a register that only acts or is calculated. A bit is reported only while its cause and its mask
-    /// are 1. PVFMAILBOX has at most one of bits 2 and 3 set, and at most one of bits 6 and 7.
+    /// row's reset value and bits that can become 1 there. The bits that can become 1 are the mask's bits if the
+    /// register is written, also bit 25 in an enable register, all bits in a counter and in EERD, bits 2 to 7 in
+    /// PVFMAILBOX, and none in PFMAILBOX or in a register that only acts or is calculated. A bit is reported only while
+    /// its cause and its mask are 1. PVFMAILBOX has at most one of bits 2 and 3 set, and at most one of bits 6 and 7.
     pub fn stays_sound(&self)
         ensures { IsSound self.now }
     {

@@ -36,7 +36,7 @@ pub fn place_of(address: u32) -> Option<Place>
 /// Returns a mask of the bits that show at an address: 0xFFFF exactly when, according to a run of the table, it shows
 /// only bits 15:0, and 0xFFFFFFFF otherwise.
 pub fn view_of(address: u32) -> u32
-    // The mask is the mask of the first run with the address.
+    // It is the mask of the first run that has the address.
     ensures value { result ≡ view_among runs address }
     ensures low { (result ≡ 0xFFFF) ↔ IsLow address }
     ensures whole { (result ≡ 0xFFFFFFFF) ↔ ¬ (IsLow address) }

@@ -119,7 +119,7 @@ impl RegisterFile {
 
     /// Writes a place through an address that shows the bits of `view`. The write must not request a reset of the
     /// device or of a pool. The index must be below the row's count. It changes only bits that are both shown by the
-    /// address and in the row's mask, with the exceptions of some kinds below.
+    /// address and in the row's mask, with the exceptions below for some kinds of registers.
     ///
     /// Calculated registers, counters and PVFCTRL ignore writes. So do a ring's base, length and head while that side
     /// is enabled. An enable register stores the bits of its mask, which excludes bit 25; bit 25 of the written value

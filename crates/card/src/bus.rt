@@ -29,9 +29,9 @@ impl Card {
         self.device.dma_write(bus, bytes)
     }
 
-    /// Exchanges the memory of a lent block. From then on the block holds the bytes of the new memory. The former
-    /// memory is returned with the bytes that the block held. The new memory is returned in the error if and only if
-    /// the block isn't lent; nothing changes then.
+    /// Exchanges the memory of a lent block for new memory. From then on the block holds the bytes of the new memory.
+    /// The former memory is returned with the bytes that the block held. The new memory is returned in the error if and
+    /// only if the block isn't lent; nothing changes then.
     pub fn exchange(&mut self, block: u32, memory: BlockBox) -> Result<BlockBox, BlockBox>
         ensures ok { IsOk result ↔ IsTrue (has_block self.old.device.memory block) }
         ensures put { OnOk result (self.new ≡ with_bytes self.old block memory.value) }

@@ -78,10 +78,10 @@ impl Drop for BlockHandle {
     }
 }
 
-/// Exchanges the memory of a lent block. There is no copy, although no clause says so. Returns DONE: the block then
-/// holds the bytes of the new memory, and `former` is the block's former memory, with the bytes that the block held. Or
-/// returns NOT_LENT: nothing changes, and `former` is the memory that was passed in. Any previous content of `former`
-/// is leaked.
+/// Exchanges the memory of a lent block for new memory. There is no copy, although no clause says so. Returns DONE: the
+/// block then holds the bytes of the new memory, and `former` is the block's former memory, with the bytes that the
+/// block held. Or returns NOT_LENT: nothing changes, and `former` is the memory that was passed in. Any previous
+/// content of `former` is leaked.
 #[unsafe(no_mangle)]
 pub extern "C" fn nic_exchange(
     nic: &mut Handle,

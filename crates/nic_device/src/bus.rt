@@ -42,8 +42,8 @@ impl Device {
         self.engine.write_range(bus, bytes)
     }
 
-    /// Exchanges the memory of a lent block. From then on the block holds the bytes of the new memory. The former
-    /// memory is returned with the bytes that the block held. Nothing is copied, although no clause says so.
+    /// Exchanges the memory of a lent block for new memory. From then on the block holds the bytes of the new memory.
+    /// The former memory is returned with the bytes that the block held. Nothing is copied, although no clause says so.
     ///
     /// To the device, this is a write of the new memory's 2,048 bytes to the block. Errors: returns the new memory if
     /// and only if the block isn't lent.

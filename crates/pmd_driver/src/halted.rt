@@ -181,8 +181,8 @@ impl Halted {
     /// call was refused. The error returns the driver in its current state, and you can try again: it writes "off" and
     /// polls again, and continues with the blocks that are still out. A block that the device no longer has is lost.
     pub fn stop<N: Nic>(self, alloc: Global, nic: &mut N, queue: &Queue) -> Result<Home, StopFailed>
-        // Apart from device steps in between, it makes just these calls: both sides are requested to be off and polled,
-        // with fewer than 1,000 polls that show one on, and each block is taken back.
+        // Apart from device steps in between, it makes just these calls: it requests that both sides be off, polls
+        // both, with fewer than 1,000 polls that show one on, and takes each block back.
         ensures home { IfOk result (λ home. Stops queue.now (N.made nic.old) self (N.made nic.new) home) }
         // The arena owns the same numbers as before.
         ensures owns { IfOk result (λ home. (n : ℕ) → is_own home.arena n ≡ is_own self.arena n) }

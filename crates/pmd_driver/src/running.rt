@@ -162,7 +162,8 @@ impl Running {
             .receive_burst(alloc, nic, &mut self.arena, most, packets)
     }
 
-    /// Sends a packet, zero-padded to at least 60 bytes, with one descriptor for each Buf that holds bytes of it.
+    /// Sends a packet, zero-padded to 60 bytes if it is shorter, with one descriptor for each Buf that holds bytes of
+    /// it.
     ///
     /// Before any event it checks the packet. `BadSize` if its length is 0, above the frame limit less 4, or above the
     /// capacity of its Bufs; `ForeignBlock` if `release` would return it; `RingFull` if the outstanding descriptors and

@@ -248,7 +248,7 @@ impl Pmd {
             (N.made nic.old) (N.made nic.new) result }
         // The driver read that both sides are off, wrote "off", and read it again before it lent any block. It wrote
         // the registers of one ring and lent the ring's free, consecutive blocks in order; then it did the same for the
-        // other ring. It requested both sides to be on, polled both, with fewer than 1,000 polls that showed one off,
+        // other ring. It requested that both sides be on, polled both, with fewer than 1,000 polls that showed one off,
         // and filled the receive ring. Apart from device steps in between, it made no other calls.
         ensures started { IfOk result (λ p. HasStarted (record { port = port; queue = queue }) size frame
             (N.made nic.old) arena (N.made nic.new) p) }

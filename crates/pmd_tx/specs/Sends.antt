@@ -14,7 +14,7 @@ use Rattle.pmd_tx.specs.declared.answer.TxAnswer.TheVariants.{Taken, RingFull}
 use Rattle.pmd_tx.specs.declared.answer.TxFault.{TxFault}
 use Rattle.pmd_tx.specs.Sending.{Sender, Outgoing, Segment, blocks_of, keeps, parts_for, segments_of}
 
--- A packet as it is accepted: zero-padded to at least 60 bytes.
+-- A packet as it is accepted: zero-padded to 60 bytes if it is shorter.
 abbrev pub padded : List ℕ → List ℕ
 padded bytes = bytes ++ replicate (60 - length bytes) 0
 

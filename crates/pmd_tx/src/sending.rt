@@ -79,10 +79,10 @@ impl TransmitRing {
         false
     }
 
-    /// Sends a packet of 1 byte to the limit, zero-padded to at least 60 bytes. For each part it lends the block and
-    /// writes the descriptor; then it advances the tail, past packets queued earlier too. It first continues with a
-    /// packet that has waited since an earlier call. `elsewhere` says whether another ring of the driver has lent a
-    /// block with one of the packet's block numbers.
+    /// Sends a packet of 1 byte to the limit, zero-padded to 60 bytes if it is shorter. For each part it lends the
+    /// block and writes the descriptor; then it advances the tail, past packets queued earlier too. It first continues
+    /// with a packet that has waited since an earlier call. `elsewhere` says whether another ring of the driver has
+    /// lent a block with one of the packet's block numbers.
     ///
     /// Before any event it checks the packet. `BadSize` if its length is out of range or above the capacity of its
     /// blocks; `ForeignBlock` if its blocks can't go home or one is lent elsewhere; `RingFull` if the outstanding

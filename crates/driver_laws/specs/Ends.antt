@@ -33,8 +33,8 @@ LeavesHanded x = IsHandedInOrder x.course (left_handed x.left)
 abbrev pub LeavesSent : Ended → Type 0
 LeavesSent x = IsSentInOrder x.course (left_accepted x.left)
 
--- The packets that the driver's remains list as handed out are a prefix of those delivered, and the frames sent are a
--- prefix of those listed as accepted.
+-- The packets that the driver's stop returns as handed out are a prefix of those delivered. The frames sent are a
+-- prefix of those that it returns as accepted.
 abbrev pub LeftIsPrefix : Type 0
 LeftIsPrefix = (x : Ended) → IsToStop x → LeavesHanded x × LeavesSent x
 

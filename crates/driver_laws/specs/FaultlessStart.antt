@@ -41,7 +41,7 @@ TransmitIsReady =
     IsReceiveReady q size frame old a mid b v →
     PreparingFails DeviceFault q Tx size mid b new c out → NoneIsLent w origin h new c → Never w origin h new
 
--- Finally, both sides are requested to be on and polled without a stray access.
+-- Finally, the start requests that both sides be on and polls both without a stray access.
 abbrev pub SwitchingIsNeverStray : Type 0
 SwitchingIsNeverStray =
     (w : Watched) (q : AtPort) (origin : State) (h : List Entry) (size frame : ℕ) (old : List Call) (a : Numbers)

@@ -71,11 +71,12 @@ Leads old h new k =
     (doers : List Doer) × (since : List Call) × (new ≡ old ++ since) × AllOwn h doers since
     × (k ≡ played_by h doers since) × OthersHarmless doers since
 
--- So the driver's calls lead the halves on, because the other calls that they make are device steps.
+-- So the driver's calls lead the halves on, because those that belong to neither half are device steps.
 abbrev pub DrivesLead : Type 0
 DrivesLead = (old new : List Call) (h k : Halves) → Drives old h new k → Leads old h new k
 
--- Harmless calls alone lead the halves on, and so do two such sequences of calls in succession.
+-- Harmless calls alone lead the halves on. So do two sequences of calls in succession, if each of them leads the halves
+-- on.
 abbrev pub HarmlessLead : Type 0
 HarmlessLead = (old new : List Call) (h : Halves) → AddsHarmless old new → Leads old h new h
 

@@ -67,7 +67,7 @@ HandedIsPrefix =
     (x : Reported) → IsReportedOf x → IsHandedInOrder x.course (handed_of (now x).driver.rings)
 
 -- What was sent is a prefix of what the driver accepted, and all of it if no packet is outstanding, for example if
--- `reap` returns this.
+-- `reap` reports this.
 
 abbrev pub SentIsPrefix : Type 0
 SentIsPrefix =

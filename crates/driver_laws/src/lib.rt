@@ -163,7 +163,7 @@ pub fn waiting_look_leaves_some_unsent()
 /// same pass, for example those by which its author lets frames arrive. The packets that the driver handed out are a
 /// prefix of those delivered. If `rx` returns none, or `rx_burst` returns 0 though some were requested, they are all
 /// the packets delivered before the call's last poll, and so before its first event. The frames sent are a prefix of
-/// those that the driver accepted, and all of them if none is outstanding, for example if `reap` returns this.
+/// those that the driver accepted, and all of them if none is outstanding, for example if `reap` reports this.
 pub fn driver_in_order()
     ensures handed { reported.HandedIsPrefix }
     ensures none { reported.NoneIsAllBefore }
@@ -237,9 +237,9 @@ pub fn driver_among_any_calls_stops_in_order()
 {}
 
 /// Take a legal history that leaves the queue alone and begins well, up to where a driver that lived was to stop, as
-/// `pmd::run_worker` says of its driver. The packets that the driver's remains list as handed out are a prefix of those
-/// delivered, and the frames sent are a prefix of those listed as accepted. The same holds over a history that
-/// continues to any place during its stop, or to the end of the stop, whether or not all blocks came home.
+/// `pmd::run_worker` says of its driver. The packets that the driver's stop returns as handed out are a prefix of those
+/// delivered. The frames sent are a prefix of those that it returns as accepted. The same holds over a history that
+/// continues to any place during its stop, or to the end of the stop, successful or not.
 pub fn what_is_left_is_in_order()
     ensures before { LeftIsPrefix }
     ensures handed { HandedOverStop }
@@ -248,9 +248,9 @@ pub fn what_is_left_is_in_order()
 
 /// Over a history as in `what_is_left_is_in_order`, a driver's start was refused, as `pmd::run_worker` says of a driver
 /// that never lived. Just before the start's first event, port and queue name the queue, and both sides are off with no
-/// enable request pending. From that event on, nothing is sent on the queue, up to any place during the start and the
-/// stop of its remains, and up to their end. So the packets listed as handed out, and the frames sent since that event,
-/// are in order too.
+/// enable request pending. From that event on, nothing is sent on the queue, neither during the start nor during the
+/// stop of a driver that it returned. So at any place up to their end, the packets returned as handed out and the
+/// frames sent since that event are in order too.
 pub fn refused_start_sends_nothing()
     ensures sent { RefusedSendsNothing }
     ensures left { LeftOfRefusedIsPrefix }
@@ -284,8 +284,8 @@ pub fn stops_take_blocks_once_off()
 /// Let a life as in `life_in_order` be followed by calls of a stop that take blocks back only after both sides were
 /// seen off. From then on, nothing more is delivered or sent on the queue, as long as the driver's pass makes only
 /// calls of a stop. The same holds for a driver that lived and was stopped, as `pmd::run_worker` says of its driver:
-/// from where its stop had switched both sides off, up to any place during the stop, and up to its end, whether or not
-/// all blocks came home.
+/// from where its stop had switched both sides off, up to any place during the stop, and up to its end, successful or
+/// not.
 pub fn switched_off_queue_is_silent()
     ensures once { SilentOnceOff }
     ensures over { SilentOverStop }

@@ -40,8 +40,8 @@ ghost use Rattle.driver_laws.specs.Waiting.{WaitingIsNotAll};
 ghost use Rattle.driver_laws.specs.Words.{WordsAreTaken};
 
 /// The numbers that a driver uses at its port name the registers of its queue. At the physical function, its queue is
-/// any of the device's queues, by its number; at a virtual function, it is one of the pool's queues, counted from the
-/// pool's first.
+/// any of the device's queues, by its number. At a virtual function, it is any queue of the function's pool, counted
+/// from the pool's first.
 #[tactic(auto, using(crate::proofs::Ground::named_queue_has_the_numbers))]
 pub fn named_queue_has_the_numbers()
     ensures { NamedQueueHasTheNumbers }
@@ -217,13 +217,13 @@ pub fn calls_lead_both_halves()
 {}
 
 /// Take a history of any sound device that leaves the driver's queue alone, from a place where the device agrees with
-/// both halves. The receive side has just been enabled there, and is still requested to be on. From there on, the pass
-/// makes the calls of the halves, and calls that leave the queue alone. The packets that the driver returned are a
-/// prefix of those delivered since. If the next poll finds none, each of them was returned, or is complete and returned
-/// when the tail advances. If none is complete, all were returned; at each earlier place after which none was returned,
-/// all those delivered by then had been returned. The frames sent since are a prefix of those that the driver accepted,
-/// and all of them if none is outstanding. If the transmit side is enabled at that place, all of these are counted
-/// since it was enabled.
+/// both halves. The receive side has just been enabled there, and is requested to be on. From there on, the pass makes
+/// the calls of the halves, and calls that leave the queue alone. The packets that the driver returned are a prefix of
+/// those delivered since. If the next poll finds none, each of them was returned, or is complete and returned when the
+/// tail advances. If none is complete, all were returned, and at each earlier place after which none was returned, so
+/// were all those delivered by then. The frames sent since are a prefix of those that the driver accepted, and all of
+/// them if none is outstanding. If the transmit side is enabled at that place, all of these are counted since it was
+/// enabled.
 pub fn both_sides_in_order()
     ensures handed { HandedIsPrefix }
     ensures taken { NoneIsAllTaken }
@@ -235,18 +235,18 @@ pub fn both_sides_in_order()
 {}
 
 /// After a write of any word to the enable register of either side of the driver's queue, the device agrees with both
-/// halves as before. A stopping driver makes such writes. But nothing may be outstanding if the word requests the
-/// transmit side to be enabled.
+/// halves as before. But nothing may be outstanding if the word requests the transmit side to be enabled. A stopping
+/// driver makes writes of this kind.
 pub fn enable_words_keep_the_agreement()
     ensures { EnableWordsKeep }
 {}
 
 /// Harmless calls leave every queue alone, and both halves as they are. They lend, take and poke no block. Through the
 /// physical function, they write no register that a queue relies on, and through a virtual function none at all. The
-/// device steps before the driver's calls, on each way to a device, are harmless. So are some calls that the driver's
-/// own author makes through the same pass, for example the arrival of a frame or a write of EIMS. So nothing more is
-/// required of a pass if its calls that belong to neither half are harmless. A call through a way to a device adds only
-/// harmless calls if its event is harmless, or if it is refused.
+/// device steps that the ways to a device take before the driver's calls are harmless. So are some calls that the
+/// driver's own author makes through the same pass, for example the arrival of a frame or a write of EIMS. So nothing
+/// more is required of a pass if its calls that belong to neither half are harmless. A call through a way to a device
+/// adds only harmless calls if its event is harmless, or if it is refused.
 pub fn harmless_calls_leave_the_queue_alone()
     ensures called { CallsAddHarmless }
     ensures refused { StepsAddHarmless }
@@ -281,8 +281,8 @@ pub fn own_replies_are_healthy()
     ensures { OwnRepliesAreHealthy }
 {}
 
-/// So no call of a driver ends with the device at fault, in the sense of the clause `finds`, over a history as in
-/// `own_replies_are_healthy`. This holds for calls that receive, send or reap.
+/// So no call of a driver ends with the device at fault, as `finds` in the call's clauses describes it, over a history
+/// as in `own_replies_are_healthy`. This holds for calls that receive, send or reap.
 pub fn no_call_finds_the_device_at_fault()
     ensures { NoFault }
 {}

@@ -77,7 +77,7 @@ pub fn queue_up_stays_up()
 {}
 
 /// A write of the enable register of the queue's transmit side keeps the agreement if bit 25 of the word is 0, or
-/// nothing is outstanding. Device and driver agree, whether the side is enabled or not.
+/// nothing is outstanding. The agreement doesn't depend on whether the side is enabled.
 #[tactic(auto, using(crate::proofs::Off::enable_words_keep))]
 pub fn enable_words_keep()
     ensures { EnableWordsKeep }

@@ -76,15 +76,17 @@ def field_name(text: str) -> str:
 def field_of(half: int, line: tuple[int, int, str, str]) -> Field:
     """Returns the field that a line of the page's table describes."""
     low, width, name, text = line
-    return Field(field_name(name), half, low, width, text.replace("as in the table of types below", "enum nic_rss_type"))
+    meaning = text.replace("as in the table of types below", "enum nic_rss_type")
+    return Field(field_name(name), half, low, width, meaning)
 
 
 def forms() -> list[Form]:
     """Returns the formats of descriptors."""
     address = "the bus address of the buffer"
+    header = "the bus address of the header buffer"
     read = [
         Field("BUFFER", 0, 1, 63, address + ", an even number"),
-        Field("HEADER", 1, 1, 63, "the bus address of the header buffer; no effect, because header split isn't supported"),
+        Field("HEADER", 1, 1, 63, f"{header}; no effect, because header split isn't supported"),
         Field("DD", 1, 0, 1, "write 0 if the driver polls DD"),
     ]
     halves = enumerate(receive_fields())

@@ -21,6 +21,13 @@ unsigned int bus_pool_queues(const struct bus *it)
     return nic_pool_queues(bus_peek(it, NIC_GCR_EXT));
 }
 
+bool bus_is_absent(const struct bus *it, unsigned int function)
+{
+    nic device = it->device;
+    uint32_t word = 0;
+    return nic_vf_peek32(&device, (uint8_t)(function - 1), NIC_VFSTATUS, &word) == NIC_STRAY;
+}
+
 /* Returns the physical function's address of a register; BUS_SPACE if a virtual function has none at the offset. */
 static uint32_t physical_address(const struct bus *it, unsigned int function, uint32_t offset)
 {
@@ -67,7 +74,7 @@ static uint32_t read_virtual(struct bus *it, unsigned int function, uint32_t off
     uint32_t word = 0;
     if (nic_vf_read32(&it->device, (uint8_t)(function - 1), offset, &word) != NIC_STRAY)
         return word;
-    if (word == UINT32_MAX) {
+    if (bus_is_absent(it, function)) {
         it->counts.absent_reads++;
         answer_absent_read(it, function, offset, &word);
     } else {
@@ -108,11 +115,11 @@ static void write_virtual(struct bus *it, unsigned int function, uint32_t offset
 {
     if (nic_vf_write32(&it->device, (uint8_t)(function - 1), offset, word) != NIC_STRAY)
         return;
-    if (bus_pool_queues(it)) {
-        stray_write(it, function, offset, word);
-    } else {
+    if (bus_is_absent(it, function)) {
         it->counts.absent_writes++;
         answer_absent_write(it, function, offset, word);
+    } else {
+        stray_write(it, function, offset, word);
     }
 }
 

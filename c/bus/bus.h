@@ -125,7 +125,7 @@ struct bus_counts {
     uint64_t messages[BUS_FUNCTIONS]; /* messages, and a bit for each vector used */
     uint32_t vectors[BUS_FUNCTIONS];
     uint64_t receive_steps, transmit_steps, frames_in, frames_out, enables, eeprom_words;
-    uint64_t absent_reads, absent_writes; /* accesses by functions for which the mode has no pool */
+    uint64_t absent_reads, absent_writes; /* accesses by absent functions (bus_is_absent) */
     uint64_t answered[8];                 /* how often each answer was given, by bit number of enum bus_answer */
     uint64_t faults, problems;            /* 0 in a good run */
     uint64_t fault_whys[16];              /* faults by enum nic_fault */
@@ -165,6 +165,9 @@ uint32_t bus_peek(const struct bus *it, uint32_t address);
 
 /* Returns the number of queues in a pool according to GCR_EXT: 8, 4 or 2; 0 without pools. */
 unsigned int bus_pool_queues(const struct bus *it);
+
+/* Returns whether a virtual function has no registers: the device lacks it, or GCR_EXT's mode has no pool for it. */
+bool bus_is_absent(const struct bus *it, unsigned int function);
 
 /* ---- frames ---- */
 

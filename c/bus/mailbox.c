@@ -52,7 +52,7 @@ static void notified(struct bus *it, unsigned int function)
 
 void mailbox_written(struct bus *it, unsigned int function, uint32_t offset, uint32_t word)
 {
-    if (function != BUS_PHYSICAL && offset == NIC_VFMAILBOX && word & ASKS && bus_pool_queues(it))
+    if (function != BUS_PHYSICAL && offset == NIC_VFMAILBOX && word & ASKS && !bus_is_absent(it, function))
         asked(it, function);
     if (function == BUS_PHYSICAL && offset >= NIC_PFMAILBOX(0) && offset < NIC_PFMAILBOX(BUS_FUNCTIONS - 1) &&
         word & TELLS)

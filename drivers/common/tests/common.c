@@ -512,6 +512,32 @@ static void functions_have_queues_of_their_own(void)
     run_close();
 }
 
+/* Tests that functions above the number of pools are absent for reads, writes and mailbox requests. */
+static void functions_beyond_the_pools_are_absent(void)
+{
+    const struct {
+        uint32_t mode;
+        unsigned int pools;
+    } all[] = {{1, 16}, {2, 32}};
+    for (size_t i = 0; i < sizeof all / sizeof *all; i++) {
+        const unsigned int last = all[i].pools, beyond = last + 1; /* function p has pool p - 1 */
+        open_bus((struct bus_options){.functions = BUS_FUNCTIONS - 1});
+        bus_write(run_bus, BUS_PHYSICAL, NIC_GCR_EXT, all[i].mode);
+        bus_write(run_bus, last, NIC_VFMBMEM(0), 2);
+        bus_write(run_bus, last, NIC_VFMAILBOX, NIC_PVFMAILBOX_REQ);
+        bus_write(run_bus, last, 0x3FFC, 1);
+        CHECK(!bus_is_absent(run_bus, last) && bus_counts(run_bus)->absent_writes == 0 &&
+              bus_read(run_bus, last, 0x3FFC) == 0 && bus_counts(run_bus)->absent_reads == 0);
+        CHECK(mailbox_counts(run_bus, 2).asked == 1);
+        bus_write(run_bus, beyond, NIC_VFMAILBOX, NIC_PVFMAILBOX_REQ);
+        bus_write(run_bus, beyond, 0x3FFC, 1);
+        CHECK(bus_is_absent(run_bus, beyond) && bus_counts(run_bus)->absent_writes == 2);
+        CHECK(bus_read(run_bus, beyond, NIC_VFSTATUS) == UINT32_MAX && bus_counts(run_bus)->absent_reads == 1);
+        CHECK(mailbox_counts(run_bus, 0).asked == 0 && mailbox_counts(run_bus, 2).asked == 1);
+        run_close();
+    }
+}
+
 static void on_access(void *access, const struct bus_access *it)
 {
     *(struct bus_access *)access = *it;
@@ -676,6 +702,7 @@ int main(void)
     answers_are_given_where_they_are_asked_for(false);
     answers_are_given_where_they_are_asked_for(true);
     functions_have_queues_of_their_own();
+    functions_beyond_the_pools_are_absent();
     accesses_are_found();
     mailboxes_are_watched();
     buses_are_apart();

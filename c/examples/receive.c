@@ -34,7 +34,7 @@ int main(void)
     nic_write32(&n, NIC_IVAR(1), NIC_IVAR_INT_ALLOC_2_IS(5) | NIC_IVAR_INT_ALLOC_VAL_2);
     nic_write32(&n, NIC_EIMS, 1u << 5);
     nic_settle(&n, 4, outcomes, 16, &count);    /* the device enables the queue */
-    nic_put_desc(&n, 0, 0, nic_rx_desc(0x800)); /* slot 0 gets a descriptor for block 1 */
+    nic_put_desc(&n, 0, 0, nic_rx_desc(0x800)); /* slot 0 gets a descriptor for the buffer at 0x800 */
     nic_write32(&n, NIC_RDT(3), 1);             /* hand slot 0 to the device */
     printf("arrives: %s\n", nic_status_name(nic_arrive(&n, frame, sizeof frame, outcomes)));
     nic_settle(&n, 4, outcomes, 16, &count);

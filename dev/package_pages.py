@@ -31,7 +31,7 @@ ROOT = Path(__file__).resolve().parent.parent
 SHIPPED = [
     "docs", "c/README.md", "c/examples", "c/drive/examples", "c/explore/examples", "c/explore/fuzz", "c/explore/many",
     "c/explore/corpus", "c/drive/corpus", "python/README.md", "python/examples", "rust/nic82599/README.md",
-    "rust/nic82599/examples", "README.md", "CHANGELOG.md", "LICENSE", "VERSION",
+    "rust/nic82599/examples", "drivers/README.md", "README.md", "CHANGELOG.md", "LICENSE", "VERSION",
 ]  # fmt: skip
 # Where a package has its pages, and its headers.
 PAGES, HEADERS = PurePosixPath("/usr/share/doc/nic82599"), "/usr/include"

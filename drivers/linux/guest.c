@@ -130,7 +130,7 @@ static void link_down_and_up(const struct interface *it)
     pass(it, FEW, FRAME_MAX, queues);
 }
 
-/* docs/REAL-DRIVERS.md lists the expected results of the driver's self-test on the bench. */
+/* drivers/README.md lists the expected results of the driver's self-test on the bench. */
 static void driver_test(const struct interface *it)
 {
     static const struct {

@@ -69,7 +69,7 @@ JUMPS = (Op.JEQ, Op.JNE, Op.JMP)
 
 @dataclass(frozen=True)
 class Instruction:
-    """An instruction, with the layout in docs/OBJECTS.md."""
+    """An instruction, with the layout in docs/script.md."""
 
     op: Op
     sub: int

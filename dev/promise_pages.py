@@ -58,6 +58,8 @@ share.md
     Calls under the lock: device_lock/shared device_lock/stepping device_lock/locked device_lock/fault
     Calls that are kept: device_lock/calls
     Leaving alone, closing and positions, a second time: ring_laws/locks
+    Workers on threads: pmd
+    Asking a history: pmd/beginning pmd/fitting pmd/lending pmd/quiet pmd/verdict pmd/laws
 driver.md
     A driver, running or not: pmd_driver/driver
     Start: pmd_driver/start
@@ -89,16 +91,12 @@ interleaving.md
     The transmit ring: ring_laws/transmit
     Histories: ring_laws/history
     A device in hand: pmd_access/history device_lock/reported
-threads.md
-    Workers on threads: pmd
-    Asking a history: pmd/beginning pmd/fitting pmd/lending pmd/quiet pmd/verdict pmd/laws
 script.md
     Scripts: script_asm
     Programs and objects: program
     The machine: machine
     The debugger: debugger
     Objects, instructions and commands, a second time: script_laws
-tools.md
     What the program writes: bench_commands
     The words of the command line: bench_commands/examples bench_commands/parse
     `nicbench threads`: bench

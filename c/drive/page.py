@@ -14,7 +14,7 @@ END = "<!-- to here -->\n"
 # Patterns of the places that state the number of rows.
 COUNTS = {
     CARD: (r"the card tries it in (\d+)\s", r"so (\d+) rows take"),
-    README: (r"learn where it stands: (\d+) scenarios",),
+    README: (r"ready-made scenarios, (\d+) of them",),
 }
 # The last line of a card, in which all three numbers count rows.
 RESULT = re.compile(r"(\d+) passed, (\d+) failed, \d+ not applicable")

@@ -53,7 +53,7 @@ PATIENT = ["--seconds", 1800, "--hang", 600]
 
 # Arguments that the command refuses with status 2, and drivers that it can't use.
 REFUSALS = {
-    "": "which driver\\?",
+    "": "name a driver: sources, objects, or a program",
     "/nowhere.c": "/nowhere.c: there is no such file",
     "{source} --rows nothing": "no row or family is named nothing; the families are setup, rings, frames",
     "{source} --rows ,": "--rows: no row is named",

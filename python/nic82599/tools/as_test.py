@@ -64,7 +64,7 @@ def used_data(script: Script, steps: list[tuple[int, str]]) -> list[int]:
 # --- in C ---
 
 C_HEAD = """\
-/* A run of {name} on the bench, as a test: each call must return the same answer as there. {made}
+/* A run of {name} on the bench, as a test: each call must return the same answer as there.{made}
 
        cc -std=c99 {file} $(pkg-config --cflags --libs nic82599) && ./a.out    */
 #include <stdint.h>
@@ -241,7 +241,7 @@ def in_c(script: Script, printed: list[str], vfs: int, fifo: int, made: str = ""
 # --- in Python ---
 
 PYTHON_HEAD = '''\
-"""A run of {name} on the bench, as a test: each call must return the same answer as there. {made}
+"""A run of {name} on the bench, as a test: each call must return the same answer as there.{made}
 
     python3 -m pytest {file}    or    python3 {file}
 """
@@ -382,5 +382,5 @@ def written(language: str, script: Script, printed: list[str], bench: Bench) -> 
     """Returns the test in a language, `c` or `python`, for a run that printed these lines."""
     made = "Written by nicview of the 82599 bench."
     if language == "c":
-        return in_c(script, printed, bench.vfs, bench.fifo, made)
-    return in_python(script, printed, bench.vfs, bench.fifo, made)
+        return in_c(script, printed, bench.vfs, bench.fifo, f"\n   {made}")
+    return in_python(script, printed, bench.vfs, bench.fifo, f"\n{made}")

@@ -318,7 +318,7 @@ const NEVER: usize = 18;
 const NEVER_DOES: Can =
     Can::NO_MODERATION.and(Can::NO_HEADS).and(Can::ONE_VECTOR).and(Can::ONE_BUFFER).and(Can::NO_ADDRESS);
 const ALL_CAN: Can = Can::SHARED_SEND.and(Can::FUNCTIONS).and(Can::SHARED_DEVICE).and(Can::HOST);
-const NO_RESET: &str = "no reset of the device (NICD_SHARED_DEVICE)";
+const NO_RESET: &str = "no device reset (NICD_SHARED_DEVICE)";
 
 /// The card's text for each function that can be left out; no row needs `rearm` by itself.
 const LACKS: [&str; 18] = [

@@ -139,7 +139,7 @@ ABSENT: tuple[tuple[str, tuple[tuple[int, int, int, str], ...]], ...] = (
     )),
     ("skip: there are no timestamps and no firmware", (
         (0x05188, 0x05188, 0x04, "TSYNCRXCTL"),
-        (0x08C00, 0x08C48, 0x04, "TSYNCTXCTL and the other registers of timestamps"),
+        (0x08C00, 0x08C48, 0x04, "TSYNCTXCTL and the other timestamp registers"),
         (0x15F00, 0x15F00, 0x04, "HICR"),
     )),
     ("skip: they read 0", (

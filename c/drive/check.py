@@ -56,7 +56,7 @@ REFUSALS = {
     "": "name a driver: sources, objects, or a program",
     "/nowhere.c": "/nowhere.c: there is no such file",
     "{source} --rows nothing": "no row or family is named nothing; the families are setup, rings, frames",
-    "{source} --rows ,": "--rows: no row is named",
+    "{source} --rows ,": "--rows names no row",
     "{source} --jobs 0": "must be above 0",
     "{source} --cc /nowhere": "/nowhere: can't be run",
     "{source} --libraries /nowhere": "there is no such file: `make -C c` builds it",
@@ -195,7 +195,7 @@ PLAIN_WORD = {
 }
 # Rows in which threads of the driver share state besides their rings.
 SEEN = "interrupt-two-queues,interrupt-often,link,stats,reset-during-interrupts,mailbox-ready-once,host-collides"
-UNSEEN = "^accesses of the driver's own memory aren't seen, so no bug in their order is found: "
+UNSEEN = "^the search can't see accesses to the driver's own memory, so it misses bugs in their order: "
 
 
 # Changes of corpus/driver.c with PLAIN_COUNTS: one copy accesses both words, with a fence, about which gcc warns.
@@ -281,7 +281,7 @@ def check_blind(kit: Kit, wrong: Path, how: list[object]) -> None:
     }.items():
         must_print(nicdrive(folder, [*words, *how], 0), UNSEEN + wanted, str(words))
         must_print((folder / "card.txt").read_text(), UNSEEN + wanted, "card.txt")
-        if "no bug in their order is found" not in (folder / "card.html").read_text():
+        if "it misses bugs in their order" not in (folder / "card.html").read_text():
             raise Wrong(f"card.html doesn't say that accesses aren't seen: {words}")
 
 
@@ -566,7 +566,7 @@ IDLE = {
     "close-during-frames": "no frame arrived in queue 0; no frame was being received during close",
     "close-during-sends": "no frame was transmitted by queue 0; no frame was being transmitted during close",
     "close-during-all": "no message was sent for queue 0",
-    "memory-refused": "no allocation was refused; no frame arrived in queue 0",
+    "memory-refused": "no allocation failed; no frame arrived in queue 0",
     "suspend-quiet": "no frame arrived in queue 0; no frame was being received during suspend",
     "reset-during-receive": "no frame arrived in queue 0; no frame was being received during reset",
     "mtu-shrinks": "no frame was dropped because of its length",
@@ -706,9 +706,9 @@ KEPT = {
     "filter": "was received, but the filter doesn't accept it \\(only its own address is accepted again; then ",
     "list": "wasn't received, but the filter accepts it|was received, but the filter doesn't accept it",
     "promiscuous": "wasn't received, but the filter accepts it \\(all frames are accepted; then ",
-    "mtu": "of 4096 bytes wasn't received, but the agreed length|send on queue 0 fails forever",
+    "mtu": "4096 bytes long, wasn't received, but the agreed length|send on queue 0 fails forever",
     "rss": "arrived in queue \\d instead of \\d",
-    "rings": "by a ring of 128 bytes, but 16 slots were requested|never reached the caller",
+    "rings": "by a 128-byte ring, but 16 slots were requested|never reached the caller",
 }
 
 # Prints how the command handles pages if a row failed, given a toolchain and the programs of ./nicbench that exist.
@@ -727,7 +727,7 @@ command.draw_all([Row("a", "b", "", "c", "d", "e", state=FAILED)], Path())
 def check_pages() -> str:
     """The command announces that it compiles ./nicbench for the pages, but only if it does."""
     folders = ", ".join(repr(str(path)) for path in (HERE, C.parent / "python"))
-    notice = "nicdrive: compiling ./nicbench for the pages (only once, takes some minutes)\n"
+    notice = "nicdrive: compiling ./nicbench for the pages (only once, takes a few minutes)\n"
     for there, wanted in (("/nowhere", notice), ("/", "")):
         words = [sys.executable, "-B", "-c", PAGES.replace("FOLDERS", folders), there]
         made = subprocess.run(words, capture_output=True, text=True, check=False)

@@ -288,7 +288,7 @@ NEVER = {
     "slots": [
         "task poll never got past its first wait",
         "handler isr never started: no message pf vector 5 was sent",
-        "no frame was ever written to memory: it still waits inside the device",
+        "no frame was ever written to memory: it is still waiting inside the device",
     ],
     "waits": ["task poll never got past its first wait"],
     "queue": ["queue 0 was on but sent nothing"],

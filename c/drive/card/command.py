@@ -1,4 +1,4 @@
-"""Makes a driver's report card: runs each scenario under many orders of steps and judges it by what the device did.
+"""Writes a driver's report card: runs each scenario under many orders of steps and judges it by what the device did.
 
     nicdrive my_driver.c                compiles, links, searches, and writes card/card.html
     nicdrive ./my_driver                does the same for a program that is already linked
@@ -12,13 +12,13 @@ format. For each failed row it also receives the schedule, as text and as a page
 and as a page of nicview. Each row is searched in its own process: if the driver crashes or hangs, its row fails, and
 the others continue.
 
-Sources are compiled with -fsanitize=thread, so that each access of the driver's own memory is observed: two accesses
+Sources are compiled with -fsanitize=thread, so that each access to the driver's own memory is observed: two accesses
 without an order between them fail a row. If that isn't possible, the first line says so, and why.
 
 A row in which nothing failed passes if it reached what it tries, for example frames on each queue, or a reset while
 frames were in flight. Otherwise it is "not reached", with what is missing.
 
-A file of --require lists rows, one per line, each with its points (1 by default); a comment begins with '#'. Only these
+A --require file lists rows, one per line, each with its points (1 by default); a comment begins with '#'. Only these
 rows and the rows of --rows run. The points are printed, and written to points.txt and, as JUnit, to points.xml. A row
 that isn't applicable earns no points.
 
@@ -84,12 +84,12 @@ def words() -> argparse.Namespace:
     jobs = "rows to run at a time (one for each core)"
     parser.add_argument("--jobs", type=int, default=os.cpu_count() or 1, metavar="N", help=jobs)
     parser.add_argument("--cc", default=os.environ.get("CC", "cc"), metavar="CC", help="the compiler (cc)")
-    parser.add_argument("--flags", default="", metavar="WORDS", help="more arguments for the compiler, in quotes")
+    parser.add_argument("--flags", default="", metavar="WORDS", help="additional compiler arguments, in quotes")
     blind = "don't observe the driver's own memory: faster, because compiled without -fsanitize=thread"
     parser.add_argument("--no-accesses", action="store_true", help=blind)
     archives = "folder of the libraries (c/out in a clone, otherwise where they are installed)"
     parser.add_argument("--libraries", type=Path, default=where.libraries(), metavar="FOLDER", help=archives)
-    parser.add_argument("--no-pages", action="store_true", help="write no pages of failed rows' runs")
+    parser.add_argument("--no-pages", action="store_true", help="don't write pages for the runs of failed rows")
     parser.add_argument("--compare", nargs=2, type=Path, metavar=("OLD", "NEW"), help="two cards to compare")
     return parser.parse_args(joined(sys.argv[1:]))
 
@@ -107,7 +107,7 @@ def chosen(rows: list[Row], names: str | None) -> list[Row]:
             raise Refused(f"--rows: no row or family is named {name}; the families are {families}")
         wanted.update(found)
     if not wanted:
-        raise Refused("--rows: no row is named")
+        raise Refused("--rows names no row")
     return [row for row in rows if row.name in wanted]
 
 
@@ -133,13 +133,13 @@ def draw(row: Row, folder: Path) -> None:
         row.run = target.name
     else:
         said = (made.stderr.strip() or "nicview wrote nothing").splitlines()[-1]
-        row.notes.append(f"no page of the run: {said}")
+        row.notes.append(f"can't write a page of the run: {said}")
 
 
 def draw_all(rows: list[Row], folder: Path) -> None:
     """Writes the pages of all failed rows' runs. The first may have to wait until ./nicbench is compiled."""
     if any(row.state == FAILED for row in rows) and shutil.which("rt") and not any(map(Path.exists, NICBENCH)):
-        notice = "nicdrive: compiling ./nicbench for the pages (only once, takes some minutes)"
+        notice = "nicdrive: compiling ./nicbench for the pages (only once, takes a few minutes)"
         print(notice, file=sys.stderr, flush=True)
     for row in rows:
         draw(row, folder)

@@ -14,7 +14,7 @@ from nic82599.tools.tables import TABLE
 
 from .rows import FAILED, NOT_APPLICABLE, NOT_REACHED, PASSED, Budget, Refused, Row
 
-UNSEEN = "accesses of the driver's own memory aren't seen, so no bug in their order is found"
+UNSEEN = "the search can't see accesses to the driver's own memory, so it misses bugs in their order"
 ANY = 1000  # value of `every` if all schedules were run, with any number of preemptions
 # Changes that make a card worse, for a row that passed before.
 WORSE = ("fails now", "no longer reached", "no longer applicable")
@@ -109,9 +109,9 @@ def extent(row: Row) -> str:
     """Describes how many of a row's schedules were run."""
     text = f"{row.schedules:,} schedule{'' if row.schedules == 1 else 's'}"
     if row.every >= ANY:
-        return f"{text}: all there are"
+        return f"{text}: all possible ones"
     if row.every >= 0:
-        return f"{text}, all with at most {row.every} preemption{'' if row.every == 1 else 's'} among them"
+        return f"{text}, including all with at most {row.every} preemption{'' if row.every == 1 else 's'}"
     return text
 
 
@@ -157,8 +157,8 @@ def text(card: Card) -> str:
     touched = [name for name, (reads, writes) in registers.items() if reads or writes]
     seen = [name for name, count in replies.items() if count]
     lines += [
-        f"registers of the table that the driver accessed: {len(touched)} of {len(registers)}",
-        f"different replies of the device: {len(seen)} of {len(replies)}",
+        f"registers in the table that the driver accessed: {len(touched)} of {len(registers)}",
+        f"distinct replies of the device: {len(seen)} of {len(replies)}",
         "replies that never occurred: " + ", ".join(name for name, count in replies.items() if not count),
     ]
     return "\n".join(lines) + "\n"

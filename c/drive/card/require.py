@@ -74,7 +74,7 @@ def _text(path: Path) -> str:
         with path.open("rb") as file:
             given = file.read(MOST_BYTES + 1)
         if len(given) > MOST_BYTES:
-            raise Refused(f"{path}: too long: a list of rows has at most {MOST_BYTES:,} bytes")
+            raise Refused(f"{path}: too long: a list of rows is at most {MOST_BYTES:,} bytes long")
         return given.decode("utf-8")
     except (OSError, UnicodeDecodeError) as fault:
         raise Refused(f"{path}: unreadable: {shortened(str(fault), 160)}") from fault
@@ -99,7 +99,7 @@ def read(path: Path) -> Milestone:
             continue
         one = _wanted(f"{path}:{number}", number, text)
         if one.row in wanted:
-            raise Refused(f"{path}:{number}: row twice: {one.row} is already in line {wanted[one.row].line}")
+            raise Refused(f"{path}:{number}: duplicate row: {one.row} is already on line {wanted[one.row].line}")
         wanted[one.row] = one
     if not wanted:
         raise Refused(f"{path}: no rows: write a row's name on each line (`nicdrive --list` prints the rows)")

@@ -79,9 +79,9 @@ def listed(program: Path) -> list[Row]:
     except OSError as fault:
         raise Refused(f"{program}: can't be run: {fault.strerror}") from fault
     except TooLong as fault:
-        raise Refused(f"{program} --list doesn't end: does its main call nicd_main?") from fault
+        raise Refused(f"{program} --list doesn't exit: does its main call nicd_main?") from fault
     if made.status:
-        raise Refused((made.errors.strip() or f"{program} --list ends with status {made.status}").splitlines()[0])
+        raise Refused((made.errors.strip() or f"{program} --list exits with status {made.status}").splitlines()[0])
     lines = [line.split("\t") for line in made.printed.splitlines()]
     if not lines or any(len(line) != 7 for line in lines):
         raise Refused(f"{program} --list prints no scenarios: does its main call nicd_main?")
@@ -92,7 +92,7 @@ def name_of(program: Path) -> str:
     try:
         return ran([program, "--name"], LIST_SECONDS).printed.strip() or program.name
     except TooLong as fault:
-        raise Refused(f"{program} --name doesn't end: does its main call nicd_main?") from fault
+        raise Refused(f"{program} --name doesn't exit: does its main call nicd_main?") from fault
 
 
 def accesses_of(program: Path) -> bool:

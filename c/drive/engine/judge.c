@@ -71,7 +71,7 @@ static void tell_strange(uint16_t queue, const uint8_t *bytes, uint32_t length)
         if (!is_frame(k, bytes, length))
             continue;
         if (nicd.frames[k].state == IS_DELIVERED)
-            nicd_failed("frame %u is delivered a second time, from slot %u of queue %u", k, queue, nicd.frames[k].slot);
+            nicd_failed("frame %u is delivered a second time, from slot %u of queue %u", k, nicd.frames[k].slot, queue);
         else if (nicd.frames[k].state == IS_WRITTEN && nicd.frames[k].queue != nicd.base + queue)
             nicd_failed("frame %u of queue %u is delivered from queue %u", k, nicd.frames[k].queue - nicd.base, queue);
         else if (nicd.frames[k].state == IS_WRITTEN)
@@ -90,11 +90,11 @@ static void tell_strange(uint16_t queue, const uint8_t *bytes, uint32_t length)
     while (at < length && at < wanted && bytes[at] == whole[at])
         at++;
     if (length != wanted)
-        nicd_failed("frame %u of %u bytes is delivered with %u: it ends in slot %u of queue %u", number,
+        nicd_failed("frame %u is %u bytes long but is delivered with %u: it ends in slot %u of queue %u", number,
                     (unsigned)wanted, (unsigned)length, nicd.frames[number].slot, queue);
     else
-        nicd_failed("frame %u is delivered with wrong bytes from byte %u on: it ends in slot %u of queue %u", number,
-                    (unsigned)at, nicd.frames[number].slot, queue);
+        nicd_failed("frame %u is delivered with wrong bytes starting at byte %u: it ends in slot %u of queue %u",
+                    number, (unsigned)at, nicd.frames[number].slot, queue);
 }
 
 /* Skips frames of an interrupted flow, which may be missing. */
@@ -121,9 +121,9 @@ static bool take_next(uint16_t queue, const uint8_t *bytes, uint32_t length)
 void nicd_deliver(uint16_t queue, const uint8_t *bytes, uint32_t length)
 {
     if (queue >= nicd.setup.queues)
-        nicd_failed("a frame is delivered from queue %u, but the driver has %u", queue, nicd.setup.queues);
+        nicd_failed("a frame is delivered from queue %u, but setup.queues is %u", queue, nicd.setup.queues);
     else if (!length || length > NICD_FRAME_MOST)
-        nicd_failed("a frame of %u bytes is delivered from queue %u", (unsigned)length, queue);
+        nicd_failed("a %u-byte frame is delivered from queue %u", (unsigned)length, queue);
     else if (nicd.is_ended)
         nicd_failed("a frame is delivered from queue %u after close returned", queue);
     else if (!take_next(queue, bytes, length))
@@ -167,7 +167,7 @@ static void tell_waiting(uint16_t number)
     for (char *at = why; *at; at++)
         if (*at == '\n')
             *at = at[1] ? ';' : 0;
-    nicd_note("frame %u still waits inside the idle device: %.190s", number, *why ? why : "nothing receives it");
+    nicd_note("frame %u is still waiting inside the idle device: %.190s", number, *why ? why : "nothing receives it");
 }
 
 /* Whether a frame was dropped as the driver requested: DROP_EN is set, the ring was full when the frame arrived, and it
@@ -230,8 +230,8 @@ static void tell_strange_out(unsigned queue, uint16_t slot, uint64_t length, uin
         nicd_note("slot %u of queue %u didn't transmit frame %u: %u bytes instead of %u", slot, queue,
                   sent[next].number, (unsigned)length, (unsigned)sent[next].length);
     else
-        nicd_note("slot %u of queue %u didn't transmit frame %u: wrong from byte %u on", slot, queue, sent[next].number,
-                  first_other(&sent[next], length));
+        nicd_note("slot %u of queue %u didn't transmit frame %u: wrong starting at byte %u", slot, queue,
+                  sent[next].number, first_other(&sent[next], length));
 }
 
 /* Judges transmitted frame number `count` of its queue. It must be the next accepted frame, or a later one if those
@@ -240,7 +240,7 @@ static void judge_out(const nic_outcome *outcome, uint32_t next[NICD_QUEUES], ui
 {
     unsigned queue = (unsigned)(outcome->queue - nicd.base);
     if (queue >= nicd.setup.queues) {
-        nicd_note("a frame of %u bytes was transmitted by queue %u, which isn't the driver's", (unsigned)outcome->len,
+        nicd_note("a %u-byte frame was transmitted by queue %u, which isn't the driver's", (unsigned)outcome->len,
                   outcome->queue);
         return;
     }

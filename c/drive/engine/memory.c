@@ -166,7 +166,7 @@ const char *nicd_memory_near(uint64_t bus)
             below = piece;
     }
     if (!below)
-        return "no allocation of nicd_dma_alloc is below it";
+        return "no nicd_dma_alloc allocation is below it";
     snprintf(words, sizeof words, "%llu bytes past the end of the %u bytes at 0x%llx, which %s allocated",
              (unsigned long long)(bus - below->bus - below->bytes), (unsigned)below->bytes,
              (unsigned long long)below->bus, below->by);
@@ -196,7 +196,7 @@ const char *nicd_memory_left(void)
                   nicd.taken == 1 ? "" : "the first has ", (unsigned)piece->bytes, (unsigned long long)piece->bus,
                   piece->by);
     else if (nicd.own_taken)
-        nicd_note("%u allocation%s of nicd_alloc %s freed, for example one of %lu bytes", (unsigned)nicd.own_taken,
+        nicd_note("%u nicd_alloc allocation%s %s freed, for example one of %lu bytes", (unsigned)nicd.own_taken,
                   nicd.own_taken == 1 ? "" : "s", nicd.own_taken == 1 ? "wasn't" : "weren't",
                   (unsigned long)first_own());
     return nicd.taken || nicd.own_taken ? nicd.fault : NULL;

@@ -273,7 +273,7 @@ static void judge_ended(const nicxo_step *step)
 {
     bool is_access = step->kind >= STEP_READ && step->kind <= STEP_TAKE;
     if (nicd.is_ended && is_access && step->thread < NICX_TASKS)
-        nicd_note("%s still acts for the driver after close returned", nicxo_thread_name(step->thread));
+        nicd_note("%s still uses the device after close returned", nicxo_thread_name(step->thread));
 }
 
 /* Between suspend and resume the device must do nothing for the driver. The driver must not access the device, except
@@ -295,7 +295,7 @@ static void judge_sleep(const nicxo_step *step, bool is_of_driver)
         nicd_note("transmit queue %u sends while the driver is suspended: TXDCTL is 0x%08x",
                   step->outcome.queue - nicd.base, (unsigned)nicd_peek(NIC_TXDCTL(step->outcome.queue)));
     else if (is_of_driver && step->kind >= STEP_READ && step->kind <= STEP_TAKE && nicxo_thread() < NICX_TASKS)
-        nicd_note("%s acts for the driver while it is suspended", nicxo_thread_name(nicxo_thread()));
+        nicd_note("%s uses the device while the driver is suspended", nicxo_thread_name(nicxo_thread()));
 }
 
 /* Converts an access at a register's alias to its first address, because rows check only that address. A write at an

@@ -139,7 +139,7 @@ static void break_send(void)
     bool transmit = true;
     uint32_t block = ring_block(true);
     nicd_hold();
-    nicx_check(nicd_send(0, 60), "send of queue 0 returned false, but no slot of its ring is in use");
+    nicx_check(nicd_send(0, 60), "send on queue 0 returned false, but no slot of its ring is in use");
     if (nicd.went[0])
         return;
     nic_dma_read(nicx_device(), (uint64_t)block * NIC_BLOCK_BYTES, kept, sizeof kept);
@@ -187,7 +187,7 @@ static const char *judge_shrunk(void)
     for (uint16_t k = 0; k < nicd.count; k++)
         if (nicd.frames[k].life == nicd.life && nicd.coming[k].length > 1514 && nicd.frames[k].state == IS_DELIVERED)
             return nicd_words(
-                "frame %u of %u bytes was received, but mtu set the longest frame to 1514: MAXFRS is 0x%08x", k,
+                "frame %u, %u bytes long, was received, but mtu set the longest frame to 1514: MAXFRS is 0x%08x", k,
                 (unsigned)nicd.coming[k].length, (unsigned)nicd_peek(NIC_MAXFRS));
     return NULL;
 }
@@ -220,7 +220,7 @@ static void refuse_one(void)
     if (!is_done)
         nicd_reach(NO_MEMORY);
     if (!is_done && nicd_memory_taken() != before)
-        nicd_failed("resize was refused memory: the driver holds %u allocations after it, but held %u before",
+        nicd_failed("an allocation failed in resize: the driver holds %u allocations afterwards, but held %u before",
                     (unsigned)nicd_memory_taken(), (unsigned)before);
     nicd_go_on();
 }
@@ -230,7 +230,7 @@ static const char *judge_rings(void)
     uint32_t length = nicd_peek(NIC_RDLEN(nicd.base));
     if (length == 16u * NIC_DESC_BYTES)
         return NULL;
-    nicd_note("the receive ring has %u bytes, but 16 slots were requested", (unsigned)length);
+    nicd_note("the receive ring is %u bytes long, but 16 slots were requested", (unsigned)length);
     return nicd.fault;
 }
 
@@ -262,17 +262,17 @@ const struct scenario nicd_resets[] = {
         .takes = true, .sends = 3, .comes = 4, .late = 2),
     ROW("reset-twice", "two resets, then traffic", reset_rule, "Software Reset", RECEIVES | RESET,
         .ways = LOSSY | DROPS, .control = reset_twice, .takes = true, .comes = 3, .late = 2, .see = nicd_see_held),
-    ROW("reset-during-chains", "a reset during frames with several buffers", "A frame cut short by a reset is dropped",
-        "Software Reset", RECEIVES | RESET, .ways = LOSSY | DROPS, .setup = {.frame = 5000},
-        .control = reset_during_frame, .takes = true, .comes = 2, .late = 2, .length = 5000),
+    ROW("reset-during-chains", "a reset while frames in several buffers arrive",
+        "A frame cut short by a reset is dropped", "Software Reset", RECEIVES | RESET, .ways = LOSSY | DROPS,
+        .setup = {.frame = 5000}, .control = reset_during_frame, .takes = true, .comes = 2, .late = 2, .length = 5000),
     ROW("reset-memory", "three resets and a close leave nothing allocated",
-        "A reset that allocates memory frees what it replaces", "reset of the adapter", RESET, .ways = LOSSY | DROPS,
+        "A reset that allocates memory frees what it replaces", "the adapter's reset", RESET, .ways = LOSSY | DROPS,
         .control = reset_and_count, .takes = true, .comes = 2),
     ROW("fault-receive", "a receive queue is reset after a fault",
-        "After a fault, a queue is off until software sets it up again", "reset of the adapter", PULLS | RESET,
+        "After a fault, a queue is off until software sets it up again", "the adapter's reset", PULLS | RESET,
         .ways = LOSSY | DROPS | FAULTY, .control = break_receive, .comes = 1, .late = 2, .end = judge_recovery),
     ROW("fault-send", "a transmit queue is reset after a fault",
-        "After a fault, a queue is off until software sets it up again", "reset of the adapter", SENDS | RESET,
+        "After a fault, a queue is off until software sets it up again", "the adapter's reset", SENDS | RESET,
         .ways = LOSSY | DROPS | FAULTY, .control = break_send, .end = judge_recovery),
     {0}};
 
@@ -285,12 +285,12 @@ const struct scenario nicd_changes[] = {
     ROW("resize-during-traffic", "new rings during traffic", resize_rule, "Dynamic Disabling of Receive Queues",
         RECEIVES | RESIZE, .ways = LOSSY | DROPS, .control = make_rings_longer, .takes = true, .sends = 3, .comes = 4,
         .late = 12, .end = judge_rings, .see = nicd_see_held),
-    ROW("resize-during-chains", "new rings during frames with several buffers",
+    ROW("resize-during-chains", "new rings while frames in several buffers arrive",
         "A frame cut short by the end of the old ring is dropped", "Dynamic Disabling of Receive Queues",
         RECEIVES | RESIZE, .ways = LOSSY | DROPS, .setup = {.frame = 5000}, .control = make_rings_longer, .takes = true,
         .comes = 2, .late = 2, .length = 5000, .end = judge_rings, .see = nicd_see_held),
-    ROW("resize-refused", "new rings are requested, but memory is refused",
-        "A call that returns false changes nothing: traffic continues on the old rings", "resize of the adapter",
+    ROW("resize-refused", "new rings are requested, but an allocation fails",
+        "A call that returns false changes nothing: traffic continues on the old rings", "the adapter's resize",
         RECEIVES | RESIZE, .ways = LOSSY | DROPS, .control = refuse_one, .takes = true, .sends = 3, .comes = 3,
         .late = 3, .see = nicd_see_held),
     {0}};

@@ -20,7 +20,7 @@ static void judge_direction(const struct direction *it)
     if (frames < before)
         nicd_failed("stats: %s_frames is %llu but was %llu before: a count never decreases", it->name, frames, before);
     if (bytes != frames * LENGTH)
-        nicd_failed("stats: %s_frames is %llu and %s_bytes %llu for frames of %u bytes: the two weren't read together",
+        nicd_failed("stats: %s_frames is %llu and %s_bytes %llu for %u-byte frames: the two weren't read together",
                     it->name, frames, it->name, bytes, LENGTH);
 }
 
@@ -102,11 +102,11 @@ static const char rule[] = "A thread may read statistics at any time: its frame 
                            "count decreases, and none is lost";
 
 const struct scenario nicd_counts[] = {
-    ROW("stats-receive", "statistics are read while frames are received", rule, "stats of the adapter",
-        RECEIVES | STATS, .begin = begin_counts, .control = look_often, .takes = true, .comes = 4, .end = judge_counts),
-    ROW("stats-send", "statistics are read while frames are sent", rule, "stats of the adapter", SENDS | STATS,
+    ROW("stats-receive", "statistics are read while frames are received", rule, "the adapter's stats", RECEIVES | STATS,
+        .begin = begin_counts, .control = look_often, .takes = true, .comes = 4, .end = judge_counts),
+    ROW("stats-send", "statistics are read while frames are sent", rule, "the adapter's stats", SENDS | STATS,
         .begin = begin_counts, .control = look_often, .sends = 4, .end = judge_counts),
-    ROW("stats-two-threads", "two threads read statistics during traffic both ways", rule, "stats of the adapter",
+    ROW("stats-two-threads", "two threads read statistics during traffic both ways", rule, "the adapter's stats",
         RECEIVES | SENDS | STATS, .setup = {.interrupts = true}, .begin = begin_two, .control = look_often,
         .takes = true, .sends = 3, .comes = 3, .end = judge_counts),
     {0}};

@@ -143,7 +143,7 @@ const struct scenario nicd_filters[] = {
     FILTER_ROW("filter-second", "a second unicast address", let_second_in,
                "Each of the 128 receive addresses is active if its AV is 1", "Receive Address"),
     FILTER_ROW("filter-no-longer", "all frames are accepted, then only those to its own address", let_in_and_out,
-               "Addresses no longer requested are removed from the filters", "filter of the adapter"),
+               "Addresses no longer requested are removed from the filters", "the adapter's filter"),
     FILTER_ROW(
         "filter-multicast-no-longer", "multicast addresses are accepted, then removed", let_multicast_out,
         "Addresses no longer requested are removed from MTA, and their receive addresses become available to others",

@@ -22,10 +22,10 @@ static const char send_rule[] =
     "A frame may have several descriptors: DTALEN is the length of each buffer, and EOP marks the last";
 
 #define RECEIVE(bytes, most)                                                                                           \
-    ROW("receive-" #bytes, "frames of " #bytes " bytes arrive", length_rule, "Receive Descriptor Write-Back",          \
-        RECEIVES, .setup = {.frame = most}, .takes = true, .comes = 3, .length = bytes)
+    ROW("receive-" #bytes, #bytes "-byte frames arrive", length_rule, "Receive Descriptor Write-Back", RECEIVES,       \
+        .setup = {.frame = most}, .takes = true, .comes = 3, .length = bytes)
 #define SEND(bytes, most)                                                                                              \
-    ROW("send-" #bytes, "frames of " #bytes " bytes are sent", send_rule, "Advanced Transmit Data Descriptor", SENDS,  \
+    ROW("send-" #bytes, #bytes "-byte frames are sent", send_rule, "Advanced Transmit Data Descriptor", SENDS,         \
         .setup = {.frame = most}, .sends = 3, .length = bytes)
 
 const struct scenario nicd_frames[] = {

@@ -11,12 +11,12 @@ static void close_it(void)
         uint32_t receive = nicd_peek(NIC_RXDCTL(nicd.base + queue)),
                  transmit = nicd_peek(NIC_TXDCTL(nicd.base + queue));
         if ((receive | transmit) & NIC_RXDCTL_ENABLE)
-            nicd_failed(
-                "queue %u of the function is on although its driver is closed: VFRXDCTL is 0x%08x, VFTXDCTL 0x%08x",
-                queue, (unsigned)receive, (unsigned)transmit);
+            nicd_failed("queue %u of the virtual function is on although its driver is closed: VFRXDCTL is 0x%08x, "
+                        "VFTXDCTL 0x%08x",
+                        queue, (unsigned)receive, (unsigned)transmit);
     }
     if (nicd_peek(NIC_PVTEIMS(VF)))
-        nicd_failed("the function's causes are enabled although its driver is closed: VTEIMS is 0x%08x",
+        nicd_failed("the virtual function's causes are enabled although its driver is closed: VTEIMS is 0x%08x",
                     (unsigned)nicd_peek(NIC_PVTEIMS(VF)));
     if (nicd_memory_left())
         nicx_fail(nicd.fault);
@@ -67,11 +67,12 @@ static void see_foreign(const nicxo_step *step, bool is_drivers)
     if (!is_drivers)
         return;
     if (step->kind == STEP_READ || step->kind == STEP_WRITE)
-        nicd_note("the function's driver accesses %s of the physical function", nicxo_register(step->address, name));
+        nicd_note("the virtual function's driver accesses the physical function's %s",
+                  nicxo_register(step->address, name));
     else if ((step->kind == STEP_VF_READ || step->kind == STEP_VF_WRITE) && step->vf != VF)
-        nicd_note("the driver of function %u accesses function %u", VF, step->vf);
+        nicd_note("the driver of virtual function %u accesses virtual function %u", VF, step->vf);
     else if ((step->kind == STEP_VF_READ || step->kind == STEP_VF_WRITE) && step->status == NIC_STRAY)
-        nicd_note("offset 0x%04x isn't a register of a function", (unsigned)step->address);
+        nicd_note("no virtual function register is at offset 0x%04x", (unsigned)step->address);
 }
 
 /* --- the mailbox; the card plays the host --- */
@@ -99,8 +100,8 @@ static void check_words(const uint32_t *words, bool of_host, uint32_t k)
 {
     for (uint32_t number = 0; number < 2; number++)
         if (words[number] != word(of_host, k, number))
-            nicd_failed("message %u of the %s is read as 0x%08x 0x%08x: it was mixed or overwritten", (unsigned)k,
-                        of_host ? "host" : "function", (unsigned)words[0], (unsigned)words[1]);
+            nicd_failed("message %u from the %s is read as 0x%08x 0x%08x: it was mixed or overwritten", (unsigned)k,
+                        of_host ? "host" : "virtual function", (unsigned)words[0], (unsigned)words[1]);
 }
 
 static bool has_request(void *unused)
@@ -230,14 +231,15 @@ static void begin_mail(void)
 static const char *judge_mail(void)
 {
     if (mail.taken < mail.given)
-        return nicd_words(
-            "message %u of the function was put into the mailbox, but the host never received it: VFMAILBOX is "
-            "0x%08x",
-            (unsigned)mail.taken, (unsigned)nicd_peek(NIC_PVFMAILBOX(VF)));
-    if (mail.received < mail.sent)
-        return nicd_words("message %u of the host was put into the mailbox, but the driver never read it: VFMAILBOX is "
+        return nicd_words("message %u from the virtual function was put into the mailbox, but the host never received "
+                          "it: VFMAILBOX is "
                           "0x%08x",
-                          (unsigned)mail.received, (unsigned)nicd_peek(NIC_PVFMAILBOX(VF)));
+                          (unsigned)mail.taken, (unsigned)nicd_peek(NIC_PVFMAILBOX(VF)));
+    if (mail.received < mail.sent)
+        return nicd_words(
+            "message %u from the host was put into the mailbox, but the driver never read it: VFMAILBOX is "
+            "0x%08x",
+            (unsigned)mail.received, (unsigned)nicd_peek(NIC_PVFMAILBOX(VF)));
     return NULL;
 }
 
@@ -320,27 +322,27 @@ static void be_ready_once(void)
 }
 
 const struct scenario nicd_functions[] = {
-    ROW("function-both-ways", "a function receives and sends frames",
+    ROW("function-both-ways", "a virtual function receives and sends frames",
         "A virtual function accesses its queues at its own offsets", "Virtual Function Registers", FUNCTIONS | RECEIVES,
         .setup = {.port = PORT}, .takes = true, .sends = 4, .comes = 5, .see = see_foreign),
-    ROW("function-wrap", "frames in every slot of a function's rings",
-        "A function's rings work like the physical function's", "Virtual Function Registers", FUNCTIONS | RECEIVES,
-        .setup = {.port = PORT}, .takes = true, .rings = 1, .comes = 4, .see = see_foreign),
-    ROW("function-interrupts", "a function's interrupts",
-        "A function has its own causes and masks; the driver re-enables what a message masked",
+    ROW("function-wrap", "frames in every slot of a virtual function's rings",
+        "A virtual function's rings work like the physical function's", "Virtual Function Registers",
+        FUNCTIONS | RECEIVES, .setup = {.port = PORT}, .takes = true, .rings = 1, .comes = 4, .see = see_foreign),
+    ROW("function-interrupts", "a virtual function's interrupts",
+        "A virtual function has its own causes and masks; the driver re-enables what a message masked",
         "Virtual Function Interrupt Registers", FUNCTIONS | RECEIVES | INTERRUPTS,
         .setup = {.port = PORT, .interrupts = true}, .takes = true, .sends = 4, .comes = 5, .see = see_foreign),
-    ROW("function-two-queues", "a function with both queues of its pool", "A function has the queues of its pool",
-        "Virtual Function Registers", FUNCTIONS | RECEIVES, .setup = {.port = PORT, .queues = 2},
-        .begin = use_both_queues, .see = see_foreign),
-    ROW("function-close", "a function closes during traffic",
+    ROW("function-two-queues", "a virtual function with both queues of its pool",
+        "A virtual function has the queues of its pool", "Virtual Function Registers", FUNCTIONS | RECEIVES,
+        .setup = {.port = PORT, .queues = 2}, .begin = use_both_queues, .see = see_foreign),
+    ROW("function-close", "a virtual function closes during traffic",
         "A queue being disabled may receive and send until ENABLE reads 0; only then does software own its memory",
         "Dynamic Disabling of Receive Queues", FUNCTIONS | RECEIVES, .ways = LOSSY | DROPS, .setup = {.port = PORT},
         .control = close_it, .takes = true, .sends = 4, .comes = 5, .see = see_foreign),
-    ROW("function-reset-under-it", "the host resets the function's pool during traffic",
-        "A pool reset disables its queues; the function sets them up again", "Virtual Function Reset",
-        FUNCTIONS | RECEIVES | RESET, .ways = LOSSY | DROPS, .setup = {.port = PORT}, .control = be_reset,
-        .begin = begin_host, .takes = true, .comes = 3, .late = 2, .see = see_foreign),
+    ROW("function-reset-under-it", "the host resets the virtual function's pool during traffic",
+        "A pool's reset disables its queues; the virtual function's driver sets them up again",
+        "Virtual Function Reset", FUNCTIONS | RECEIVES | RESET, .ways = LOSSY | DROPS, .setup = {.port = PORT},
+        .control = be_reset, .begin = begin_host, .takes = true, .comes = 3, .late = 2, .see = see_foreign),
     ROW("mailbox-function-sends", "two mailbox messages to the host",
         "A side locks the mailbox before it writes, and writes the next message after the last one is acknowledged",
         "Mailbox", FUNCTIONS | MAILBOX, .setup = {.port = PORT}, .begin = send_messages, .end = judge_mail,

@@ -93,8 +93,8 @@ static void function_reads_one(uint32_t k)
 {
     uint32_t first = nicx_vf_read32(0, NIC_VFMBMEM(0)), second = nicx_vf_read32(0, NIC_VFMBMEM(1));
     if (first != word(0, true, k, 0) || second != word(0, true, k, 1))
-        nicd_failed("message %u of the host is read as 0x%08x 0x%08x by the function", (unsigned)k, (unsigned)first,
-                    (unsigned)second);
+        nicd_failed("message %u from the host is read as 0x%08x 0x%08x by the virtual function", (unsigned)k,
+                    (unsigned)first, (unsigned)second);
     mail.read[0]++;
     nicd_reach(MAIL_GIVEN);
     nicx_vf_write32(0, NIC_VFMAILBOX, NIC_PVFMAILBOX_ACK);
@@ -133,7 +133,7 @@ static bool take(uint8_t vf, uint32_t *number)
         return false;
     *number = words[0] >> 8 & 0xFF;
     if (words[0] != word(vf, false, *number, 0) || words[1] != word(vf, false, *number, 1))
-        nicd_failed("a message of function %u is read as 0x%08x 0x%08x: it was mixed or overwritten", vf,
+        nicd_failed("a message from virtual function %u is read as 0x%08x 0x%08x: it was mixed or overwritten", vf,
                     (unsigned)words[0], (unsigned)words[1]);
     mail.taken[vf]++;
     nicd_reach(vf ? MAIL_TAKEN_1 : MAIL_TAKEN);
@@ -196,7 +196,8 @@ static void tell_and_serve(void *unused)
 /* While the device has a host, CTRL_EXT.PFRSTD reports it as ready to its functions. */
 static const char *judge_ready(void)
 {
-    return nicd_peek(NIC_CTRL_EXT) & NIC_CTRL_EXT_PFRSTD ? NULL : "CTRL_EXT.PFRSTD is 0: the functions see no host";
+    return nicd_peek(NIC_CTRL_EXT) & NIC_CTRL_EXT_PFRSTD ? NULL
+                                                         : "CTRL_EXT.PFRSTD is 0: the virtual functions see no host";
 }
 
 static const char *judge(void)
@@ -204,7 +205,7 @@ static const char *judge(void)
     for (unsigned vf = 0; vf < FUNCTIONS_THERE; vf++)
         if (mail.taken[vf] < mail.given[vf])
             return nicd_words(
-                "message %u of function %u was put into the mailbox, but the host's driver never read it: "
+                "message %u from virtual function %u was put into the mailbox, but the host's driver never read it: "
                 "PFMBICR(0) is 0x%08x",
                 (unsigned)mail.taken[vf], vf, (unsigned)nicd_peek(NIC_PFMBICR(0)));
     return judge_ready();
@@ -213,7 +214,7 @@ static const char *judge(void)
 static const char *judge_answer(void)
 {
     return mail.read[0] ? judge_ready()
-                        : nicd_words("function 0 waits for a reply to its request but gets none: PFMAILBOX(0) is "
+                        : nicd_words("virtual function 0 got no reply to its request: PFMAILBOX(0) is "
                                      "0x%08x, PFMBICR(0) 0x%08x",
                                      (unsigned)nicd_peek(NIC_PFMAILBOX(0)), (unsigned)nicd_peek(NIC_PFMBICR(0)));
 }
@@ -255,15 +256,15 @@ static void withdraw(void)
         .end = judges)
 
 const struct scenario nicd_hosts[] = {
-    HOST_ROW("host-takes-messages", "two functions send two messages each",
-             "Each function has its own mailbox and bit of PFMBICR; it may send again after an acknowledgement",
+    HOST_ROW("host-takes-messages", "two virtual functions send two messages each",
+             "Each virtual function has its own mailbox and PFMBICR bit; it may send again after an acknowledgement",
              take_from_two, judge),
-    HOST_ROW("host-sends-messages", "two mailbox messages to a function",
+    HOST_ROW("host-sends-messages", "two mailbox messages to a virtual function",
              "A side locks the mailbox before it writes, and writes the next message after the last one is read",
              tell_one, judge_ready),
     HOST_ROW("host-collides", "both sides send at the same time",
              "VFU and PFU are never both 1: the second side retries, and a pending request isn't overwritten", collide,
              judge),
-    HOST_ROW("host-withdrawn-request", "a function resets itself and repeats its request",
+    HOST_ROW("host-withdrawn-request", "a virtual function resets itself and repeats its request",
              "The reply to a withdrawn request doesn't overwrite the next request", withdraw, judge_answer),
     {0}};

@@ -65,7 +65,7 @@ const struct scenario nicd_interrupts[] = {
         "IVAR has a byte for each queue and direction, each with a valid bit", "Interrupt Vector Allocation",
         RECEIVES | INTERRUPTS, .setup = {.queues = 2, .interrupts = true}, .begin = come_by_flows, .takes = true),
     ROW("interrupt-spurious", "the handler is called without a new frame",
-        "The handler may be called although nothing happened", "interrupt of the adapter", RECEIVES | INTERRUPTS,
+        "The handler may be called even if nothing happened", "the adapter's interrupt", RECEIVES | INTERRUPTS,
         .setup = {.interrupts = true}, .begin = come_spurious),
     ROW("interrupt-late", "the handler is called only when the ring is full", late_rule, "Extended Interrupt Throttle",
         RECEIVES | INTERRUPTS, .ways = LATE, .setup = {.interrupts = true}, .takes = true, .rings = 2, .comes = 3),
@@ -73,7 +73,8 @@ const struct scenario nicd_interrupts[] = {
         "Extended Interrupt Throttle", RECEIVES | SENDS | INTERRUPTS, .ways = LATE, .setup = {.interrupts = true},
         .takes = true, .sends = 4, .comes = 3),
     ROW("interrupt-often", "the handler is called more often than the interval allows",
-        "An interval in EITR guarantees no minimum gap: a low-latency interrupt may arrive before it ends, and a poll "
+        "An interval in EITR guarantees no minimum gap: a low-latency interrupt may arrive before the interval ends, "
+        "and a poll "
         "may take longer",
         "Extended Interrupt Throttle", RECEIVES | INTERRUPTS, .ways = OFTEN, .setup = {.interrupts = true},
         .takes = true, .comes = 4),

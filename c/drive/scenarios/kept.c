@@ -115,7 +115,7 @@ static const char *judge_length(uint16_t number)
     bool came = nicd.frames[number].state == IS_DELIVERED;
     if (came == (nicd.coming[number].length <= LONG_FRAME))
         return NULL;
-    nicd_note("frame %u of %u bytes %s, but the agreed length is %u bytes", number,
+    nicd_note("frame %u, %u bytes long, %s, but the agreed length is %u bytes", number,
               (unsigned)nicd.coming[number].length, came ? "was received" : "wasn't received", LONG_FRAME);
     return nicd.fault;
 }
@@ -155,7 +155,7 @@ static const char *judge_ring(uint16_t number)
     uint32_t length = nicd_peek(NIC_RDLEN(nicd.base));
     if (length == NIC_DESC_BYTES * (uint32_t)nicd.setup.slots)
         return NULL;
-    nicd_note("frame %u was received by a ring of %u bytes, but %u slots were requested", number, (unsigned)length,
+    nicd_note("frame %u was received by a %u-byte ring, but %u slots were requested", number, (unsigned)length,
               nicd.setup.slots);
     return nicd.fault;
 }
@@ -234,9 +234,9 @@ static void wait_for_link(void)
 
 static const struct event events[EVENTS] = {
     {"reset", "a reset", "Software Reset", RESET, CALL_RESET, reset_it, {DURING_IN}},
-    {"suspend", "suspend and resume", "suspend of the adapter", SUSPEND, CALL_SUSPEND, suspend_it, {DURING_IN}},
-    {"resize", "new rings", "resize of the adapter", RESIZE, CALL_RESIZE, resize_it, {DURING_IN}},
-    {"mtu", "a new MTU", "mtu of the adapter", MTU, CALL_MTU, change_length, {DURING_IN}},
+    {"suspend", "suspend and resume", "the adapter's suspend", SUSPEND, CALL_SUSPEND, suspend_it, {DURING_IN}},
+    {"resize", "new rings", "the adapter's resize", RESIZE, CALL_RESIZE, resize_it, {DURING_IN}},
+    {"mtu", "a new MTU", "the adapter's mtu", MTU, CALL_MTU, change_length, {DURING_IN}},
     {"link", "the link goes down and up", "Link Status", 0, NO_CALL, wait_for_link, {LINK_DOWN, LINK_UP}},
 };
 
@@ -404,7 +404,7 @@ static void make_change(unsigned row, unsigned number)
     it->name = changes[number].name;
     it->title = changes[number].what;
     it->rule = "A filter change loses no frame that both the old and the new filter accept";
-    it->source = "filter of the adapter";
+    it->source = "the adapter's filter";
     it->needs = RECEIVES | FILTER;
     it->ways = DROPS;
     it->setup.interrupts = true;

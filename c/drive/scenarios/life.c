@@ -127,7 +127,7 @@ static void refuse_each(void)
         if (!is_open)
             see_nothing_left();
     }
-    nicx_check(is_open, "open returned false, but no memory was refused");
+    nicx_check(is_open, "open returned false, but no allocation failed");
     if (refused > 1)
         nicd_reach(NO_MEMORY);
     nicd_go_on();
@@ -157,7 +157,7 @@ static const char stop_rule[] =
 
 const struct scenario nicd_life[] = {
     ROW("open-close", "open and close leave nothing allocated or enabled",
-        "close restores the state before open: queues off, causes masked, memory freed", "close of the adapter", 0,
+        "close restores the state before open: queues off, causes masked, memory freed", "the adapter's close", 0,
         .ways = OPENS, .control = open_and_close),
     ROW("open-during-frames", "frames arrive during open", "RXEN is set last", "Receive Initialization", RECEIVES,
         .ways = OPENS | LOSSY | DROPS, .control = open_with_frames, .takes = true, .comes = 3, .late = 2),
@@ -177,18 +177,18 @@ const struct scenario nicd_life[] = {
         "Dynamic Disabling of Receive Queues", RECEIVES, .ways = LOSSY | DROPS, .setup = {.queues = 2},
         .control = close_all, .begin = come_by_two, .sends = 3),
     ROW("restart", "opened and closed three times, then opened a fourth time",
-        "Leftovers of an earlier run in rings, heads and causes aren't taken for new events", "open of the adapter",
+        "Leftovers from an earlier run in rings, heads and causes aren't mistaken for new events", "the adapter's open",
         RECEIVES, .ways = OPENS | LOSSY | DROPS, .control = three_lives, .takes = true, .comes = 4, .late = 4,
         .see = nicd_see_held),
     ROW("memory-refused", "each allocation fails once",
         "An open that fails for lack of memory leaves nothing allocated, and the next open succeeds",
-        "open of the adapter", RECEIVES, .ways = OPENS | LOSSY | DROPS, .points = 60000, .control = refuse_each,
+        "the adapter's open", RECEIVES, .ways = OPENS | LOSSY | DROPS, .points = 60000, .control = refuse_each,
         .takes = true, .comes = 2, .late = 2),
-    ROW("suspend", "suspend and resume during traffic", stop_rule, "suspend of the adapter", RECEIVES | SENDS | SUSPEND,
+    ROW("suspend", "suspend and resume during traffic", stop_rule, "the adapter's suspend", RECEIVES | SENDS | SUSPEND,
         .ways = LOSSY | DROPS, .control = rest_and_go_on, .takes = true, .sends = 3, .comes = 3, .late = 2,
         .see = nicd_see_held),
     ROW("suspend-quiet", "frames arrive and the link changes between suspend and resume",
         "While suspended, no cause is enabled, no queue is on, and the driver doesn't access the device",
-        "suspend of the adapter", RECEIVES | SUSPEND, .ways = LOSSY | DROPS, .setup = {.interrupts = true},
+        "the adapter's suspend", RECEIVES | SUSPEND, .ways = LOSSY | DROPS, .setup = {.interrupts = true},
         .control = rest_for_long, .takes = true, .comes = 3, .links = 2, .late = 2),
     {0}};

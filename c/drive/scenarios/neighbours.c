@@ -96,12 +96,12 @@ static void resize_it(void)
 static const char rule[] = "A driver leaves other drivers' resources alone: queues, IVAR bytes, masks and memory";
 
 const struct scenario nicd_neighbours[] = {
-    ROW("neighbour-traffic", "traffic while another driver uses a queue", rule, "open of the adapter",
+    ROW("neighbour-traffic", "traffic while another driver uses a queue", rule, "the adapter's open",
         RECEIVES | PHYSICAL, .ways = NEIGHBOUR, .begin = move_in, .takes = true, .rings = 1, .sends = 2, .comes = 2,
         .end = judge, .see = see),
-    ROW("neighbour-interrupts", "traffic with interrupts while another driver uses a queue", rule,
-        "open of the adapter", RECEIVES | PHYSICAL | INTERRUPTS, .ways = NEIGHBOUR, .setup = {.interrupts = true},
-        .begin = move_in, .takes = true, .sends = 10, .comes = 10, .end = judge, .see = see),
+    ROW("neighbour-interrupts", "traffic with interrupts while another driver uses a queue", rule, "the adapter's open",
+        RECEIVES | PHYSICAL | INTERRUPTS, .ways = NEIGHBOUR, .setup = {.interrupts = true}, .begin = move_in,
+        .takes = true, .sends = 10, .comes = 10, .end = judge, .see = see),
     ROW("neighbour-close", "close while another driver uses a queue", rule, "NICD_SHARED_DEVICE",
         RECEIVES | PHYSICAL | SHARED_DEVICE, .ways = NEIGHBOUR | LOSSY | DROPS, .control = close_it, .begin = move_in,
         .takes = true, .comes = 3, .end = judge, .see = see),

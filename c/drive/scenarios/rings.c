@@ -68,7 +68,7 @@ static void use_two_queues(void)
 static void send_too_long(void)
 {
     if (nicd_send(0, nicd.setup.frame + 1))
-        nicd_failed("send on queue 0 accepts a frame of %u bytes, but the longest in the setup is %u",
+        nicd_failed("send on queue 0 accepts a %u-byte frame, but the setup's longest is %u",
                     (unsigned)nicd.setup.frame + 1, (unsigned)nicd.setup.frame);
     nicd_send_surely(0, nicd.setup.frame);
 }
@@ -89,20 +89,20 @@ const struct scenario nicd_rings[] = {
     ROW("receive-wrap", "every slot of the ring receives frames, more than twice",
         "After the last slot the device wraps to the first; a tail is a slot number within the ring",
         "Receive Descriptor Ring", RECEIVES, .takes = true, .rings = 2, .comes = 2),
-    ROW("receive-wrap-16", "every slot of a ring of 16 receives frames, more than twice",
+    ROW("receive-wrap-16", "every slot of a 16-slot ring receives frames, more than twice",
         "Software sets the length of a ring, in multiples of 128 bytes", "Receive Descriptor Length", RECEIVES,
         .setup = {.slots = 16}, .takes = true, .rings = 2, .comes = 2),
-    ROW("receive-wrap-24", "every slot of a ring of 24, not a power of two, receives frames",
+    ROW("receive-wrap-24", "every slot of a 24-slot ring (not a power of two) receives frames",
         "Software sets the length of a ring, in multiples of 128 bytes", "Receive Descriptor Length", RECEIVES,
         .setup = {.slots = 24}, .takes = true, .rings = 1, .comes = 10),
-    ROW("receive-full", "the ring is full before the first call of receive", tail_rule, "Receive Descriptor Ring",
-        PULLS, .ways = UNPOLLED, .control = take_late, .rings = 1, .comes = 4),
+    ROW("receive-full", "the ring is full before receive is first called", tail_rule, "Receive Descriptor Ring", PULLS,
+        .ways = UNPOLLED, .control = take_late, .rings = 1, .comes = 4),
     ROW("send-one", "one frame is sent", reuse_rule, "Transmit Descriptor Write-Back", SENDS, .sends = 1),
     ROW("send-wrap", "every slot of the ring sends frames, more than twice", reuse_rule, "Transmit Descriptor Ring",
         SENDS, .rings = 2, .sends = 2),
-    ROW("send-wrap-16", "every slot of a ring of 16 sends frames, more than twice", reuse_rule,
+    ROW("send-wrap-16", "every slot of a 16-slot ring sends frames, more than twice", reuse_rule,
         "Transmit Descriptor Ring", SENDS, .setup = {.slots = 16}, .rings = 2, .sends = 2),
-    ROW("send-wrap-24", "every slot of a ring of 24, not a power of two, sends frames", reuse_rule,
+    ROW("send-wrap-24", "every slot of a 24-slot ring (not a power of two) sends frames", reuse_rule,
         "Transmit Descriptor Ring", SENDS, .setup = {.slots = 24}, .rings = 1, .sends = 10),
     ROW("send-full", "frames are sent until the ring is full, then more", tail_rule, "Transmit Descriptor Ring", SENDS,
         .control = fill_up),

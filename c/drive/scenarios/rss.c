@@ -149,21 +149,21 @@ static const char rule[] = "The low seven bits of a frame's hash select the RETA
                            "selects the types that are hashed";
 
 #define TYPE(row, what, of)                                                                                            \
-    ROW(row, "flows of " what " spread over the queues", rule, "Receive Side Scaling", RECEIVES | RSS,                 \
+    ROW(row, what " are spread over the queues", rule, "Receive Side Scaling", RECEIVES | RSS,                         \
         .setup = {.queues = 2, .slots = 16}, .begin = come_of_type, .takes = true, .type = of, .end = judge_queues)
 
 const struct scenario nicd_rss_rows[] = {
-    TYPE("rss-tcp-ipv4", "TCP over IPv4", NIC_RSS_TCP_IPV4),
-    TYPE("rss-udp-ipv4", "UDP over IPv4", NIC_RSS_UDP_IPV4),
-    TYPE("rss-ipv4", "IPv4 without ports", NIC_RSS_IPV4),
-    TYPE("rss-tcp-ipv6", "TCP over IPv6", NIC_RSS_TCP_IPV6),
-    TYPE("rss-udp-ipv6", "UDP over IPv6", NIC_RSS_UDP_IPV6),
-    TYPE("rss-ipv6", "IPv6 without ports", NIC_RSS_IPV6),
+    TYPE("rss-tcp-ipv4", "TCP/IPv4 flows", NIC_RSS_TCP_IPV4),
+    TYPE("rss-udp-ipv4", "UDP/IPv4 flows", NIC_RSS_UDP_IPV4),
+    TYPE("rss-ipv4", "IPv4 flows without ports", NIC_RSS_IPV4),
+    TYPE("rss-tcp-ipv6", "TCP/IPv6 flows", NIC_RSS_TCP_IPV6),
+    TYPE("rss-udp-ipv6", "UDP/IPv6 flows", NIC_RSS_UDP_IPV6),
+    TYPE("rss-ipv6", "IPv6 flows without ports", NIC_RSS_IPV6),
     ROW("rss-none", "frames that aren't hashed", rule, "Receive Side Scaling", RECEIVES | RSS,
         .setup = {.queues = 2, .slots = 16}, .begin = come_of_type, .takes = true, .end = judge_queues),
-    ROW("rss-four-queues", "flows of TCP over IPv4 on four queues", rule, "Receive Side Scaling", RECEIVES | RSS,
+    ROW("rss-four-queues", "TCP/IPv4 flows on four queues", rule, "Receive Side Scaling", RECEIVES | RSS,
         .setup = {.queues = 4}, .begin = come_of_type, .takes = true, .type = NIC_RSS_TCP_IPV4, .end = judge_queues),
-    ROW("rss-four-vectors", "flows of UDP over IPv4 on four queues, with interrupts",
+    ROW("rss-four-vectors", "UDP/IPv4 flows on four queues, with interrupts",
         "The second IVAR register holds the bytes of queues 2 and 3", "Interrupt Vector Allocation",
         RECEIVES | RSS | INTERRUPTS, .setup = {.queues = 4, .interrupts = true}, .begin = come_of_type, .takes = true,
         .type = NIC_RSS_UDP_IPV4, .end = judge_queues),

@@ -27,7 +27,7 @@ static unsigned fetched(unsigned queue)
 static void judge_end(unsigned slot)
 {
     if (frame.payload != frame.length)
-        nicd_note("slot %u has PAYLEN %u for a frame of %u bytes in slots %u to %u: the card reads PAYLEN, but the "
+        nicd_note("slot %u has PAYLEN %u for a %u-byte frame in slots %u to %u: the card reads PAYLEN, but the "
                   "bench doesn't",
                   frame.first, (unsigned)frame.payload, (unsigned)frame.length, frame.first, slot);
     frame.is_partial = false;
@@ -139,7 +139,7 @@ static void send_and_reclaim(void)
 }
 
 const struct scenario nicd_descriptors[] = {
-    ROW("send-descriptor", "the contents of transmit descriptors",
+    ROW("send-descriptor", "transmit descriptor contents",
         "PAYLEN in the first descriptor is the length of the whole frame, and IFCS makes the card append the check "
         "sequence; the bench reads neither",
         "Advanced Transmit Data Descriptor", SENDS | PHYSICAL, .setup = {.frame = 1514}, .control = send_short_and_long,

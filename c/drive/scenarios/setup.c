@@ -97,7 +97,7 @@ static void see_vectors(const nicxo_step *step, bool is_drivers)
                   (unsigned)(step->address - NIC_IVAR(0)) / 4, (unsigned)nicd_peek(NIC_EIMS));
     for (unsigned queue = 0; queue < nicd.setup.queues && step->address == NIC_EIMS; queue++)
         if (!(nicd_peek(NIC_IVAR(queue / 2)) >> 16 * (queue % 2) & 0x80))
-            nicd_note("EIMS enables the causes 0x%04x of queues, but the IVAR byte of receive queue %u isn't valid",
+            nicd_note("EIMS enables the queue causes 0x%04x, but the IVAR byte of receive queue %u isn't valid",
                       (unsigned)enabled, queue);
 }
 
@@ -107,7 +107,7 @@ static void see_cause_read(const nicxo_step *step, bool is_drivers)
     uint32_t mode = nicd_peek(NIC_GPIE);
     if (is_drivers && step->kind == STEP_READ && step->address == NIC_EICR && step->word & NIC_EICR_RTXQ &&
         mode & NIC_GPIE_MULTIPLE_MSIX && !(mode & NIC_GPIE_OCD))
-        nicd_note("a read of EICR clears the causes 0x%04x of queues on the bench; with MSI-X the card doesn't",
+        nicd_note("a read of EICR clears the queue causes 0x%04x on the bench; with MSI-X the card leaves them",
                   (unsigned)(step->word & NIC_EICR_RTXQ));
 }
 
@@ -141,7 +141,7 @@ static void see_ring(const nicxo_step *step, bool is_drivers)
         return;
     see_high_half(step);
     if ((is_of_queue(address, NIC_RDBAL(0), &queue) || is_of_queue(address, NIC_TDBAL(0), &queue)) && word % 128)
-        nicd_note("%s is written with 0x%x: a ring's address is a multiple of 128", nicxo_register(address, name),
+        nicd_note("%s is written with 0x%x: a ring's address must be a multiple of 128", nicxo_register(address, name),
                   (unsigned)word);
     if ((is_of_queue(address, NIC_RDLEN(0), &queue) || is_of_queue(address, NIC_TDLEN(0), &queue)) &&
         (word % 128 || word != NIC_DESC_BYTES * (uint32_t)nicd.setup.slots))
@@ -228,7 +228,7 @@ static void check_fixes(void)
 static void check_mode(void)
 {
     nicx_check(nicd_peek(NIC_GPIE) & NIC_GPIE_MULTIPLE_MSIX,
-               "GPIE.MULTIPLE_MSIX is 0: the card then has no message per vector");
+               "GPIE.MULTIPLE_MSIX is 0: the card then sends no separate message for each vector");
     if (nicd_peek(NIC_EIAM) & NIC_EIAM_RTXQ && !(nicd_peek(NIC_GPIE) & NIC_GPIE_EIAME))
         nicd_failed("EIAM is 0x%08x but GPIE.EIAME is 0: no message masks its cause", (unsigned)nicd_peek(NIC_EIAM));
 }
@@ -279,7 +279,7 @@ static void check_length(void)
     uint32_t most = nic_field(nicd_peek(NIC_MAXFRS), NIC_MAXFRS_MFS);
     nicx_check(nicd_peek(NIC_HLREG0) & NIC_HLREG0_JUMBOEN, "HLREG0.JUMBOEN is 0, but longer frames were requested");
     if (most < nicd.setup.frame + 4)
-        nicd_failed("MAXFRS.MFS is %u, but frames of %u bytes have 4 bytes more on the wire", (unsigned)most,
+        nicd_failed("MAXFRS.MFS is %u, but %u-byte frames are 4 bytes longer on the wire", (unsigned)most,
                     (unsigned)nicd.setup.frame);
 }
 
@@ -359,21 +359,21 @@ const struct scenario nicd_setup_rows[] = {
            "After a reset all causes are masked again before the device is set up", "Interrupts During Initialization",
            .queues = 1),
     CHECKS("setup-masked-polling", PULLS | PHYSICAL, "a polling driver enables no cause", check_masks,
-           "EIMS enables only causes that have a handler", "open of the adapter", .queues = 1),
-    SEES("setup-ring-values", RECEIVES | PHYSICAL, "addresses, lengths and tails of rings", see_ring,
+           "EIMS enables only causes that have a handler", "the adapter's open", .queues = 1),
+    SEES("setup-ring-values", RECEIVES | PHYSICAL, "ring addresses, lengths and tails", see_ring,
          "A ring's address and length are multiples of 128; the bench drops the low bits. Software writes both halves "
          "of the address, which are undefined after a reset",
          "Receive Descriptor Base Address"),
-    SEES("setup-buffer-values", RECEIVES | PHYSICAL, "the type of receive descriptors and the size of their buffers",
-         see_buffers, "DESCTYPE 1 is the advanced descriptor with one buffer; BSIZEPACKET is the buffer's size in KB",
+    SEES("setup-buffer-values", RECEIVES | PHYSICAL, "the receive descriptor type and the buffer size", see_buffers,
+         "DESCTYPE 1 is the advanced descriptor with one buffer; BSIZEPACKET is the buffer's size in KB",
          "Split Receive Control"),
-    SEES("setup-address-values", PHYSICAL, "reserved bits of the receive addresses", see_address,
+    SEES("setup-address-values", PHYSICAL, "reserved bits in the receive addresses", see_address,
          "Bits 30:16 of RAH are reserved and written as 0; the bench keeps them", "Receive Address High"),
-    SEES("setup-thresholds", SENDS | PHYSICAL, "thresholds of transmit descriptors", see_thresholds,
+    SEES("setup-thresholds", SENDS | PHYSICAL, "transmit descriptor thresholds", see_thresholds,
          "PTHRESH above 0 requires HTHRESH of at least 1, and head write-back requires WTHRESH 0; the thresholds have "
          "no effect on the bench",
          "Transmit Descriptor Control"),
-    SEES("setup-alignment", 0, "accesses of registers are aligned", see_alignment,
+    SEES("setup-alignment", 0, "register accesses are aligned", see_alignment,
          "A register's address is a multiple of 4", "Register Conventions"),
     ROW("setup-enables-polled", "open waits for its queues",
         "ENABLE becomes 1 some time after it is written, and software polls it", "Receive Descriptor Control", PHYSICAL,
@@ -384,21 +384,22 @@ const struct scenario nicd_setup_rows[] = {
     CHECKS("setup-rdrxctl", RECEIVES | PHYSICAL, "the bits of RDRXCTL that software must set", check_fixes,
            "Software sets RSCACKC and FCOE_WRFIX after each reset; RDRXCTL has no effect on the bench",
            "Receive DMA Control", .queues = 1),
-    CHECKS("setup-gpie", INTERRUPTS | PHYSICAL, "GPIE's settings for MSI-X", check_mode,
-           "GPIE.MULTIPLE_MSIX must be 1 so that each vector has its message; the bench sends them whatever GPIE is. "
-           "With MSI-X, EIAM masks a cause when its message is sent only if EIAME is 1",
-           "General Purpose Interrupt Enable", .interrupts = true),
+    CHECKS(
+        "setup-gpie", INTERRUPTS | PHYSICAL, "GPIE's settings for MSI-X", check_mode,
+        "GPIE.MULTIPLE_MSIX must be 1 so that each vector has its own message; the bench sends one regardless of GPIE. "
+        "With MSI-X, EIAM masks a cause when its message is sent only if EIAME is 1",
+        "General Purpose Interrupt Enable", .interrupts = true),
     CHECKS("setup-vectors", INTERRUPTS | RECEIVES | PHYSICAL, "each receive queue has a vector", check_vectors,
            "An IVAR byte is used only if its valid bit is 1", "Interrupt Vector Allocation", .interrupts = true),
-    ROW("setup-vector-order", "causes of queues are enabled after their vectors are set",
+    ROW("setup-vector-order", "queue causes are enabled after their vectors are set",
         "IVAR names a queue's vector before EIMS enables its cause", "Interrupt Vector Allocation",
         RECEIVES | INTERRUPTS | PHYSICAL, .ways = OPENS, .setup = {.interrupts = true}, .control = open_and_check,
         .begin = forget, .see = see_vectors),
-    ROW("setup-moderation", "the interval of a vector",
+    ROW("setup-moderation", "a vector's interval",
         "EITR holds a vector's interval in bits 11:3; it has no effect on the bench", "Extended Interrupt Throttle",
         INTERRUPTS | PHYSICAL, .ways = OPENS, .setup = {.queues = 1, .interrupts = true}, .control = open_and_check,
         .begin = forget, .opened = check_moderation, .see = see_moderation),
-    ROW("setup-cause-read", "reads don't clear causes of queues",
+    ROW("setup-cause-read", "reads don't clear queue causes",
         "With MSI-X a queue's cause is cleared by EIAC or by a write to EICR; on the bench a read clears it too, "
         "unless GPIE.OCD is 1",
         "Extended Interrupt Cause", RECEIVES | INTERRUPTS | PHYSICAL, .setup = {.interrupts = true}, .takes = true,
@@ -411,7 +412,7 @@ const struct scenario nicd_setup_rows[] = {
            "Maximum Frame Size", .frame = 4096),
     CHECKS("setup-hash", PHYSICAL, "the descriptor holds the hash", check_hash,
            "RXCSUM.PCSD selects the hash instead of a fragment's checksum", "Receive Checksum Control", .queues = 2),
-    CHECKS("setup-drop", RECEIVES | PHYSICAL, "with several queues, a full one drops frames", check_drop,
+    CHECKS("setup-drop", RECEIVES | PHYSICAL, "with several queues, a full queue drops frames", check_drop,
            "With DROP_EN, a frame without a free descriptor is dropped; otherwise all frames after it wait",
            "Split Receive Control", .queues = 2),
     CHECKS("setup-loaded", PHYSICAL, "the firmware learns that a driver is loaded", check_loaded,

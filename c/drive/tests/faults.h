@@ -11,14 +11,14 @@ WRONG(OUTSIDE_DMA, "receive-one",
       "memory: receive0 at faulty\\.c:\\d+ < faulty\\.c:\\d+ writes 0x1000, which isn't lent")
 WRONG(OTHERS_DMA, "receive-one", "the driver lends block 200, which nicd_dma_alloc didn't return")
 WRONG(PAST_THE_FRAME, "receive-one", "receive of queue 0 writes beyond the bytes of its frame")
-WRONG(NO_LENGTH, "receive-one", "a frame of 0 bytes is delivered from queue 0")
-WRONG(OTHER_QUEUE, "receive-one", "a frame is delivered from queue 3, but the driver has 1")
+WRONG(NO_LENGTH, "receive-one", "a 0-byte frame is delivered from queue 0")
+WRONG(OTHER_QUEUE, "receive-one", "a frame is delivered from queue 3, but setup.queues is 1")
 WRONG(FREE_TWICE, "open-close", "nicd_dma_free of 0x\\w+, which nicd_dma_alloc didn't return")
 WRONG(FREE_OTHERS, "open-close", "nicd_dma_free of 0x1000, which nicd_dma_alloc didn't return")
 WRONG(OPEN_FALSE, "receive-one", "open returned false")
 WRONG(FROM_A_THREAD, "receive-one",
       "misuse: a thread that isn't a task calls the explorer.*: use the adapter's threads")
-WRONG(THREAD_LEFT, "open-close", "thread0 still acts for the driver after close returned")
+WRONG(THREAD_LEFT, "open-close", "thread0 still uses the device after close returned")
 WRONG(LOCK_LEFT, "receive-wrap", "deadlock: receive0 waits for a lock, which receive0 holds")
 WRONG(MEMORY_LEFT, "open-close", "1 allocation of DMA memory wasn't freed: \\d+ bytes at 0x\\w+, which open allocated")
 WRONG(STORE_PAST_A_PIECE, "receive-one",
@@ -28,7 +28,6 @@ WRONG(STORE_PAST_A_PIECE, "receive-one",
 WRONG(STORE_GIVEN_BACK, "receive-one", "memory: receive0 writes 0x\\w+, which isn't lent: ")
 WRONG(STORE_IN_OPEN, "receive-one",
       "the driver writes through a pointer to 0x\\w+, which isn't lent: 0 bytes past the end of the 128 bytes at")
-WRONG(POINTER_TO_NOTHING, "receive-one",
-      "nicd_dma_pointer of 0x10, which isn't lent: no allocation of nicd_dma_alloc is")
+WRONG(POINTER_TO_NOTHING, "receive-one", "nicd_dma_pointer of 0x10, which isn't lent: no nicd_dma_alloc allocation is")
 WRONG(LENDS_IN_PLACE, "open-close", "misuse: control calls nic_lend_memory")
 WRONG(STATE_LEFT, "receive-wrap", "misuse: begin doesn't initialize all of the driver's state")

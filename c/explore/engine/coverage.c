@@ -194,7 +194,7 @@ static const char *why_lost(uint16_t seen)
             return room;
         }
     return seen == FAULTED  ? ": a fault stopped it each time"
-           : seen == LET_IN ? ": it still waits inside the device"
+           : seen == LET_IN ? ": it is still waiting inside the device"
                             : "";
 }
 

@@ -43,7 +43,7 @@ static void collect(struct bus *it, uint16_t queue)
     nic_outcome outcome;
     uint8_t status = nic_collect(&it->device, it->frame, sizeof it->frame, &outcome);
     if (status != NIC_FRAME) { /* it would block all frames sent after it */
-        bus_problem(it, "can't collect a frame of %zu bytes from queue %u: %s", nic_next_out(&it->device), queue,
+        bus_problem(it, "can't collect a %zu-byte frame from queue %u: %s", nic_next_out(&it->device), queue,
                     nic_status_name(status));
         return;
     }

@@ -237,7 +237,8 @@ FAULTS = {
     "always": "always: the head moved",
     "locks": "deadlock: (up|down) waits for (first|second), which (up|down) holds",
     "waits": r"deadlock: faulty waits( at faulty\.c:\d+)?, and no actor can act\n",
-    "endless": r"endless: no end after 200 points; the last to act was task faulty: does its loop need nicx_wait\?",
+    "endless": r"endless: still running after 200 points; the last to act was task faulty: does its loop need "
+    r"nicx_wait\?",
     "ticks": r"endless: .*; the last to act was .*: tick fires again and again: is it re-armed each time\?",
     "memory": r"memory: faulty at faulty\.c:\d+ reads 0x0, which isn't lent\n",
     "unlock": "misuse: faulty unlocks first without holding it",
@@ -264,7 +265,7 @@ FAULTS = {
 NOTES = {
     "stray": (0, r"note: \d+ access(es)? to addresses without a register, the first by faulty: r 0x1f000 .*\(stray"),
     "beyond": (1, r"note: queue 5 isn't below \.queues, so it never turns on"),
-    "left": (1, "it doesn't fail by itself: to find it again, use the same options"),
+    "left": (1, "the schedule doesn't fail by itself: to find the failure again, use the same options"),
 }
 
 # Exactly what is reported as never having run, for each scenario.
@@ -438,7 +439,7 @@ CHOICES = {
     "values": (1, "check: a value from 2 on, and one from 1 on"),
     "all": (1, "check: the last of all"),
     "inputs": (1, "end: three frames came"),
-    "endless": (1, "endless: no end after 200 points; the last to act was nicx_choose"),
+    "endless": (1, "endless: still running after 200 points; the last to act was nicx_choose"),
     "none": (1, "misuse: nicx_choose takes 1 to 256 values, not 0"),
     "many": (1, "misuse: nicx_choose takes 1 to 256 values, not 257"),
     "hang": (1, "hang: task chooses reached no further point"),
@@ -586,7 +587,7 @@ def check_refusals(kit: Kit) -> str:
     for text, wanted in {
         "": r"bad.schedule:0: missing line",
         "task faulty\n": r':1: the first line must be "scenario NAME"',
-        "scenario other\n": r":1: the schedule is of scenario other",
+        "scenario other\n": r":1: the schedule is for scenario other",
         f"{fine}\n# words\ntask nobody\n": r':5: the scenario has no "task nobody"',
         f"{fine}rx\n": r':3: "rx" can\'t act at this point',
         f"{fine}handler isr\n": r':3: "handler isr" can\'t act at this point',

@@ -222,10 +222,10 @@ def check_lenient(kit: Kit, program: Path) -> str:
     other = schedule.with_name("other.schedule")
     other.write_text(schedule.read_text().replace("scenario reported\n", "scenario old\n"))
     said = ran([program, "reader", "--replay", other, "--lenient"], 1)
-    must_print(said, r"^reported: note: the schedule is of scenario old\n", "another scenario's, --lenient")
+    must_print(said, r"^reported: note: the schedule is for scenario old\n", "another scenario's, --lenient")
     must_print(said, "the run follows the whole schedule", "another scenario's, --lenient")
     said = ran([program, "reader", "--replay", other], 2)
-    must_print(said, "the schedule is of scenario old, but this program is reported", "other")
+    must_print(said, "the schedule is for scenario old, but this program is reported", "other")
     must_print(ran([program, "reader", "--lenient"], 2), "--lenient: only valid with --replay", "--lenient")
     return f"{len(PARTS)} drivers follow a schedule as far as it goes"
 

@@ -101,7 +101,7 @@ def summed(lines: list[str]) -> str:
 
 FIELDS = {
     "nicx-result 1": ("nicx-result 2", ":1: nicx-result: wrong version: this program reads version 1"),
-    "scenario race": ("scenario other", ":2: the result is of scenario other, but this program is race"),
+    "scenario race": ("scenario other", ":2: the result is for scenario other, but this program is race"),
     "strategy mixed": ("strategy best", ':3: strategy: unknown strategy "best"'),
     "seed 1": ("seed 18446744073709551616", ":4: seed: \"18446744073709551616\" isn't a number from 0 to"),
     "first 0": ("first -1", ":5: first: \"-1\" isn't a number"),

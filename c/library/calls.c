@@ -236,7 +236,7 @@ COLD uint8_t read_vf(nic *n, uint8_t vf, uint32_t offset, uint32_t *word)
         nicl_add_text(it, line);
         reply_word(it, status, *word, nicl_offset(offset, room));
     } else if (it) {
-        refused(it, "a read of a function above 62", status);
+        refused(it, "a register read by a virtual function above 62", status);
     }
     if (status == NIC_STRAY)
         nicl_tell_vf_stray(n, vf, offset, line);
@@ -260,7 +260,7 @@ COLD uint8_t write_vf(nic *n, uint8_t vf, uint32_t offset, uint32_t word)
         nicl_add_text(it, line);
         reply_write(it, status, nicl_offset(offset, room));
     } else if (it) {
-        refused(it, "a write of a function above 62", status);
+        refused(it, "a register write by a virtual function above 62", status);
     }
     if (status == NIC_STRAY)
         nicl_tell_vf_stray(n, vf, offset, line);
@@ -425,7 +425,7 @@ COLD uint8_t read_memory(nic *n, uint64_t bus, uint8_t *bytes, size_t length)
     uint8_t status = nicl_dma_read(n, bus, bytes, length);
     uint64_t first = bus & ~(uint64_t)(UNIT - 1);
     if (it && status != NIC_DONE && (bus > UINT32_MAX || length > UINT32_MAX)) {
-        refused(it, "a read of memory", status);
+        refused(it, "a memory read", status);
     } else if (it && status != NIC_DONE) {
         nicl_add(it, "peek 0x%05" PRIx64 " 0", not_lent(n, bus, length));
         reply(it, nic_status_name(status));
@@ -459,7 +459,7 @@ COLD uint8_t write_memory(nic *n, uint64_t bus, const uint8_t *bytes, size_t len
     struct recording *it = nicl_enter(n);
     uint8_t status = nicl_dma_write(n, bus, bytes, length);
     if (it && status != NIC_DONE && (bus > UINT32_MAX || length > UINT32_MAX)) {
-        refused(it, "a write of memory", status);
+        refused(it, "a memory write", status);
     } else if (it && status != NIC_DONE) {
         poke(it, not_lent(n, bus, length), unit, status);
     } else if (it && length) {
@@ -648,7 +648,7 @@ uint8_t nic_int_step(nic *n, uint8_t group, nic_outcome *outcome)
     uint8_t status = nicl_int_step(n, group, outcome);
     group_line(group, line);
     if (it && group > MOST_VFS) {
-        refused(it, "int of a function above 62", status);
+        refused(it, "int of a virtual function above 62", status);
         nicl_leave(it);
         return status;
     }

@@ -115,7 +115,7 @@ static void put_out(struct recording *it)
         if (written < 0 && errno == EINTR)
             continue;
         if (written < 0) {
-            fprintf(stderr, "nic82599: a recording ends here: %s\n", strerror(errno));
+            fprintf(stderr, "nic82599: a recording stops here: %s\n", strerror(errno));
             it->is_whole = false;
             break;
         }

@@ -180,9 +180,9 @@ void nicl_tell_stray(const nic *n, uint32_t address, const char *line)
     const struct absent *found = absent_at(address);
     char name[NAME];
     if (found)
-        snprintf(name, sizeof name, "stray accesses of %s", found->name);
+        snprintf(name, sizeof name, "stray accesses to %s", found->name);
     else
-        snprintf(name, sizeof name, "stray accesses of 0x%05" PRIx32, address);
+        snprintf(name, sizeof name, "stray accesses to 0x%05" PRIx32, address);
     if (!it || !first_of(it, name))
         return;
     if (found)
@@ -197,15 +197,16 @@ void nicl_tell_vf_stray(const nic *n, uint8_t vf, uint32_t offset, const char *l
     char name[NAME], room[NICL_NAME];
     const char *known = nicl_offset(offset, room);
     if (known)
-        snprintf(name, sizeof name, "stray accesses of function %u", vf);
+        snprintf(name, sizeof name, "stray accesses by virtual function %u", vf);
     else
-        snprintf(name, sizeof name, "stray accesses of offset 0x%04" PRIx32 " of functions", offset);
+        snprintf(name, sizeof name, "stray accesses by virtual functions to offset 0x%04" PRIx32, offset);
     if (!it || !first_of(it, name))
         return;
     if (known)
-        say(it, "stray: %s: %s: there is no function %u, or GCR_EXT.VT_Mode has no pool for it", line, known, vf);
+        say(it, "stray: %s: %s: there is no virtual function %u, or GCR_EXT.VT_Mode has no pool for it", line, known,
+            vf);
     else
-        say(it, "stray: %s: no register of a virtual function is at this offset", line);
+        say(it, "stray: %s: no virtual function register is at this offset", line);
 }
 
 /* --- drops and faults --- */
@@ -239,7 +240,7 @@ static void tell_fault(nic *n, const nic_outcome *outcome, bool transmit)
 {
     struct teller *it = teller_of(n);
     char name[NAME], text[TEXT], reply[NAME];
-    snprintf(name, sizeof name, "faults of %s %u (%s)", transmit ? "tx" : "rx", outcome->queue,
+    snprintf(name, sizeof name, "faults in %s %u (%s)", transmit ? "tx" : "rx", outcome->queue,
              nic_fault_name(outcome->why));
     if (!it || !first_of(it, name))
         return;

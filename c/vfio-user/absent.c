@@ -60,7 +60,7 @@ static void tell(const struct bus *bus, FILE *to, bool is_physical, const char *
     strays_each(bus, count_one, &it);
     if (!it.all)
         return;
-    fprintf(to, "not modelled: %" PRIu64 " accesses of %s", it.all, of);
+    fprintf(to, "not modelled: %" PRIu64 " accesses by %s", it.all, of);
     left = it.all - it.unnamed;
     for (unsigned int i = 0; left && i < NAMES_MOST; i++) {
         fprintf(to, "%s %s", i ? "," : ":", absent[take_most(&it, &accesses)].name);

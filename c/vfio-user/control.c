@@ -90,7 +90,7 @@ static const char *came(struct request *it)
     fprintf(it->to, "%u of %u, twice %u, wrong %u\n", expected->good, expected->count, expected->twice,
             expected->wrong);
     if (!numbered_is_ready(expected))
-        fprintf(it->to, "%u of %u are made so far\n", expected->made, expected->count);
+        fprintf(it->to, "%u of %u have been generated so far\n", expected->made, expected->count);
     return NULL;
 }
 
@@ -179,7 +179,7 @@ static bool one_queue(const char *text, unsigned int *queue)
 static void tell_steps(struct request *it, uint64_t steps)
 {
     fprintf(it->to, "%" PRIu64 " descriptors%s\n", steps,
-            card_has_left_some(&it->server->card) ? "; more are left: repeat the request" : "");
+            card_has_left_some(&it->server->card) ? "; more remain: repeat the request" : "");
 }
 
 static const char *transmit(struct request *it)
@@ -352,7 +352,7 @@ static void obey(struct control_client *it, struct server *server)
     if (!to)
         return;
     if (it->is_long)
-        fprintf(to, "error: a request has at most %d bytes\n", CONTROL_LINE - 1);
+        fprintf(to, "error: a request is at most %d bytes long\n", CONTROL_LINE - 1);
     else if (control_obey(server, it->line, to))
         it->watches = true;
     fclose(to);

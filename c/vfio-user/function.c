@@ -129,8 +129,8 @@ static void access_registers(struct function *it, uint64_t offset, uint8_t *byte
     if (offset % 4 || length % 4) {
         if (it->counts.odd_accesses++ == 0)
             log_client(it->socket, LOG_ACCESS,
-                       "%s: an access of %" PRIu32 " bytes at 0x%05" PRIx64 ", but registers have 4", it->path, length,
-                       offset);
+                       "%s: a %" PRIu32 "-byte access at 0x%05" PRIx64 ", but registers are 4 bytes long", it->path,
+                       length, offset);
         if (!write)
             memset(bytes, 0xFF, length);
         return;

@@ -40,7 +40,7 @@ bool janitor_start(bool is_confined)
 void janitor_adopt(const struct local_given *given)
 {
     if (helper.line >= 0 && send(helper.line, given, sizeof *given, MSG_NOSIGNAL) != (ssize_t)sizeof *given)
-        log_line(LOG_SERVER, "%s may remain after the end: %s", given->path, strerror(errno));
+        log_line(LOG_SERVER, "%s may remain after the server exits: %s", given->path, strerror(errno));
 }
 
 void janitor_seal(void)

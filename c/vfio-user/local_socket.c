@@ -53,7 +53,7 @@ static const char *make_free(const struct sockaddr_un *name)
     if (about.st_uid != geteuid())
         return "another user's socket already exists; choose another name";
     if (!is_dead(name))
-        return "a server already uses this socket; choose another name, or end that server";
+        return "a server already uses this socket; choose another name, or stop that server";
     return unlink(name->sun_path) == 0 ? NULL : strerror(errno);
 }
 
@@ -173,7 +173,7 @@ int local_accept(int listener)
 {
     int file = accept4(listener, NULL, NULL, SOCK_CLOEXEC | SOCK_NONBLOCK);
     if (file < 0 && (errno == EMFILE || errno == ENFILE || errno == ENOBUFS || errno == ENOMEM)) {
-        log_line(LOG_SERVER, "a client waits, because this process can't open another file: %s", strerror(errno));
+        log_line(LOG_SERVER, "a client is waiting, because this process can't open another file: %s", strerror(errno));
         rests_until = now() + LOCAL_REST_MS;
     }
     return file;

@@ -240,7 +240,7 @@ static enum options_status check(const struct options *it)
     if (it->file >= 0 && it->card.functions)
         return wrong("--functions needs --socket-path", "");
     if (it->socket_path && strlen(it->socket_path) + strlen(".shadow0") >= FUNCTION_PATH_MOST)
-        return wrong("a socket's name has at most 99 bytes: ", it->socket_path);
+        return wrong("a socket's name is at most 99 bytes long: ", it->socket_path);
     return OPTIONS_GO;
 }
 

@@ -520,7 +520,7 @@ void rings_tail(struct rings *it, struct dma client, bool is_transmit, uint16_t 
         return;
     if (tail >= ring->slots) {
         it->counts.tails_outside++;
-        refuse_ring(it, "tail outside its ring: ring end", client, ring, queue);
+        refuse_ring(it, "tail outside its ring: ring", client, ring, queue);
         return;
     }
     if (!is_on(it, is_transmit, queue) && tail != peek(it, is_transmit ? NIC_TDH(queue) : NIC_RDH(queue))) {

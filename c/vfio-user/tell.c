@@ -73,7 +73,7 @@ void tell_counts(const struct server *it, FILE *to)
             "device: received %" PRIu64 " frames in %" PRIu64 " descriptors, sent %" PRIu64 " from %" PRIu64
             "; faults %" PRIu64 "\n",
             bus->frames_in, bus->receive_steps, bus->frames_out, bus->transmit_steps, bus->faults);
-    tell_whys(to, "not let in", bus->arrive_whys, nic_why_name);
+    tell_whys(to, "not accepted", bus->arrive_whys, nic_why_name);
     tell_whys(to, "dropped", bus->drop_whys, nic_why_name);
     tell_whys(to, "faults", bus->fault_whys, nic_fault_name);
     fprintf(to,
@@ -92,7 +92,7 @@ void tell_counts(const struct server *it, FILE *to)
     if (it->card.offload) {
         const struct offload_counts *offload = &it->card.offload->counts;
         fprintf(to,
-                "offloads: checksums in %" PRIu64 " frames, tags in %" PRIu64 "; %" PRIu64 " large sends in %" PRIu64
+                "offloads: checksums in %" PRIu64 " frames, tags in %" PRIu64 "; %" PRIu64 " TSO sends in %" PRIu64
                 " segments, dropped %" PRIu64 ", given up %" PRIu64 "; received longer by a tag %" PRIu64 "\n",
                 offload->sums, offload->tags, offload->large, offload->segments, offload->dropped, offload->given_up,
                 it->card.long_by_tag);

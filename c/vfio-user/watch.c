@@ -13,7 +13,7 @@ static const char *place_of_function(struct watch_place *it, const char *words, 
     if (sscanf(words, "%2u %n", &number, &end) != 1 || !end || number >= functions)
         return "vr FUNCTION REGISTER, vw FUNCTION REGISTER: this server has no such function";
     it->function = number + 1;
-    return function_register_named(words + end, &it->offset) ? NULL : "functions have no such register";
+    return function_register_named(words + end, &it->offset) ? NULL : "virtual functions have no such register";
 }
 
 static const char *place_of(struct watch_place *it, const char *words, unsigned int functions)
@@ -33,7 +33,7 @@ const char *watch_add(struct watch *it, const char *words, unsigned int function
 {
     struct watch_place place = {.times = 0};
     if (strlen(words) >= sizeof place.text)
-        return "a place has at most 47 bytes";
+        return "a place is at most 47 bytes long";
     const char *error = place_of(&place, words, functions);
     if (error)
         return error;

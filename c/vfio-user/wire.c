@@ -59,7 +59,8 @@ static const char *open_stream(struct wire *it)
     connector_ask(&it->connector);
     has_end(it, connector_wait(&it->connector));
     if (it->file < 0)
-        log_line(LOG_WIRE, "%s: nothing listens there yet; frames are lost until something does", it->options.path);
+        log_line(LOG_WIRE, "%s: nothing is listening there yet; frames are lost until something does",
+                 it->options.path);
     return NULL;
 }
 
@@ -166,7 +167,7 @@ static void capture(struct wire *it, enum capture_direction direction, const uin
     capture_write(&it->capture, direction, frame, length);
     if (!it->capture.error)
         return;
-    log_line(LOG_WIRE, "can't write %s, so it ends here: %s", it->options.capture, strerror(it->capture.error));
+    log_line(LOG_WIRE, "can't write %s, so the file stops here: %s", it->options.capture, strerror(it->capture.error));
     output_end(&it->capture, 0);
 }
 
@@ -252,7 +253,7 @@ static size_t from_stream(struct wire *it)
     while (buffer_waiting(&it->in) >= LENGTH_BYTES) {
         size_t length = get_length(buffer_front(&it->in));
         if (length > WIRE_LENGTH_MOST) {
-            log_line(LOG_WIRE, "%s: a frame of %zu bytes isn't valid, so the wire's other end is disconnected",
+            log_line(LOG_WIRE, "%s: a %zu-byte frame isn't valid, so the wire's other end is disconnected",
                      it->options.path, length);
             hang_up(it);
             return 0;

@@ -97,7 +97,7 @@ static const char *what_of(const char *word, int *error)
     if (strcmp(word, "executable-memory") == 0)
         return *error = try_executable_memory(), "executable shared memory";
     if (sscanf(word, "low-memory=%lu%c", &mebibytes, &rest) == 1 && mebibytes > 0 && mebibytes < TOP)
-        return *error = try_low_memory(mebibytes), "memory from address 0x400000 on";
+        return *error = try_low_memory(mebibytes), "memory at addresses from 0x400000";
     return NULL;
 }
 

@@ -178,7 +178,7 @@ out_folder() { echo "$WORK/$1-$(printf %s "$ROOT" | sha256sum | cut -c 1-8)"; }
 has_sanitizers() {
     echo 'int main(void) { return 0; }' >"$1/empty.c"
     gcc -fsanitize=address,undefined -o "$1/empty" "$1/empty.c" 2>/dev/null && "$1/empty" 2>/dev/null && return
-    say "no sanitizers: a program with them doesn't link or run here, so everything runs plain"
+    say "no sanitizers: a sanitized program doesn't link or run here, so everything runs without them"
     return 1
 }
 
@@ -187,7 +187,7 @@ find_library() {
     INCLUDE=${NIC82599_INCLUDE:-$ROOT/c/include}
     LIBRARY=${NIC82599_ARCHIVE:-$ROOT/c/out/libnic82599.a}
     if [ -z "${NIC82599_ARCHIVE-}" ]; then
-        make -s -C "$ROOT/c" >&2 || die "make -C c doesn't make the library"
+        make -s -C "$ROOT/c" >&2 || die "make -C c doesn't build the library"
     fi
     [ -f "$LIBRARY" ] || die "$LIBRARY isn't there"
     [ -f "$INCLUDE/nic82599.h" ] || die "$INCLUDE/nic82599.h isn't there"

@@ -27,7 +27,7 @@ void copies_to_device(struct dma_memory *it, uint64_t bus, size_t length)
     const void *from = memory_at(it, bus, length);
     it->to_device += length;
     if (!from || nic_dma_write(bus_device(it->bus), bus, from, length) != NIC_DONE)
-        refused(it, "a copy to the bench", bus, length);
+        refused(it, "copying to the bench", bus, length);
 }
 
 void copies_to_driver(struct dma_memory *it, uint64_t bus, size_t length)
@@ -35,7 +35,7 @@ void copies_to_driver(struct dma_memory *it, uint64_t bus, size_t length)
     void *to = memory_at(it, bus, length);
     it->to_driver += length;
     if (!to || nic_dma_read(bus_device(it->bus), bus, to, length) != NIC_DONE)
-        refused(it, "a copy from the bench", bus, length);
+        refused(it, "copying from the bench", bus, length);
 }
 
 /* ---- rings ---- */
@@ -85,7 +85,7 @@ static void give(struct dma_memory *it, bool is_transmit, uint16_t queue, uint32
     if (from == tail)
         return;
     if (from >= ring.slots || tail >= ring.slots) {
-        refused(it, "a tail outside its ring", ring.base, (size_t)BUS_SLOT * ring.slots);
+        refused(it, "tail outside its ring", ring.base, (size_t)BUS_SLOT * ring.slots);
         return;
     }
     if (is_transmit)

@@ -139,7 +139,7 @@ void function_host_written(void *of, const struct bus_access *access)
     put(NIC_PFMAILBOX(host.vf), NIC_PFMAILBOX_ACK);
     unsigned int words = answer_of(message);
     if (!send(message, words))
-        problem("function %u keeps the mailbox, so its request has no answer", host.vf);
+        problem("virtual function %u keeps the mailbox, so its request isn't answered", host.vf);
 }
 
 bool function_host_ping(void)

@@ -42,7 +42,7 @@ junit_end() {
     [ -n "$JUNIT" ] || return "$2"
     if [ "$2" -gt 1 ]; then
         # shellcheck disable=SC2153 # NAME is the script's own
-        echo "$NAME ended with status $2 before its runs were over" >"$RECORDS/said"
+        echo "$NAME exited with status $2 before its runs were complete" >"$RECORDS/said"
         junit_record "what the runs need" 0 "$2"
     fi
     python3 "$ROOT/drivers/common/junit.py" "$RECORDS" "$JUNIT" "$1" || say "$JUNIT isn't written"

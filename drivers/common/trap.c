@@ -39,7 +39,7 @@ struct instruction {
 
 static void give_up(const struct instruction *it, const char *why, const void *address)
 {
-    fprintf(stderr, "trap: %s: the instruction at %p, of address %p:", why, (const void *)it->at, address);
+    fprintf(stderr, "trap: %s: the instruction at %p, accessing %p:", why, (const void *)it->at, address);
     for (unsigned int i = 0; i < SHOWN && (uintptr_t)it->at >= 0x1000; i++)
         fprintf(stderr, " %02x", it->at[i]);
     fprintf(stderr, "\n");
@@ -127,9 +127,9 @@ static void access_register(struct instruction *it, const void *address)
     uint8_t code = *it->next++, form = *it->next++;
     int other = registers[(form >> 3 & 7) | (rex & REX_R) << 1];
     if (rex & REX_W)
-        give_up(it, "an access of 64 bits", address);
+        give_up(it, "a 64-bit access", address);
     if (!skip_operand(it, form))
-        give_up(it, "no access of memory", address);
+        give_up(it, "no memory access", address);
     window_find(address, &function, &offset);
     count++;
     if (code == MOV_LOAD)
@@ -139,7 +139,7 @@ static void access_register(struct instruction *it, const void *address)
     else if (code == MOV_STORE_NUMBER)
         bus_write(run_bus, function, offset, number_of(it));
     else
-        give_up(it, "no access of 32 bits by MOV", address);
+        give_up(it, "no 32-bit MOV access", address);
 }
 
 static void on_fault(int signal_number, siginfo_t *info, void *context)
@@ -151,7 +151,7 @@ static void on_fault(int signal_number, siginfo_t *info, void *context)
     if (window_has(info->si_addr))
         access_register(&it, info->si_addr);
     else if (!is_privileged(&it))
-        give_up(&it, "a fault that is no register's", info->si_addr);
+        give_up(&it, "a fault outside the registers", info->si_addr);
     saved[REG_RIP] = (greg_t)it.next;
 }
 

@@ -56,6 +56,6 @@ void window_find(const volatile void *address, unsigned int *function, uint32_t 
         *offset = (uint32_t)((at - PHYSICAL_STEP) % VIRTUAL_STEP);
         return;
     }
-    problem("an access of %p, which is in no window of registers", (const void *)(uintptr_t)address);
+    problem("an access to %p, which is in no register window", (const void *)(uintptr_t)address);
     *offset = BUS_SPACE;
 }

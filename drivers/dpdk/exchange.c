@@ -72,8 +72,8 @@ static bool configure(uint16_t port)
     if (failed(what, status))
         return false;
     for (uint16_t queue = 0; queue < QUEUES; queue++)
-        if (failed("the mapping of counters", rte_eth_dev_set_rx_queue_stats_mapping(port, queue, (uint8_t)queue)) ||
-            failed("the mapping of counters", rte_eth_dev_set_tx_queue_stats_mapping(port, queue, (uint8_t)queue)))
+        if (failed("the counter mapping", rte_eth_dev_set_rx_queue_stats_mapping(port, queue, (uint8_t)queue)) ||
+            failed("the counter mapping", rte_eth_dev_set_tx_queue_stats_mapping(port, queue, (uint8_t)queue)))
             return false;
     return true;
 }

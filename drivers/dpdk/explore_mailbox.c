@@ -34,13 +34,14 @@ static void function(void *argument)
 {
     unsigned int vf = (unsigned int)(uintptr_t)argument, classes = 0, first = 0;
     struct ixgbe_hw *hw = &functions[vf];
-    nicx_check(hw->mac.ops.reset_hw(hw) == 0, "a function's reset isn't answered");
+    nicx_check(hw->mac.ops.reset_hw(hw) == 0, "a virtual function's reset isn't answered");
     nicx_check(!memcmp(hw->mac.perm_addr, host_knows(vf)->vf_mac_addresses, 6),
-               "a function got an address that differs from its host's entry");
+               "a virtual function got an address that differs from its host's entry");
     nicx_check(ixgbevf_negotiate_api_version(hw, ixgbe_mbox_api_13) == 0,
-               "a function and its host don't agree on a version");
-    nicx_check(ixgbevf_get_queues(hw, &classes, &first) == 0, "a function doesn't get its number of queues");
-    nicx_check(hw->mac.ops.set_rar(hw, 0, asked[vf].addr_bytes, 0, 1) == 0, "a function's address isn't accepted");
+               "a virtual function and its host don't agree on a version");
+    nicx_check(ixgbevf_get_queues(hw, &classes, &first) == 0, "a virtual function doesn't get its number of queues");
+    nicx_check(hw->mac.ops.set_rar(hw, 0, asked[vf].addr_bytes, 0, 1) == 0,
+               "a virtual function's address isn't accepted");
     points_flush();
     done++;
 }
@@ -88,7 +89,7 @@ static const char *start_functions(void)
         hw->vendor_id = 0x8086;
         hw->device_id = FUNCTION;
         if (ixgbe_init_shared_code(hw) != 0)
-            return "ixgbe_init_shared_code fails for a function";
+            return "ixgbe_init_shared_code fails for a virtual function";
         mailbox_calls(hw)->init_params(hw);
         asked[vf] = (struct rte_ether_addr){{2, 0, 0, 0, 0x77, (uint8_t)vf}};
     }
@@ -112,7 +113,7 @@ static const char *bring_up(void)
     bool is_kept = state_keep(port->data->dev_private, sizeof(struct ixgbe_adapter)) &&
                    state_keep(host_knows(0), MOST_FUNCTIONS * sizeof *host_knows(0)) &&
                    state_keep(functions, sizeof functions);
-    return is_kept ? NULL : "there is no memory for the driver's state";
+    return is_kept ? NULL : "out of memory for the driver's state";
 }
 
 static void begin(void)
@@ -130,12 +131,12 @@ static void begin(void)
 static const char *end(void)
 {
     if (done != MOST_FUNCTIONS)
-        return "a function isn't done";
+        return "a virtual function hasn't finished";
     for (unsigned int vf = 0; vf < MOST_FUNCTIONS; vf++) {
         if (host_knows(vf)->api_version != ixgbe_mbox_api_13)
-            return "the host has a different version from the one agreed on";
+            return "the host's version differs from the agreed version";
         if (memcmp(host_knows(vf)->vf_mac_addresses, asked[vf].addr_bytes, 6) != 0)
-            return "the host has a different address from the one that a function requested";
+            return "the host's address differs from the address that a virtual function requested";
     }
     return host()->mbx.stats.msgs_rx < 4 * MOST_FUNCTIONS ? "the host read fewer messages than were sent" : NULL;
 }

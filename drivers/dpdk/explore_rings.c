@@ -288,7 +288,7 @@ static const char *bring_up(void)
     nicx_write32(NIC_FCTRL, NIC_FCTRL_UPE);
     if (!is_this_way())
         return "the driver chose a different function";
-    return keep() ? NULL : "there is no memory for the driver's state";
+    return keep() ? NULL : "out of memory for the driver's state";
 }
 
 static void begin(void)

@@ -102,7 +102,7 @@ static bool restart_function(void)
     if (!port_stop(1))
         return false;
     if (who_gets(mac.addr_bytes, 0) >= 0)
-        problem("a stopped function gets a frame");
+        problem("a stopped virtual function receives a frame");
     known_drops++; /* its queue is disabled */
     if (!port_start(1))
         return false;
@@ -113,7 +113,7 @@ static bool restart_function(void)
 /* The host stops and starts while its functions stay live; they are restarted afterwards. */
 static bool restart_host_alone(void)
 {
-    printf("-- the host is restarted under its functions\n");
+    printf("-- the host is restarted while its virtual functions stay live\n");
     if (!port_stop(HOST) || !port_start(HOST))
         return false;
     for (unsigned int which = 1; which <= setting.functions; which++)
@@ -126,7 +126,7 @@ static bool restart_host_alone(void)
 /* The functions stop first. The last one is removed, and probed again after the host has started. */
 static bool restart_host_after_functions(void)
 {
-    printf("-- the host is restarted, and a function is probed after it\n");
+    printf("-- the host is restarted, and then a virtual function is probed\n");
     for (unsigned int which = 1; which <= setting.functions; which++)
         if (!port_stop(which))
             return false;
@@ -156,7 +156,7 @@ static bool whole(void)
     pass_counters();
     requests();
     known_drops += limits();
-    printf("-- a function is restarted\n");
+    printf("-- a virtual function is restarted\n");
     return restart_function() && restart_host_alone() && restart_host_after_functions() && end_all();
 }
 
@@ -178,11 +178,12 @@ static bool differs(void (*expect)(unsigned int gets[2]))
     bus_enter(run_bus, IN_TRAFFIC);
     frames_of_two(DIFFERENT, got);
     known_drops = bus_counts(run_bus)->drops;
-    printf("of %u frames to the host's address and %u to VF0's the host gets %u, VF0 %u, %" PRIu64 " are dropped\n",
+    printf("of %u frames to the host's address and %u to VF0's, the host receives %u and VF0 %u; %" PRIu64
+           " are dropped\n",
            DIFFERENT, DIFFERENT, got[0], got[1], known_drops);
     expect(gets);
-    same("frames that the host gets", got[0], gets[0]);
-    same("frames that VF0 gets", got[1], gets[1]);
+    same("frames that the host receives", got[0], gets[0]);
+    same("frames that VF0 receives", got[1], gets[1]);
     same("frames in all", got[0] + got[1] + known_drops, 2 * DIFFERENT);
     return end_all();
 }
@@ -346,12 +347,12 @@ static void tell_handlers(const struct handlers_way *way)
     for (unsigned int which = 1; which <= setting.functions; which++)
         functions += card_interrupts(which);
     printf("handlers: the host's was called %" PRIu64 " times, %" PRIu64
-           " of them by the line; functions' handlers %" PRIu64 " times; messages of the host %" PRIu64
+           " of them on the interrupt line; the virtual functions' %" PRIu64 " times; messages from the host %" PRIu64
            "\n  requests passed by the host's driver to its application: %u\n",
            card_interrupts(HOST), handlers_by_line(), functions, bus_counts(run_bus)->messages[BUS_PHYSICAL],
            mailbox_events);
     if (!way->by_line)
-        same("calls of the host's handler by the line", handlers_by_line(), 0);
+        same("calls of the host's handler on the interrupt line", handlers_by_line(), 0);
     if (card_interrupts(HOST) == 0 && mailbox_counts(run_bus, RESET).asked > 0)
         problem("the host's handler was never called");
 }

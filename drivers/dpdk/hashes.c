@@ -35,7 +35,7 @@ enum hash hash_compare(const struct rte_mbuf *packet, const struct frame *frame,
     uint32_t expected = 0, bench = 0;
     if (!rss_hash(rss, frame, &expected)) {
         if (is_reported && is_said())
-            fprintf(stderr, "a frame of %u bytes has a hash, but should have none\n", frame->length);
+            fprintf(stderr, "a %u-byte frame has a hash, but should have none\n", frame->length);
         return is_reported ? HASH_WRONG : HASH_NONE;
     }
     uint32_t soft = soft_hash(frame->bytes + at, length, rss->key);

@@ -163,7 +163,7 @@ const char *layer_start(void)
     if (rte_eal_init(RTE_DIM(arguments), arguments) < 0)
         return rte_strerror(rte_errno);
     if (rte_memseg_list_walk(make_private, NULL) != 0 || !window_open(MOST_FUNCTIONS))
-        return "there is no memory";
+        return "out of memory";
     rte_delay_us_callback_register(seam_wait);
     is_up = true;
     return NULL;

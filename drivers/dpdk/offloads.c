@@ -278,13 +278,13 @@ static void look(const struct packet *it, uint32_t number)
 {
     unsigned int wanted = it->mss ? (it->payload + it->mss - 1) / it->mss : 1;
     if (out_count != wanted) {
-        problem("packet %u of %u bytes is sent in %u frames instead of %u", number, it->payload, out_count, wanted);
+        problem("packet %u, %u bytes long, is sent in %u frames instead of %u", number, it->payload, out_count, wanted);
         return;
     }
     for (unsigned int segment = 0; segment < wanted; segment++) {
         const char *what = compare(it, number, segment, segment + 1 == wanted);
         if (what)
-            problem("packet %u of %u bytes, frame %u: wrong %s", number, it->payload, segment, what);
+            problem("packet %u, %u bytes long, frame %u: wrong %s", number, it->payload, segment, what);
     }
 }
 
@@ -352,7 +352,7 @@ static void run(void)
             return;
     }
     bench_card_counts(&large, &segments);
-    printf("  %u packets with %" PRIu64 " bytes of payload went out in %u frames: %" PRIu64 " large sends in %" PRIu64
+    printf("  %u packets with %" PRIu64 " bytes of payload went out in %u frames: %" PRIu64 " TSO sends in %" PRIu64
            " segments\n",
            number, payload_bytes, out_all, large, segments);
     failed("rte_eth_dev_stop", rte_eth_dev_stop(port));

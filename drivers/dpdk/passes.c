@@ -80,12 +80,12 @@ static void compare_in(const struct rte_mbuf *packet, uint16_t queue, void *port
     if (packet->nb_segs == 1 && frame_is(&frame, rte_pktmbuf_mtod(packet, const void *), rte_pktmbuf_pkt_len(packet)))
         tallies[which].alike_in++;
     else
-        problem("%s, queue %u: a frame of %u bytes arrives changed: %u bytes", port_name(which), queue, frame.length,
+        problem("%s, queue %u: a %u-byte frame arrives changed, with %u bytes", port_name(which), queue, frame.length,
                 rte_pktmbuf_pkt_len(packet));
     enum hash hash = hash_compare(packet, &frame, &rss);
     tallies[which].hashes += hash == HASH_RIGHT;
     if (hash == HASH_WRONG)
-        problem("%s, queue %u: the hash of a frame of %u bytes", port_name(which), queue, frame.length);
+        problem("%s, queue %u: the hash of a %u-byte frame", port_name(which), queue, frame.length);
 }
 
 static void frames_in(unsigned int first, unsigned int last)
@@ -122,7 +122,7 @@ static void compare_out(void *of, uint16_t device, const uint8_t *bytes, size_t 
     uint16_t queue;
     if (!find_queue(device, &which, &queue) ||
         !make_next(&out[which][queue], &frame, peer_mac, ports[which].mac.addr_bytes)) {
-        problem("queue %u of the device: an unexpected frame of %zu bytes is sent", device, length);
+        problem("queue %u of the device: an unexpected %zu-byte frame is sent", device, length);
         return;
     }
     tallies[which].by_queue_out[queue]++;
@@ -130,7 +130,7 @@ static void compare_out(void *of, uint16_t device, const uint8_t *bytes, size_t 
     if (frame_is(&frame, bytes, length))
         tallies[which].alike_out++;
     else
-        problem("%s, queue %u: a frame of %u bytes goes out changed: %zu bytes", port_name(which), queue, frame.length,
+        problem("%s, queue %u: a %u-byte frame is sent changed, with %zu bytes", port_name(which), queue, frame.length,
                 length);
 }
 
@@ -293,14 +293,14 @@ static void expect_the_one(const struct rte_mbuf *packet, uint16_t queue, void *
 {
     (void)queue;
     if (!is_known(known, packet))
-        problem("%s gets a frame that differs from the one sent", port_name(((struct known *)known)->which));
+        problem("%s receives a frame that differs from the frame sent", port_name(((struct known *)known)->which));
 }
 
 static void expect_one_of_them(const struct rte_mbuf *packet, uint16_t queue, void *known)
 {
     (void)queue;
     if (!is_known(known, packet))
-        problem("%s gets an unexpected frame of %u bytes", port_name(((struct known *)known)->which),
+        problem("%s receives an unexpected %u-byte frame", port_name(((struct known *)known)->which),
                 rte_pktmbuf_pkt_len(packet));
 }
 

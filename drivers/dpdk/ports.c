@@ -98,7 +98,7 @@ void port_probe_early(unsigned int which)
     int expected = bus_answers(run_bus) & BUS_ABSENT && !setting.has_vectors ? 0 : -EAGAIN;
     printf("%s is probed before the host is started\n", port_name(which));
     int status = port_try_probe(which);
-    printf("  the driver %s: %d, after %" PRIu64 " reads of a function that has no pool yet\n",
+    printf("  the driver %s: %d, after %" PRIu64 " reads by a virtual function that has no pool yet\n",
            status ? "gives up" : "succeeds", status, bus_counts(run_bus)->absent_reads - before);
     if (status != expected || bus_counts(run_bus)->absent_reads == before)
         problem("an early probe returns %d instead of the expected %d", status, expected);

@@ -124,7 +124,7 @@ static const struct {
     {"VF0: a further address", F0, add, 0, "H010--H00"},
     {"VF0: address removed", F0, take_away, 0, "H01---H00"},
     {"VF0: another address", F0, change, 0, "H-1-0-H--"},
-    {"VF0: its former address", F0, change_back, 0, "H01---H00"},
+    {"VF0: its previous address", F0, change_back, 0, "H01---H00"},
     {"VF0: a multicast address", F0, list, 0, "H01---H00"},
     {"VF0: all multicast", F0, rte_eth_allmulticast_enable, 0, "H01---H00"},
     {"VF0: promiscuous", F0, rte_eth_promiscuous_enable, -ENOTSUP, "H01---H00"},
@@ -133,7 +133,7 @@ static const struct {
     {"VF0: MTU 1,400", F0, shorter, 0, "H01---H00"},
     {"VF0: MTU 1,500", F0, longer, 0, "H01---H00"},
     {"host: assigns VF0 another address", HOST, host_gives, 0, "H-1-0-H--"},
-    {"host: the former address", HOST, host_gives_back, 0, "H01---H00"},
+    {"host: the previous address", HOST, host_gives_back, 0, "H01---H00"},
     {"host: VF0 accepts broadcasts", HOST, host_broadcast, 0, "H01---H00"},
     {"host: all multicast", HOST, rte_eth_allmulticast_enable, 0, "H01--HH00"},
     {"host: all multicast off", HOST, rte_eth_allmulticast_disable, 0, "H01---H00"},
@@ -182,13 +182,13 @@ static void try_row(size_t row)
     if (answer != rows[row].answer)
         problem("%s: the driver returns %d", rows[row].what, answer);
     if (strcmp(who, rows[row].who) != 0)
-        problem("%s: %s get the frames, but %s was expected", rows[row].what, who, rows[row].who);
+        problem("%s: the frames arrive at %s, but %s was expected", rows[row].what, who, rows[row].who);
 }
 
 void requests(void)
 {
     bus_enter(run_bus, IN_REQUESTS);
-    printf("requests of functions, and actions of the host\n");
+    printf("requests by virtual functions, and actions of the host\n");
     former = ports[F0].mac;
     tell_head();
     for (size_t row = 0; row < RTE_DIM(rows); row++)
@@ -216,7 +216,7 @@ static void block(const char *what, unsigned int at_once)
            AFTER_FLOOD, later, waited, FLOOD);
     same("frames to the host after a full ring", came, at_once);
     same("frames to the host, and later", came + later, AFTER_FLOOD);
-    same("frames to a function that doesn't poll", waited + (bus_counts(run_bus)->drops - drops), FLOOD);
+    same("frames to a virtual function that doesn't poll", waited + (bus_counts(run_bus)->drops - drops), FLOOD);
 }
 
 static void blocks(void)
@@ -236,7 +236,7 @@ static void between(unsigned int from, unsigned int to)
     unsigned int sent = send_one(from, ports[to].mac.addr_bytes);
     bus_receive(run_bus);
     unsigned int got = port_drain(to);
-    printf("  %s sends to %s's address: %u on the wire, %s gets %u\n", port_name(from), port_name(to), sent,
+    printf("  %s sends to %s's address: %u on the wire, %s receives %u\n", port_name(from), port_name(to), sent,
            port_name(to), got);
     same("frames between pools, on the wire", sent, 1);
     same("frames between pools, inside", got, 0);
@@ -250,8 +250,8 @@ static void stop_sending(void)
     failed("rte_pmd_ixgbe_set_vf_tx", rte_pmd_ixgbe_set_vf_tx(host, 0, 1));
     unsigned int on = send_one(F0, peer_mac);
     printf("  the host disables and enables sending for VF0: %u frames are sent, then %u of 2\n", off, on);
-    same("frames of a function that may not send", off, 0);
-    same("frames of a function that may send again", on, 2);
+    same("frames from a virtual function that may not send", off, 0);
+    same("frames from a virtual function that may send again", on, 2);
 }
 
 uint64_t limits(void)
@@ -271,7 +271,7 @@ uint64_t limits(void)
 void requests_tell(void)
 {
     uint64_t refused = 0;
-    printf("functions' requests through their mailboxes, and the host's answers\n");
+    printf("requests by virtual functions through their mailboxes, and the host's answers\n");
     mailbox_tell(run_bus);
     for (unsigned int request = 1; request <= REQUESTS; request++) {
         struct mailbox_counts it = mailbox_counts(run_bus, request);

@@ -118,7 +118,7 @@ take_suite() {
 check_source() {
     case $WHERE in "" | debian:*) return ;; esac
     [ -f "$WHERE/ixgbe_ethdev.c" ] || [ -n "$(driver_in "$WHERE")" ] \
-        || uncompiled "$WHERE is neither a tree of DPDK nor the folder of its driver: no ixgbe_ethdev.c is there"
+        || uncompiled "$WHERE is neither a DPDK source tree nor its driver's folder: it contains no ixgbe_ethdev.c"
 }
 
 # find_source: uses the source that WHERE names.
@@ -168,8 +168,8 @@ compile() {
     [ -n "$WHERE" ] || die "compiling failed"
     local tree=
     [ -n "$TREE" ] || tree=$(tree_of "$DRIVER")
-    uncompiled "$PLACE doesn't compile over DPDK $VERSION: the compiler's words are above" \
-        ${tree:+"(--source $tree takes that tree's own libraries)"}
+    uncompiled "$PLACE doesn't compile against DPDK $VERSION: see the compiler's messages above" \
+        ${tree:+"(--source $tree uses that tree's own libraries)"}
 }
 
 # Compares the driver's files with Debian's source; a user's own tree is compared with its release.

@@ -104,7 +104,7 @@ int measure(uint16_t card, uint16_t null)
     double bench[ROUNDS], nothing[ROUNDS];
     make_frames();
     bus_send_to(run_bus, count_sent, NULL);
-    printf("frames of 60 bytes in and out, %u queues, bursts of %u; median of %u rounds (minimum to maximum)\n", QUEUES,
+    printf("60-byte frames in and out, %u queues, bursts of %u; median of %u rounds (minimum to maximum)\n", QUEUES,
            BURST, ROUNDS);
     for (unsigned int round = 0; round < ROUNDS; round++) {
         bench[round] = round_of(card, true);

@@ -68,7 +68,7 @@ static void compare_hash(const struct rte_mbuf *packet, const struct frame *fram
     switch (hash_compare(packet, frame, &rss)) {
     case HASH_RIGHT: hashes++; break;
     case HASH_NONE: unhashed++; break;
-    default: problem("queue %u: the hash of a frame of %u bytes", queue, frame->length);
+    default: problem("queue %u: the hash of a %u-byte frame", queue, frame->length);
     }
 }
 
@@ -90,7 +90,7 @@ static void compare(const struct rte_mbuf *packet, uint16_t queue, void *unused)
     if (is_alike(packet, &frame))
         alike++;
     else
-        problem("queue %u: a frame of %u bytes arrives changed: %u bytes", queue, frame.length,
+        problem("queue %u: a %u-byte frame arrives changed, with %u bytes", queue, frame.length,
                 rte_pktmbuf_pkt_len(packet));
     compare_hash(packet, &frame, queue);
 }
@@ -125,7 +125,7 @@ static void compare_sent(void *of, uint16_t queue, const uint8_t *bytes, size_t 
     if (frame_is(&frame, bytes, length))
         alike++;
     else
-        problem("queue %u: a frame of %u bytes goes out changed: %zu bytes", queue, frame.length, length);
+        problem("queue %u: a %u-byte frame is sent changed, with %zu bytes", queue, frame.length, length);
     sent[queue]++;
 }
 

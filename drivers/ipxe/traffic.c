@@ -46,14 +46,14 @@ static void compare_in(const uint8_t *bytes, size_t length)
     static struct frame frame;
     uint32_t number = 0;
     if (!line_up_take(&due_in, &number)) {
-        problem("an unexpected frame of %zu bytes arrives", length);
+        problem("an unexpected %zu-byte frame arrives", length);
         return;
     }
     frame_make(&frame, number, FRAME_MAX, own, peer);
     if (frame_is(&frame, bytes, length))
         alike_in++;
     else
-        problem("frame %u arrives with %zu bytes, and differs from the frame sent: %u bytes", number, length,
+        problem("frame %u arrives with %zu bytes, but differs from the frame sent, which has %u", number, length,
                 frame.length);
 }
 
@@ -98,14 +98,14 @@ static void sent(void *of, uint16_t queue, const uint8_t *bytes, size_t length)
     uint32_t number = 0;
     (void)queue;
     if (!line_up_take(&due_out, &number)) {
-        problem("an unexpected frame of %zu bytes is sent", length);
+        problem("an unexpected %zu-byte frame is sent", length);
         return;
     }
     frame_make(&frame, number, FRAME_MAX, peer, own);
     if (frame_is(&frame, bytes, length))
         alike_out++;
     else
-        problem("frame %u is sent with %zu bytes, and differs from the frame expected: %u bytes", number, length,
+        problem("frame %u is sent with %zu bytes, but differs from the frame expected, which has %u", number, length,
                 frame.length);
 }
 
@@ -185,7 +185,7 @@ static void addresses(void)
     arrives("its own address", own, true);
     arrives("all", all, true);
     /* only the physical function is promiscuous */
-    arrives("another's address", other, card_function() == BUS_PHYSICAL);
+    arrives("another address", other, card_function() == BUS_PHYSICAL);
 }
 
 static void link_changes(void)

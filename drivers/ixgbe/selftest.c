@@ -219,7 +219,7 @@ static void try_table(void)
     printf("\n%u of the %u rows that test something pass, %u of their %u registers\n", passed, rows, registers_passed,
            registers);
     if (first_failed)
-        printf("the driver's own test ends at its first failure, 0x%05" PRIX32 "\n", first_failed);
+        printf("the driver's own test stops at its first failure, 0x%05" PRIX32 "\n", first_failed);
 }
 
 int main(int count, char **words)

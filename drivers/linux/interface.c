@@ -150,7 +150,7 @@ void interface_set_queues(const struct interface *it, unsigned int queues)
     if (!error)
         error = ethtool(it, &channels);
     tell_failure(it, "its queues", error);
-    equal("queues that the driver has, and that it was to have", channels.combined_count, queues);
+    equal("queues that the driver has, and queues requested", channels.combined_count, queues);
 }
 
 void interface_set_key(const struct interface *it)

@@ -151,7 +151,7 @@ static void take(struct batch *batch, const struct interface *it, const uint8_t 
     unsigned int i = find(batch, bytes, length);
     batch->came++;
     if (i == batch->count) {
-        problem("%s: a frame of %zu bytes arrived that is none of %u to %u", it->name, length, batch->first,
+        problem("%s: a %zu-byte frame arrived that isn't one of frames %u to %u", it->name, length, batch->first,
                 batch->first + batch->count - 1);
         return;
     }

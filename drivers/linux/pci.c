@@ -268,7 +268,7 @@ static void access_memory(struct function *it, const struct operation_header *he
     else if (header->bar == TABLE_BAR && header->address + header->size <= TABLE_BYTES)
         access_table(it, header, data, to);
     else
-        problem("an access of BAR %u at 0x%" PRIx64 ", %u bytes", header->bar, header->address, header->size);
+        problem("an access to BAR %u at 0x%" PRIx64 ", %u bytes", header->bar, header->address, header->size);
 }
 
 /* Serves one message. Returns true if the guest waits for a reply. */
@@ -277,13 +277,13 @@ static bool answer(struct function *it, const struct vhost_chain *chain)
     struct operation_header header;
     const uint8_t *data = chain->out + sizeof header;
     if (chain->out_length < sizeof header) {
-        problem("a short message of the guest's bus");
+        problem("a short message from the guest's bus");
         return chain->in != NULL;
     }
     memcpy(&header, chain->out, sizeof header);
     bool is_read = header.operation == CONFIG_READ || header.operation == MEMORY_READ;
     if (header.size > (is_read ? chain->in_length : chain->out_length - sizeof header)) {
-        problem("a message of the guest's bus with too few bytes");
+        problem("a message from the guest's bus with too few bytes");
         return chain->in != NULL;
     }
     switch (header.operation) {
@@ -291,7 +291,7 @@ static bool answer(struct function *it, const struct vhost_chain *chain)
     case CONFIG_WRITE: write_config(it, header.address, data, header.size); break;
     case MEMORY_READ: access_memory(it, &header, data, chain->in); break;
     case MEMORY_WRITE: access_memory(it, &header, data, NULL); break;
-    default: problem("operation %u of the guest's bus isn't known", header.operation);
+    default: problem("unknown operation %u from the guest's bus", header.operation);
     }
     return is_read;
 }
@@ -354,7 +354,7 @@ static bool lend(void)
         return true;
     is_lent = memory_lend(&run_memory, first, vhost_memory(first, bytes), bytes);
     if (!is_lent)
-        problem("the guest's memory, 0x%" PRIx64 " and on, doesn't end at 128 MiB", first);
+        problem("the guest's memory, starting at 0x%" PRIx64 ", doesn't end at 128 MiB", first);
     return is_lent;
 }
 

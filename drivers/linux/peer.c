@@ -168,7 +168,7 @@ void peer_takes(void *of, uint16_t queue, const uint8_t *frame, size_t length)
         echo(frame, length);
     } else {
         all.others++;
-        problem("a frame of %zu bytes on queue %u that wasn't expected", length, queue);
+        problem("an unexpected %zu-byte frame on queue %u", length, queue);
     }
 }
 
@@ -214,7 +214,7 @@ void peer_orders(uint32_t what, struct order_words *words)
 {
     bool needs_most = what == ORDER_EXPECT || what == ORDER_SEND || what == ORDER_ONE;
     if (needs_most && (words->most < FRAME_MIN || words->most > FRAME_JUMBO)) {
-        problem("an order for frames of %" PRIu32 " bytes", words->most);
+        problem("an order for %" PRIu32 "-byte frames", words->most);
         return;
     }
     switch (what) {
@@ -238,7 +238,7 @@ void peer_orders(uint32_t what, struct order_words *words)
         words->result = (uint32_t)bus_counts(run_bus)->faults;
         break;
     case ORDER_VERDICT: end(words); break;
-    default: problem("order %" PRIu32 " isn't known", what);
+    default: problem("unknown order %" PRIu32 "", what);
     }
 }
 
@@ -276,5 +276,5 @@ void peer_tell(void)
         printf("the guest made %" PRIu32 " comparisons, of which %" PRIu32 " failed\n", all.guest_compared,
                all.guest_wrong);
     else
-        problem("the guest gave no verdict");
+        problem("the guest reported no verdict");
 }

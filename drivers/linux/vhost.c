@@ -290,7 +290,7 @@ static bool serve(struct vhost *vhost, struct request_message *message)
     case SET_VRING_KICK:
     case SET_VRING_CALL:
     case SET_VRING_ERR: return false;
-    default: problem("request %u of vhost-user isn't known", message->header.request); return false;
+    default: problem("unknown vhost-user request %u", message->header.request); return false;
     }
 }
 
@@ -337,7 +337,7 @@ static bool read_chain(struct vhost_chain *chain, const struct ring_descriptor *
             return true;
         at = parts[at].next;
     }
-    problem("a message of the guest isn't in its memory, or too long");
+    problem("a message from the guest isn't in its memory, or is too long");
     return false;
 }
 

@@ -159,7 +159,7 @@ class Server:
         status = self.process.wait(timeout=20)
         output = self.output.read_text()
         if status:
-            raise Wrong(f"the server ended with status {status}: {output[-600:]}")
+            raise Wrong(f"the server exited with status {status}: {output[-600:]}")
         return output
 
 
@@ -217,7 +217,7 @@ class Guest:
         is_over = False
         while not any(text in it for it in list(self.lines)):
             if is_over:
-                raise Wrong(f"the guest doesn't say {text!r}; its last lines: {self.lines[-12:]}")
+                raise Wrong(f"the guest doesn't print {text!r}; its last lines: {self.lines[-12:]}")
             time.sleep(0.05)
             is_over = time.time() > end or not self.reader.is_alive()
 
@@ -461,7 +461,7 @@ def without_msix(kind: str) -> Callable[[Place], str]:
         clean(output)
         raised = re.search(r"interrupts: (MSI|INTx):(\d+)", output)
         if not raised or raised[1].lower() != kind or int(raised[2]) < 100:
-            raise Wrong(f"the guest wasn't informed by {kind}: {output}")
+            raise Wrong(f"the guest wasn't interrupted by {kind}: {output}")
         return f"{FRAMES} frames each way, {raised[2]} interrupts by {raised[1]}; {seconds_of(text)}"
 
     return run
@@ -607,19 +607,19 @@ def vlan(place: Place) -> str:
         has(each, "server", r"^offloads: .* tags in [1-9]\d*; .* received longer by a tag [1-9]\d*$")
         longer += re.findall(r"received longer by a tag (\d+)$", each, re.MULTILINE)
     frames = " and ".join(longer)
-    return f"MTU 1,500 on a VLAN: 20 pings of 1,472 bytes, HTTP of 4 MiB; {frames} frames longer by a tag"
+    return f"MTU 1,500 on a VLAN: 20 pings with 1,472 bytes, 4 MiB over HTTP; {frames} frames longer by a tag"
 
 
 def two_guests(mtu: int) -> Callable[[Place], str]:
-    """Two guests back to back: HTTP with the checksums and large sends that stock kernels request."""
+    """Two guests back to back: HTTP with the checksums and the TSO that stock kernels request."""
 
     def run(place: Place) -> str:
         scripts = [(HERE / f"guest/{it}.sh").read_text().replace("MTU", str(mtu)) for it in ("serve", "get")]
         text, _, other = back_to_back(place, str(mtu), scripts)
         has(text, "guest", r"^sums are equal$")
         took = re.search(r"^real\s+(\S.*)$", text, re.MULTILINE)
-        has(other, "server", r"[1-9]\d* large sends in [1-9]\d* segments, dropped 0, given up 0;")
-        return f"HTTP of 8 MiB, sums equal, in {took[1] if took else '?'}; " + other.splitlines()[-1]
+        has(other, "server", r"[1-9]\d* TSO sends in [1-9]\d* segments, dropped 0, given up 0;")
+        return f"8 MiB over HTTP, sums equal, in {took[1] if took else '?'}; " + other.splitlines()[-1]
 
     return run
 

@@ -65,13 +65,13 @@ FIGURES = [
     Figure("QEMU's start to carrier", "s", False),
     Figure("driver's start to carrier", "s", False),
     Figure("QEMU's start to the first echo reply", "s", False),
-    Figure("reads of a register", "per second", True),
-    Figure("writes of a register", "per second", True),
-    Figure("frames of 60 bytes out", "per second", True),
-    Figure("frames of 60 bytes in", "per second", True),
-    Figure("frames of 60 to 1,514 bytes out", "per second", True),
-    Figure("frames of 60 to 1,514 bytes in", "per second", True),
-    Figure(f"HTTP of {MEGABYTES} MiB, guest to guest", "MB per second", True),
+    Figure("register reads", "per second", True),
+    Figure("register writes", "per second", True),
+    Figure("60-byte frames out", "per second", True),
+    Figure("60-byte frames in", "per second", True),
+    Figure("60- to 1,514-byte frames out", "per second", True),
+    Figure("60- to 1,514-byte frames in", "per second", True),
+    Figure(f"{MEGABYTES} MiB over HTTP, guest to guest", "MB per second", True),
 ]
 
 

@@ -232,7 +232,7 @@ class Found(unittest.TestCase):
             ("up", "down"): "deadlock: t",
             ("wait",): "deadlock: t0 waits at explorer.py:",
             ("await",): "deadlock: t0 waits at explorer.py:",
-            ("loop",): "endless: no end after 200 points; the last to act was task t0",
+            ("loop",): "endless: still running after 200 points; the last to act was task t0",
             ("check", "count"): "check: it wasn't counted",
             ("assert",): "check: an assertion",
             ("raise",): "crash: t0: KeyError: 'here'",
@@ -678,7 +678,7 @@ class Files(unittest.TestCase):
             for text, wanted in {
                 "": "missing line",
                 "task poll\n": ":1: the first line must be",
-                "scenario other\n": ":1: the schedule is of scenario other, but this program is race",
+                "scenario other\n": ":1: the schedule is for scenario other, but this program is race",
                 "scenario race\n\ntask nobody\n": ':3: the scenario has no "task nobody"',
                 "scenario race\ntask \x1b[31m\n": ":2: the line isn't printable ASCII",
                 "scenario race\ntask \u202e\n": ':2: the scenario has no "task ???"',

@@ -245,7 +245,7 @@ class Values(unittest.TestCase):
             with self.assertRaisesRegex(Failure, f"misuse: a choice has 1 to 256 values, not {bound}"):
                 search(Choosing(lambda it, bound=bound: it.choose(bound)), 5)
         search(Choosing(lambda it: it.check(it.choose(1) == 0, "one value is 0")), 5)
-        with self.assertRaisesRegex(Failure, "endless: no end after 200 points; the last to act was choose"):
+        with self.assertRaisesRegex(Failure, "endless: still running after 200 points; the last to act was choose"):
             search(Choosing(lambda it: [it.choose(2) for _ in range(300)]), 5, shrink=False)
 
     def test_timers(self) -> None:

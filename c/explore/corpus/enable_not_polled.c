@@ -35,7 +35,7 @@ static const char *end(void)
 {
     uint32_t base = 0;
     nic_peek32(nicx_device(), NIC_RDBAL(0), &base);
-    return base == NEW_RING ? NULL : "the ring is still the old one";
+    return base == NEW_RING ? NULL : "the old ring is still in use";
 }
 
 DRIVER(.name = "enable_not_polled")

@@ -53,7 +53,7 @@ static void begin(void)
 
 static const char *end(void)
 {
-    return driver.got == FRAMES ? NULL : "a frame waits, but the device owns no slot";
+    return driver.got == FRAMES ? NULL : "a frame is waiting, but the device owns no slot";
 }
 
 DRIVER(.name = "tail_meets_head")

@@ -228,7 +228,7 @@ static const struct row {
     condition *holds; /* null: always independent */
     const char *name, *law;
 } rows[] = {
-    {BY(LOCAL) | BY(VALUE), DEVICE, NULL, "own step, step of the device", "no event: the device isn't involved"},
+    {BY(LOCAL) | BY(VALUE), DEVICE, NULL, "own step, device step", "no event: the device isn't involved"},
     /* memory accesses */
     {BY(PEEK), BY(RX) | BY(TX), writes_elsewhere, "peek, rx or tx that writes elsewhere",
      "dev: memory_call_leaves_the_rest, receiving_leaves_the_rest, transmitting_leaves_the_rest (blocks)"},
@@ -241,36 +241,36 @@ static const struct row {
      "arrival_leaves_the_rest (memory), link_leaves_the_rest (link, memory)"},
     /* queue registers: a read changes nothing, a write only that side; a virtual function's access counts as the
        physical function's */
-    {READS, BY(RX) | BY(TX) | ENABLES, are_other_sides, "read of a side, rx, tx or qstep of another",
+    {READS, BY(RX) | BY(TX) | ENABLES, are_other_sides, "read of a side, rx, tx or qstep of another side",
      "dev: read_changes_nothing, receiving_leaves_the_rest (rest), transmitting_leaves_the_rest (rest), "
      "switching_leaves_the_rest (sides)"},
-    {WRITES, BY(RX) | BY(TX) | ENABLES, are_other_sides, "write of a side, rx, tx or qstep of another",
+    {WRITES, BY(RX) | BY(TX) | ENABLES, are_other_sides, "write of a side, rx, tx or qstep of another side",
      "dev: access_leaves_the_rest (write), receiving_leaves_the_rest (rest), transmitting_leaves_the_rest (rest), "
      "switching_leaves_the_rest (sides)"},
-    {READS | WRITES, OTHERS, is_of_some_side, "access of a side, int, eestep, arrive or link",
+    {READS | WRITES, OTHERS, is_of_some_side, "access to a side, int, eestep, arrive or link",
      "dev: read_changes_nothing, access_leaves_the_rest (write), message_leaves_the_rest (queues), "
      "eeprom_step_gives_the_word (rest), arrival_leaves_the_rest (queues), link_leaves_the_rest (link, queues)"},
     /* mailboxes: no step of the device reads their memory; a write may raise a cause */
-    {FUNCTIONS_OWN, DEVICE, is_mailbox_memory, "function's access of VFMBMEM, step of the device",
+    {FUNCTIONS_OWN, DEVICE, is_mailbox_memory, "virtual function's VFMBMEM access, device step",
      "dev: vf_stays_in_its_pool (changes), event_stays_within_its_reach, eeprom_step_gives_the_word (rest); reg: "
      "accesses_stay_with_their_owner"},
-    {BY(VF_READ), DEVICE, is_mailbox, "function's read of VFMAILBOX, step of the device",
+    {BY(VF_READ), DEVICE, is_mailbox, "virtual function's VFMAILBOX read, device step",
      "dev: vf_stays_in_its_pool (changes), event_stays_within_its_reach, eeprom_step_gives_the_word (rest)"},
-    {BY(VF_WRITE), ENABLES | BY(EEPROM), is_mailbox, "function's write of VFMAILBOX, qstep or eestep",
+    {BY(VF_WRITE), ENABLES | BY(EEPROM), is_mailbox, "virtual function's VFMAILBOX write, qstep or eestep",
      "dev: vf_stays_in_its_pool (changes), switching_leaves_the_rest (groups), eeprom_step_gives_the_word (rest)"},
     /* a virtual function's interrupts; received or sent frames may raise them */
     {FUNCTIONS_OWN, ENABLES | BY(EEPROM) | FROM_LINK, is_of_functions_group,
-     "function's access of its interrupts, qstep, eestep, arrive or link",
+     "virtual function's access to its interrupts, qstep, eestep, arrive or link",
      "dev: vf_stays_in_its_pool (changes), switching_leaves_the_rest (groups), eeprom_step_gives_the_word (rest), "
      "arrival_leaves_the_rest (groups), link_leaves_the_rest (link, groups)"},
-    {FUNCTIONS_OWN, BY(INT), is_of_other_group, "function's access of its interrupts, int of another group",
+    {FUNCTIONS_OWN, BY(INT), is_of_other_group, "virtual function's access to its interrupts, int of another group",
      "dev: vf_stays_in_its_pool (changes), message_leaves_the_rest (groups)"},
     /* two steps of the device */
     {BY(INT), BY(INT), are_other_groups, "int of two groups",
      "dev: message_leaves_the_rest (groups), due_bit_is_reported"},
     {BY(INT), ENABLES | BY(EEPROM), NULL, "int, qstep or eestep",
      "dev: message_leaves_the_rest (queues), switching_leaves_the_rest (groups), eeprom_step_gives_the_word (rest)"},
-    {BY(INT), FROM_LINK, is_of_a_function, "int of a function, arrive or link",
+    {BY(INT), FROM_LINK, is_of_a_function, "int of a virtual function, arrive or link",
      "dev: message_leaves_the_rest, arrival_leaves_the_rest (groups), link_leaves_the_rest (link, groups)"},
     {BY(TX_ENABLE), BY(TX_ENABLE), are_other_sides, "qstep tx of two queues",
      "dev: switching_leaves_the_rest (sides); reg: switched_side_is_as_wanted"},
@@ -287,12 +287,12 @@ static const struct row {
     {BY(EEPROM), BY(RX) | BY(TX) | ENABLES | FROM_LINK, NULL, "eestep, another step but int",
      "dev: eeprom_step_gives_the_word (rest), event_stays_within_its_reach"},
     /* two steps of the driver without conflicting accesses of its own memory */
-    {BY(LOCAL), DRIVER, are_other_locks, "own step, step of the driver", "no event: the device isn't involved"},
-    {READS | WRITES, MEMORY, NULL, "access of a register, peek or poke",
+    {BY(LOCAL), DRIVER, are_other_locks, "own step, driver step", "no event: the device isn't involved"},
+    {READS | WRITES, MEMORY, NULL, "register access, peek or poke",
      "dev: memory_call_leaves_the_rest, access_leaves_the_rest (write), read_changes_nothing"},
     {BY(PEEK), BY(PEEK), NULL, "two peeks", "dev: memory_call_leaves_the_rest"},
     {MEMORY, BY(POKE), are_other_bytes, "peek or poke, poke of other bytes", "dev: memory_call_leaves_the_rest"},
-    {READS | WRITES, READS | WRITES, are_other_parts, "accesses of two sides, interrupts or mailbox words",
+    {READS | WRITES, READS | WRITES, are_other_parts, "accesses to two sides, interrupts or mailbox words",
      "dev: access_leaves_the_rest (write), vf_access_is_the_physical_functions; reg: accesses_stay_with_their_owner"},
     {READS, READS, are_reads_of_a_part, "reads of a side or a mailbox word",
      "dev: read_changes_nothing, vf_access_is_the_physical_functions"},

@@ -217,7 +217,7 @@ const char *nicxi_follow(FILE *to, const char *path, bool is_lenient, nicx_resul
     it.is_lenient = is_lenient;
     const char *fault = nicxi_read_schedule(path, is_lenient, &it.file);
     if (!fault && *it.file.other)
-        fprintf(to, "%s: note: the schedule is of scenario %s\n", nicxi.scenario->name, it.file.other);
+        fprintf(to, "%s: note: the schedule is for scenario %s\n", nicxi.scenario->name, it.file.other);
     if (!fault)
         fault = follow(&it, result);
     nicxi_free_schedule(&it.file);

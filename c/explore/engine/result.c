@@ -189,7 +189,7 @@ static void options(struct form *it, struct options *options)
     options->preemptions = number32(it, "preemptions", options->preemptions, UNBOUNDED);
     options->no_sleep = !flag(it, "sleep", !options->no_sleep);
     if (number(it, "weak", nicxi_memory() - STRONG, TSO - STRONG) != (uint64_t)(nicxi_memory() - STRONG))
-        wrong(it, "weak: the result is of a different memory model: choose it with --memory");
+        wrong(it, "weak: the result is for a different memory model: choose it with --memory");
     options->shard = number32(it, "shard", options->shard + 1, 65536) - 1;
     options->shards = number32(it, "shards", options->shards, 65536);
     if (!*it->fault && options->shard >= options->shards)
@@ -407,7 +407,7 @@ static void all(struct form *it, struct result *result)
         wrong(it, "nicx-result: wrong version: this program reads version %d", VERSION);
     words(it, "scenario", name, sizeof name);
     if (!*it->fault && strcmp(name, nicxi.scenario->name) != 0)
-        wrong(it, "the result is of scenario %s, but this program is %s", name, nicxi.scenario->name);
+        wrong(it, "the result is for scenario %s, but this program is %s", name, nicxi.scenario->name);
     options(it, &result->options);
     totals(it, &result->totals);
     coverage(it, &result->totals.coverage);

@@ -413,7 +413,7 @@ static bool is_endless(void)
         return false;
     char name[96], question[160];
     ask_why(question, sizeof question);
-    nicxi_failed(NICX_ENDLESS, "no end after %u points; the last to act was %s%s", (unsigned)nicxi.most_points,
+    nicxi_failed(NICX_ENDLESS, "still running after %u points; the last to act was %s%s", (unsigned)nicxi.most_points,
                  nicx_actor_name(nicxi.last, name), question);
     return true;
 }

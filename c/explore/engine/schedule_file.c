@@ -123,7 +123,7 @@ static const char *take_scenario(struct schedule_file *file, const char *words, 
     snprintf(file->other, sizeof file->other, "%.63s", words + 9);
     if (is_lenient)
         return NULL;
-    return nicxi_why("the schedule is of scenario %s, but this program is %s", words + 9, nicxi.scenario->name);
+    return nicxi_why("the schedule is for scenario %s, but this program is %s", words + 9, nicxi.scenario->name);
 }
 
 /* Parses a number below a bound; returns the bound if the text isn't one. */

@@ -57,7 +57,7 @@ const char *nicxi_where(const struct failure *failure, char room[80])
     else if (failure->strategy != EXHAUSTIVE)
         snprintf(room, 80, "%s in run %" PRIu64, strategy, failure->run);
     else if (failure->preemptions == UNBOUNDED)
-        snprintf(room, 80, "%s in part %" PRIu64 " with any preemptions", strategy, part);
+        snprintf(room, 80, "%s in part %" PRIu64 " with any number of preemptions", strategy, part);
     else
         snprintf(room, 80, "%s in part %" PRIu64 " with at most %" PRIu32 " preemption%s", strategy, part,
                  failure->preemptions, failure->preemptions == 1 ? "" : "s");

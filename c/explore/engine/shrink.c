@@ -370,10 +370,10 @@ void nicxi_confirm(const struct options *options, struct failure *failure)
     if (failure->is_stale) {
         nicx_result found = failure->result;
         failure->result.outcome = NICX_MISUSE;
-        snprintf(
-            failure->result.words, sizeof failure->result.words,
-            "begin doesn't initialize all of the driver's state: the schedule fails only after others, with %s: %.120s",
-            nicxi_outcome_name(found.outcome), found.words);
+        snprintf(failure->result.words, sizeof failure->result.words,
+                 "begin doesn't initialize all of the driver's state: the schedule fails only after other schedules, "
+                 "with %s: %.120s",
+                 nicxi_outcome_name(found.outcome), found.words);
     }
     nicxi_free_posts(post, 1);
 }

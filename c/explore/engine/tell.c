@@ -164,7 +164,9 @@ void nicxi_tell_files(const struct failure *failure, const struct paths *paths, 
     printf("%s: the schedule is %s, the device's side of it %s, the page %s\n", name, paths->schedule, paths->script,
            paths->page);
     if (failure->is_stale)
-        printf("%s: it doesn't fail by itself: to find it again, use the same options and number of processes\n", name);
+        printf("%s: the schedule doesn't fail by itself: to find the failure again, use the same options and number of "
+               "processes\n",
+               name);
     else
         printf("%s: again: %s --replay %s\n", name, program, paths->schedule);
 }

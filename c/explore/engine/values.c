@@ -10,8 +10,8 @@ static bool refuses(uint32_t bound)
         nicxi_failed(NICX_MISUSE, "%schoose takes 1 to %d values, not %lu", nicxi_calls, NICX_VALUES,
                      (unsigned long)bound);
     else if (*nicxi.points >= nicxi.most_points)
-        nicxi_failed(NICX_ENDLESS, "no end after %u points; the last to act was %schoose", (unsigned)nicxi.most_points,
-                     nicxi_calls);
+        nicxi_failed(NICX_ENDLESS, "still running after %u points; the last to act was %schoose",
+                     (unsigned)nicxi.most_points, nicxi_calls);
     else
         return false;
     nicxi_leave();

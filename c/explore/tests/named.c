@@ -201,7 +201,7 @@ static const char *bring_up(void)
     lend_blocks(2);
     bring_up_receive(0);
     ring = calloc(1, sizeof *ring);
-    return ring ? NULL : "there is no memory";
+    return ring ? NULL : "out of memory";
 }
 
 static void begin(void)

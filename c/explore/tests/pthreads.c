@@ -384,7 +384,7 @@ static void keep_aligned(void)
     nicx_check(bytes && is_filled(bytes, SIZE, 7), "it lost bytes as it moved");
     for (unsigned char k = 0; k < 10; k++) {
         others[k] = malloc((size_t)1 << k);
-        nicx_check(others[k] != NULL, "there is no memory");
+        nicx_check(others[k] != NULL, "out of memory");
         memset(others[k], k, (size_t)1 << k);
     }
     for (unsigned char k = 0; k < 10; k++)
@@ -613,7 +613,7 @@ static const char *bring_up(void)
     if (is("early"))
         make(use_mutex, &first);
     text = strdup("as it was");
-    return text ? NULL : "there is no memory";
+    return text ? NULL : "out of memory";
 }
 
 static void begin(void)

@@ -271,10 +271,10 @@ static void endless(struct peer *host, struct peer *function)
     start(function, NIC_VFTDBAL(0), 0, SLOTS_MOST);
     peer_write(function, NIC_VFTDT(0), tail);
     peer_read(function, NIC_VFSTATUS);
-    uint64_t segments = peer_count(control, "large sends in ");
+    uint64_t segments = peer_count(control, "TSO sends in ");
     for (unsigned int i = 0; i < MANY; i++)
         peer_read(host, NIC_STATUS);
-    CHECK(peer_count(control, "large sends in ") > segments && peer_read(function, NIC_VFTDH(0)) < tail);
+    CHECK(peer_count(control, "TSO sends in ") > segments && peer_read(function, NIC_VFTDH(0)) < tail);
     pass_both_ways(host);
     CHECK(strstr(peer_request(control, "hold"), "ok") && strstr(peer_request(control, "tx 0"), "more are left"));
     CHECK(strstr(peer_request(control, "go"), "ok"));
@@ -304,7 +304,7 @@ static bool is_served_meanwhile(struct peer *host)
     CHECK(strstr(peer_request(control, "expect 1000000 9014"), "ok"));
     for (unsigned int i = 0; i < MANY; i++)
         peer_read(host, NIC_STATUS);
-    return strstr(peer_request(control, "came"), " of 1000000 are made so far\n");
+    return strstr(peer_request(control, "came"), " of 1000000 have been generated so far\n");
 }
 
 static void expected(struct peer *host)
@@ -314,7 +314,7 @@ static void expected(struct peer *host)
         times++;
     CHECK(times < EXPECTED_TIMES);
     CHECK(strstr(peer_request(control, "expect 10 60"), "ok"));
-    while (strstr(peer_request(control, "came"), "are made so far"))
+    while (strstr(peer_request(control, "came"), "have been generated so far"))
         ;
 }
 

@@ -392,9 +392,9 @@ static void held(const char *path, const char *control_path)
     peer_read(&peer, 0x10160);
     peer_write(&peer, 0x10160, 0);
     peer_read(&peer, 0x10160);
-    CHECK(says("counts", "not modelled: 3 accesses of the host: SW_FW_SYNC 3 (--strays=FILE lists each)"));
+    CHECK(says("counts", "not modelled: 3 accesses by the host: SW_FW_SYNC 3 (--strays=FILE lists each)"));
     peer_read(&peer, 0x1FFF0);
-    CHECK(says("counts", "not modelled: 4 accesses of the host: SW_FW_SYNC 3; at unknown addresses 1"));
+    CHECK(says("counts", "not modelled: 4 accesses by the host: SW_FW_SYNC 3; at unknown addresses 1"));
     close(control);
     peer_close(&peer);
 }

@@ -56,7 +56,7 @@ class Asked(Server):
         except OSError:
             answer = []
         if self.process.poll() is not None:
-            raise Wrong(f"the server has ended with status {self.process.poll()}: {self.output.read_text()[-500:]}")
+            raise Wrong(f"the server has exited with status {self.process.poll()}: {self.output.read_text()[-500:]}")
         return answer
 
 
@@ -177,7 +177,7 @@ class Relay(Guest):
             for answer in self.server.ask(words):
                 self.add(f"control: {answer}")
         except Wrong:
-            self.add("control: the server has ended")
+            self.add("control: the server has exited")
 
     @property
     def has_ended(self) -> bool:
@@ -293,7 +293,7 @@ class Bench:
         outcome = Outcome(self.kernel.name, self.plan.driver, seed, worst_first(findings), rounds,
                           time.time() - began, lines)
         if outcome.fails:
-            outcome.why = "\n".join(self.server.ask("why") or ["nothing in the device waits"])
+            outcome.why = "\n".join(self.server.ask("why") or ["nothing in the device is waiting"])
             outcome.output = "\n".join([self.server.output.read_text(), *self.server.ask("counts"), ""])
         self.server.ask("seed off")
         return outcome
@@ -315,7 +315,7 @@ class Bench:
             else:
                 locked = 0.0
             if "@search stuck was reported" in lines:
-                return f"an operation takes more than {STUCK_SECONDS * patience} s"
+                return f"an operation has taken more than {STUCK_SECONDS * patience} s"
             if time.time() - self.guest.last > silent:
                 return f"the guest printed nothing for {silent} s"
             time.sleep(0.1)

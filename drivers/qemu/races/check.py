@@ -101,7 +101,7 @@ def own_workloads(folder: Path) -> None:
     assert alone == ["begin 7", "round 1", "own 7 1 9", "own_ends", "answers", "settle", "finish 7"], alone
     assert [it for it in beside.splitlines() if not it.startswith("own")] == ["begin 7 quiet", *drawn[1:]], beside
     assert "\nround 1\nown 7 1 60\n" in beside and "\nown_ends\nanswers\n" in beside, beside
-    for status, text in ((0, ""), (1, "wrong"), (7, "status 7"), (137, "not over in 9 s")):
+    for status, text in ((0, ""), (1, "wrong"), (7, "status 7"), (137, "not finished in 9 s")):
         lines = ["script: sent", "script: lost", *[f"@search script 2 {status}"] * 3]
         found = "".join(f"{it.kind}: {it.text}" for it in scripted(lines, 9))
         assert found == (f"script: round 2: {text}; last: lost" if text else ""), (status, found)
@@ -184,9 +184,9 @@ def reports(folder: Path) -> None:
     good = Outcome("linux-6.1", "ixgbe", 4, [Finding("slow", "c")], 4, 1.0)
     assert line(bad).endswith("s: lockup: a; fault: b") and line(good).endswith("s: ok (slow: c)")
     for second, text in (
-        (bad, "the same when alone"), (good, "not again when alone: ok (slow: c)"),
+        (bad, "the same verdict when run alone"), (good, "not again when run alone: ok (slow: c)"),
         (Outcome("", "ixgbe", 3, [Finding("kernel", "d"), Finding("lockup", "a")], 4, 1.5),
-         "again when alone: kernel: d; lockup: a"),
+         "again when run alone: kernel: d; lockup: a"),
     ):  # fmt: skip
         assert line(dataclasses.replace(bad, again=second)).endswith(f"b; {text}"), text
     assert "| linux-6.1 | ixgbe | 2 | 8 | 1 | 1 | 1 | 1 |" in table([bad, good]), table([bad, good])

@@ -160,7 +160,7 @@ class Search:
         (self.words.out / "summary.md").write_text(table(self.outcomes))
         junit(self.outcomes, self.words.out / "junit.xml")
         print(table(self.outcomes), end="")
-        print(f"{NAME}: {self.words.out} has one line per seed in seeds.txt, junit.xml, and a folder for each failure")
+        print(f"{NAME}: {self.words.out} contains seeds.txt (one line per seed), junit.xml, and a folder per failure")
         return self.tell_case() if self.case else self.status()
 
     def status(self) -> int:

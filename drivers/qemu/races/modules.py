@@ -55,7 +55,7 @@ def decompressed(data: bytes) -> bytes:
     for magic, decompress in FORMS:
         if data.startswith(magic):
             return decompress(data)
-    raise Unreadable(f"it begins with {data[:6].hex()}, which is no archive known here")
+    raise Unreadable(f"it begins with {data[:6].hex()}, which isn't a known archive format")
 
 
 def unpack_modules(initrd: Path, to: Path) -> Path:

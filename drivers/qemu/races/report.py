@@ -54,9 +54,9 @@ def again(it: Outcome) -> str:
     if it.again is None:
         return ""
     if it.again.verdict == it.verdict:
-        return "; the same when alone"
+        return "; the same verdict when run alone"
     repeated = any(finding.kind == it.verdict for finding in it.again.findings)
-    return f"; {'again' if repeated else 'not again'} when alone: {said(it.again)}"
+    return f"; {'again' if repeated else 'not again'} when run alone: {said(it.again)}"
 
 
 def line(it: Outcome) -> str:

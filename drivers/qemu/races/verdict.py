@@ -36,7 +36,7 @@ KINDS = {
     "tail off": "the tail of a disabled ring was moved",
     "fault": "a fault of the device",
     "refused": "any other access that the server refused",
-    "not tried": "the reporter's script says that it can't be tried here",
+    "not tried": "the reporter's script reports that its test can't be run here",
     "slow": "a processor or a process was stuck for seconds, and recovered",
 }
 FATAL = frozenset(list(KINDS)[: list(KINDS).index("frames") + 1])
@@ -112,7 +112,7 @@ def scripted(lines: Sequence[str], limit: int) -> Iterator[Finding]:
         if status == UNTRIED:
             yield Finding("not tried", f"round {number}: {KINDS['not tried']}{last}")
         elif status != FINE:
-            said = {WRONG: "wrong", KILLED: f"not over in {limit} s"}.get(status, f"status {status}")
+            said = {WRONG: "wrong", KILLED: f"not finished in {limit} s"}.get(status, f"status {status}")
             yield Finding("script", f"round {number}: {said}{last}")
 
 

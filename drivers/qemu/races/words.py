@@ -40,7 +40,7 @@ def seeds_of(text: str) -> list[int]:
 
 def positive(text: str) -> int:
     if not re.fullmatch(r"[1-9]\d{0,4}", text):
-        raise argparse.ArgumentTypeError(f"{text} isn't a number from 1 on")
+        raise argparse.ArgumentTypeError(f"{text} isn't a number, 1 or more")
     return int(text)
 
 
@@ -74,8 +74,8 @@ def parser() -> Words:
                     help="replace a guest when its recording is larger than this (512)")
     it.add_argument("--out", type=Path, help="folder for the results, which must be new")
     it.add_argument("--case", choices=sorted(CASES), help="search for a known defect until it shows")
-    it.add_argument("--workload", type=positive, metavar="SEED", help="print what a guest does with this seed, and end")
-    it.add_argument("--draw", type=Path, metavar="RECORDING", help="draw the end of a recording, and end")
+    it.add_argument("--workload", type=positive, metavar="SEED", help="print what a guest does with this seed and exit")
+    it.add_argument("--draw", type=Path, metavar="RECORDING", help="draw the end of a recording and exit")
     add_own(it)
     add_machine(it)
     return it
@@ -95,7 +95,7 @@ def add_own(it: Words) -> None:
     sought.add_argument("--match", type=pattern, metavar="PATTERN",
                         help="count only matches: a finding or, after a fatal finding, a line of the console")
     sought.add_argument("--bisect", action="store_true",
-                        help="use statuses for `git bisect run`, and end at the first failing seed")
+                        help="use statuses for `git bisect run`, and stop at the first failing seed")
 
 
 def add_machine(it: Words) -> None:
@@ -120,16 +120,16 @@ def check(it: Words, given: argparse.Namespace) -> None:
         given.linux, given.function = case.kernel, case.driver == "ixgbevf"
         given.seeds = list(range(1, case.seeds + 1))
     if given.kernel and (given.linux or not (given.modules or given.initrd)):
-        it.error("--kernel needs --modules or --initrd, and no name of Debian's beside it")
+        it.error("--kernel needs --modules or --initrd, and excludes the name of a Debian kernel")
     if not given.kernel and (given.modules or given.initrd):
-        it.error("--modules and --initrd belong to --kernel")
+        it.error("--modules and --initrd need --kernel")
     if not given.script and (given.beside or given.limit):
-        it.error("--beside and --limit belong to --script")
+        it.error("--beside and --limit need --script")
     if given.case and (given.script or given.match or given.bisect):
-        it.error("--case has its own workload and end: leave out --script, --match and --bisect")
+        it.error("--case sets its own workload and stop condition, so --script, --match and --bisect can't be given")
     for file in (given.kernel, given.modules, given.initrd, given.module, given.draw, given.script, *given.add):
         if file and not file.exists():
-            it.error(f"{file} isn't there")
+            it.error(f"{file} doesn't exist")
     if given.module and given.module.name not in ("ixgbe.ko", "ixgbevf.ko"):
         it.error(f"{given.module} is neither ixgbe.ko nor ixgbevf.ko")
     if given.out and given.out.exists():

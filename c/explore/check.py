@@ -181,7 +181,7 @@ def check_corpus(kit: Kit, runs: int, preemptions: int, each: int = 1) -> str:
 # How each bug of these drivers must be reported.
 OUTSIDE = {
     "interrupt_moderation": "end: a frame wasn't received",
-    "mailbox_withdrawn_request": "end: the function never learned its address",
+    "mailbox_withdrawn_request": "end: the virtual function never learned its address",
     "ring_resize_jumbo": "check: a frame is incomplete",
     "rss_rebalance": "end: the frames of a flow are out of order",
     "transmit_watchdog": "end: (the frames on the wire differ from the frames sent|more frames were transmitted)",
@@ -710,15 +710,15 @@ FORM_FAULTS = {
     "cancel": r"misuse: run calls pthread_cancel at pthreads\.c:\d+, which the explorer can't schedule",
     "poll": r"misuse: run calls poll at pthreads\.c:\d+, which the explorer can't schedule",
     "too_many": r"misuse: run calls pthread_create at pthreads\.c:\d+, but all 16 tasks are in use",
-    "overflow": "crash: thread-1 overflows its stack of 65536 bytes",
-    "small_stack": f"crash: thread-1 overflows its stack of {max(32768, os.sysconf('SC_THREAD_STACK_MIN'))} bytes",
+    "overflow": "crash: thread-1 overflows its 65536-byte stack",
+    "small_stack": f"crash: thread-1 overflows its {max(32768, os.sysconf('SC_THREAD_STACK_MIN'))}-byte stack",
 }
 
 # What is reported for these modes without the link form.
 REAL_FAULTS = {
     "thread": r"misuse: a thread that isn't a task calls the explorer: link with @nic82599_threads\.opts",
     "lock": r"hang: task \w+ waits for a lock that the explorer doesn't control, .*: link with @nic82599_threads\.opts",
-    "stack": "crash: two overflows its stack of 20480 bytes",
+    "stack": "crash: two overflows its 20480-byte stack",
 }
 
 

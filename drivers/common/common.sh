@@ -163,7 +163,7 @@ linux_package() {
 # install_package PACKAGE: installs it if it is missing, which needs root.
 install_package() {
     dpkg -s "$1" >/dev/null 2>&1 && return
-    [ "$(id -u)" = 0 ] || die "$1 isn't there: apt-get install $1, as root"
+    [ "$(id -u)" = 0 ] || die "$1 isn't installed: apt-get install $1, as root"
     update
     say "installing $1"
     DEBIAN_FRONTEND=noninteractive apt-get -qq -y --no-install-recommends install "$1" >"$WORK/install.log" 2>&1 \
@@ -189,6 +189,6 @@ find_library() {
     if [ -z "${NIC82599_ARCHIVE-}" ]; then
         make -s -C "$ROOT/c" >&2 || die "make -C c doesn't build the library"
     fi
-    [ -f "$LIBRARY" ] || die "$LIBRARY isn't there"
-    [ -f "$INCLUDE/nic82599.h" ] || die "$INCLUDE/nic82599.h isn't there"
+    [ -f "$LIBRARY" ] || die "$LIBRARY doesn't exist"
+    [ -f "$INCLUDE/nic82599.h" ] || die "$INCLUDE/nic82599.h doesn't exist"
 }

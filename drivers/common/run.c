@@ -56,7 +56,7 @@ void run_check_counts(uint64_t drops_expected, uint64_t faults_expected)
         problem("%" PRIu64 " faults, %" PRIu64 " frames dropped, %" PRIu64 " copies refused", counts->faults,
                 counts->drops, run_memory.refusals);
     if (!counts->frames_in && !counts->frames_out)
-        printf("no frame passed: none was received, and none was sent\n");
+        printf("no frame was received or sent\n");
 }
 
 bool run_save_strays(const char *name)

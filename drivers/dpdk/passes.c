@@ -122,7 +122,7 @@ static void compare_out(void *of, uint16_t device, const uint8_t *bytes, size_t 
     uint16_t queue;
     if (!find_queue(device, &which, &queue) ||
         !make_next(&out[which][queue], &frame, peer_mac, ports[which].mac.addr_bytes)) {
-        problem("queue %u of the device: an unexpected %zu-byte frame is sent", device, length);
+        problem("device queue %u: an unexpected %zu-byte frame is sent", device, length);
         return;
     }
     tallies[which].by_queue_out[queue]++;

@@ -287,8 +287,8 @@ static void restart_receive(uint16_t port)
     while ((written = arrive_at(0, &number)) > 0)
         frames++;
     later = arrive_at(1, &number);
-    printf("  receive queue 0: RDH is %u, RDT %u; the device writes %u frames for it, of which the driver sees %u,\n"
-           "    the next one waits, and of a frame for queue 1 after it the device writes %u descriptors\n",
+    printf("  receive queue 0: RDH is %u, RDT %u; the device writes %u frames for it, and the driver sees %u of them;\n"
+           "    the next frame is waiting, and the device writes %u descriptors for a later frame to queue 1\n",
            head, tail, frames, take(port, 0), later);
 }
 

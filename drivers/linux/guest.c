@@ -335,7 +335,7 @@ static void check_log(void)
             printf("guest: %s\n", line);
         }
     }
-    equal("errors of the drivers in the kernel's log, and none", wrong, 0);
+    equal("driver errors in the kernel's log, none expected", wrong, 0);
     for (unsigned int i = 0; i < ERRORS; i++)
         equal(errors[i].says, errors[i].came, errors[i].known);
 }

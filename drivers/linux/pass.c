@@ -294,11 +294,11 @@ void pass_offloaded(const struct interface *it, unsigned int count)
     uint32_t echoes = order(ORDER_ECHOES, 0), faults = order(ORDER_FAULTS, count);
     int file = open_datagrams(it);
     for (unsigned int i = 0; i < count; i++) {
-        equal("a datagram with an offload that came back, and none", goes_and_comes(file, i), false);
+        equal("datagrams with an offload that came back, none expected", goes_and_comes(file, i), false);
         sleep(RESET_SECONDS);
     }
     close_datagrams(it, file);
-    equal("datagrams that went out, and none", order(ORDER_ECHOES, 0) - echoes, 0);
+    equal("datagrams that went out, none expected", order(ORDER_ECHOES, 0) - echoes, 0);
     equal("faults, and datagrams", order(ORDER_FAULTS, count) - faults, count);
     printf("guest: %s: %u UDP datagrams through the kernel's stack with the driver's offloads: each is a fault\n",
            it->name, count);

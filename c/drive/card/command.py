@@ -22,8 +22,8 @@ A --require file lists rows, one per line, each with its points (1 by default); 
 rows and the rows of --rows run. The points are printed, and written to points.txt and, as JUnit, to points.xml. A row
 that isn't applicable earns no points.
 
-Exit status: 0 if each applicable row passed, with --require each row of its files; 1 if one didn't, or with --compare
-one that passed no longer does; 2 if the driver or the arguments can't be used, with the reason in one line.
+Exit status: 0 if each applicable row passed (with --require, each row in its files); 1 if a row didn't or, with
+--compare, if a row that passed no longer does; 2 if the driver or the arguments can't be used: one line says why.
 """
 
 from __future__ import annotations

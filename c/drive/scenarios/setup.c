@@ -145,8 +145,8 @@ static void see_ring(const nicxo_step *step, bool is_drivers)
                   (unsigned)word);
     if ((is_of_queue(address, NIC_RDLEN(0), &queue) || is_of_queue(address, NIC_TDLEN(0), &queue)) &&
         (word % 128 || word != NIC_DESC_BYTES * (uint32_t)nicd.setup.slots))
-        nicd_note("%s is written with %u bytes: %u slots of 16 bytes were requested", nicxo_register(address, name),
-                  (unsigned)word, nicd.setup.slots);
+        nicd_note("%s is written with %u bytes: %u slots of 16 bytes each were requested",
+                  nicxo_register(address, name), (unsigned)word, nicd.setup.slots);
     if ((is_of_queue(address, NIC_RDT(0), &queue) || is_of_queue(address, NIC_TDT(0), &queue)) &&
         word >= nicd.setup.slots)
         nicd_note("%s is advanced to %u, but the ring has slots 0 to %u", nicxo_register(address, name), (unsigned)word,

@@ -29,7 +29,7 @@ const char nicxi_usage[] =
     "  --memory KIND      weak: stores to lent memory and the driver's own atomic stores may be late, and loads of\n"
     "                     lent memory may be old; tso: stores may be late but stay in order, as on x86; strong:\n"
     "                     neither (the scenario's model, otherwise strong)\n"
-    "  --points memory    makes known accesses to the driver's own memory points too; memory:NAME: only accesses of\n"
+    "  --points memory    makes known accesses to the driver's own memory points too; memory:NAME: only accesses to\n"
     "                     that variable or in that function\n"
     "  --hang S           a task that reaches no point for S seconds counts as hung (10)\n"
     "  --out FOLDER       the folder for a failure's files (.)\n"

@@ -31,7 +31,7 @@ static const struct thread *owner_of(const char *address)
 
 const char *nicxi_overflow_words(const volatile struct overflow *overflow, char *room, size_t size)
 {
-    snprintf(room, size, "%s overflows its stack of %lu bytes", nicxi.threads[overflow->thread].name,
+    snprintf(room, size, "%s overflows its %lu-byte stack", nicxi.threads[overflow->thread].name,
              (unsigned long)overflow->size);
     return room;
 }

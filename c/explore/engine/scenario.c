@@ -121,7 +121,8 @@ int nicx_timer(const char *name, void (*function)(void *), void *argument, uint3
 void nicx_frame(const uint8_t *bytes, size_t length)
 {
     if (nicxi.phase != BEGINNING || !nicxi_add_frame(bytes, length))
-        nicxi_failed(NICX_MISUSE, "create frames in begin, at most %d of %d bytes", NICX_FRAMES, MOST_FRAME);
+        nicxi_failed(NICX_MISUSE, "create frames in begin, at most %d, each at most %d bytes long", NICX_FRAMES,
+                     MOST_FRAME);
 }
 
 /* Reuses the memory of an earlier schedule's frame. */
@@ -142,7 +143,7 @@ bool nicxi_add_frame(const uint8_t *bytes, size_t length)
     struct frame *frame = &nicxi.frames[nicxi.frame_count++];
     bool is_kept = has_room(frame, length);
     if (!is_kept)
-        nicxi_failed(NICX_MISUSE, "out of memory for a frame of %u bytes", (unsigned)length);
+        nicxi_failed(NICX_MISUSE, "out of memory for a %u-byte frame", (unsigned)length);
     frame->length = is_kept ? length : 0;
     if (frame->length)
         memcpy(frame->bytes, bytes, length);

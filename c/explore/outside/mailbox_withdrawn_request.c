@@ -133,7 +133,7 @@ static const char *bring_up(void)
     nicx_write32(NIC_EIMS, NIC_EIMS_MAILBOX);
     nicx_write32(NIC_CTRL_EXT, NIC_CTRL_EXT_PFRSTD);
     if (!(nicx_vf_read32(VF, NIC_VFMAILBOX) & NIC_PVFMAILBOX_RSTD))
-        return "the function never saw that the device is ready";
+        return "the virtual function never saw that the device is ready";
     return NULL;
 }
 
@@ -149,9 +149,9 @@ static const char *end(void)
 {
     uint32_t word = 0;
     if (driver.queues != 1 && driver.queues != queues_of_pool)
-        return "the function never learned its number of queues";
+        return "the virtual function never learned its number of queues";
     if (driver.mac != address)
-        return "the function never learned its address";
+        return "the virtual function never learned its address";
     nic_vf_peek32(nicx_device(), VF, NIC_VFMAILBOX, &word);
     if (word & (NIC_PVFMAILBOX_VFU | NIC_PVFMAILBOX_PFU))
         return "the mailbox is still held";

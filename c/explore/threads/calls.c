@@ -141,7 +141,7 @@ uint8_t __wrap_nic_arrive(nic *n, const uint8_t *frame, size_t length, nic_outco
         return NIC_DROPPED;
     nicxi_asks("nic_arrive");
     if (!nicxi_add_frame(frame, length))
-        nicxi_misuse("a program may receive at most %d frames of 16,384 bytes", NICX_FRAMES);
+        nicxi_misuse("a program may receive at most %d frames, each at most 16,384 bytes long", NICX_FRAMES);
     return asked(STEP_ARRIVE, nicxi.next_frame++, __real_nic_arrive(n, frame, length, outcome), outcome);
 }
 

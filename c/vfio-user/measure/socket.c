@@ -105,7 +105,7 @@ int main(int count, char **words)
     printf(", posted write %.2f us", best(&peer, many, writes));
     for (unsigned int bytes = 60; bytes < 2000; bytes += 1454) {
         fill_ring(bytes);
-        printf(", frame of %u bytes out %.2f us", bytes, best(&peer, many, frames));
+        printf(", %u-byte frame out %.2f us", bytes, best(&peer, many, frames));
     }
     putchar('\n');
     peer_close(&peer);

@@ -307,7 +307,7 @@ class Bench:
             if text in lines:
                 return "done"
             if self.guest.has_ended:
-                return "the guest ended"
+                return "the guest exited"
             if is_locked(lines):
                 locked = locked or time.time()
                 if time.time() - locked > LOCKED_SECONDS * patience:

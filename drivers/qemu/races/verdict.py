@@ -17,7 +17,7 @@ class Finding:
 
 # Kinds of finding, the worst first, and their meaning. After one of the first kinds (FATAL) a guest isn't used again.
 KINDS = {
-    "server": "the server ended",
+    "server": "the server exited",
     "boot": "the guest doesn't boot, or its driver has no interface",
     "lockup": "a processor loops in the kernel",
     "stall": "RCU waits too long for a processor",
@@ -34,7 +34,7 @@ KINDS = {
     "reset": "registers written while the card was being reset",
     "tail outside": "a tail was moved outside its ring",
     "tail off": "the tail of a disabled ring was moved",
-    "fault": "a fault of the device",
+    "fault": "a device fault",
     "refused": "any other access that the server refused",
     "not tried": "the reporter's script reports that its test can't be run here",
     "slow": "a processor or a process was stuck for seconds, and recovered",

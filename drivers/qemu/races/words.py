@@ -40,7 +40,7 @@ def seeds_of(text: str) -> list[int]:
 
 def positive(text: str) -> int:
     if not re.fullmatch(r"[1-9]\d{0,4}", text):
-        raise argparse.ArgumentTypeError(f"{text} isn't a number, 1 or more")
+        raise argparse.ArgumentTypeError(f"{text} isn't a whole number above 0")
     return int(text)
 
 
@@ -120,7 +120,7 @@ def check(it: Words, given: argparse.Namespace) -> None:
         given.linux, given.function = case.kernel, case.driver == "ixgbevf"
         given.seeds = list(range(1, case.seeds + 1))
     if given.kernel and (given.linux or not (given.modules or given.initrd)):
-        it.error("--kernel needs --modules or --initrd, and excludes the name of a Debian kernel")
+        it.error("--kernel needs --modules or --initrd, and can't be combined with the name of a Debian kernel")
     if not given.kernel and (given.modules or given.initrd):
         it.error("--modules and --initrd need --kernel")
     if not given.script and (given.beside or given.limit):

@@ -84,9 +84,9 @@ static void come_in(uint32_t first)
         if (!idle)
             compare_in(room, length);
     }
-    printf("in:  %u of %u frames, byte by byte and in order\n", alike_in, frames);
+    printf("in:  %u of %u frames correct, byte by byte and in order\n", alike_in, frames);
     if (alike_in != frames)
-        problem("%u of %u frames came in", alike_in, frames);
+        problem("only %u of %u frames arrived", alike_in, frames);
 }
 
 /* ---- out ---- */
@@ -147,9 +147,10 @@ static void go_out(uint32_t first)
         recycled += recycle();
     }
     bus_send_to(run_bus, NULL, NULL);
-    printf("out: %u of %u frames, byte by byte and in order; %u buffers returned\n", alike_out, frames, recycled);
+    printf("out: %u of %u frames correct, byte by byte and in order; %u buffers returned\n", alike_out, frames,
+           recycled);
     if (alike_out != frames || recycled != frames)
-        problem("of %u frames %u were accepted, %u were sent, and %u buffers came back", frames, taken, alike_out,
+        problem("of %u frames, %u were accepted, %u were sent, and %u buffers came back", frames, taken, alike_out,
                 recycled);
 }
 

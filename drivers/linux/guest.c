@@ -286,7 +286,7 @@ static void unbind(void)
 {
     int error = put_text(DRIVER "unbind", BUS_NAME);
     if (error)
-        problem("the driver isn't unbound: %s", strerror(error));
+        problem("can't unbind the driver: %s", strerror(error));
 }
 
 static void bind_again(void)
@@ -296,7 +296,7 @@ static void bind_again(void)
     unbind();
     int error = put_text(DRIVER "bind", BUS_NAME);
     if (error || !interface_find(&it, "ixgbe", 0)) {
-        problem("the driver isn't bound again: %s", strerror(error));
+        problem("can't bind the driver again: %s", strerror(error));
         return;
     }
     make_ready(&it);

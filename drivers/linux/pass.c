@@ -113,7 +113,7 @@ static unsigned int out_batch(int socket, const struct interface *it, uint32_t f
             problem("%s: frame %u isn't sent: %s", it->name, first + i, strerror(errno));
     }
     uint32_t alike = order(ORDER_SENT, 0);
-    equal("frames that came out, and frames sent", get_word(ORDER_RESULT_2), count);
+    equal("frames that came out of the card, and frames sent", get_word(ORDER_RESULT_2), count);
     return alike;
 }
 
@@ -339,7 +339,7 @@ static bool comes_in(int socket, const uint8_t to[6], uint32_t number)
     empty(socket);
     bool is_written = order_one(to, number);
     bool has_come = poll(&file, 1, FILTER_WAIT) > 0;
-    equal("a frame that the device wrote, and that came", is_written, has_come);
+    equal("frames that the device wrote, and frames that arrived", is_written, has_come);
     return has_come;
 }
 

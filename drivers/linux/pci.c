@@ -147,7 +147,7 @@ static bool send_one(struct function *it, unsigned int vector)
     if (!vhost_take(&it->vhost, INTERRUPTS, &chain))
         return false;
     if (chain.in_length < sizeof header + 4) {
-        problem("the guest has a short buffer for messages");
+        problem("the guest's message buffer is too short");
         return false;
     }
     memcpy(chain.in, &header, sizeof header);

@@ -124,7 +124,7 @@ static void compare(uint16_t queue, const uint8_t *bytes, size_t length)
     if (frame_is(&frame, bytes, length))
         now.alike++;
     else
-        problem("out: frame %" PRIu32 ", %zu bytes, differs from the frame made", number, length);
+        problem("out: frame %" PRIu32 ", %zu bytes long, differs from the frame expected", number, length);
 }
 
 static void swap(uint8_t *one, uint8_t *other, size_t length)
@@ -269,8 +269,8 @@ void peer_tell(void)
     if (all.faults)
         printf("the device reported %" PRIu64 " faults for offloads, as the guest expects\n",
                bus_counts(run_bus)->faults);
-    same("frames that the peer sent, and that were written", all.sent, all.written);
-    same("frames that the device sent, and that came", bus_counts(run_bus)->frames_out,
+    same("frames that the peer sent, and frames written", all.sent, all.written);
+    same("frames that the device sent, and frames that arrived", bus_counts(run_bus)->frames_out,
          all.expected + all.echoes + all.others);
     if (all.has_verdict)
         printf("the guest made %" PRIu32 " comparisons, of which %" PRIu32 " failed\n", all.guest_compared,

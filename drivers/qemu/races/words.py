@@ -61,19 +61,19 @@ def parser() -> Words:
     it.add_argument("--module", type=Path, help="your own ixgbe.ko or ixgbevf.ko instead of the kernel's")
     it.add_argument("--function", action="store_true", help="search ixgbevf, in a second guest")
     it.add_argument("--seeds", type=seeds_of, default="1-20", metavar="A-B", help="seeds to try (1-20)")
-    it.add_argument("--rounds", type=positive, help="rounds of operations per seed (4; with --case 2)")
+    it.add_argument("--rounds", type=positive, help="rounds of operations per seed (4, or 2 with --case)")
     it.add_argument("--processors", type=positive, default=4, help="the guest's processors (4)")
     it.add_argument("--jobs", type=positive, default=max(1, (os.cpu_count() or 2) // 2), help="guests at a time")
     it.add_argument("--seeds-a-boot", type=positive, default=8, metavar="N",
                     help="seeds to try in a guest before it is replaced (8)")
     it.add_argument("--again", choices=("each", "new", "none"),
                     help="failing seeds to try again, alone and recorded: each, or the first with each verdict "
-                    "(each; with --bisect none)")
+                    "(each, or none with --bisect)")
     it.add_argument("--record", action="store_true", help="record each guest, not only guests that try a seed again")
     it.add_argument("--record-most", type=positive, default=512, metavar="MB",
                     help="replace a guest when its recording is larger than this (512)")
     it.add_argument("--out", type=Path, help="folder for the results, which must be new")
-    it.add_argument("--case", choices=sorted(CASES), help="search for a known defect until it shows")
+    it.add_argument("--case", choices=sorted(CASES), help="search for a known defect until it appears")
     it.add_argument("--workload", type=positive, metavar="SEED", help="print what a guest does with this seed and exit")
     it.add_argument("--draw", type=Path, metavar="RECORDING", help="draw the end of a recording and exit")
     add_own(it)
@@ -90,12 +90,12 @@ def add_own(it: Words) -> None:
     own.add_argument("--limit", type=positive, metavar="SECONDS", help="time limit for --script in a round (60)")
     own.add_argument("--no-traffic", action="store_true", help="send no frames except the script's and the check's")
     own.add_argument("--add", type=Path, action="append", default=[], metavar="FILE",
-                     help="a program of this machine for the guest's /bin, with its libraries, or another file")
+                     help="a program from this machine for the guest's /bin, with its libraries, or another file")
     sought = it.add_argument_group("what to search for")
     sought.add_argument("--match", type=pattern, metavar="PATTERN",
                         help="count only matches: a finding or, after a fatal finding, a line of the console")
     sought.add_argument("--bisect", action="store_true",
-                        help="use statuses for `git bisect run`, and stop at the first failing seed")
+                        help="exit with a status for `git bisect run`, and stop at the first failing seed")
 
 
 def add_machine(it: Words) -> None:

@@ -28,7 +28,7 @@ static const struct {
     {"EICS", BUS_EICS, "reads of EICS (0x00808) return the causes of EICR without clearing any",
      "the bench returns 0, but Linux looks there for the causes of its other vector"},
     {"EERD", BUS_EERD, "EERD (0x10014) during master disable: CTRL bit 2 is cleared for the EEPROM's step",
-     "the bench is idle then, but drivers still read their EEPROM"},
+     "the bench doesn't answer then, but drivers still read their EEPROM"},
     {"ABSENT", BUS_ABSENT, "STATUS, LINKS, mailbox and causes of virtual functions without a pool in this mode",
      "the bench returns all ones, which Linux takes for a removed card"},
     {"FWSM", BUS_FWSM, "FWSM (0x10148) answered by the shim: bit 15, valid firmware",

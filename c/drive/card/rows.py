@@ -147,7 +147,7 @@ class Runner:
         elif made.status:
             fail(row, "refused: " + (made.errors.strip() or f"status {made.status}").splitlines()[-1])
         self.hangs += row.cause.startswith("hang")
-        if found := re.search(r"searched all schedules(?: with at most (\d+) preemptions)?", made.printed):
+        if found := re.search(r"searched all schedules(?: with at most (\d+) preemptions?)?", made.printed):
             row.every = int(found[1]) if found[1] else 1000
         return not made.status
 

@@ -183,12 +183,12 @@ def check_when(look: Look) -> None:
         look.expect(when == {f"after step {number}"}, f"step {number}: its panels say {when}")
         why, conditions = browser.value(words("#now > p:has(+ .why)")), browser.value(words("#now .why li"))
         look.expect(not conditions or why == ["Before this step:"], f"step {number}: its conditions are under {why}")
-        counts = [found[1] for one in conditions if (found := re.match(r"(\w+) frames? waits?\b", one))]
+        counts = [found[1] for one in conditions if (found := re.match(r"(\w+) frames? (?:is|are) waiting\b", one))]
         look.expect(
-            counts in ([], [str(before or "no")]), f"step {number}: {counts} frames wait before it; expected {before}"
+            counts in ([], [str(before or "no")]), f"step {number}: {counts} frames are waiting before it; expected {before}"
         )
         panel = f"{(browser.value(words('#frames > p')) or [''])[0]};"
-        parts = re.match(r"(\w+) frames? waits? to be received[^;]*;(?: before this step (\w+))?", panel)
+        parts = re.match(r"(\w+) frames? (?:is|are) waiting to be received[^;]*;(?: before this step (\w+))?", panel)
         shown = (parts[1], parts[2]) if parts else ("No", None)
         wanted = (str(waiting or "No"), None if waiting == before else str(before or "none"))
         look.expect(shown == wanted, f"step {number}: frames are shown as {panel}; expected {wanted}")

@@ -168,7 +168,7 @@ def compare_waiting(where: str, whole: Run, part: Run, expect: Expect) -> None:
         here = [(sign, [one - came for one in frames if one >= came]) for sign, frames in left.waiting]
         here = [(sign, frames) for sign, frames in here if frames]
         expect(here == right.waiting, f"{where}: step {right.number}: {right.waiting}; expected {here}")
-        none = ["no frame waits" in str(run.reasons[step.number]) for run, step in ((whole, left), (part, right))]
+        none = ["no frame is waiting" in str(run.reasons[step.number]) for run, step in ((whole, left), (part, right))]
         expect(none[0] == none[1], f"{where}: step {right.number}: {part.reasons[right.number]}")
         expect(right.ring in (None, left.ring), f"{where}: step {right.number}: {right.ring}; expected {left.ring}")
 
@@ -345,10 +345,10 @@ def check_no_bytes(folder: Path, expect: Expect) -> None:
     answers = [line.split(" ", 1)[1] for line in Bench().run(text, 100)]
     expect(answers[-3:] == ["dropped short", "dropped filter", "4"], f"a frame without bytes has the replies {answers}")
     run = of_recording(str(file))
-    is_right = not run.notes and "the frame has 0 bytes; the minimum is 60" in str(run.reasons)
+    is_right = not run.notes and "the frame is 0 bytes long; the minimum is 60" in str(run.reasons)
     expect(is_right, f"a frame without bytes: {run.notes}, {run.reasons}")
     check_tool(["nicview", file, "--script"], "", 0, ["data d0 00  #: no bytes\n"], expect)
-    check_tool(["nicdebug", file], "s 3\nwhy\n", 0, ["the frame has 0 bytes"], expect)
+    check_tool(["nicdebug", file], "s 3\nwhy\n", 0, ["the frame is 0 bytes long"], expect)
 
 
 def check_notes(folder: Path, expect: Expect) -> None:

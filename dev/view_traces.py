@@ -95,7 +95,7 @@ def check_capture(folder: Path, expect: Expect) -> None:
     sent = IP[:60]
     expect(read_pcap(made) == [FRAMES[0], IP, FRAMES[2], sent, sent], "nic2pcap: the frames differ")
     got, lines = comments(made.read_bytes()), file.read_text().splitlines()
-    ways = ["in, dropped off", "in, queue 1 slot 0", "in, waits, queue 0", "out, queue 2", "out, queue 2"]
+    ways = ["in, dropped off", "in, queue 1 slot 0", "in, waiting, queue 0", "out, queue 2", "out, queue 2"]
     for (time, way, comment), want in zip(got, ways, strict=True):
         line = next(k for k, _ in enumerate(lines, 1) if f"line {k}" == comment.split(", ")[-1])
         is_it = lines[line - 1].startswith("arrive" if way == 1 else "tx 2")

@@ -182,7 +182,7 @@ def _frame_lines(run: Run, step: Step) -> Iterator[str]:
             one = run.seen.arrived[frame]
             queue = f", queue {one.queue}" if one.queue is not None else ""
             rss = f", RSS {one.rss}" if one.rss and sign == "-" else ""
-            yield f"      {'waits' if sign == '+' else 'no longer waits'}: {summary(one.data or b'')}{queue}{rss}"
+            yield f"      {'waiting' if sign == '+' else 'no longer waiting'}: {summary(one.data or b'')}{queue}{rss}"
     for sign, frames in step.out:
         for frame in frames:
             shown = run.seen.sent[frame]
@@ -335,5 +335,5 @@ def _frames_of(ring: Ring, state: State) -> list[tuple[Frame, str, str]]:
     seen = state.run.seen
     if ring.side == "rx":
         waiting = [seen.arrived[one] for one in state.waiting if seen.arrived[one].data is not None]
-        return [(one, "waits", "held") for one in waiting if one.queue == ring.queue][:2]
+        return [(one, "waiting", "held") for one in waiting if one.queue == ring.queue][:2]
     return [(one, "out", "faint") for one in map(seen.sent.__getitem__, state.out) if one.queue == ring.queue][:2]

@@ -58,7 +58,7 @@ def packets_of(run: Trace, queue: int | None) -> tuple[list[Packet], int]:
     for place, frame in enumerate(seen.arrived):
         step = gone.get(place)
         lost = "" if step is None or step.reply.startswith("wrote") else f", lost at step {step.number}: {step.reply}"
-        found.append((frame, True, "in" + lost if step else "in, waits"))
+        found.append((frame, True, "in" + lost if step else "in, waiting"))
     packets = []
     for frame, is_inbound, way in sorted(found, key=lambda one: one[0].step):
         if frame.data is None or queue not in (None, frame.queue):

@@ -4,8 +4,8 @@
     tools/niclint SCRIPT --trace    also runs it, and explains steps that were idle, dropped frames, faulted or failed
 
 SCRIPT is a register script, a session of the debugger (the part before its line `%`), or - for standard input. It may
-also be a recording of the C library (NIC82599_RECORD) of any length. All its lines are then checked for warnings, and
---trace explains its last --limit events, replayed on the library.
+also be a recording of the C library (NIC82599_RECORD) of any length. All its lines are then checked for warnings.
+--trace replays the recording's last N events on the library and explains them (--limit N).
 
 Exit status: 0 nothing is wrong; 1 there are warnings, or with --trace a failed expect, a fault, a dropped frame or a
 refused access; 2 the script is refused or can't be read; 3 the arguments are invalid; 4 ./nicbench didn't answer.

@@ -171,7 +171,7 @@ function showNow(n, state) {
   now.replaceChildren(...(reasons.length ? decided() : []));
   if (warned.length) now.append(faint("niclint warning on this line:"), make("ul", { className: "warned" }, ...warned));
   if (more.s === "ended") now.append(faint(`The run ended here: ${run.last}`));
-  const words = { "w+": "Waits", "w-": "No longer waits", "o+": "Out", "o-": "Collected" }, moved = [];
+  const words = { "w+": "Waiting", "w-": "No longer waiting", "o+": "Out", "o-": "Collected" }, moved = [];
   for (const [key, all, way] of [["w", run.arrived, "came"], ["o", run.sent, "sent"]])
     for (const [sign, frames] of more[key] || [])
       moved.push(...frames.map((frame) => frameDetails(all[frame], way, words[key + sign] + ": ")));
@@ -259,9 +259,9 @@ function showFrames(state, before) {
     ...some(frames.map((one) => frameDetails(all[one], way)), 20, "frames"),
   ];
   const old = before.waiting.length, waited = old === state.waiting.length ? "" : `; before this step ${old || "none"}`;
-  const waiting = counted(state.waiting.length, "waits to be received", "wait to be received");
+  const waiting = counted(state.waiting.length, "is waiting to be received", "are waiting to be received");
   const most = (state.waiting.length ? `, of at most ${run.fifo}` : "") + waited;
-  const out = counted(state.out.length, "waits to be collected", "wait to be collected");
+  const out = counted(state.out.length, "is waiting to be collected", "are waiting to be collected");
   element("frames-part").hidden = !run.arrived.length && !run.sent.length;
   element("frames").replaceChildren(...list(waiting + most, state.waiting, run.arrived, "came"),
     ...(run.sent.length ? list(out, state.out, run.sent, "sent") : []));

@@ -3,23 +3,23 @@
     tools/nicview SCRIPT -o run.html            a page, which needs no network
     tools/nicview SCRIPT --text                 the same as lines, with the rings drawn in characters
     tools/nicview SCRIPT --svg STEP -o it.svg   a picture of the machine after a step
-    tools/nicview SCRIPT --perfetto -o it.json a trace for Perfetto: steps, their actors, messages, frames tools/nicview
-    RECORDING --script a script of a recording, as far as nicbench can read one tools/nicview SCRIPT --test c the same
-    calls as a test: in C, or in Python (--test python) tools/nicview --live FILE a page that follows a recording as it
-    grows; prints its address tools/nicview --live SOCKET the same for a guest's card, through the server's control
-    socket
+    tools/nicview SCRIPT --perfetto -o it.json  a trace for Perfetto: steps, their actors, messages, frames
+    tools/nicview RECORDING --script            a script of a recording, as far as nicbench can read one
+    tools/nicview SCRIPT --test c               the same calls as a test: in C, or in Python (--test python)
+    tools/nicview --live FILE                   a page that follows a recording as it grows; prints its address
+    tools/nicview --live SOCKET                 the same for a guest's card, through the server's control socket
 
 SCRIPT is a register script, a session of the debugger (the part before its line `%`), or - for standard input. It may
-also be a recording of the C library (NIC82599_RECORD); then its last --limit events are replayed on the library and
-shown.
+also be a recording of the C library (NIC82599_RECORD); its last N events are then replayed on the library and shown
+(--limit N).
 
 A page opens at the first step that failed, faulted, dropped a frame or was refused, or otherwise at the last one. The
 explorer's script of a failure opens at the step that failed. With #152 after the page's name, it opens at step 152.
 Steps count from 0. Everything shown comes from ./nicbench.
 
 With --live the page is served until ctrl-C, on 127.0.0.1 only, to clients that know its address. FILE need not exist
-yet. A script is shown again when it is rewritten. The last --limit events (1,024) of a recording are shown, and earlier
-ones when the page requests them. A guest's card has buttons: hold, step, why, link up and down.
+yet. A script is shown again when it is rewritten. The last N events of a recording are shown (--limit N, default
+1,024), and earlier ones when the page requests them. A guest's card has buttons: hold, step, why, link up and down.
 
 Exit status: 0 it is shown, or ctrl-C ended --live; 1 it is shown, but the script failed or didn't end within --limit
 steps; 2 the script is refused or can't be read; 3 the arguments are invalid; 4 ./nicbench didn't answer.

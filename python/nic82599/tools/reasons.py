@@ -105,7 +105,7 @@ class Reasons:
         found = f"acc is 0x{step.acc:08x}"
         if sources:
             last = sources[-1]
-            found += f" since step {last.number}, `{self.trace.script.shown(last.pc)}`"
+            found = f"acc has been 0x{step.acc:08x} since step {last.number}, `{self.trace.script.shown(last.pc)}`"
         masked = "" if one.b == 0xFFFF_FFFF else f", masked with 0x{one.b:08x} it is 0x{step.acc & one.b:08x}"
         return f"{found}{masked}; 0x{one.a:08x} is expected"
 

@@ -55,7 +55,7 @@ static void accesses(void)
 
 /* --- frames --- */
 
-/* Queue 0 receives into the blocks from BUFFERS on, and sends from block 1. Its rings are in block 0. */
+/* Queue 0 receives into the blocks starting at BUFFERS, and sends from block 1. Its rings are in block 0. */
 static void open_with_rings(void)
 {
     nic_outcome outcome;

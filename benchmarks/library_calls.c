@@ -24,8 +24,8 @@ static void keep_pages(void)
 #endif
 }
 
-/* Measures a snapshot of a card of 256 blocks, `lent` of them lent, no two with the same contents; and a restore after
-   a register write and a write of 60 bytes of memory. */
+/* Measures a snapshot of a card of 256 blocks, `lent` of them lent, no two with the same contents. Then measures a
+   restore after a register write and a 60-byte memory write. */
 static int snapshots(const char *kept_name, const char *restored_name, uint32_t lent)
 {
     static uint8_t bytes[60];
@@ -56,7 +56,7 @@ static int snapshots(const char *kept_name, const char *restored_name, uint32_t 
     return 1;
 }
 
-/* Takes block 0 and lends it again, while block 65,535 is the only other one lent. */
+/* Takes block 0 and lends it again, while the only other lent block is 65,535. */
 static int lowest(void)
 {
     nic n;

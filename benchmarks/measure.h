@@ -4,7 +4,7 @@
 #include <stdio.h>
 #include <time.h>
 
-/* Written to registers: it requests no reset, and leaves the device able to take its steps. */
+/* The value written to registers. It requests no reset, and the device can still take its steps. */
 #define WORD 0x5a5a0050u
 
 #ifndef MEASURE_CLOCK

@@ -17,7 +17,7 @@ from nic82599.explore import Failure, Scenario, search
 
 CAUSE = 1 << 5
 FRAMES = 2
-# GPIE: MULTIPLE_MSIX, OCD and PBA_SUPPORT. With these, a write of EICR clears a queue's cause, but a read doesn't.
+# GPIE: MULTIPLE_MSIX, OCD and PBA_SUPPORT. With these, writing EICR clears a queue's cause, but reading it doesn't.
 MSIX = 1 << 4 | 1 << 5 | 1 << 31
 
 

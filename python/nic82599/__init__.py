@@ -114,7 +114,7 @@ class BadMemory(NicError, ValueError):
 
 
 class NotLent(NicError, IndexError):
-    """A block of this number, or of one of these bus addresses, isn't lent."""
+    """The block with this number, or at one of these bus addresses, isn't lent."""
 
 
 class NoQueue(NicError, IndexError):
@@ -137,8 +137,8 @@ class NoSuchRegister(NicError, KeyError):
 
 
 class Stray(NicError, LookupError):
-    """No register is at this address; the text says why. `word` is the value that a driver reads there, or None if the
-    access wasn't a read."""
+    """No register is at this address; the message says why. `word` is the value that a driver reads there, or None if
+    the access wasn't a read."""
 
     def __init__(self, why: str, word: int | None = None) -> None:
         super().__init__(why + ("" if word is None else f" (it reads as 0x{word:08x})"))
@@ -150,8 +150,8 @@ class ImageRefused(NicError, ValueError):
 
 
 class TextRefused(NicError, ValueError):
-    """The text isn't a valid EEPROM image. `why` is the reason; `at` is the line or the index, or 0 if there is
-    none."""
+    """The source doesn't describe a valid EEPROM image. `why` is the reason; `at` is the line or the index, or 0 if
+    there is none."""
 
     def __init__(self, why: str, at: int) -> None:
         super().__init__(f"{why} at {at}" if at else why)
@@ -494,7 +494,7 @@ def offset_of(name: str) -> int:
     index = int(found[2] or 0)
     if index >= count:
         raise NoSuchRegister(
-            f"no register {name}: a function has at most eight queues and 16 words of mailbox memory"
+            f"no register {name}: a virtual function has at most eight queues and 16 words of mailbox memory"
         )
     return offset + stride * index
 
@@ -507,11 +507,11 @@ def fields_of(name: str, word: int) -> dict[str, int]:
 
 
 def rss_hash(key: HasBytes, data: HasBytes) -> int:
-    """Returns the RSS hash of at most 36 bytes under a key of 40 bytes. Raises TooLong for more data, ValueError for
+    """Returns the RSS hash of at most 36 bytes under a 40-byte key. Raises TooLong for more data, ValueError for
     another key length."""
     key, data = bytes_of(key), bytes_of(data)
     if len(key) != 40:
-        raise ValueError(f"a key of {len(key)} bytes instead of 40")
+        raise ValueError(f"a key is 40 bytes long, not {len(key)}")
     word = ctypes.c_uint32()
     status = _library().nic_hash(key, data, len(data), ctypes.byref(word))
     if status != statuses.DONE:
@@ -534,7 +534,7 @@ def vf_address(gcr_ext: int, function: int, offset: str | int) -> int:
     if status == statuses.STRAY:
         raise Stray(f"0x{at:05x} isn't a register of virtual function {number} (GCR_EXT 0x{word:08x})")
     if status != statuses.DONE:
-        raise _refused(status, f"function {number}, GCR_EXT 0x{word:08x}")
+        raise _refused(status, f"virtual function {number}, GCR_EXT 0x{word:08x}")
     return address.value
 
 
@@ -661,10 +661,10 @@ class Memory:
         self._nic = nic
 
     def lend(self, bus: int, buffer: WriteableBuffer) -> None:
-        """Lends the bytes of a writable buffer (a bytearray, an mmap, an array) in place, from bus address `bus` on.
-        The device reads and writes them where they are, and so may your program between two calls. The bus address and
-        the number of bytes must be multiples of 2,048. The buffer is kept, and can't be resized or closed, until
-        `unlend`, `Nic.take` or `Nic.close`.
+        """Lends the bytes of a writable buffer (a bytearray, an mmap, an array) in place, starting at bus address
+        `bus`. The device reads and writes them where they are, and so may your program between two calls. The bus
+        address and the number of bytes must be multiples of 2,048. The buffer is kept, and can't be resized or closed,
+        until `unlend`, `Nic.take` or `Nic.close`.
 
         Raises BadMemory, NoBlock, OutOfMemory, and TypeError for a buffer that is read-only or that ctypes.resize can
         move; then none of it is lent. If a signal handler raises during the call, the buffer is either both lent and
@@ -686,8 +686,8 @@ class Memory:
         self._noted("nic_take", (block,), range(block, block + 1))
 
     def _noted(self, name: str, words: tuple[int, ...], blocks: range, buffer: object = None) -> None:
-        """Calls a function that lends or takes back blocks, and records the buffer if it succeeds. Raises if it is
-        refused."""
+        """Calls a function that lends or takes back blocks, and records the buffer if the call succeeds. Raises if the
+        call is refused."""
         nic = self._nic
         nic._answer(name, words, nic._lent.noted(nic._bound(name, *words), blocks, buffer))
 
@@ -696,7 +696,7 @@ class Memory:
         return range(bus // BLOCK_BYTES, (bus + length) // BLOCK_BYTES)
 
     def read(self, bus: int, length: int) -> bytes:
-        """Reads `length` bytes from bus address `bus` on."""
+        """Reads `length` bytes, starting at bus address `bus`."""
         at, count = _whole(bus, 64, "bus address"), _whole(length, 32, "length")
         if count and at + count > self._nic._most_memory:
             self._nic._refuse_closed()
@@ -706,7 +706,7 @@ class Memory:
         return room.raw[:count]
 
     def write(self, bus: int, data: HasBytes) -> None:
-        """Writes bytes from bus address `bus` on. An array is written as its raw bytes, whatever its item size."""
+        """Writes bytes, starting at bus address `bus`. An array is written as its raw bytes, whatever its item size."""
         given = bytes_of(data)
         self._nic._ask("nic_dma_write", _whole(bus, 64, "bus address"), given, len(given))
 
@@ -810,7 +810,7 @@ class Nic(_Registers, _OneOwner):
         self._handle = _Handle()
         if not is_again:
             self._lent = Lent(self._is_closed)
-        # The explorer sets this to refuse memory lent in place.
+        # The explorer sets this, to refuse lending memory in place.
         self._before_lending: Callable[[], None] | None = None
         self._note_sizes(vfs, fifo, blocks)
         status = self._library.nic_new(self.vfs, self.fifo, self.blocks, ctypes.byref(self._handle))
@@ -1096,7 +1096,7 @@ class Nic(_Registers, _OneOwner):
             raise _refused(status, "install_image")
 
     def install_text(self, text: str) -> None:
-        """Installs the EEPROM image that a text describes. Raises TextRefused or OutOfMemory."""
+        """Assembles the source of an EEPROM image and installs the image. Raises TextRefused or OutOfMemory."""
         given, line = text_bytes(text), ctypes.c_uint64()
         status = self._call("nic_install_text", given, len(given), ctypes.byref(line))
         if status in _TEXT:

@@ -22,7 +22,7 @@ def shown_number(number: int) -> str:
 
 
 def text_bytes(text: str) -> bytes:
-    """Encodes a text as UTF-8. Raises TypeError for anything else.
+    """Encodes a string as UTF-8. Raises TypeError for anything else.
 
     >>> text_bytes("size 128")
     b'size 128'

@@ -52,7 +52,7 @@ def halves_of(data: HasBytes) -> tuple[int, int]:
     """Returns the two halves of a descriptor, low half first. Raises ValueError unless it is 16 bytes long."""
     given = bytes_of(data)
     if len(given) != BYTES:
-        raise ValueError(f"a descriptor has {BYTES} bytes, not {len(given)}")
+        raise ValueError(f"a descriptor is {BYTES} bytes long, not {len(given)}")
     low, high = struct.unpack("<QQ", given)
     return low, high
 
@@ -124,5 +124,5 @@ def head(data: HasBytes) -> int:
     TDWBAH."""
     given = bytes_of(data)
     if len(given) != 4:
-        raise ValueError(f"a written-back head has 4 bytes, not {len(given)}")
+        raise ValueError(f"a written-back head is 4 bytes long, not {len(given)}")
     return int.from_bytes(given, "little")

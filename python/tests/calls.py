@@ -619,7 +619,7 @@ class MemoryOfPackets(unittest.TestCase):
             for given in (Packet(), Long(b"abc")):
                 nic.memory.write(0, given)
                 self.assertEqual(nic.memory[0:2048], b"abc" + b"\1" * 2045)
-                with self.assertRaisesRegex(ValueError, "a key of 3 bytes"):
+                with self.assertRaisesRegex(ValueError, "a key is 40 bytes long, not 3"):
                     nic82599.rss_hash(given, b"")
             nic.install_text(Text("size 128\n"))
             for call in (nic.install_text, nic.note):

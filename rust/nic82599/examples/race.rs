@@ -69,7 +69,7 @@ impl Scenario for Race {
             bus.put64(16 * slot, 2048);
         }
         bus.write(RDT.at(0), 7);
-        // MSI-X: a write of EICR clears a queue's cause, but a read doesn't
+        // MSI-X: writing EICR clears a queue's cause, but reading it doesn't
         bus.write(GPIE, gpie::MULTIPLE_MSIX | gpie::OCD | gpie::PBA_SUPPORT);
         bus.write(IVAR.at(0), ivar::INT_ALLOC_0.is(5) | ivar::INT_ALLOC_VAL_0);
         bus.write(EIAC, 0);

@@ -45,7 +45,7 @@ REFUSED = {
     HEAD + "poke 0x00000 d0 # done\n": ":2: this line of a recording",
     HEAD + "#: restore 3\n": ":2: this line of a recording can't be replayed",
     HEAD + "#: restore 0\nrx # idle\n": "it restores a snapshot that isn't in this recording",
-    HEAD + "lend 1 # done\xfc\n": "isn't ASCII from byte 45 on",
+    HEAD + "lend 1 # done\xfc\n": "isn't ASCII at byte 45",
 }
 
 

@@ -99,7 +99,7 @@ function capture(octets, name) {
     const number = data.length + 1;
     if (number > MOST_FRAMES) throw new Fault(`the capture has more than the ${MOST_FRAMES} frames that a script can name`);
     if (!frame.length || frame.length > LONGEST)
-      throw new Fault(`frame ${number} has ${frame.length} bytes, and a script takes 1 to ${LONGEST}`);
+      throw new Fault(`frame ${number} is ${frame.length} bytes long, but a script accepts 1 to ${LONGEST}`);
     data.push(`data ${name}${number} ${P.call(frame, "hex")}`);
     arrivals.push(`arrive ${name}${number}`);
   }

@@ -25,7 +25,7 @@ __all__ = ["KINDS", "LEAST", "MOST", "Rss", "arp", "ethernet", "mac", "made"]
 TCP, UDP = 6, 17
 KINDS = ("tcp", "udp", "ip")
 LEAST, MOST = 60, 16_384
-"""Bytes of the shortest frame that the device accepts, and of the longest that a script can hold."""
+"""The length in bytes of the shortest frame that the device accepts, and of the longest that a script can contain."""
 _IPV4, _IPV6, _ARP, _TAG = 0x0800, 0x86DD, 0x0806, 0x8100
 _HEADERS = {TCP: 20, UDP: 8}
 _BROADCAST = b"\xff" * 6
@@ -60,7 +60,7 @@ def ethernet(
     frame = to + source + b"".join(struct.pack(">HH", _TAG, tag) for tag in tags) + struct.pack(">H", kind) + payload
     frame += bytes(max(0, length - len(frame)))
     if len(frame) > MOST:
-        raise ValueError(f"the frame has {len(frame)} bytes, but a script takes at most {MOST:,}")
+        raise ValueError(f"the frame is {len(frame)} bytes long, but a script accepts at most {MOST:,}")
     return frame
 
 
@@ -129,7 +129,7 @@ def made(
     if not all(0 <= port <= 0xFFFF for port in (source_port, destination_port)):
         raise ValueError("a port is 0 to 65,535")
     if head - 14 - 4 * len(tags) + len(payload) > 0xFFFF:
-        raise ValueError(f"a packet has at most 65,535 bytes, but the payload has {len(payload)}")
+        raise ValueError(f"a packet is at most 65,535 bytes long, but the payload alone has {len(payload)}")
     data = _transport(number, ends, (source_port, destination_port), payload)
     typed, packet = _packet(number, ends, data)
     return ethernet(typed, packet, to=to, source=source_mac, tags=tags, length=max(length or LEAST, LEAST))
@@ -147,9 +147,9 @@ ALL_TYPES = frozenset([*_WITH_PORTS.values(), *_PLAIN.values()])
 
 @dataclass(frozen=True)
 class Rss:
-    """Receive side scaling (RSS), as with MRQC bits 3:0 at 1. It has a key of 40 bytes, a table of queues 0 to 15 that
-    is repeated to 128 entries, and the hashed frame types. docs/DESCRIPTORS.md has the rules. A VLAN-tagged frame has
-    none of the types."""
+    """Receive side scaling (RSS), as with MRQC bits 3:0 at 1. It has a 40-byte key, a table of queues 0 to 15 that is
+    repeated to 128 entries, and the hashed frame types. docs/DESCRIPTORS.md has the rules. A VLAN-tagged frame has none
+    of the types."""
 
     key: bytes = KEY
     table: tuple[int, ...] = (0,)
@@ -157,7 +157,7 @@ class Rss:
 
     def __post_init__(self) -> None:
         if len(self.key) != 40:
-            raise ValueError(f"a key has 40 bytes, not {len(self.key)}")
+            raise ValueError(f"a key is 40 bytes long, not {len(self.key)}")
         if not self.table or len(self.table) > 128 or not all(0 <= queue <= 15 for queue in self.table):
             raise ValueError("a table has 1 to 128 queues, each from 0 to 15")
 

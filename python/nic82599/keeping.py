@@ -91,7 +91,7 @@ def held(buffer: WriteableBuffer) -> ctypes.Array[ctypes.c_ubyte]:
 
 # --- memory lent in place ---
 
-# Held for some microseconds by the thread that applies notes; one lock serves all controllers.
+# Held for a few microseconds by the thread that applies notes. One lock serves all controllers.
 _turn = threading.RLock()
 # The child of a fork has only one thread, so no thread would release a lock held during the fork.
 os.register_at_fork(after_in_child=_turn._at_fork_reinit)  # type: ignore[attr-defined]

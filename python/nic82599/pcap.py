@@ -16,14 +16,15 @@ if TYPE_CHECKING:
 ETHERNET = 1
 MAGICS = {b"\xd4\xc3\xb2\xa1": "<", b"\x4d\x3c\xb2\xa1": "<", b"\xa1\xb2\xc3\xd4": ">", b"\xa1\xb2\x3c\x4d": ">"}
 SECTION, INTERFACE, SIMPLE, ENHANCED = 0x0A0D0D0A, 1, 3, 6
-# Bytes of the fixed part at the start of the bodies of the pcapng blocks in use, and the maximum length of any block.
+# Lengths in bytes: the fixed part at the start of a pcapng block's body, for each block type in use, and the maximum of
+# any block.
 HEADS, BLOCK_MOST = {SECTION: 4, INTERFACE: 8, SIMPLE: 4, ENHANCED: 20}, 1 << 24
 ORDERS = {b"\x4d\x3c\x2b\x1a": "<", b"\x1a\x2b\x3c\x4d": ">"}
 HEADER = struct.pack("<IHHiIII", 0xA1B2C3D4, 2, 4, 0, 0, 0xFFFF, ETHERNET)
 
 
 class NoCapture(Exception):
-    """The bytes aren't a capture, or frames can't be taken from it."""
+    """The bytes aren't a capture, or its frames can't be read."""
 
 
 def _unpacked(form: str, data: bytes, at: int) -> tuple[int, ...]:
@@ -44,7 +45,7 @@ def frames_of(data: bytes) -> Iterator[bytes]:
 
 def _whole(data: bytes, at: int, kept: int, length: int) -> bytes:
     if kept != length:
-        raise NoCapture(f"a frame of {length} bytes was only partly captured: {kept} bytes")
+        raise NoCapture(f"a {length}-byte frame was captured only in part: {kept} bytes")
     if at + kept > len(data):
         raise NoCapture("a frame is cut off at the end of the capture or of its block")
     return data[at : at + kept]

@@ -23,7 +23,7 @@ BUILDS_PROGRAM = "a release package contains it, and `pip install ./python` in a
 
 
 class Missing(Exception):
-    """The file isn't in any of its places. The one-line message lists the places and says what to do."""
+    """The file isn't in any of the searched places. The one-line message lists the places and says what to do."""
 
 
 def clone() -> Path | None:

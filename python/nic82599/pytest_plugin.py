@@ -1,10 +1,10 @@
 """The pytest plugin: the report of a failed test says why nothing happens, and a test that returns a scenario is
 searched.
 
-A failed test may have created controllers, or received them from fixtures. Its report has a section, the text of
-`nic.why()`, for each of them in which something waits or that dropped a frame. A controller that was closed earlier has
-a section only if the failure itself closed it, as when it leaves a `with` block. pytest's option `-p no:nic82599`
-disables the plugin.
+A failed test may have created controllers, or received them from fixtures. If something is waiting in one of these
+controllers, or it dropped a frame, the test's report has a section for it with the output of `nic.why()`. A controller
+that was closed earlier has a section only if the failure itself closed it, as when it leaves a `with` block. pytest's
+option `-p no:nic82599` disables the plugin.
 
     @pytest.mark.nic_schedules(1000)
     def test_poll():

@@ -1,7 +1,7 @@
 """Shows a descriptor ring at a prompt or in a notebook: `print(nic.ring("rx", 3))`.
 
-Registers are peeked and slots are read from lent memory, so the device doesn't change. A recording contains the reads
-of memory. Slots are described by the tools' code, in the words of `nicview`.
+Registers are peeked and slots are read from lent memory, so the device doesn't change. A recording contains the memory
+reads. Slots are described by the tools' code, in the words of `nicview`.
 """
 
 from __future__ import annotations
@@ -21,7 +21,7 @@ REGISTERS = {
     "rx": ("RDBAL", "RDBAH", "RDLEN", "RDH", "RDT", "RXDCTL"),
     "tx": ("TDBAL", "TDBAH", "TDLEN", "TDH", "TDT", "TXDCTL", "TDWBAL", "TDWBAH"),
 }
-# The most rows of a table. If the ring has more slots, the table begins this many slots before the head.
+# The maximum number of rows in a table. If the ring has more slots, the table begins BEFORE slots before the head.
 ROWS, BEFORE = 64, 8
 
 
@@ -69,7 +69,7 @@ class Ring:
         return "<tr>" + "".join(f"<td>{escape(it)}</td>" for it in cells) + "</tr>"
 
     def _repr_html_(self) -> str:
-        """Returns an HTML table of the slots. A long ring is shown from the head on, and only in part."""
+        """Returns an HTML table of the slots. Of a long ring only a part is shown, starting shortly before the head."""
         count = len(self.slots)
         first = self.head - BEFORE if count > ROWS and self.head < count else 0
         shown = [self.slots[(first + row) % count] for row in range(min(count, ROWS))]

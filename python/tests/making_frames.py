@@ -157,7 +157,7 @@ class Command(unittest.TestCase):
             ("ip", "10.0.0.1", "::1"): "10.0.0.1 is IPv4, but ::1 is IPv6",
             ("ip", *FOUR, "--to", "2:3"): "argument --to: 2:3: 2:3 isn't an Ethernet address",
             ("ip", *FOUR, "--tag", "4096"): "4096 isn't a number from 0 to 4095",
-            ("ip", *FOUR, "--key", "00"): "a key has 40 bytes, not 1",
+            ("ip", *FOUR, "--key", "00"): "a key is 40 bytes long, not 1",
             ("ip", *FOUR, "--length", "59"): "59 isn't a number from 60 to 16384",
             ("ether", "--type", "0x10000"): "a type is 0 to 0xffff",
             ("ip", *FOUR, "--payload", "0"): "argument --payload",

@@ -42,8 +42,8 @@ class Driver(Points):
     For one queue, the card calls `receive` on one thread at a time, and likewise `send` and `reclaim`; calls for other
     queues may run concurrently. `interrupt` is called at any time between open and close: on top of any thread or
     concurrently with all of them. The handler of one vector never runs concurrently with itself. One thread makes all
-    other calls (close, reset, filter, rss, mtu, resize, suspend, resume), and no receive, send or reclaim runs
-    meanwhile. `mailbox_send` and `mailbox_receive` are called on one thread at a time; `mailbox_ready` may run
+    other calls (close, reset, filter, rss, mtu, resize, suspend, resume), and no receive, send or reclaim runs during
+    these calls. `mailbox_send` and `mailbox_receive` are called on one thread at a time; `mailbox_ready` may run
     concurrently with them.
     """
 
@@ -58,19 +58,19 @@ class Driver(Points):
 
     def open(self, setup: Setup) -> bool:
         """Initializes the controller from power-up, or from the state that `close` left. Returns when frames can be
-        received and sent. Returns False if it fails, for example because memory is refused. It must then have freed
+        received and sent. Returns False if it fails, for example because an allocation fails. It must then have freed
         everything, and may be called again."""
-        raise NotImplementedError("a driver has open")
+        raise NotImplementedError("a driver must define open")
 
     def close(self) -> None:
         """Shuts the controller down. After it returns, the device accesses none of the driver's memory, which has been
         freed, and sends no messages."""
-        raise NotImplementedError("a driver has close")
+        raise NotImplementedError("a driver must define close")
 
     if TYPE_CHECKING:  # A driver supports only the functions that it defines.
 
         def receive(self, queue: int) -> bytes | tuple[bytes, int] | None:
-            """Returns the next frame of a queue, complete, or with its RSS hash. Returns None at once if there is
+            """Returns a queue's next complete frame, alone or with its RSS hash. Returns None immediately if there is
             none."""
 
         def send(self, queue: int, frame: bytes) -> bool:
@@ -89,8 +89,8 @@ class Driver(Points):
             """Reenables the interrupts of a queue after it has been polled."""
 
         def thread(self, number: int) -> None:
-            """Runs the driver's own thread `number`, 0 to `threads` - 1, from open on. It may wait forever. If the
-            driver has no `receive`, this thread passes received frames to `deliver`."""
+            """Runs the driver's own thread `number`, 0 to `threads` - 1. It starts when `open` returns, and may wait
+            forever. If the driver has no `receive`, this thread passes received frames to `deliver`."""
 
         def filter(self, wanted: Filter) -> bool:
             """Selects the frames to receive. This function and the following ones return whether they succeeded. If one
@@ -123,14 +123,14 @@ class Driver(Points):
             count is lost. Doesn't access the device."""
 
         def mailbox_send(self, vf: int, words: tuple[int, ...]) -> bool:
-            """Puts 1 to 16 words in the mailbox for the other side: from the host to function `vf`, or from a function
-            to its host (vf is then 0). Returns False if the mailbox isn't free now."""
+            """Writes 1 to 16 words to the mailbox for the other side. The PF's driver sends to virtual function `vf`; a
+            virtual function sends to the PF's driver, and vf is then 0. Returns False if the mailbox isn't free now."""
 
         def mailbox_receive(self, vf: int) -> Sequence[int] | None:
             """Takes and acknowledges a message of 16 words from the other side. Returns None if there is none."""
 
         def mailbox_ready(self) -> bool:
-            """For a virtual function: returns whether the device is ready because its host has set it up."""
+            """For a virtual function: returns whether the device is ready because the PF's driver has set it up."""
 
     # --- each call from here on is a point: another thread or the device may act first ---
 
@@ -142,7 +142,7 @@ class Driver(Points):
     def dma_alloc(self, size: int) -> int | None:
         """Allocates 1 to 524,288 bytes of DMA memory, zero-filled. Returns the bus address of the first byte, a
         multiple of 128. The memory after it isn't lent, so an access there, by the driver or the device, is reported.
-        Returns None if the allocation is refused: by a scenario that tests this, or because all memory is taken (see
+        Returns None if the allocation fails: because a scenario tests this, or because all memory is taken (see
         nic82599_drive.h)."""
         return CARD.call("dma_alloc", size) or None
 
@@ -152,7 +152,7 @@ class Driver(Points):
 
     def alloc(self, size: int) -> int | None:
         """Registers an allocation of the driver's own memory, as opposed to DMA memory. Returns the allocation's
-        number, or None if the scenario refuses it."""
+        number, or None if the scenario makes the allocation fail."""
         return CARD.call("alloc", size) or None
 
     def free(self, piece: int) -> None:

@@ -30,7 +30,7 @@ REFUSED = 2
 NAME = "libnic82599_drive.so"
 MOST_WORDS, MOST_TRACEBACK = 120, 16_384
 ANY_WORD = 1 << 32
-# Bytes of a card's packet memory. Its first block is never allocated.
+# The size of a card's packet memory in bytes. Its first block is never allocated.
 MOST_DMA = 524_288
 
 # The functions that the card calls, in the order of c/drive/python/calls.c. Those from `receive` on are optional.
@@ -111,7 +111,7 @@ def _number(name: str, answer: object) -> int:
 def _count(answer: object) -> int:
     if isinstance(answer, int) and not isinstance(answer, bool) and 0 <= answer < ANY_WORD**2:
         return answer
-    raise TypeError(f"stats returned {answer!r:.40}, not four counts of 64 bits")
+    raise TypeError(f"stats returned {answer!r:.40}, not four 64-bit counts")
 
 
 def _nothing(_name: str, _answer: object) -> int:

@@ -92,8 +92,8 @@ class Search:
 
     def run(self, choose: Callable[[list[str]], str | None]) -> Result:
         """Runs a schedule. At each point `choose` is called with the names of the runnable actors, as in a schedule's
-        file; the actor of the previous point comes first. It returns one of them. If it returns None, the schedule ends
-        and `is_cut` is true."""
+        file; the actor of the previous point comes first. `choose` returns one of these names. If it returns None, the
+        schedule ends and `is_cut` is true."""
         result, self.is_cut = self._session.run(choose)
         return result
 
@@ -187,7 +187,7 @@ def search(
     strict: bool = False, memory: str | None = None, shard: tuple[int, int] = (1, 1), seconds: float | None = None,
 ) -> Report:  # fmt: skip
     """Runs up to `runs` schedules. If `runs` is None, the exhaustive search runs every schedule with at most
-    `preemptions` preemptions. With `seconds` the search ends after that many seconds elapsed; `runs` may then be None
+    `preemptions` preemptions. With `seconds` the search ends after that many elapsed seconds; `runs` may then be None
     with any strategy. `jobs` processes share the work; the failure found doesn't depend on their number. If N machines
     share a search, machine K is given the `shard` (K, N). A task that reaches no point for `hang` seconds counts as
     hung. `memory` (strong, weak or tso) overrides the scenario's memory model; None keeps it.

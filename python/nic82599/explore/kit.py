@@ -36,7 +36,7 @@ def numbered_frame(length: int, number: int) -> bytes:
     """Returns a frame whose number determines every byte after its header. Raises ValueError for a length below 60 or
     above 16,384."""
     if not LEAST <= length <= MOST:
-        raise ValueError(f"a numbered frame has {LEAST} to {MOST} bytes, not {length}")
+        raise ValueError(f"a numbered frame is {LEAST} to {MOST} bytes long, not {length}")
     return _numbered(ADDRESSES + OWN_TYPE, length, number)
 
 
@@ -49,8 +49,8 @@ def _place(frame: bytes) -> int | None:
 
 
 def frame_number(frame: bytes) -> int | None:
-    """Returns the number of a numbered frame, or of a flow's frame; None if a byte doesn't match that number, or if it
-    is neither."""
+    """Returns the number of a numbered frame or of a flow's frame. Returns None for any other frame, and if a byte
+    doesn't match the number."""
     at = _place(frame)
     if at is None:
         return None
@@ -101,7 +101,7 @@ class Flow:
         """Returns a numbered frame of this flow, with correct checksums. Raises ValueError for a length below 60 or
         above 1,518."""
         if not LEAST <= length <= MOST_FLOW:
-            raise ValueError(f"a frame of a flow has {LEAST} to {MOST_FLOW} bytes, not {length}")
+            raise ValueError(f"a flow's frame is {LEAST} to {MOST_FLOW} bytes long, not {length}")
         head = ETHERNET + IP + HEADERS.get(self.protocol, 0)
         payload = struct.pack(">I", number) + _filling(number, head + 4, length)
         ip = struct.pack(">BBHHHBB", 0x45, 0, length - ETHERNET, 0, 0, 64, self.protocol)

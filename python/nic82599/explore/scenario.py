@@ -88,7 +88,7 @@ class Scenario(Points):
         self._named(Thread(name, function, "task"))
 
     def service(self, name: str, function: Callable[[], object]) -> None:
-        """Names a task that may wait forever. If it still waits at the end, that isn't a deadlock."""
+        """Names a task that may wait forever. If the task is still waiting at the end, that isn't a deadlock."""
         self._named(Thread(name, function, "task", is_service=True))
 
     def handler(
@@ -107,7 +107,7 @@ class Scenario(Points):
         it was armed. With AT_REST it fires when no other actor is runnable. Otherwise it fires at one of the
         `within` points after it was armed; at the last of them it runs before any other actor."""
         if within < 0:
-            raise ValueError(f"timer {name}: within must be AT_REST or a number of points from 1, not {within}")
+            raise ValueError(f"timer {name}: within must be AT_REST or at least 1 point, not {within}")
         return self._named(Thread(name, function, "timer", within=_whole(within, 32, "within")))
 
     def frames(self, count: int, length: int = 60) -> None:
@@ -152,9 +152,9 @@ class Scenario(Points):
         if not NAME.fullmatch(self.name):
             raise ValueError(f"{self.name!r}: a scenario's name has 1 to 63 letters, digits, '-' and '_'")
         if not 1 <= self.queues <= MOST_QUEUES:
-            raise ValueError(f"a scenario's queues are 1 to {MOST_QUEUES}")
+            raise ValueError(f"a scenario has 1 to {MOST_QUEUES} queues, not {self.queues}")
         if not 1 <= self.points <= MOST_POINTS:
-            raise ValueError(f"a scenario's points are 1 to {MOST_POINTS:,}")
+            raise ValueError(f"a scenario's limit is 1 to {MOST_POINTS:,} points, not {self.points}")
 
     def _memory_bits(self) -> int:
         return MEMORY[self.memory] | sum(ORDERS[one] for one in self.orders)
@@ -178,7 +178,7 @@ class Scenario(Points):
             raise NotLent(f"0x{bus:x} isn't lent")
 
     def _refuse_memory(self) -> None:
-        """Refuses memory lent in place: the schedule fails as misuse. Outside a schedule it raises BadMemory."""
+        """Refuses to lend memory in place: the schedule fails as misuse. Outside a schedule it raises BadMemory."""
         words = "lends memory in place, but the search can't see stores to it: lend blocks instead"
         thread = self._session.thread_here() if self._session else None
         if thread is None:
@@ -233,13 +233,13 @@ class Scenario(Points):
     # --- timers ---
 
     def _number_of(self, timer: Thread) -> int:
-        """Returns the engine's number of a timer."""
+        """Returns a timer's number in the engine."""
         if self._session is None or timer not in self._session.threads or timer.number is None:
             raise ValueError(f"{timer!r} isn't a timer of this schedule")
         return timer.number
 
     def arm(self, timer: Thread) -> None:
-        """Arms a timer, or rearms it. You may call it in `begin` too, where it is not a point."""
+        """Arms a timer, or rearms it. You may call it in `begin` too, where the call isn't a point."""
         if self._session and self._session.is_beginning and timer in self._session.threads:
             timer.is_armed = True
         else:

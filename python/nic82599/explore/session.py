@@ -184,8 +184,8 @@ def _lines(place: int, most: int) -> int:
 
 @dataclass(eq=False)
 class Thread:
-    """A task, a handler or a timer that `begin` names. `where` is the task that a handler interrupts, None for any task
-    or none, or "" to run concurrently with all."""
+    """A task, a handler or a timer that `begin` names. `where` is the task that a handler interrupts, None to interrupt
+    any task or run concurrently, or "" to run concurrently with all."""
 
     name: str
     function: Callable[[], object]
@@ -443,7 +443,7 @@ class Session:
         try:
             signal.signal(signal.SIGINT, signal.SIG_IGN)
             if isinstance(sys.stdout, io.TextIOWrapper):
-                sys.stdout.reconfigure(line_buffering=True)  # the processes exit without a flush
+                sys.stdout.reconfigure(line_buffering=True)  # the processes exit without flushing
             argv = (_TEXT * (len(words) + 1))(*(os.fsencode(word) for word in words), None)
             gc.freeze()
             self.library.nicp_search(len(words), argv, ctypes.byref(self.shared))

@@ -57,8 +57,8 @@ MOST_WORDS = 1 << 16
 
 @dataclass(frozen=True)
 class Access:
-    """A write of a register: the instruction's number, the register, the value, and the virtual function that wrote it,
-    or None."""
+    """A register write: the instruction's number, the register, the value, and the virtual function that wrote it, or
+    None."""
 
     pc: int
     register: Register
@@ -87,7 +87,7 @@ def _of_word(register: Register, word: int) -> Iterator[str]:
 
 @dataclass
 class Writes:
-    """The writes of a register by one function, in the order of their instructions. A recording may have millions."""
+    """One function's writes to a register, in the order of their instructions. A recording may have millions."""
 
     register: Register
     function: int | None
@@ -114,7 +114,7 @@ class Advice:
             self.rows.setdefault(one.register.row.name, []).append(one)
 
     def _read_accesses(self) -> None:
-        """Collects the writes. The last write of GCR_EXT before them determines how pools divide the queues."""
+        """Collects the writes. The last write to GCR_EXT before them determines how pools divide the queues."""
         k, which = 0, (Op.WRITE, Op.READ, Op.VF_WRITE, Op.VF_READ, *self.steps)
         for pc, one in self.script.only(*which):
             if one.op in (Op.WRITE, Op.READ):
@@ -163,7 +163,7 @@ class Advice:
         return sorted(found, key=lambda one: one.pc)
 
     def _of_queue(self, name: str, queue: int) -> list[Writes]:
-        """Returns the writes of a queue's register."""
+        """Returns the writes to a queue's register."""
         return [one for one in self.rows.get(name, []) if one.register.index == queue]
 
     def _strays(self) -> Iterator[Warning]:
@@ -182,8 +182,8 @@ class Advice:
                 yield Warning(line, text, text)
 
     def _words(self) -> Iterator[Warning]:
-        """Warns about written values with reserved bits or with bits that the register doesn't keep, and about
-        writes of read-only registers."""
+        """Warns about written values with reserved bits or with bits that the register doesn't keep, and about writes
+        to read-only registers."""
         for writes in self.writes.values():
             texts_of: dict[int, list[str]] = {}
             for pc, word in zip(writes.pcs, writes.words):
@@ -214,7 +214,7 @@ class Advice:
             if on is None:
                 yield self._at(
                     enable.pc,
-                    f"no `qstep {side} {queue}` follows, so the queue stays off",
+                    f"no `qstep {side} {queue}` follows, so the queue is never turned on",
                 )
             yield from self._tails(letter, queue, enable, on)
             yield from self._held(bank, queue, on)
@@ -222,7 +222,7 @@ class Advice:
                 yield from self._buffers(queue, enable)
 
     def _tails(self, letter: str, queue: int, enable: Access, on: int | None) -> Iterator[Warning]:
-        """Warns about writes of a queue's tail: there must be at least one, but none before the queue is enabled."""
+        """Warns about writes to a queue's tail: there must be at least one, but none before the queue is enabled."""
         mine = self._of_queue(letter + "DT", queue)
         if not mine:
             text = f"{letter}DT[{queue}] is never written: the device owns no slot of the ring"
@@ -235,7 +235,7 @@ class Advice:
                     yield self._at(one.pc, f"{name} is written before {what}: write it afterwards, or {lost}")
 
     def _held(self, bank: str, queue: int, on: int | None) -> Iterator[Warning]:
-        """Warns about writes of a ring's base, length or head while its queue is enabled."""
+        """Warns about writes to a ring's base, length or head while its queue is enabled."""
         if on is None:
             return
         off = min(

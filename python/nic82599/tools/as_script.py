@@ -1,8 +1,8 @@
 """Converts a recording to a script that `nicbench` reads, from its beginning, as far as a script can express it.
 
 Each block of a lent range has its own line, equal data strings are merged, and restoring a snapshot removes the lines
-since it was taken. The program then runs the script, which is cut before the first answer that differs from the
-recorded one. The remaining lines therefore have the answers in their comments.
+since the snapshot was taken. The program then runs the script, which is cut before the first answer that differs from
+the recorded one. The remaining lines therefore have the answers in their comments.
 """
 
 from __future__ import annotations
@@ -56,7 +56,7 @@ class Made:
             if len(self.names) == STRINGS:
                 raise End(f"a script has at most {STRINGS:,} data strings")
             if len(data) > LONGEST:
-                raise End(f"a data string has at most {LONGEST:,} bytes")
+                raise End(f"a data string is at most {LONGEST:,} bytes long")
             name = self.names[data] = f"d{len(self.names)}"
             self.lines.append(f"data {name} {data.hex()}" if data else f"data {name} 00  #: no bytes")
         return self.names[data]

@@ -37,7 +37,7 @@ def identifier(name: str) -> str:
 
 
 def filled(text: str, places: dict[str, str]) -> str:
-    """Replaces places such as `{name}` in a text."""
+    """Replaces placeholders such as `{name}` in a string."""
     for name, word in places.items():
         text = text.replace("{" + name + "}", word)
     return text

@@ -25,7 +25,7 @@ from .script import Bench, Fault, Refused, text_of
 
 # The maximum number of bytes that are read from the file in one go.
 TURN = 4 << 20
-# A longer incomplete line isn't a recording's.
+# A longer incomplete line can't be part of a recording.
 LONGEST_LINE = 1 << 20
 # The most characters of a line, a comment or a reply in a part.
 MOST_SHOWN = 2_000
@@ -206,7 +206,7 @@ class Written:
 
 
 def shorter(data: dict[str, Any]) -> dict[str, Any]:
-    """Shortens the data's texts that are too long to show."""
+    """Shortens the strings in the data that are too long to show."""
     for key in ("lines", "comments", "texts", "shown", "notes"):
         data[key] = [shortened(text, MOST_SHOWN) for text in data[key]]
     return data

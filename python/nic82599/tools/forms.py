@@ -203,7 +203,7 @@ class Looker:
         is_data = self.words[0][1] == "data"
         name = self.words[1][1] if is_data else self.words[0][1].rstrip(":")
         before = (data if is_data else labels).get(name, 0)
-        return self._at(1 if is_data else 0, f"{name} is already at line {before}")
+        return self._at(1 if is_data else 0, f"{name} is already defined at line {before}")
 
     def _range(self) -> Place | None:
         if self.words[0][1] == "poke":
@@ -211,10 +211,10 @@ class Looker:
                 words = [word for _, word in words_of(line)]
                 if words[:2] == ["data", self.words[2][1]] and len(words) == 3 and len(words[2]) != 32:
                     return self._at(
-                        2, f"poke writes 16 bytes, and {words[1]} at line {number} has {len(words[2]) // 2}"
+                        2, f"poke writes 16 bytes, but {words[1]} at line {number} is {len(words[2]) // 2} long"
                     )
         if self.words[0][1] == "data":
-            return self._at(2, "data must have 1 to 16384 bytes")
+            return self._at(2, "data must be 1 to 16384 bytes long")
         for n, (kind, (_, word)) in enumerate(zip(self._kinds(), self.words[1:]), 1):
             kind = kind.split("|")[-1]
             found = TARGET.fullmatch(word)
@@ -237,9 +237,10 @@ class Looker:
             is_label = len(words) == 1 and words[0].endswith(":")
             name = words[0][:-1] if is_label else words[1] if words[:1] == ["data"] and len(words) > 1 else ""
             if len(name) > 32:
-                return Place(number, 0, len(line), f"the name {name[:12]}.. has {len(name)} letters, above 32", [])
+                why = f"the name {name[:12]}.. is {len(name)} characters long; the limit is 32"
+                return Place(number, 0, len(line), why, [])
             if words[:1] == ["data"] and len(words) == 3 and len(words[2]) > 2 * 16_384:
-                return Place(number, 0, 4, f"data {name} has {len(words[2]) // 2} bytes; the limit is 16384", [])
+                return Place(number, 0, 4, f"data {name} is {len(words[2]) // 2} bytes long; the limit is 16384", [])
             count += bool(words) and not is_label and words[0] != "data"
             if count > 4_096:
                 return Place(

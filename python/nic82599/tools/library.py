@@ -171,8 +171,8 @@ def accumulated(one: Instruction, reply: str, acc: int) -> int:
 
 
 class Library(Bench):
-    """Runs scripts of any length on the library from a snapshot on, and debugs one of them. It replaces the program
-    for a trace."""
+    """Runs scripts of any length on the library, starting from a snapshot, and debugs one of them. It replaces the
+    program for a trace."""
 
     most = 1 << 40
 
@@ -222,7 +222,7 @@ class Library(Bench):
         return [*printed, f"ok {len(printed)}" if at == len(instructions) else f"limit {at}"]
 
     def begin_debug(self, script: Script, replies: list[str]) -> None:
-        """Selects the script for `debug`. From the snapshot on, its instructions have these replies."""
+        """Selects the script for `debug`. Its instructions since the snapshot have these replies."""
         self.place = Place(self.nic, self.kept, script, replies)
 
     def debug(self, script: str, commands: list[str]) -> list[str]:

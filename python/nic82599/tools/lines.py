@@ -107,7 +107,7 @@ class Lines(Sequence[str]):
             try:
                 lines = (self.rest + piece.decode("ascii")).split("\n")
             except UnicodeDecodeError as error:
-                where = f"{self.source.path} isn't ASCII from byte {at + error.start} on"
+                where = f"{self.source.path} isn't ASCII at byte {at + error.start}"
                 raise Fault(f"{where}: a recording is text") from None
             self.rest = lines.pop()
             for line in lines:

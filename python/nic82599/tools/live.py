@@ -47,7 +47,7 @@ def no_run(name: str) -> dict[str, Any]:
 
 
 class Live:
-    """The followed file, and what the pages receive of it."""
+    """The followed file, and the part of it that pages receive."""
 
     def __init__(self, following: Following, controlled: str | None) -> None:
         self.following, self.controlled = following, controlled

@@ -1,4 +1,5 @@
-"""Derives the contents of lent memory after each step, which frames wait and for which queue, and which were sent.
+"""Derives the contents of lent memory after each step, which frames are waiting and for which queue, and which were
+sent.
 
 The debugger has no command for memory, so the script is run again with `peek` lines between its own; a peek changes
 nothing in the device. The instructions of this run are in the order in which they ran, without jumps and tests. If they
@@ -97,8 +98,8 @@ class Frame:
 @dataclass
 class Seen:
     """What a run shows besides its registers. `earlier` has, for each step, how many of the frames that arrived before
-    the run still wait when the step begins; all are 0 for a fresh run. `dropped` are the frames that were dropped on
-    arrival."""
+    the run are still waiting when the step begins; all are 0 for a fresh run. `dropped` are the frames that were
+    dropped on arrival."""
 
     sides: list[tuple[str, int]]
     arrived: list[Frame]
@@ -334,7 +335,7 @@ def _ask_memory(trace: Trace, replay: Replay, asked: list[tuple[int, list[int]]]
             end += 1
         if end == at or runs == RUNS:
             trace.notes.append(
-                f"from step {asked[at][0]} on, lent memory isn't shown: there is no room for further peeks"
+                f"lent memory is shown only before step {asked[at][0]}: there is no room for further peeks"
             )
             for number, units in asked[at:]:
                 trace.steps[number].memory = [(unit, None) for unit in units]
@@ -370,8 +371,8 @@ NOTHING = bytes(16)
 
 def _unread(trace: Trace) -> None:
     """Marks memory with unknown contents. For memory lent in place, a recording has only what the device read or wrote.
-    In the rest of it, and in slots that a tail has given to the device since, the program may have written anything.
-    These units are shown as not read."""
+    In the rest of it, and in slots posted to the device since, the program may have written anything. These units are
+    shown as not read."""
     if not trace.in_place:
         return
     words, read = dict(trace.start), set(trace.read)
@@ -390,7 +391,7 @@ def _unread(trace: Trace) -> None:
 
 
 def _given(words: dict[int, int], step: Step) -> set[int]:
-    """Returns the slots that a step gives to the device by moving a tail, given the registers before it."""
+    """Returns the slots that a step posts to the device by moving a tail, given the registers before it."""
     units: set[int] = set()
     for address, old, new in step.changes:
         register = REGISTERS[address]
@@ -555,7 +556,7 @@ def _waiting_queues(trace: Trace, replay: Replay, count: int, frames: int) -> li
     names the queue, which is disabled. If that hides another frame of the same queue, the named queues are enabled
     again for each frame."""
     if replay.asked == 2 * RUNS:
-        trace.notes.append(f"from step {count} on, the waiting frames and their queues aren't queried")
+        trace.notes.append(f"the waiting frames and their queues are queried only before step {count}")
     replay.asked += 1
     if replay.asked > 2 * RUNS:
         return []

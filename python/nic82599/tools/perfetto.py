@@ -5,7 +5,7 @@ A step is a slice of one microsecond at its number, so a time is a step's number
 and on its actor's track. A script from the explorer names tasks, handlers and parts of the device as actors. In other
 runs the actors are the driver, a virtual function's driver, the link, and the parts of the device. Messages have their
 own track. So do the steps with a fault, a drop, a refusal, a stray access or nothing to do. A frame is a span from its
-arrival until it is taken. Counters show how many frames wait and how many are sent.
+arrival until it is taken. Counters show how many frames are waiting and how many were sent.
 """
 
 from __future__ import annotations
@@ -84,7 +84,7 @@ def _spans(run: Run, way: str) -> Iterator[Event]:
 
 def _counts(run: Run) -> Iterator[Event]:
     """Yields the counts of waiting and sent frames whenever they change."""
-    for name, waits in (("frames that wait", True), ("frames out", False)):
+    for name, waits in (("frames waiting", True), ("frames out", False)):
         count = 0
         for step in run.steps:
             moved = sum((1 if sign == "+" else -1) * len(some) for sign, some in (step.waiting if waits else step.out))

@@ -53,7 +53,7 @@ class Row:
 
     @property
     def texts(self) -> set[str]:
-        """The names of the text parameters."""
+        """The names of the string parameters."""
         parts = (self.statement, self.why, self.otherwise)
         return {place[:-2] for part in parts for place in PLACE.findall(part) if place.endswith(":s")}
 
@@ -213,7 +213,7 @@ class Asked:
         return f"{it.register}{index}{more}"
 
     def place(self, place: str) -> str:
-        """Returns the text that replaces a place."""
+        """Returns the string that replaces a placeholder."""
         text, _, form = place.partition(":")
         if form == "s":
             return str(self.given[text])
@@ -223,7 +223,7 @@ class Asked:
         return f"{self.shown(it)} {shown}" if it else shown
 
     def text(self, text: str) -> str:
-        """Returns a text with its places replaced."""
+        """Returns a string with its placeholders replaced."""
         return PLACE.sub(lambda found: self.place(found[1]), text)
 
 

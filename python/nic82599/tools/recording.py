@@ -39,7 +39,7 @@ BAD = (ValueError, KeyError, IndexError, OverflowError, TypeError, NicError)
 EMPTY = ": no bytes"
 # The maximum number of bytes of lent memory and frames, for the controller and its snapshots together.
 MOST_HELD = 1 << 30
-# A note of the program about the next call (nic_note).
+# The program's note about the next call (nic_note).
 NOTE = "# note: "
 # A virtual machine's note about a ring. It is valid until the next note about the same ring.
 RING = re.compile(r"guest: the ring of (\S+ \d+) is at [^;]*")
@@ -245,8 +245,8 @@ class Recording:
 
 
 def parts(line: str) -> tuple[str, str]:
-    """Splits a line into its text and its reply, which the name of a register may follow. Ranges of lent blocks are on
-    lines that a script reads as comments."""
+    """Splits a line into its instruction and its reply, which a register's name may follow. Ranges of lent blocks are
+    on lines that a script reads as comments."""
     text, _, rest = (line[3:] if line.startswith("#: lend ") else line).partition("#")
     return text.strip(), rest.partition("#")[0].strip()
 
@@ -570,8 +570,8 @@ def _shown(recording: Recording) -> tuple[Script, list[str]]:
 
 
 def _waiting(nic: Nic) -> int:
-    """Returns how many frames wait to be received. Enables all queues with a tail outside their rings, and counts the
-    receive steps that take a frame. This changes the controller."""
+    """Returns how many frames are waiting to be received. Enables all queues with a tail outside their rings, and
+    counts the receive steps that take a frame. This changes the controller."""
     nic.write32(first("CTRL"), 0)
     count = 0
     while True:

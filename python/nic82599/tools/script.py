@@ -305,7 +305,7 @@ def text_of(path: str, raw: bytes) -> str:
     try:
         return script_part(raw.decode())
     except UnicodeDecodeError as error:
-        raise Fault(f"{path} isn't UTF-8 from byte {error.start} on: a script is text, not an object") from None
+        raise Fault(f"{path} isn't UTF-8 at byte {error.start}: a script is text, not an object") from None
 
 
 def instructions_of(script: bytes) -> tuple[list[Instruction], list[bytes]]:

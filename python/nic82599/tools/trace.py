@@ -77,10 +77,10 @@ def _nothing(_unit: int) -> bytes:
 class Trace:
     """A whole run. `start` has the registers before the first step: those that a step can change, and those that differ
     from their reset values. `lent` are the blocks lent at this point, and `memory_before` returns 16 bytes of them.
-    `waiting` and `out` are how many frames wait and were sent; both are 0 in a fresh run. `warnings` are niclint's,
-    with their lines, if the script is only a part of the checked one. `in_place` are blocks of the program's own
-    memory; a recording has only what the device read or wrote there. `read` are the units of these blocks that the
-    device had read before the run."""
+    `waiting` and `out` are how many frames are waiting and how many were sent; both are 0 in a fresh run. `warnings`
+    are niclint's, with their lines, if the script is only a part of the checked one. `in_place` are blocks of the
+    program's own memory; a recording has only what the device read or wrote there. `read` are the units of these blocks
+    that the device had read before the run."""
 
     bench: Bench
     script: Script

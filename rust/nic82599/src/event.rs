@@ -110,7 +110,7 @@ pub enum Why {
     LinkDown,
     /// RXCTRL bit 0 (RXEN) is 0.
     Off,
-    /// The frame has fewer than 60 bytes.
+    /// The frame is shorter than 60 bytes.
     Short,
     /// The frame is longer than the frame limit.
     Long,
@@ -214,12 +214,12 @@ impl fmt::Display for Why {
         let (word, meaning) = match self {
             Why::LinkDown => ("link down", "Nic::link turned it off"),
             Why::Off => ("off", "RXCTRL bit 0 is 0"),
-            Why::Short => ("short", "it has fewer than 60 bytes"),
+            Why::Short => ("short", "it is shorter than 60 bytes"),
             Why::Long => ("long", "it is longer than the limit: 1,514 bytes, or MAXFRS with jumbo frames"),
             Why::Filter => ("filter", "no bit of FCTRL and no address (RAL, RAH, MTA) accepts its destination"),
             Why::NoPool => ("no pool", "none is assigned to it, or MRQC's mode doesn't have that pool"),
             Why::PoolOff => ("pool off", "VFRE disables its pool"),
-            Why::Full => ("full", "as many frames wait as Sizes::fifo allows"),
+            Why::Full => ("full", "as many frames are waiting as Sizes::fifo allows"),
             Why::QueueOff => ("queue off", "its queue isn't on: RXDCTL bit 25 reads 0"),
             Why::NoSlot => ("no slot", "head and tail of its queue meet, and SRRCTL has DROP_EN"),
         };

@@ -70,7 +70,7 @@ impl<R: Read> Reader<R> {
         whole(self.file.read_exact(&mut head[1..]), CUT)?;
         let (kept, length) = (word(self.is_big, &head[8..12]), word(self.is_big, &head[12..]));
         if kept != length || length > LONGEST {
-            return Err(broken("a frame was only partly captured or is too long"));
+            return Err(broken("a frame was captured only in part or is too long"));
         }
         let mut frame = vec![0; length as usize];
         whole(self.file.read_exact(&mut frame), CUT)?;

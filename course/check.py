@@ -25,7 +25,7 @@ MILESTONES = sorted((HERE / "milestones").glob("*.rows"))
 # Causes by which a skeleton must not lose a row.
 NO_NAME = re.compile(r"crash|hang|exit|raised|panic|Error|Exception|traceback|deadlock")
 
-# Lists that are refused: their text, and the message after the file's name.
+# Lists that are refused: their contents, and the message after the file's name.
 REFUSALS = {
     "receive-one 2\nreceive-on 1\n": r":2: unknown row: the card contains no row receive-on; did you mean receive-one",
     "receive-one two\n": r":1: malformed line: 'receive-one two': a line is a row's name and its points, 1 to 1,000",

@@ -34,7 +34,7 @@ FOR_A_SEARCH = FOR_THE_BENCH | {"binutils", "bzip2", "linux-headers-amd64", "xz-
 # Rows of c/drive/examples/small.c: one that it passes, and one that it fails.
 PASSES, FAILS = "receive-one\n", "setup-crc\n"
 
-# Texts that the reader must refuse.
+# Inputs that the reader must refuse.
 BAD = [
     *("a: b: c\n", "a:\n  - b\n   - c\n", "a: 1\na: 2\n", "a: 'b'\n", "a: b # c\n", "a: *b\n", "a: {b: c}\n"),
     "just words\n",

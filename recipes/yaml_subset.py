@@ -12,7 +12,7 @@ KEY = re.compile(r"([A-Za-z_][\w-]*):(?: +(.*))?$")
 
 
 class Refused(Exception):
-    """The text isn't YAML of this subset."""
+    """The input isn't in this YAML subset."""
 
 
 @dataclass
@@ -111,7 +111,7 @@ def plain(text: str) -> Any:
 
 
 def read(text: str) -> Any:
-    """Returns a text's value. May raise Refused."""
+    """Returns the value of a whole input. May raise Refused."""
     reader = Reader(text.splitlines())
     made = reader.value(0)
     if reader.indent() != -1:

@@ -72,14 +72,14 @@ function setLines() {
   shownText.lines = element("text").value.split("\n");
   moveReplies(was);
 }
-// Returns how many lines two texts have in common at their beginning or end.
+// Returns how many lines two scripts have in common at their beginning or end.
 function sameLines(one, other, most, isEnd) {
   const at = (lines, k) => lines[isEnd ? lines.length - 1 - k : k];
   let k = 0;
   while (k < most && at(one, k) === at(other, k)) k++;
   return k;
 }
-// Returns a function that maps a line number of another text to the current one; 0 if the line has changed.
+// Returns a function that maps a line number in an earlier text to the current one; 0 if the line has changed.
 function linesFrom(lines) {
   const now = shownText.lines, most = Math.min(lines.length, now.length), first = sameLines(lines, now, most, false);
   const last = sameLines(lines, now, most - first, true), more = now.length - lines.length;
@@ -225,7 +225,7 @@ function fieldsIn(register, word) {
 }
 function aboutRegister(name) {
   const it = given.registers[name], isMany = it.count > 1, index = isMany ? `, [0] to [${it.count - 1}]` : "";
-  const place = `${isMany ? "addresses from" : "address"} ${hex(it.address)}${isMany ? " on" : ""}`;
+  const place = `${isMany ? "starting at address" : "address"} ${hex(it.address)}`;
   const fields = it.fields.map(([field, high, low]) => `${field} ${high === low ? high : `${high}:${low}`}`).join(", ");
   return `${name}${index}: ${it.meaning}, ${place}, ${hex(it.reset)} after a reset${fields ? `. Fields: ${fields}` : ""}`;
 }

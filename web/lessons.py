@@ -116,7 +116,7 @@ def check() -> int:
 
 
 def cell(text: str) -> str:
-    """Returns a text for a cell, changed if a spreadsheet would read it as a formula."""
+    """Returns a string for a cell, changed if a spreadsheet would read it as a formula."""
     return f"'{text}" if text[:1] in ("=", "+", "-", "@", "\t", "\r") else text
 
 
@@ -124,7 +124,7 @@ def handed_in(path: Path) -> tuple[str, dict[str, Any]]:
     """Returns the student's name in a file, and its lessons. Raises Bad."""
     try:
         if path.stat().st_size > MOST_FILE:
-            raise Bad(f"it has more than {MOST_FILE:,} bytes")
+            raise Bad(f"it is longer than {MOST_FILE:,} bytes")
         found = json.loads(path.read_text(encoding="utf-8"))
         student, lessons = found["student"], found["lessons"]
         if not isinstance(student, str) or not isinstance(lessons, dict):

@@ -18,7 +18,7 @@ Bench.prototype.call = function call(words, input) {
   const refused = status === 2 && /^refused (\w+)(?: (\d+))?\n$/.exec(text);
   if (refused) throw new Refused(refused[1], Number(refused[2] ?? 0));
   if (status > (words[0] === "run" ? 1 : 0) || !bytes.length)
-    throw new Fault(`nicbench ${words.join(" ")} ended with status ${status}: ${text || "it printed nothing"}`, true);
+    throw new Fault(`nicbench ${words.join(" ")} exited with status ${status}: ${text || "it printed nothing"}`, true);
   return [status, bytes];
 };
 Bench.prototype.call.names = ["words", "input"];

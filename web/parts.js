@@ -72,7 +72,7 @@ function addPacket(more) {
 }
 const MOST_BYTES = 8 * 2 ** 20;
 async function dropped(file) {
-  if (file.size > MOST_BYTES) return notice(`${file.name} has ${file.size.toLocaleString("en")} bytes: the page takes at most 8 MiB`);
+  if (file.size > MOST_BYTES) return notice(`${file.name} is ${file.size.toLocaleString("en")} bytes long: the page accepts at most 8 MiB`);
   const bytes = new Uint8Array(await file.arrayBuffer()), start = hexOf(bytes.slice(0, 4));
   notice();
   try {
@@ -138,7 +138,7 @@ async function showObjects() {
   element("listing-out").textContent = listing;
 }
 
-// Links contain the compressed script in the fragment. The decoded script may have at most this many bytes.
+// Links contain the compressed script in the fragment. The decoded script may be at most this many bytes long.
 
 const MOST_LINK = 1 << 20;
 const toBase64 = (bytes) => btoa(String.fromCharCode(...bytes)).replaceAll("+", "-").replaceAll("/", "_").replaceAll("=", "");
@@ -151,7 +151,7 @@ async function through(stream, bytes, most) {
     length += value.length;
     if (length > most) {
       reader.cancel().catch(() => {});
-      throw new Error(`its script has more than ${most.toLocaleString("en")} bytes`);
+      throw new Error(`its script is longer than ${most.toLocaleString("en")} bytes`);
     }
     parts.push(value);
   }

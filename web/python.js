@@ -652,7 +652,7 @@ const P = (() => {
     },
     unpack: (how, data) => struct.unpack_from(how, data),
   };
-  // Returns the blocks that two texts have in common, the longest first, as difflib's SequenceMatcher does.
+  // Returns the blocks that two strings have in common, the longest first, as difflib's SequenceMatcher does.
   function common(a, b) {
     let best = [0, 0, 0];
     for (let i = 0; i < a.length; i++)

@@ -20,7 +20,7 @@ function changed() {
   drawRows();
   asked();
 }
-// Puts another text into the editor. This can be undone.
+// Puts another script into the editor. This can be undone.
 function putText(text, name = null, isNew = true) {
   if (isNew && element("text").value.trim() && element("text").value !== text) before = { text: element("text").value, lesson: lessonNow };
   element("undo").hidden = !before;
@@ -33,7 +33,7 @@ function putText(text, name = null, isNew = true) {
   closeChoices();
   changed();
 }
-// Removes the displayed run, which belongs to another text.
+// Removes the displayed run, which belongs to another script.
 function leaveRun() {
   for (const old of drawn) old.remove();
   [drawn, shown, step, shownText.ran] = [[], null, 0, new Map()];

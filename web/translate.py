@@ -517,7 +517,7 @@ class Statements(Expressions):
         return "\n".join(made + self.facts(node))
 
     def facts(self, node: ast.ClassDef) -> list[str]:
-        """Returns further facts about a class: its values, its fields, and its parameters' names."""
+        """Returns statements that record a class's values, its fields, and the parameter names of its methods."""
         made, fields = [], []
         for it in node.body:
             if isinstance(it, ast.Assign) and isinstance(it.targets[0], ast.Name):

@@ -54,7 +54,7 @@ class Course(Driver):
         return ring.bus != 0
 
     def take_memory(self) -> bool:
-        """Returns False if memory is refused, and keeps what was allocated before."""
+        """Returns False if an allocation fails, and keeps what was allocated before."""
         for _ in range(self.setup.queues):
             for side in (self.rx, self.tx):
                 side.append(Ring())
@@ -96,8 +96,9 @@ class Course(Driver):
         # in RDRXCTL (bits 1, 25 and 26). Leave the other bits of both registers unchanged.
         loaded = 0
         # TODO 1: set DRV_LOAD (bit 28) in the value for CTRL_EXT. It tells the firmware that a driver is loaded.
-        # TODO 6: if the driver hosts functions (self.setup.functions above 0), select 64 pools (VT_MODE 3, bits 1:0 of
-        # GCR_EXT). Also set PFRSTD (bit 14 of CTRL_EXT), which tells the functions that the device is ready.
+        # TODO 6: if the driver hosts virtual functions (self.setup.functions above 0), select 64 pools (VT_MODE 3, bits
+        # 1:0 of GCR_EXT). Also set PFRSTD (bit 14 of CTRL_EXT), which tells the virtual functions that the device is
+        # ready.
         self.write32("CTRL_EXT", loaded)
 
     def leave_device(self) -> None:
@@ -215,7 +216,7 @@ class Course(Driver):
     def open(self, setup: Setup) -> bool:
         self.setup = setup
         if not self.take_memory():
-            # TODO 2: if memory is refused, free what was allocated and return False.
+            # TODO 2: if an allocation fails, free what was allocated and return False.
             pass
         self.start()
         return True
@@ -226,7 +227,7 @@ class Course(Driver):
         self.leave_device()
         self.give_memory()
 
-    # --- milestone 6: a reset during traffic, and the mailboxes of functions ---
+    # --- milestone 6: a reset during traffic, and the virtual functions' mailboxes ---
 
     def reset(self) -> bool:
         """Called after a fault or a hang. Sets everything up again with the same memory. Frames may be lost."""
@@ -237,19 +238,19 @@ class Course(Driver):
         return bool(self.read32(f"PFMBICR[{vf // 16}]") >> vf % 16 & 1)
 
     def take_mailbox(self, vf: int) -> bool:
-        """Takes the mailbox of function vf (PFU, bit 3). Returns False if the function owns it."""
+        """Takes virtual function vf's mailbox (PFU, bit 3). Returns False if the virtual function owns it."""
         self.write32(f"PFMAILBOX[{vf}]", 1 << 3)
         return bool(self.read32(f"PFMAILBOX[{vf}]") & 1 << 3)
 
     def mailbox_send(self, vf: int, words: tuple[int, ...]) -> bool:
-        """Sends a message to function vf. Returns False if its mailbox isn't free now."""
-        # TODO 6: take the mailbox. If it contains a request of the function (is_asked), release it (write 0) and return
-        # False. Otherwise write the words from PFMBMEM[16 * vf] on. STS (bit 0 of PFMAILBOX) announces them and
-        # releases the mailbox.
+        """Sends a message to virtual function vf. Returns False if its mailbox isn't free now."""
+        # TODO 6: take the mailbox. If it contains a request from the virtual function (is_asked), release it (write 0)
+        # and return False. Otherwise write the words, starting at PFMBMEM[16 * vf]. STS (bit 0 of PFMAILBOX) announces
+        # them and releases the mailbox.
         return False
 
     def mailbox_receive(self, vf: int) -> tuple[int, ...] | None:
-        """Receives a message from function vf. Returns None if there is none."""
-        # TODO 6: if there is a request, take the mailbox, so that the function can't overwrite it. Clear the function's
-        # bit in PFMBICR by writing 1, read MAILBOX_WORDS words, and acknowledge (ACK, bit 1 of PFMAILBOX).
+        """Receives a message from virtual function vf. Returns None if there is none."""
+        # TODO 6: if there is a request, take the mailbox, so that the virtual function can't overwrite it. Clear the
+        # function's bit in PFMBICR by writing 1, read MAILBOX_WORDS words, and acknowledge (ACK, bit 1 of PFMAILBOX).
         return None

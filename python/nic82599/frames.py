@@ -129,7 +129,7 @@ def made(
     if not all(0 <= port <= 0xFFFF for port in (source_port, destination_port)):
         raise ValueError("a port is 0 to 65,535")
     if head - 14 - 4 * len(tags) + len(payload) > 0xFFFF:
-        raise ValueError(f"a packet is at most 65,535 bytes long, but the payload alone has {len(payload)}")
+        raise ValueError(f"a packet is at most 65,535 bytes long, but the payload alone is {len(payload)}")
     data = _transport(number, ends, (source_port, destination_port), payload)
     typed, packet = _packet(number, ends, data)
     return ethernet(typed, packet, to=to, source=source_mac, tags=tags, length=max(length or LEAST, LEAST))

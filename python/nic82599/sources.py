@@ -57,8 +57,8 @@ class Source:
             trace = trace.tb_next
 
     def traceback_of(self, fault: BaseException) -> str:
-        """Returns the traceback from the driver's own function on; "" if the exception comes from the package alone,
-        such as for a wrong result."""
+        """Returns the traceback, starting at the driver's own function; "" if the exception comes from the package
+        alone, such as for a wrong result."""
         trace = fault.__traceback__
         while trace is not None and self._is_own(trace.tb_frame.f_code.co_filename):
             trace = trace.tb_next

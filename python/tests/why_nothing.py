@@ -91,7 +91,7 @@ class Why(unittest.TestCase):
         self.assertGreater(count, 45)
 
     def test_long(self) -> None:
-        """A text longer than the first buffer is returned complete."""
+        """An explanation longer than the first buffer is returned complete."""
         with Nic(fifo=1, blocks=1) as nic:
             for queue in range(128):
                 nic[f"RDLEN[{queue}]"] = 128
@@ -100,7 +100,7 @@ class Why(unittest.TestCase):
             self.assertEqual(reasons[-1], "rx 127: SRRCTL[127].DESCTYPE 0: the bench supports only 1")
 
     def test_restored(self) -> None:
-        """Drops are counted from a restored snapshot on, separately for each controller."""
+        """Drops are counted since the restored snapshot, separately for each controller."""
         frame = bytes([2, 0, 0, 0, 0, 9]) + bytes(54)
         with Nic(blocks=1) as nic, Nic(blocks=1) as other, nic.snapshot() as kept:
             for _ in range(2):

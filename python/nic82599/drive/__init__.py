@@ -58,7 +58,7 @@ class Driver(Points):
 
     def open(self, setup: Setup) -> bool:
         """Initializes the controller from power-up, or from the state that `close` left. Returns when frames can be
-        received and sent. Returns False if it fails, for example because an allocation fails. It must then have freed
+        received and sent. Returns False on failure, for example if an allocation fails. It must then have freed
         everything, and may be called again."""
         raise NotImplementedError("a driver must define open")
 
@@ -89,8 +89,8 @@ class Driver(Points):
             """Reenables the interrupts of a queue after it has been polled."""
 
         def thread(self, number: int) -> None:
-            """Runs the driver's own thread `number`, 0 to `threads` - 1. It starts when `open` returns, and may wait
-            forever. If the driver has no `receive`, this thread passes received frames to `deliver`."""
+            """Runs the driver's own thread `number`, 0 to `threads` - 1. It starts when `open` has returned True, and
+            may wait forever. If the driver has no `receive`, this thread passes received frames to `deliver`."""
 
         def filter(self, wanted: Filter) -> bool:
             """Selects the frames to receive. This function and the following ones return whether they succeeded. If one

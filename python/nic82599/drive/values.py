@@ -25,7 +25,7 @@ class Can(Flag):
     NO_HEADS = 32  # it never writes RDH or TDH
     ONE_VECTOR = 64  # all queues share one vector
     ONE_BUFFER = 128  # each frame has one descriptor, whatever its length
-    NO_ADDRESS = 256  # it writes no receive address: it accepts all frames, or its host sets the address
+    NO_ADDRESS = 256  # it writes no receive address: it accepts all frames, or the PF's driver sets the address
 
 
 @dataclass(frozen=True)
@@ -37,7 +37,7 @@ class Setup:
     slots: int  # descriptors per ring: 8, 16, .. 64
     frame: int  # bytes of the longest frame: 1,514 to MOST_FRAME
     interrupts: bool  # whether `interrupt` will be called; otherwise the driver must leave all causes masked
-    address: bytes  # the port's own 6-byte address, from its EEPROM or its host
+    address: bytes  # the port's own 6-byte address, from its EEPROM or the PF's driver
     functions: int  # for port 0: the number of virtual functions it hosts, 0 or 2 (see nic82599_drive.h)
 
 

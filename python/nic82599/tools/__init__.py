@@ -1,1 +1,1 @@
-"""The commands over register scripts and captures: nicview, niclint, nicdebug, pcap2nic, nic2pcap and nicframe."""
+"""The commands for register scripts and captures: nicview, niclint, nicdebug, pcap2nic, nic2pcap and nicframe."""

@@ -3,12 +3,12 @@
     tools/pcap2nic FILE [--first N] [--count N] [--name NAME] [--step]
 
 FILE is a capture of Ethernet frames as tcpdump, tshark or Wireshark write it: pcapng, or pcap of either byte order with
-microseconds or nanoseconds; `-` is standard input. --count frames are taken, starting with number N (default 1), and at
-most the 1,024 that a script can name. They are named NAME1, NAME2 and so on (default `frame`). With --step each
-`arrive` is followed by `rx`, one receive step.
+microseconds or nanoseconds; `-` is standard input. The tool takes --count frames, starting with number N (default 1). A
+script can name at most 1,024. They are named NAME1, NAME2 and so on (default `frame`). With --step each `arrive` is
+followed by `rx`, one receive step.
 
-A script can't contain a frame that was captured in part, is empty, or is longer than 16,384 bytes. The status is then
-1. It is also 1 for a link type other than Ethernet, and for a file that isn't a capture.
+A script can't contain a frame that was captured in part, is empty, or is longer than 16,384 bytes. Status 1: there is
+such a frame, the link type isn't Ethernet, or the file isn't a capture.
 
     tools/pcap2nic http.pcap --count 20 --step > arrivals.nic
     cat setup.nic arrivals.nic | ./nicbench run

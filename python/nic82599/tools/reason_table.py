@@ -228,7 +228,7 @@ class Asked:
 
 
 def in_form(value: int, form: str, it: Named | None) -> str:
-    """Formats a number as the place specifies; `it` is set if the number is a register's value."""
+    """Formats a number as the placeholder specifies; `it` is set if the number is a register's value."""
     if form == "x":
         return f"0x{value:08x}" if it else f"0x{value:x}"
     if form.startswith("0"):

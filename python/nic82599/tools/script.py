@@ -177,7 +177,7 @@ class Bench:
         if ran.returncode not in ((0, 1) if words[0] == "run" else (0,)) or not out:
             reason = (out.decode(errors="replace") + said.result()).strip().splitlines()
             last = reason[-1] if reason else "it printed nothing"
-            raise Fault(f"{program} {' '.join(words)} ended with status {ran.returncode}: {last}", True)
+            raise Fault(f"{program} {' '.join(words)} exited with status {ran.returncode}: {last}", True)
         return ran.returncode, out
 
     @staticmethod

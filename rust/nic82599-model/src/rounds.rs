@@ -8,10 +8,10 @@ use crate::nic_device::{self, Dir, Group, Reply, MAX_VFS, QUEUES};
 
 /// The number of interrupt groups: one for the physical function and one for each virtual function.
 const GROUPS: u16 = MAX_VFS as u16 + 1;
-/// A settling starts a new round after this many events.
+/// `settle` starts a new round after this many events.
 const ROOM: usize = 256;
 
-/// A position in the rounds of a settling: the next step of a round over the queues below `queues`.
+/// A position in the rounds of `settle`: the next step of a round over the queues below `queues`.
 #[derive(Debug)]
 pub(crate) struct Place {
     queues: u16,
@@ -52,11 +52,11 @@ pub(crate) fn make(card: &mut Card, step: Step) -> Result<Made, Error> {
         Reply::NoQueue => Made::NoQueue,
         Reply::NoGroup => Made::NoGroup,
         Reply::Done => Made::Event(switched(step)),
-        reply => Made::Event(event_of(side, &reply).expect("a step's reply is one of an event")),
+        reply => Made::Event(event_of(side, &reply).expect("every other reply of a step is an event")),
     })
 }
 
-/// The event of a step that replies only that it did something.
+/// The event of a step with the reply `Done`, which only says that the step did something.
 fn switched(step: Step) -> Event {
     match step {
         Step::Queue(side, queue) => Event::Switched { side, queue },

@@ -1,4 +1,4 @@
-//! A driver of four queues: it receives by RSS, and sends each frame back from the queue where it arrived. The frames
+//! A driver with four queues: it receives by RSS, and sends each frame back from the queue that received it. The frames
 //! come from a capture, or are generated:
 //!
 //!     cargo run --example echo [CAPTURE.pcap [SENT.pcap]]
@@ -201,7 +201,7 @@ fn main() -> Answer<()> {
             Arrival::Dropped(why) => println!("dropped {why:#}"),
             Arrival::Waits => taken.push(frame),
         }
-        // Let the device run until nothing is left to do; each message is handled before its next step.
+        // Let the device run until nothing is left to do; each message is handled before the device's next step.
         for event in nic.steps(QUEUES)? {
             match event? {
                 Event::Message { vector, .. } => queues[usize::from(vector)].interrupt(&nic)?,

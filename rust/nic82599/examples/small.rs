@@ -39,7 +39,7 @@ impl Small {
         }
     }
 
-    /// Returns `None` if memory is refused; what was allocated before stays until `give_memory_back`.
+    /// Returns `None` if an allocation fails; what was allocated before stays until `give_memory_back`.
     fn take_memory(&self, platform: &Platform, slots: u16) -> Option<()> {
         self.ring.set(platform.dma_alloc(16 * usize::from(slots))?);
         for _ in 0..slots {

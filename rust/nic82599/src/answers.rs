@@ -27,7 +27,7 @@ impl Error {
         }
     }
 
-    /// Like `of`, for the text of an EEPROM image: `at` is the line or index that the call reports.
+    /// Like `of`, for an EEPROM image's source: `at` is the line or index that the call reports.
     pub(crate) fn of_text(status: u8, at: u64) -> Error {
         Error::Text(match status {
             status::TEXT_SYNTAX => TextFault::Syntax(at),

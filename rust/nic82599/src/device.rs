@@ -14,7 +14,7 @@ use crate::register::{Register, VfRegister};
 /// use nic82599::regs::RDT;
 /// use nic82599::{Device, Error, Nic, Sizes};
 ///
-/// /// Gives a slot of queue 0 to the device, with block 1 as its buffer.
+/// /// Posts a slot of queue 0, with block 1 as its buffer.
 /// fn refill(device: &impl Device, slot: u16) -> Result<(), Error> {
 ///     device.put_descriptor(0, slot, Descriptor::receive(0x800))?;
 ///     device.write(RDT.at(0), u32::from(slot) + 1);

@@ -54,7 +54,7 @@ pub enum Error {
     TooLong,
     /// The bytes aren't a valid EEPROM image; the previous image stays installed.
     Image(ImageFault),
-    /// The text isn't a valid EEPROM image; the previous image stays installed.
+    /// The source doesn't describe a valid EEPROM image; the previous image stays installed.
     Text(TextFault),
     /// The recording can't be written to this file.
     NoRecording,
@@ -106,14 +106,14 @@ pub enum ImageFault {
     NotTriples,
 }
 
-/// Why a text isn't a valid EEPROM image.
+/// Why a source doesn't describe a valid EEPROM image.
 #[derive(Clone, Copy, Debug, PartialEq, Eq, Hash)]
 pub enum TextFault {
     /// This line, counted from 1, isn't valid syntax.
     Syntax(u64),
     /// Two lines set the word with this index.
     TwoValues(u64),
-    /// A line sets the word with this index, which a text can't set.
+    /// A line sets the word with this index, which a source can't set.
     Reserved(u64),
     /// An index or the CSR section is beyond the image's size.
     DoesNotFit,
@@ -144,7 +144,7 @@ impl fmt::Display for Error {
             Error::BadBlocks => "packet memory has 1 to 65,536 blocks",
             Error::TooLong => "the input of a hash has at most 36 bytes",
             Error::Image(fault) => return write!(f, "invalid EEPROM image: {fault}"),
-            Error::Text(fault) => return write!(f, "invalid text of an EEPROM image: {fault}"),
+            Error::Text(fault) => return write!(f, "invalid source of an EEPROM image: {fault}"),
             Error::NoRecording => "can't write the recording",
             Error::OutOfMemory => "out of memory",
         };
@@ -213,7 +213,7 @@ impl fmt::Display for TextFault {
         match self {
             TextFault::Syntax(line) => write!(f, "line {line} has a syntax error"),
             TextFault::TwoValues(index) => write!(f, "two lines set word {index}"),
-            TextFault::Reserved(index) => write!(f, "the text may not set word {index}"),
+            TextFault::Reserved(index) => write!(f, "the source can't set word {index}"),
             TextFault::DoesNotFit => f.write_str("an index or the CSR section exceeds the size"),
             TextFault::PointerOutside => f.write_str("a pointer is below 0x40, or its section is outside the image"),
         }

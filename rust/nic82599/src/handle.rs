@@ -16,7 +16,7 @@ pub(crate) struct Handle {
     calls: ffi::Handle,
 }
 
-/// A position in the rounds of a settling.
+/// A position in the rounds of `settle`.
 #[derive(Debug)]
 pub(crate) struct Place(Settling);
 

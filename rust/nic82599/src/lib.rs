@@ -23,7 +23,7 @@
 //! nic.write(FCTRL, fctrl::UPE); // accept all unicast frames
 //! nic.write(MRQC, mrqc::MRQE.is(1) | mrqc::TCPIPV4);
 //! nic.write(RETA.at(0), reta::ENTRY_0.is(3)); // under a key of zeros the hash is 0
-//! nic.write(RDLEN.at(3), 128); // eight descriptors from bus address 0 on
+//! nic.write(RDLEN.at(3), 128); // eight descriptors, starting at bus address 0
 //! nic.write(SRRCTL.at(3), srrctl::DESCTYPE.is(1) | srrctl::BSIZEPACKET.is(2));
 //! nic.write(RXDCTL.at(3), rxdctl::ENABLE);
 //! nic.write(GPIE, gpie::MULTIPLE_MSIX); // MSI-X mode, which the card needs here

@@ -24,7 +24,7 @@ pub struct Sizes {
     pub vfs: u8,
     /// The number of received frames that may wait, 1 to 4,096.
     pub fifo: u16,
-    /// The number of blocks of packet memory, 1 to 65,536. Each has 2,048 bytes.
+    /// The number of blocks of packet memory, 1 to 65,536. Each is 2,048 bytes long.
     pub blocks: u32,
 }
 
@@ -327,7 +327,7 @@ impl Nic {
         self.handle.queue_step(side, queue)
     }
 
-    /// Lets the EEPROM answer EERD. Returns false if there is nothing to do.
+    /// Completes the EEPROM read that EERD started. Returns false if there is nothing to do.
     pub fn eeprom_step(&self) -> bool {
         self.handle.eeprom_step()
     }
@@ -388,7 +388,7 @@ impl Nic {
         self.handle.install_image(image)
     }
 
-    /// Assembles a text into an EEPROM image and installs it. docs/script.md describes the text's syntax.
+    /// Assembles the source of an EEPROM image and installs the image. docs/script.md describes the syntax.
     ///
     /// # Errors
     ///

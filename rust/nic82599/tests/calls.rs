@@ -532,7 +532,7 @@ fn errors_are_reported() {
     assert_eq!(messages[1], "no register is at 0x0000c");
     let pool = "virtual function 0 has no pool: GCR_EXT bits 1:0 select no pools";
     assert_eq!(messages[2], format!("no register is at 0x00108, which reads as 0xffffffff: {pool}"));
-    assert_eq!(messages[3], "invalid text of an EEPROM image: line 3 has a syntax error");
+    assert_eq!(messages[3], "invalid source of an EEPROM image: line 3 has a syntax error");
     assert_eq!(messages[4], "invalid EEPROM image: the checksum is wrong");
 }
 

@@ -83,7 +83,7 @@ fn cases() {
     assert!(count > 45);
 }
 
-/// A text that is longer than the first buffer is returned whole.
+/// An explanation longer than the first buffer is returned whole.
 #[test]
 fn a_long_text() {
     let nic = Nic::open(Sizes { vfs: 0, fifo: 1, blocks: 1 }).unwrap();

@@ -41,7 +41,7 @@ static void give_ring(struct ring *ring)
     memset(ring, 0, sizeof *ring);
 }
 
-/* Returns false if memory is refused, and keeps what was allocated before. */
+/* Returns false if an allocation fails, and keeps what was allocated before. */
 static bool take_memory(void)
 {
     for (unsigned queue = 0; queue < driver.setup.queues; queue++)
@@ -111,8 +111,8 @@ static void set_up_device(void)
     /* TODO 1: set DRV_LOAD in the value for CTRL_EXT. It tells the firmware that a driver is loaded. */
     loaded = NIC_CTRL_EXT_DRV_LOAD;
     /* END */
-    /* TODO 6: if the driver hosts functions (driver.setup.functions above 0), select 64 pools (GCR_EXT.VT_MODE 3). Also
-       set CTRL_EXT.PFRSTD, which tells the functions that the device is ready. */
+    /* TODO 6: if the driver hosts virtual functions (driver.setup.functions above 0), select 64 pools (GCR_EXT.VT_MODE
+       3). Also set CTRL_EXT.PFRSTD, which tells the virtual functions that the device is ready. */
     if (driver.setup.functions) {
         nicx_write32(NIC_GCR_EXT, NIC_GCR_EXT_VT_MODE_IS(3));
         loaded |= NIC_CTRL_EXT_PFRSTD;
@@ -359,7 +359,7 @@ static bool open_driver(const nicd_setup *setup)
     memset(&driver, 0, sizeof driver);
     driver.setup = *setup;
     if (!take_memory()) {
-        /* TODO 2: if memory is refused, free what was allocated and return false. */
+        /* TODO 2: if an allocation fails, free what was allocated and return false. */
         give_memory();
         return false;
         /* END */
@@ -376,7 +376,7 @@ static void close_driver(void)
     give_memory();
 }
 
-/* --- milestone 6: a reset during traffic, and the mailboxes of functions --- */
+/* --- milestone 6: a reset during traffic, and the virtual functions' mailboxes --- */
 
 /* Called after a fault or a hang. Sets everything up again with the same memory. Frames may be lost. */
 static bool reset(void)
@@ -394,18 +394,19 @@ static inline bool is_asked(uint8_t vf)
     return nicx_read32(NIC_PFMBICR(vf / 16)) >> vf % 16 & 1;
 }
 
-/* Takes the mailbox of function vf. Returns false if the function owns it. */
+/* Takes virtual function vf's mailbox. Returns false if the virtual function owns it. */
 static inline bool take_mailbox(uint8_t vf)
 {
     nicx_write32(NIC_PFMAILBOX(vf), NIC_PFMAILBOX_PFU);
     return nicx_read32(NIC_PFMAILBOX(vf)) & NIC_PFMAILBOX_PFU;
 }
 
-/* Sends a message to function vf. Returns false if its mailbox isn't free now. */
+/* Sends a message to virtual function vf. Returns false if its mailbox isn't free now. */
 static bool mailbox_send(uint8_t vf, const uint32_t *words, uint32_t count)
 {
-    /* TODO 6: take the mailbox. If it contains a request of the function (is_asked), release it (write 0) and return
-       false. Otherwise write the words from PFMBMEM(16 * vf) on. PFMAILBOX.STS announces them and releases it. */
+    /* TODO 6: take the mailbox. If it contains a request from the virtual function (is_asked), release it (write 0) and
+       return false. Otherwise write the words, starting at PFMBMEM(16 * vf). PFMAILBOX.STS announces them and releases
+       it. */
     if (!take_mailbox(vf))
         return false;
     if (is_asked(vf)) {
@@ -419,11 +420,12 @@ static bool mailbox_send(uint8_t vf, const uint32_t *words, uint32_t count)
     /* END: (void)vf; (void)words; (void)count; return false; */
 }
 
-/* Receives a message from function vf. Returns false if there is none. */
+/* Receives a message from virtual function vf. Returns false if there is none. */
 static bool mailbox_receive(uint8_t vf, uint32_t words[NICD_WORDS])
 {
-    /* TODO 6: if there is a request, take the mailbox, so that the function can't overwrite it. Clear the function's
-       bit in PFMBICR by writing 1 (NIC_PFMBICR_VFREQ_IS), read the 16 words, and acknowledge (PFMAILBOX.ACK). */
+    /* TODO 6: if there is a request, take the mailbox, so that the virtual function can't overwrite it. Clear the
+       function's bit in PFMBICR by writing 1 (NIC_PFMBICR_VFREQ_IS), read the 16 words, and acknowledge
+       (PFMAILBOX.ACK). */
     if (!is_asked(vf) || !take_mailbox(vf))
         return false;
     nicx_write32(NIC_PFMBICR(vf / 16), NIC_PFMBICR_VFREQ_IS(1u << vf % 16));

@@ -63,7 +63,7 @@ impl Ring {
 }
 
 impl Course {
-    /// Returns `None` if memory is refused, and keeps what was allocated before.
+    /// Returns `None` if an allocation fails, and keeps what was allocated before.
     fn take_memory(&self, platform: &Platform) -> Option<()> {
         for queue in 0..self.queues() {
             self.rx[queue].take(platform, self.slots())?;
@@ -149,8 +149,8 @@ impl Course {
         // TODO 1: set ctrl_ext::DRV_LOAD in the value for CTRL_EXT. It tells the firmware that a driver is loaded.
         loaded = ctrl_ext::DRV_LOAD;
         // END
-        // TODO 6: if the driver hosts functions (setup.functions above 0), select 64 pools (gcr_ext::VT_MODE 3). Also
-        // set ctrl_ext::PFRSTD, which tells the functions that the device is ready.
+        // TODO 6: if the driver hosts virtual functions (setup.functions above 0), select 64 pools (gcr_ext::VT_MODE
+        // 3). Also set ctrl_ext::PFRSTD, which tells the virtual functions that the device is ready.
         if setup.functions > 0 {
             platform.write(GCR_EXT, gcr_ext::VT_MODE.is(3));
             loaded |= ctrl_ext::PFRSTD;
@@ -388,7 +388,7 @@ impl Course {
         }
     }
 
-    // --- milestone 6: a reset during traffic, and the mailboxes of functions ---
+    // --- milestone 6: a reset during traffic, and the virtual functions' mailboxes ---
 
     /// Called after a fault or a hang. Sets everything up again with the same memory. Frames may be lost.
     fn reset(&self, platform: &Platform) -> bool {
@@ -404,18 +404,18 @@ impl Course {
         platform.read(PFMBICR.at(vf / 16)) >> (vf % 16) & 1 == 1
     }
 
-    /// Takes the mailbox of function vf. Returns false if the function owns it.
+    /// Takes virtual function vf's mailbox. Returns false if the virtual function owns it.
     fn take_mailbox(&self, platform: &Platform, vf: u16) -> bool {
         platform.write(PFMAILBOX.at(vf), pfmailbox::PFU);
         platform.read(PFMAILBOX.at(vf)) & pfmailbox::PFU != 0
     }
 
-    /// Sends a message to function vf. Returns false if its mailbox isn't free now.
+    /// Sends a message to virtual function vf. Returns false if its mailbox isn't free now.
     fn mailbox_send(&self, platform: &Platform, vf: u8, words: &[u32]) -> bool {
         let vf = u16::from(vf);
-        // TODO 6: take the mailbox. If it contains a request of the function (is_asked), release it (write 0) and
-        // return false. Otherwise write the words from PFMBMEM.at(16 * vf) on. pfmailbox::STS announces them and
-        // releases the mailbox.
+        // TODO 6: take the mailbox. If it contains a request from the virtual function (is_asked), release it (write 0)
+        // and return false. Otherwise write the words, starting at PFMBMEM.at(16 * vf). pfmailbox::STS announces them
+        // and releases the mailbox.
         if !self.take_mailbox(platform, vf) {
             return false;
         }
@@ -431,10 +431,10 @@ impl Course {
         // END: false
     }
 
-    /// Receives a message from function vf. Returns `None` if there is none.
+    /// Receives a message from virtual function vf. Returns `None` if there is none.
     fn mailbox_receive(&self, platform: &Platform, vf: u8) -> Option<[u32; MAILBOX_WORDS]> {
         let vf = u16::from(vf);
-        // TODO 6: if there is a request, take the mailbox, so that the function can't overwrite it. Clear the
+        // TODO 6: if there is a request, take the mailbox, so that the virtual function can't overwrite it. Clear the
         // function's bit in PFMBICR by writing 1, read the 16 words, and acknowledge (pfmailbox::ACK).
         if !self.is_asked(platform, vf) || !self.take_mailbox(platform, vf) {
             return None;
@@ -473,7 +473,7 @@ impl Driver for Course {
     fn open(&self, platform: &Platform, setup: &Setup) -> bool {
         self.setup.set(Some(*setup));
         if self.take_memory(platform).is_none() {
-            // TODO 2: if memory is refused, free what was allocated and return false.
+            // TODO 2: if an allocation fails, free what was allocated and return false.
             self.give_memory(platform);
             return false;
             // END

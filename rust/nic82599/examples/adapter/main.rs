@@ -23,7 +23,7 @@ const BLOCKS: usize = 1024;
 
 // --- a run ---
 
-/// A controller, and the memory that the driver allocates from. An offset in it is a bus address.
+/// A controller, and the memory that the driver allocates from. An offset in this memory is a bus address.
 struct Bench<'a> {
     nic: InPlace<'a>,
     memory: &'a [Cell<u8>],

@@ -1,9 +1,9 @@
 //! Descriptors as a driver packs and reads them. docs/DESCRIPTORS.md describes what the bench does with each field.
 //!
-//! A descriptor is 16 bytes of packet memory: two halves of 64 bits, each little-endian. The modules contain the fields
-//! of each format: a driver writes [`rxd`] and [`txd`], and the device writes back [`rxwb`] and [`txwb`]. A one-bit
-//! field is a number with that bit set, a wider one is a [`HalfField`](crate::HalfField), and an address field is the
-//! mask of its bits.
+//! A descriptor is 16 bytes of packet memory: two 64-bit halves, each little-endian. The modules contain the fields of
+//! each format: a driver writes [`rxd`] and [`txd`], and the device writes back [`rxwb`] and [`txwb`]. A one-bit field
+//! is a number with that bit set, a wider one is a [`HalfField`](crate::HalfField), and an address field is the mask of
+//! its bits.
 //!
 //! ```
 //! use nic82599::desc::{txd, Descriptor};

@@ -95,8 +95,8 @@ pub trait Driver: Sized + 'static {
     fn new() -> Self;
 
     /// Sets up the controller, from power-up or from the state that `close` left, and returns true when frames can be
-    /// received and sent. Returns false if it fails, for example because memory is refused. It then keeps nothing that
-    /// it allocated, and may be called again.
+    /// received and sent. Returns false on failure, for example if an allocation fails. It then keeps nothing that it
+    /// allocated, and may be called again.
     fn open(&self, platform: &Platform, setup: &Setup) -> bool;
 
     /// Shuts the driver down. On return the device accesses none of the driver's memory and sends no message, and the
@@ -113,8 +113,9 @@ pub trait Driver: Sized + 'static {
     const INTERRUPT: Option<Interrupt<Self>> = None;
     /// Enables a queue's interrupts again after it was polled.
     const REARM: Option<Rearm<Self>> = None;
-    /// The driver's own threads, at most 4. They run from `open` on and may wait forever. Without `RECEIVE` they pass
-    /// received frames to [`Platform::deliver`], and the card always opens the driver with interrupts.
+    /// The driver's own threads, at most 4. They start when `open` has returned true, and may wait forever. Without
+    /// `RECEIVE` they pass received frames to [`Platform::deliver`], and the card always opens the driver with
+    /// interrupts.
     const THREADS: &'static [fn(&Self, &Platform)] = &[];
 
     /// Sets which frames to accept. This function and those below return whether they succeeded; on false nothing has
@@ -143,15 +144,16 @@ pub trait Driver: Sized + 'static {
     const MAILBOX_SEND: Option<MailboxSend<Self>> = None;
     /// Receives a message from the other side and acknowledges it. Returns `None` if there is none.
     const MAILBOX_RECEIVE: Option<MailboxReceive<Self>> = None;
-    /// For a virtual function: returns whether the device is ready because its host has set it up (RSTD, or a host that
-    /// was already there).
+    /// For a virtual function: returns whether the device is ready because the PF's driver has set it up (RSTD, or a PF
+    /// driver that was already up).
     const MAILBOX_READY: Option<Plain<Self>> = None;
 }
 
 /// Returns the next frame of a queue, complete; `None` immediately if there is none.
 pub type Receive<D> = fn(&D, &Platform, u16) -> Option<Frame>;
-/// Sends a frame on a queue. It has at least 60 bytes and at most the setup's `frame`. Returns true if the frame is
-/// accepted: the caller may then reuse its bytes. Returns false if the ring has no room now or the frame is too long.
+/// Sends a frame on a queue. It is at least 60 bytes long, and at most the setup's `frame`. Returns true if the frame
+/// is accepted: the caller may then reuse its bytes. Returns false if the ring has no room now or the frame is too
+/// long.
 pub type Send<D> = fn(&D, &Platform, u16, &[u8]) -> bool;
 /// Reclaims the sent frames of a queue. Returns how many of its frames are still unsent, as far as the driver knows.
 pub type Reclaim<D> = fn(&D, &Platform, u16) -> u32;
@@ -162,10 +164,10 @@ pub type Interrupt<D> = fn(&D, &Platform, u8) -> u32;
 pub type Rearm<D> = fn(&D, &Platform, u16);
 /// A function without arguments. Returns whether it succeeded, or whether a condition holds.
 pub type Plain<D> = fn(&D, &Platform) -> bool;
-/// Writes 1 to [`MAILBOX_WORDS`] words to the mailbox for the other side. A host passes the number of the function; a
-/// function sends to its host and passes 0. Returns false if the mailbox isn't free now.
+/// Writes 1 to [`MAILBOX_WORDS`] words to the mailbox for the other side. The PF's driver passes the virtual function's
+/// number. A virtual function sends to the PF's driver and passes 0. Returns false if the mailbox isn't free now.
 pub type MailboxSend<D> = fn(&D, &Platform, u8, &[u32]) -> bool;
-/// Receives a message from this function, or from the host.
+/// Receives a message from this virtual function, or from the PF's driver.
 pub type MailboxReceive<D> = fn(&D, &Platform, u8) -> Option<[u32; MAILBOX_WORDS]>;
 
 /// The counts of a driver since `open`.
@@ -205,7 +207,7 @@ impl Can {
     pub const ONE_VECTOR: Can = Can(64);
     /// By design, each frame has one descriptor, however long it is.
     pub const ONE_BUFFER: Can = Can(128);
-    /// By design, the driver writes no receive address: it accepts all frames, or its host sets the address.
+    /// By design, the driver writes no receive address: it accepts all frames, or the PF's driver sets the address.
     pub const NO_ADDRESS: Can = Can(256);
 
     /// The union of two sets, for constants, which can't use `|`.
@@ -237,10 +239,10 @@ pub struct Setup {
     pub frame: u32,
     /// Whether `INTERRUPT` will be called. If not, the driver leaves all causes masked.
     pub interrupts: bool,
-    /// The port's address, as its EEPROM or its host provides it.
+    /// The port's address, as its EEPROM or the PF's driver provides it.
     pub address: [u8; 6],
-    /// For port 0: the number of virtual functions that it hosts, 0 or 2. A host configures 64 pools of queues (GCR_EXT
-    /// 3) and reports to the functions that the device is ready (CTRL_EXT.PFRSTD).
+    /// For port 0: the number of virtual functions that it hosts, 0 or 2. With virtual functions, the driver configures
+    /// 64 pools of queues (GCR_EXT 3) and reports to the functions that the device is ready (CTRL_EXT.PFRSTD).
     pub functions: u8,
 }
 
@@ -306,8 +308,8 @@ impl Platform {
 
     /// Allocates DMA memory of 1 to 524,288 zeroed bytes. Returns the bus address of its first byte, a multiple of 128.
     /// The memory after it isn't lent, so any access there by the driver or the device is reported. Returns `None` if
-    /// memory has run out, or if the scenario refuses it. There is room for 123 allocations of 2 KB, or for one of
-    /// 503,808 bytes.
+    /// memory has run out, or if the scenario makes the allocation fail. There is room for 123 allocations of 2 KB, or
+    /// for one of 503,808 bytes.
     pub fn dma_alloc(&self, bytes: usize) -> Option<u64> {
         Some(raw::dma_alloc(bytes)).filter(|it| *it != 0)
     }
@@ -328,7 +330,8 @@ impl Platform {
     }
 
     /// Allocates memory for the driver itself and moves a value into it, like `Box::try_new`. Returns `None` if a
-    /// scenario refuses it. Dropping the result frees it; memory not freed when `close` returns is reported.
+    /// scenario makes the allocation fail. Dropping the result frees it; memory not freed when `close` returns is
+    /// reported.
     pub fn own<T>(&self, value: T) -> Option<Own<T>> {
         let token = raw::Token::take(std::mem::size_of::<T>())?;
         Some(Own { value: Box::new(value), _token: token })

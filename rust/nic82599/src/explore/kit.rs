@@ -9,8 +9,8 @@ pub fn numbered_frame(length: usize, number: u32) -> Option<Vec<u8>> {
     raw::numbered_frame(&mut frame, number).then_some(frame)
 }
 
-/// Returns the number of a numbered frame, or of a frame of a [`Flow`]. Returns `None` if a byte doesn't match that
-/// number, or if it is neither.
+/// Returns the number of a numbered frame, or of a [`Flow`]'s frame. Returns `None` for any other frame, and if a byte
+/// doesn't match the number.
 pub fn frame_number(frame: &[u8]) -> Option<u32> {
     Some(raw::frame_number(frame)).filter(|it| *it != u32::MAX)
 }
@@ -61,7 +61,7 @@ impl Flow {
 }
 
 impl<S: 'static> Begin<S> {
-    /// Names `count` numbered frames, from number 0 on. Returns false if the length isn't 60 to 16,384 bytes.
+    /// Names `count` numbered frames, the first with number 0. Returns false if the length isn't 60 to 16,384 bytes.
     pub fn frames(&self, count: u32, length: usize) -> bool {
         let frames: Option<Vec<_>> = (0..count).map(|it| numbered_frame(length, it)).collect();
         frames.map(|it| it.iter().for_each(|frame| self.frame(frame))).is_some()
@@ -75,8 +75,8 @@ impl Bus {
         raw::rss(&flow.raw())
     }
 
-    /// Sends to a virtual function's mailbox as the host: waits for the mailbox and takes it, writes at most 16 words,
-    /// and signals the function.
+    /// Sends to a virtual function's mailbox as the PF's driver: waits for the mailbox and takes it, writes at most 16
+    /// words, and signals the function.
     pub fn host_sends(&self, vf: u8, words: &[u32]) {
         raw::host_sends(vf, words);
     }
@@ -87,7 +87,7 @@ impl Bus {
         raw::host_receives(vf, words)
     }
 
-    /// Returns whether the function has acknowledged the host's message; each acknowledgement is reported once.
+    /// Returns whether the function has acknowledged the PF driver's message; each acknowledgement is reported once.
     pub fn host_is_acked(&self, vf: u8) -> bool {
         raw::host_is_acked(vf)
     }
@@ -110,18 +110,18 @@ impl Mailbox {
         Mailbox { raw: raw::RawMailbox { vf, seen: 0 } }
     }
 
-    /// Waits for the mailbox and takes it, writes at most 16 words, and signals the host.
+    /// Waits for the mailbox and takes it, writes at most 16 words, and signals the PF's driver.
     pub fn send(&mut self, _bus: &Bus, words: &[u32]) {
         raw::function_sends(&mut self.raw, words);
     }
 
-    /// Returns whether the host has sent a message; each is reported once. If so, reads as many words as `words` holds
-    /// and acknowledges.
+    /// Returns whether the PF's driver has sent a message; each is reported once. If so, reads as many words as `words`
+    /// holds and acknowledges.
     pub fn receive(&mut self, _bus: &Bus, words: &mut [u32]) -> bool {
         raw::function_receives(&mut self.raw, words)
     }
 
-    /// Returns whether the host has acknowledged the function's message; each acknowledgement is reported once.
+    /// Returns whether the PF's driver has acknowledged the function's message; each acknowledgement is reported once.
     pub fn is_acked(&mut self, _bus: &Bus) -> bool {
         raw::function_is_acked(&mut self.raw)
     }

@@ -257,7 +257,7 @@ thread_local! {
 
 static ONE: Mutex<()> = Mutex::new(());
 
-/// Converts a text for C. A question mark replaces each NUL.
+/// Converts a string for C. A question mark replaces each NUL.
 pub(crate) fn text(words: &str) -> CString {
     CString::new(words.replace('\0', "?")).unwrap_or_default()
 }
@@ -432,7 +432,7 @@ extern "C" fn holds<F: Fn() -> bool>(argument: *mut c_void) -> bool {
     caught(condition).unwrap_or_else(|_| if is_left() { false } else { std::process::abort() })
 }
 
-/// Returns a command line for C: pointers to the texts, then a null pointer.
+/// Returns a command line for C: pointers to the strings, then a null pointer.
 pub(crate) fn arguments(words: &[CString]) -> Vec<*mut c_char> {
     words.iter().map(|it| it.as_ptr() as *mut c_char).chain([ptr::null_mut()]).collect()
 }

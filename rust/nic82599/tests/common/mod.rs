@@ -26,7 +26,7 @@ impl Chance {
         (self.next() % u64::from(bound)) as u32
     }
 
-    /// Returns one of some numbers.
+    /// Returns one of these numbers at random.
     pub fn of<T: Copy>(&mut self, some: &[T]) -> T {
         some[self.below(some.len() as u32) as usize]
     }
@@ -43,7 +43,7 @@ pub fn addresses() -> Vec<u32> {
     runs.flat_map(|&(first, stride, count)| (0..count).map(move |k| first + stride * k)).collect()
 }
 
-/// Returns a digest of a text (64-bit FNV-1a), the same as in c/test.
+/// Returns a digest of a string (64-bit FNV-1a), the same as in c/test.
 pub fn digest(text: &str) -> u64 {
     text.bytes().fold(0xCBF2_9CE4_8422_2325, |sum, byte| (sum ^ u64::from(byte)).wrapping_mul(0x0000_0100_0000_01B3))
 }

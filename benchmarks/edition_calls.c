@@ -1,5 +1,5 @@
-/* Measures the calls of a C library in CPU time, so that other load on the machine matters little: accesses of all
-   addresses and of tails, frames in and out, snapshots and restores, and the hash. benchmarks/editions links it with
+/* Measures the CPU time of a C library's calls, so that other load on the machine matters little: accesses to all
+   addresses and to tails, frames in and out, snapshots and restores, and the hash. benchmarks/editions links it with
    several libraries and runs the programs alternately. */
 #define MEASURE_CLOCK CLOCK_PROCESS_CPUTIME_ID
 #include "measure.h"

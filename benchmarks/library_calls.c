@@ -1,7 +1,7 @@
-/* Measures the calls of the C library: reads and writes of all addresses, shuffled, and of the tails of 64 queues;
-   snapshots and restores, both with the C library's default allocator settings and with freed memory kept in the
-   process; taking the lowest block and lending it again. It also prints whether the library is proved (1 or 0), in
-   place of nanoseconds. benchmarks/run prints the table. */
+/* Measures the C library's calls: reads and writes of all addresses, shuffled, and of the tails of 64 queues; snapshots
+   and restores, both with the C library's default allocator settings and with freed memory kept in the process; taking
+   the lowest block and lending it again. It also prints whether the library is proved (1 or 0), in place of
+   nanoseconds. benchmarks/run prints the table. */
 #include "measure.h"
 #include "nic82599.h"
 #include "same_table.h"

@@ -235,7 +235,7 @@ def check_hostile(folder: Path, expect: Expect) -> None:
         with open(file, "ab") as to:
             to.writelines(b"x" * 1_000_000 for _ in range(30))
         said = it.until(lambda it: it["said"] != "")["said"]
-        expect("a line of a recording has at most" in said, f"live: an endless line: {said!r}")
+        expect("recording lines are at most" in said, f"live: an endless line: {said!r}")
         expect(it.peak() < 200, f"live: it used {it.peak()} MiB")
         status, seconds, _ = it.end()
         expect(status == 0 and seconds < 20, f"live: ctrl-C: status {status} after {seconds:.0f} s")

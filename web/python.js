@@ -253,7 +253,7 @@ const P = (() => {
     if (!found) throw new KeyError(String(key));
     return found[1]();
   }
-  // Collects the elements of a list from one index on, up to `after` before its end, into one list.
+  // Collects the elements of a list, from one index up to `after` elements before the end, into one list.
   const gathered = (value, before, after) => {
     const all = list(value), end = all.length - after;
     return [...all.slice(0, before), all.slice(before, end), ...all.slice(end)];

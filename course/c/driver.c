@@ -8,7 +8,8 @@
 
 enum { MOST_SLOTS = 64, BUFFER = 2048, ALL_CAUSES = 0x7FFFFFFF, ENABLE = 1 << 25 };
 
-/* A ring of descriptors, and a buffer for each. In transmit rings, `used` slots from `oldest` on are in flight. */
+/* A ring of descriptors, and a buffer for each. In transmit rings, the `used` slots starting at `oldest` are in flight.
+   */
 struct ring {
     uint64_t bus, buffers[MOST_SLOTS];
     unsigned next, oldest, used;

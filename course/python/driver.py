@@ -15,7 +15,8 @@ HASHED = {1: 16, 2: 17, 3: 21, 5: 20, 7: 22, 8: 23}
 
 
 class Ring:
-    """A ring of descriptors, and a buffer for each. In transmit rings, `used` slots from `oldest` on are in flight."""
+    """A ring of descriptors, and a buffer for each. In transmit rings, the `used` slots starting at `oldest` are in
+    flight."""
 
     def __init__(self) -> None:
         self.bus = 0

@@ -15,10 +15,10 @@ dataclasses.
 The library is searched for in this order: the path in the environment variable NIC82599_LIBRARY; next to this file; in
 c/out of the clone, where `make -C c` puts it; in the system.
 
-Several threads may call the same controller. If one of them closes it, the others' calls raise `Closed`. Each call of
-the library holds the GIL, so calls run one after the other, and each result goes to its caller. A method that makes
-several calls (`lend` of several blocks, `settle` with more than 256 events) lets other threads run between them. A
-signal handler may call too. If it raises, as Ctrl-C does, the interrupted call has either completed or had no effect.
+Several threads may call the same controller. If one of them closes it, the others' calls raise `Closed`. Each library
+call holds the GIL, so calls run one after the other, and each result goes to its caller. A method that makes several
+calls (`lend` of several blocks, `settle` with more than 256 events) lets other threads run between them. A signal
+handler may call too. If it raises, as Ctrl-C does, the interrupted call has either completed or had no effect.
 """
 
 from __future__ import annotations
@@ -126,7 +126,7 @@ class NoGroup(NicError, IndexError):
 
 
 class TooLong(NicError, ValueError):
-    """The input of a hash has at most 36 bytes."""
+    """A hash input is at most 36 bytes long."""
 
 
 class NoSuchRegister(NicError, KeyError):
@@ -959,8 +959,8 @@ class Nic(_Registers, _OneOwner):
     # --- the link ---
 
     def arrive(self, frame: HasBytes) -> Dropped | None:
-        """Delivers a frame, without its CRC, to the controller. Returns None if the frame now waits for receive
-        steps, or the `Dropped` event."""
+        """Delivers a frame, without its CRC, to the controller. Returns None if the frame is now waiting for receive
+        steps, and otherwise the `Dropped` event."""
         given = bytes_of(frame)
         event = self._event("nic_arrive", given, len(given))
         return event if isinstance(event, Dropped) else None
@@ -1069,15 +1069,15 @@ class Nic(_Registers, _OneOwner):
 
     def why(self) -> str:
         """Explains what blocks progress, one reason per line: for each waiting frame, each queue with pending work, and
-        each cause that has no message. Also lists the dropped frames. Empty if nothing waits and nothing was dropped.
-        Changes nothing; lent memory is copied during the call. With the environment variable NIC82599_TELL=1, faults,
-        drops and stray accesses are reported on standard error as they happen.
+        each cause that has no message. Also lists the dropped frames. Empty if nothing is waiting and nothing was
+        dropped. Changes nothing; lent memory is copied during the call. With the environment variable NIC82599_TELL=1,
+        faults, drops and stray accesses are reported on standard error as they happen.
 
         >>> with Nic() as nic:
         ...     nic.lend()
         ...     nic["RDLEN"], nic["SRRCTL"], nic["RXDCTL"], nic["RXCTRL"] = 128, 0x0200_0002, 0x0200_0000, 1
         ...     print(nic.why())
-        rx 0: RXDCTL[0].ENABLE 0: the queue is off; turning it on was requested, but no `qstep rx 0` followed
+        rx 0: RXDCTL[0].ENABLE 0: the queue is off; an enable request is pending, but no `qstep rx 0` followed
         """
         text = ctypes.create_string_buffer(4096)
         while (length := self._count("nic_why", text, len(text))) >= len(text):

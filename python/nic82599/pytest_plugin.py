@@ -171,7 +171,7 @@ class Watch:
             yield repr(nic), why_of(nic)
 
     def sections(self, more: list[nic82599.Nic]) -> list[tuple[str, str]]:
-        """Returns the sections of a report: one for each controller in which something waits."""
+        """Returns the sections of a report: one for each controller in which something is waiting."""
         shown = [(name, text) for name, text in self.texts(more) if text]
         of = f" of {len(shown)})" if len(shown) > 1 else ""
         names = [f"{name} ({k}{of}" if of else name for k, (name, _) in enumerate(shown, 1)]

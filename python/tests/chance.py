@@ -212,7 +212,7 @@ class Run:
                 self.refill(side, queue)
 
     def refill(self, side: str, queue: int) -> None:
-        """Writes descriptors into the slots from the tail on, then moves the tail past them."""
+        """Writes descriptors into slots, starting at the tail, then moves the tail past them."""
         block, tail = 2 * queue + (side == "T"), self.nic.peek(f"{side}DT[{queue}]") % 8
         for _ in range(self.chance.randrange(4)):
             length = self.chance.randrange(20, 200)

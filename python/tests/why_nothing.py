@@ -253,7 +253,7 @@ class Plugin(unittest.TestCase):
         self.assertIn("EICR 0x00000001 (RTxQ[0]), EIMS 0x00000000", parts["test_two"])
         self.assertIn("256 blocks> (2 of 2)", parts["test_two"])
         self.assertIn("1 frame was dropped: FCTRL.UPE was 0", parts["test_dropped"])
-        self.assertIn("the last one to 02:00:00:00:00:09", parts["test_dropped"])
+        self.assertIn("the last one was addressed to 02:00:00:00:00:09", parts["test_dropped"])
         for name in ("gone", "nothing_waits"):
             self.assertNotIn("why nothing happens", parts[f"test_{name}"], name)
         self.assertEqual(text.count("why nothing happens"), 7)

@@ -17,7 +17,8 @@ use nic82599::Register;
 const BUFFER: usize = 2048;
 const ALL_CAUSES: u32 = 0x7FFF_FFFF;
 
-/// A ring of descriptors, and a buffer for each. In transmit rings, `used` slots from `oldest` on are in flight.
+/// A ring of descriptors, and a buffer for each. In transmit rings, the `used` slots starting at `oldest` are in
+/// flight.
 #[derive(Default)]
 struct Ring {
     bus: Cell<u64>,

@@ -17,8 +17,8 @@ in ready-made scenarios. Tested, not proved.
 
 This command prints the driver's card. The scenarios, the search and the checks are the same as for C. Each schedule
 creates its own driver, so state set in `__init__` or `open` starts fresh. The functions run on threads, only one of
-which runs at any time; code between two calls of the device isn't interrupted. If a function raises, the row fails and
-shows the exception's message and source lines.
+which runs at any time; code between two device calls isn't interrupted. If a function raises, the row fails and shows
+the exception's message and source lines.
 """
 
 from __future__ import annotations
@@ -74,8 +74,8 @@ class Driver(Points):
             none."""
 
         def send(self, queue: int, frame: bytes) -> bool:
-            """Sends a frame of 60 bytes up to the setup's limit. Returns False if the ring has no room now or the frame
-            is too long."""
+            """Sends a frame of at least 60 bytes, and at most the setup's limit. Returns False if the ring has no room
+            now or the frame is too long."""
 
         def reclaim(self, queue: int) -> int:
             """Frees the buffers of transmitted frames. Returns how many of the queue's frames haven't been sent yet, as
@@ -100,10 +100,10 @@ class Driver(Points):
             """Configures receive side scaling."""
 
         def mtu(self, frame: int) -> bool:
-            """Sets the longest frame from now on. Frames in flight may be lost."""
+            """Changes the maximum frame length. Frames in flight may be lost."""
 
         def resize(self, slots: int) -> bool:
-            """Sets the number of slots per ring from now on. Frames in flight may be lost."""
+            """Changes the number of slots per ring. Frames in flight may be lost."""
 
         def reset(self) -> bool:
             """Reinitializes the device after a fault. The setup stays; frames in flight may be lost."""

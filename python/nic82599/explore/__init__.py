@@ -1,6 +1,6 @@
 """Searches for an order of steps that breaks a driver in Python, as docs/explore.md describes it for C.
 
-A `Scenario` is a driver's code as tasks and interrupt handlers that use one controller. Each access of a task is a
+A `Scenario` is a driver's code as tasks and interrupt handlers that use one controller. Each access by a task is a
 point: another task, a handler, a step of the device, the next frame or a link change may come first. `search` runs
 schedules until one fails; `replay` runs one from a file. The engine is the one for C, so a schedule found for the same
 scenario in C can be replayed here, and vice versa. Tested, not proved.

@@ -1,5 +1,5 @@
-"""Warnings about what a driver's author may have forgotten in a script that the bench accepts, with the reason on the
-card.
+"""Warnings about what a driver's author may have forgotten in a script that the bench accepts, and why the card needs
+it.
 
 They are derived from the object's instructions, in the order of the lines, and from the register table.
 """
@@ -21,7 +21,7 @@ from .script import Instruction, Op, Script
 @dataclass(frozen=True, order=True)
 class Warning:
     """A warning and its line. For a stray access, `family` is what was accessed: one line is printed for all accesses
-    of a family."""
+    to a family."""
 
     line: int
     text: str
@@ -30,7 +30,7 @@ class Warning:
 
 @dataclass(frozen=True)
 class Absent:
-    """A register of the card that the bench doesn't have: its name, the name of its family, and what a driver does
+    """A register of the card that the bench doesn't have: its name, the name of its family, and what a driver should do
     about it."""
 
     name: str

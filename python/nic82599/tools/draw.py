@@ -310,7 +310,7 @@ WHOSE = {"device": "the device's", "done": "done", "driver": "the driver's", "no
 
 
 def _beside(ring: Ring, state: State, top: float) -> list[str]:
-    """Draws the text next to a ring: its registers, its slots' descriptors, and the frames that wait for it."""
+    """Draws the text next to a ring: its registers, its slots' descriptors, and the frames waiting for it."""
     parts, y, left = [], top, 350
     lines = [(f"base 0x{ring.base:x}, {ring.slots} slots, head {ring.head}, tail {ring.tail}", "mono")]
     for slot in range(ring.slots):
@@ -331,7 +331,7 @@ def _beside(ring: Ring, state: State, top: float) -> list[str]:
 
 
 def _frames_of(ring: Ring, state: State) -> list[tuple[Frame, str, str]]:
-    """Returns two frames that wait for a receive ring, or two that a transmit ring has sent."""
+    """Returns up to two frames waiting for a receive ring, or up to two that a transmit ring has sent."""
     seen = state.run.seen
     if ring.side == "rx":
         waiting = [seen.arrived[one] for one in state.waiting if seen.arrived[one].data is not None]

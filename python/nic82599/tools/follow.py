@@ -140,7 +140,7 @@ class Recorded:
         try:
             take(self.made, lines.read(), len(lines) + 1)
             if len(lines.rest) > LONGEST_LINE:
-                raise Fault(f"{self.path}:{len(lines) + 1}: a line of a recording has at most {LONGEST_LINE:,} bytes")
+                raise Fault(f"{self.path}:{len(lines) + 1}: recording lines are at most {LONGEST_LINE:,} bytes long")
         except Fault as fault:
             self._stop(fault, len(self.made.line_of))
         self._bad()

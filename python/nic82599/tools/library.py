@@ -258,7 +258,7 @@ class Place:
                 self.kept[self.at] = self.nic.snapshot()
 
     def answers(self, commands: list[str]) -> list[str]:
-        """Returns what these commands print, from the first step on."""
+        """Returns what these commands print, starting at the first step."""
         at, breaks = 0, set[int]()
         lines: list[str] = []
         for command in commands:
@@ -296,7 +296,7 @@ class Place:
         return end if name == "step" else min([one for one in breaks if at < one < end], default=end)
 
     def _shown(self, at: int, numbers: list[int]) -> str:
-        """Returns the value that a read of a register, or of a function's offset, would return."""
+        """Returns the value that reading a register, or a virtual function's offset, would return."""
         self._bring(at)
         word = self.nic.peek32(numbers[0]) if len(numbers) == 1 else self.nic.vf(numbers[0]).peek32(numbers[1])
         return f"0x{numbers[-1]:05x} " + ("stray" if word is None else f"0x{word:08x}")

@@ -549,8 +549,8 @@ def _find_queues(trace: Trace, replay: Replay, arrived: list[Frame]) -> None:
 
 
 def _waiting_queues(trace: Trace, replay: Replay, count: int, frames: int) -> list[int]:
-    """Returns the queues of the frames that wait after `count` steps, in order; fewer or none if there is no room for
-    the run.
+    """Returns the queues of the frames waiting after `count` steps, in order; fewer or none if there is no room for the
+    run.
 
     The run enables all queues with a tail outside their rings. A receive step then faults on the first frame: its reply
     names the queue, which is disabled. If that hides another frame of the same queue, the named queues are enabled

@@ -1,6 +1,6 @@
 "use strict";
-// What a page of nicview --live adds: it follows a growing file. It requests the last part of the run when it has drawn
-// the previous one. While the reader views an earlier step or part, the page stays there.
+// What a page of nicview --live adds: it follows a growing file. It requests the last part of the run after it has
+// drawn the previous one. While the reader views an earlier step or part, the page stays there.
 
 const live = {
   number: 0, total: 0, before: 0, until: 0, isPaused: false, isLast: true, isLost: false,

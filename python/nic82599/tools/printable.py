@@ -7,7 +7,7 @@ from typing import IO
 
 # Control characters except tab and newline, and Unicode's line separators and direction controls.
 _ACTS = re.compile("[\x00-\x08\x0b-\x1f\x7f-\x9f\u061c\u200e\u200f\u2028-\u202e\u2066-\u2069\ud800-\udfff]")
-# The most characters shown of a word of any length.
+# The maximum number of a word's characters to show.
 MOST_SHOWN = 60
 
 
@@ -26,7 +26,7 @@ def printable(text: str) -> str:
 
 
 def shortened(text: str, most: int = MOST_SHOWN) -> str:
-    """Shortens a text for a message of one line.
+    """Shortens a string for a one-line message.
 
     >>> shortened("9" * 5000, 10)
     '9999999999.. (5,000 characters)'

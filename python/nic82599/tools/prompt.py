@@ -26,7 +26,7 @@ break WHERE        sets a breakpoint: a label, a line as `line 14`, or an instru
 breaks             lists the breakpoints                list [LINE], l     the script around here, or around a line
 show TARGET, r     a register: RDT[3], GPRC, 0x01018    watch TARGET       shows it when it changes; unwatch TARGET
 showvf N OFFSET    an offset of virtual function N      offsets N          each of its offsets: register, value
-peek ADDRESS [N]   N times 16 bytes of lent memory      rings              the rings in use
+peek ADDRESS [N]   N 16-byte units of lent memory       rings              the rings in use
 why                why the last step was idle, dropped a frame or faulted
 restart            to the start; keeps the breakpoints  where, w           the current place
 help, h            these lines                          quit, q            ends the session (also ^D)

@@ -167,7 +167,7 @@ OPERATORS: dict[type, Callable[[int, int], int]] = {
 
 @dataclass(frozen=True)
 class Asked:
-    """Evaluates a row's expressions and texts with register values and arguments for the row's parameters."""
+    """Evaluates a row's expressions and strings with register values and arguments for the row's parameters."""
 
     words: Words
     given: dict[str, int | str]

@@ -2,8 +2,8 @@
 that decide them.
 
 The conditions are those of docs/REGISTERS.md and docs/script.md for the step's kind, in the order in which the device
-tests them. For each one it shows the register values before the step, and whether it held. The reply itself always
-comes from the program. The conditions and their texts come from reason_table.py.
+tests them. Each condition is shown with the register values before the step, and whether it held. The reply itself
+always comes from the program. The conditions and their texts come from reason_table.py.
 """
 
 from __future__ import annotations

@@ -406,8 +406,8 @@ class Held:
             self.out -= min(len(reply.split()[-1]) // 2, self.out)
 
     def arrives(self, reply: str, length: int) -> None:
-        """Accounts for an arriving frame. Resets, which discard all frames, are ignored: at most `fifo` frames wait in
-        any case."""
+        """Accounts for an arriving frame. Resets, which discard all frames, are ignored: at most `fifo` frames are
+        waiting in any case."""
         if reply != "done":
             return
         self.frames.append(length)

@@ -22,7 +22,7 @@ MOST_OF_SCRIPT, MOST_STEPS = 100_000, 100_000_000
 
 
 def called(text: str) -> str:
-    """Adapts the commands in a text to the installation: `tools/nicview` in a clone, `nicview` if installed."""
+    """Adapts the commands in a help text to the installation: `tools/nicview` in a clone, `nicview` if installed."""
     return text if places.clone() else re.sub(r"(?<![\w/.])(?:tools/|\./)(?=nic|pcap2nic)", "", text)
 
 

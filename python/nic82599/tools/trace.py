@@ -29,10 +29,10 @@ TROUBLE = ("failed", "fault", "dropped", "refused")
 @dataclass
 class Step:
     """A step: the instruction at `pc`, its reply, and what it changed. `changes` are (address, old, new) of registers.
-    `memory` is (bus address, 16 bytes, or None if they are no longer read): what is known of lent memory from now on.
-    `written` are those addresses that the step itself wrote. `lent` is (+ or -, first block, last block); `waiting` and
-    `out` are (+ or -, frames); `ring` is the ring that the step concerns, if any. `acc` and `status` are set for a step
-    that doesn't access the device; otherwise the reply has them."""
+    `memory` is (bus address, 16 bytes, or None if they are no longer read): what is known of lent memory after this
+    step. `written` are those addresses that the step itself wrote. `lent` is (+ or -, first block, last block);
+    `waiting` and `out` are (+ or -, frames); `ring` is the ring that the step concerns, if any. `acc` and `status` are
+    set for a step that doesn't access the device; otherwise the reply has them."""
 
     number: int
     pc: int

@@ -201,7 +201,7 @@ fn main() -> Answer<()> {
             Arrival::Dropped(why) => println!("dropped {why:#}"),
             Arrival::Waits => taken.push(frame),
         }
-        // Let the device run until nothing is left to do; each message is handled before the device's next step.
+        // Runs the device until nothing is left to do. Each message is handled before the device's next step.
         for event in nic.steps(QUEUES)? {
             match event? {
                 Event::Message { vector, .. } => queues[usize::from(vector)].interrupt(&nic)?,

@@ -1,4 +1,4 @@
-//! The accesses of driver code, no matter what runs the device's steps.
+//! Driver code's accesses to the device, no matter what runs the device's steps.
 
 use crate::desc::Descriptor;
 use crate::error::Error;

@@ -50,7 +50,7 @@ pub enum Error {
     BadFifo,
     /// Packet memory has 1 to 65,536 blocks.
     BadBlocks,
-    /// The input of a hash has at most 36 bytes.
+    /// A hash input is at most 36 bytes long.
     TooLong,
     /// The bytes aren't a valid EEPROM image; the previous image stays installed.
     Image(ImageFault),
@@ -142,7 +142,7 @@ impl fmt::Display for Error {
             Error::TooManyVfs => "a controller has at most 63 virtual functions",
             Error::BadFifo => "the number of frames that may wait must be 1 to 4,096",
             Error::BadBlocks => "packet memory has 1 to 65,536 blocks",
-            Error::TooLong => "the input of a hash has at most 36 bytes",
+            Error::TooLong => "a hash input is at most 36 bytes long",
             Error::Image(fault) => return write!(f, "invalid EEPROM image: {fault}"),
             Error::Text(fault) => return write!(f, "invalid source of an EEPROM image: {fault}"),
             Error::NoRecording => "can't write the recording",

@@ -171,7 +171,7 @@ pub(crate) fn record(path: Option<&CStr>) -> bool {
 pub(crate) fn hash(key: &[u8; 40], input: &[u8]) -> (u8, u32) {
     let mut word = 0;
     let _memory = OwnMemory::begin();
-    // SAFETY: the key has the 40 bytes that the call reads, and the input has as many bytes as its length.
+    // SAFETY: the key has the 40 bytes that the call reads, and the input's pointer is valid for its length.
     let status = unsafe { nic_hash(key.as_ptr(), input.as_ptr(), input.len(), &mut word) };
     (status, word)
 }
@@ -235,7 +235,7 @@ impl OwnMemory {
 impl Drop for OwnMemory {
     fn drop(&mut self) {
         if self.ends_a_pause {
-            // SAFETY: as above. The paused search is still active, because a call of the library ends before it does.
+            // SAFETY: as above. The paused search is still active, because a library call ends before the search does.
             unsafe { nicxi_heap_is_mine() }
         }
     }
@@ -331,24 +331,24 @@ impl Handle {
     }
 
     pub(crate) fn dma_read(&self, bus: u64, bytes: &mut [u8]) -> u8 {
-        // SAFETY: the controller is open; the buffer has as many bytes as its length.
+        // SAFETY: the controller is open; the buffer's pointer is valid for its length.
         unbroken(unsafe { nic_dma_read(self.n().raw, bus, bytes.as_mut_ptr(), bytes.len()) })
     }
 
     pub(crate) fn dma_write(&self, bus: u64, bytes: &[u8]) -> u8 {
-        // SAFETY: the controller is open; the buffer has as many bytes as its length.
+        // SAFETY: the controller is open; the buffer's pointer is valid for its length.
         unbroken(unsafe { nic_dma_write(self.n().raw, bus, bytes.as_ptr(), bytes.len()) })
     }
 
     pub(crate) fn arrive(&self, frame: &[u8]) -> (u8, Outcome) {
         let mut outcome = Outcome::default();
-        // SAFETY: the controller is open; the frame has as many bytes as its length; `outcome` has room for an event.
+        // SAFETY: the controller is open; the frame's pointer is valid for its length; `outcome` has room for an event.
         (unsafe { nic_arrive(self.n().raw, frame.as_ptr(), frame.len(), &mut outcome) }, outcome)
     }
 
     pub(crate) fn collect(&self, room: &mut [u8]) -> (u8, Outcome) {
         let mut outcome = Outcome::default();
-        // SAFETY: the controller is open; the room has as many bytes as its length; `outcome` has room for an event.
+        // SAFETY: the controller is open; the room's pointer is valid for its length; `outcome` has room for an event.
         (unsafe { nic_collect(self.n().raw, room.as_mut_ptr(), room.len(), &mut outcome) }, outcome)
     }
 
@@ -370,7 +370,7 @@ impl Handle {
 
     /// Writes what keeps pending work from proceeding to `room`, and returns the length of the whole text.
     pub(crate) fn why(&self, room: &mut [u8]) -> usize {
-        // SAFETY: the controller is open; the room has as many bytes as its length.
+        // SAFETY: the controller is open; the room's pointer is valid for its length.
         unsafe { nic_why(self.n().raw, room.as_mut_ptr(), room.len()) }
     }
 
@@ -381,14 +381,14 @@ impl Handle {
     }
 
     pub(crate) fn install_image(&self, bytes: &[u8]) -> u8 {
-        // SAFETY: the controller is open; the image has as many bytes as its length.
+        // SAFETY: the controller is open; the image's pointer is valid for its length.
         unsafe { nic_install_image(self.n().raw, bytes.as_ptr(), bytes.len()) }
     }
 
     /// Returns the status, and the line or index that a refusal reports.
     pub(crate) fn install_text(&self, text: &[u8]) -> (u8, u64) {
         let mut line = 0;
-        // SAFETY: the controller is open; the text has as many bytes as its length; `line` has room for a number.
+        // SAFETY: the controller is open; the text's pointer is valid for its length; `line` has room for a number.
         (unsafe { nic_install_text(self.n().raw, text.as_ptr(), text.len(), &mut line) }, line)
     }
 }

@@ -47,9 +47,9 @@
 //! `c/drive/nicdrive PROGRAM` produces the card of the program. A function that panics fails its row, with the panic's
 //! message and location, and the other rows still run.
 //!
-//! Each call of a [`Platform`] is a point at which another function of the driver may run: `receive` of one queue
+//! Each call to a [`Platform`] is a point at which another function of the driver may run: `receive` of one queue
 //! during `send` of another, a handler during both. Functions therefore take `&self`, and the driver keeps its state in
-//! `Cell`s. Don't hold a guard of a `RefCell` across a call of the platform, and don't use locks from `std`: use
+//! `Cell`s. Don't hold a guard of a `RefCell` across a call to the platform, and don't use locks from `std`: use
 //! [`explore::Lock`](crate::explore::Lock). If a schedule abandons a function during a call, a panic unwinds it, as
 //! [`explore`](crate::explore) describes.
 
@@ -281,7 +281,8 @@ pub struct Rss {
     pub types: u32,
 }
 
-/// The platform that a driver's functions run on: memory, and the device as a [`Bus`]. Each call of it is a point.
+/// The platform that a driver's functions run on: memory, and the device as a [`Bus`]. Each call to the platform is a
+/// point.
 pub struct Platform {
     bus: Bus,
 }
@@ -321,10 +322,10 @@ impl Platform {
 
     /// Returns `bytes` bytes of memory from [`dma_alloc`](Platform::dma_alloc) in place, starting at a bus address, for
     /// a driver that accesses its memory directly. What the device writes is visible immediately. What the driver
-    /// stores reaches the device at the driver's next call of the platform, barriers included: before that call, each
-    /// run of changed bytes is written at its own point. Loads aren't points, so a loop that only waits for memory must
-    /// call [`pause`](Bus::pause). If the first or the last byte wasn't allocated by `dma_alloc`, the schedule fails
-    /// and the result is `None`. A store outside all allocations fails the schedule at the next call.
+    /// stores reaches the device at the driver's next platform call, barriers included: before that call, each run of
+    /// changed bytes is written at its own point. Loads aren't points, so a loop that only waits for memory must call
+    /// [`pause`](Bus::pause). If the first or the last byte wasn't allocated by `dma_alloc`, the schedule fails and the
+    /// result is `None`. A store outside all allocations fails the schedule at the next call.
     pub fn dma(&self, bus: u64, bytes: usize) -> Option<&[Cell<u8>]> {
         raw::dma_cells(bus, bytes)
     }

@@ -344,7 +344,7 @@ pub(super) fn dma_cells<'a>(bus: u64, bytes: usize) -> Option<&'a [Cell<u8>]> {
 }
 
 pub(super) fn deliver(queue: u16, bytes: &[u8]) {
-    // SAFETY: the frame has as many bytes as its length.
+    // SAFETY: the frame's pointer is valid for its length.
     at_point(|| unsafe { nicd_deliver(queue, bytes.as_ptr(), u32::try_from(bytes.len()).unwrap_or(u32::MAX)) })
 }
 

@@ -2,7 +2,7 @@
 //! feature `explore` of the crate, and links `libnic82599_explore.a`.
 //!
 //! A [`Scenario`] brings the device up. For each schedule it names the driver's tasks and handlers, and the frames that
-//! will arrive. Tasks are closures. Each call of their [`Bus`] is a point at which any actor may run: another task, a
+//! will arrive. Tasks are closures. Each call to their [`Bus`] is a point at which any actor may run: another task, a
 //! handler, a step of the device, the next frame. The search chooses the actor.
 //!
 //! ```
@@ -42,7 +42,7 @@
 //!
 //! To make a whole program of it, call [`main`], which reads the command line.
 //!
-//! Searches fork processes. Don't hold a guard of a `RefCell` across a call of a task's `Bus`: another task would find
+//! Searches fork processes. Don't hold a guard of a `RefCell` across a call to a task's `Bus`: another task would find
 //! the cell borrowed. Don't use locks from `std`; use [`Lock`]. If a schedule abandons a task during a call, a panic
 //! unwinds it. That panic calls no hook, drops what is on the task's stack, and waits for its scoped threads. While a
 //! task panics, its calls are no-ops that return 0, false or `Ok`. A drop that then panics ends the process, which the
@@ -659,7 +659,7 @@ impl Look<'_> {
         self.nic.peek(register)
     }
 
-    /// Returns the value that a read of a virtual function's register would return.
+    /// Returns the value that reading a virtual function's register would return.
     ///
     /// # Errors
     ///

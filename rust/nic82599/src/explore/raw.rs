@@ -530,19 +530,19 @@ pub(super) fn timer(name: &str, within: u32, function: Box<dyn Fn()>) -> c_int {
 }
 
 pub(super) fn frame(frame: &[u8]) {
-    // SAFETY: the frame has as many bytes as its length, and the call copies them.
+    // SAFETY: the frame's pointer is valid for its length, and the call copies the bytes.
     unsafe { nicx_frame(frame.as_ptr(), frame.len()) }
 }
 
 // --- in tasks and handlers; only they and `bring_up` get a `Bus` ---
 
 pub(super) fn dma_read(bus: u64, bytes: &mut [u8]) -> u8 {
-    // SAFETY: the buffer has as many bytes as its length.
+    // SAFETY: the buffer's pointer is valid for its length.
     at_point(|| unsafe { nicx_dma_read(bus, bytes.as_mut_ptr(), bytes.len()) })
 }
 
 pub(super) fn dma_write(bus: u64, bytes: &[u8]) -> u8 {
-    // SAFETY: the buffer has as many bytes as its length.
+    // SAFETY: the buffer's pointer is valid for its length.
     at_point(|| unsafe { nicx_dma_write(bus, bytes.as_ptr(), bytes.len()) })
 }
 
@@ -554,17 +554,17 @@ pub(super) fn wait_until<F: Fn() -> bool>(condition: &F) {
 // --- the kit ---
 
 pub(super) fn numbered_frame(frame: &mut [u8], number: u32) -> bool {
-    // SAFETY: the frame has as many bytes as its length.
+    // SAFETY: the frame's pointer is valid for its length.
     unsafe { nicx_numbered_frame(frame.as_mut_ptr(), frame.len(), number) }
 }
 
 pub(super) fn flow_frame(frame: &mut [u8], flow: &RawFlow, number: u32) -> bool {
-    // SAFETY: the frame has as many bytes as its length, and the flow is borrowed.
+    // SAFETY: the frame's pointer is valid for its length, and the flow is borrowed.
     unsafe { nicx_flow_frame(frame.as_mut_ptr(), frame.len(), flow, number) }
 }
 
 pub(super) fn frame_number(frame: &[u8]) -> u32 {
-    // SAFETY: the frame has as many bytes as its length.
+    // SAFETY: the frame's pointer is valid for its length.
     unsafe { nicx_frame_number(frame.as_ptr(), frame.len()) }
 }
 

@@ -32,7 +32,7 @@ pub struct Transcript {
     pub answers: String,
 }
 
-/// Makes the calls of a seed.
+/// Makes a seed's calls.
 pub fn transcript(seed: u64, vfs: u8) -> Transcript {
     let nic = Nic::open(Sizes { vfs, fifo: FIFO, blocks: BLOCKS }).unwrap();
     let other = Nic::open(Sizes { blocks: 1, ..Sizes::default() }).unwrap();
@@ -544,7 +544,7 @@ impl Run {
         self.write_range(u64::from(block * 2048 + 16 * slot), &bytes);
     }
 
-    /// Writes descriptors to the slots from the tail on, then the tail.
+    /// Writes descriptors to slots, starting at the tail, then writes the tail.
     fn refill(&mut self, side: Side, queue: u16) {
         let (_, lengths, _, tails, _) = names(side);
         let count = 1 + self.chance.below(4);

@@ -11,8 +11,8 @@
 enum { RUNS = 50, FRAMES = 2000 };
 /* entries for a frame: 12 events, and the two device steps that do something; idle steps take no extra room */
 enum { ENTRIES = 12 + 2 };
-/* bytes of a call (of a device in hand, or of a pass), and of an entry of the history; each includes the idle steps
-   before it */
+/* bytes of a call (for a device in hand, or for a pass), and of a history entry; each includes the idle steps before it
+   */
 enum { MADE = 88, ENTRY = 88 };
 /* notes that contain a frame's bytes: its arrival and its collection, in each list of calls; its block's notes, shared
    by taking, lending and taking it again; and its two records */

@@ -225,8 +225,8 @@ __attribute__((constructor)) static void pry(void)
 
 
 def check_mark(kit: Kit) -> str:
-    """If bubblewrap can run, checks that a driver is marked in its sandbox and that one that doesn't compile gets a
-    line."""
+    """If bubblewrap can run, checks that a driver is marked in its sandbox, and that a driver that doesn't compile gets
+    a line."""
     tried = ["bwrap", "--unshare-all", "--ro-bind", "/", "/", "true"]
     if not shutil.which("bwrap") or subprocess.run(tried, capture_output=True, check=False).returncode:
         return "the sandbox not tried: bubblewrap isn't installed, or may not run"

@@ -28,7 +28,8 @@ class Small(Driver):
         self.ring = 0
 
     def take_memory(self, slots: int) -> bool:
-        """Allocates ring and buffers. Returns False if refused; `give_memory_back` frees what was allocated before."""
+        """Allocates the ring and the buffers. Returns False if an allocation fails; `give_memory_back` frees what was
+        allocated before."""
         self.ring = self.dma_alloc(16 * slots) or 0
         while self.ring and len(self.buffers) < slots:
             buffer = self.dma_alloc(2048)

@@ -440,7 +440,7 @@ def _whole(value: int, bits: int, what: str) -> int:
 
 
 def _size(given: int, bits: int, refusal: type[NicError], what: str) -> int:
-    """Checks that a size of a controller fits the C parameter; raises `refusal` if not."""
+    """Checks that a controller's size fits the C parameter; raises `refusal` if not."""
     number = operator.index(given)
     if not 0 <= number < 1 << bits:
         raise refusal(f"{refusal.__doc__} ({shown_number(number)} {what})")
@@ -950,8 +950,8 @@ class Nic(_Registers, _OneOwner):
             self.memory._take(_whole(block, 32, "block"))
 
     def ring(self, side: str, queue: int) -> Ring:
-        """Returns the current contents of the `rx` or `tx` ring of a queue. It prints as lines of text; a notebook
-        shows a table. The device doesn't change. Raises NoQueue or ValueError."""
+        """Returns the current contents of the `rx` or `tx` ring of a queue. The result prints as lines of text; a
+        notebook shows a table. The device doesn't change. Raises NoQueue or ValueError."""
         from .rings import ring_of
 
         return ring_of(self, _side(side), _whole(queue, 16, "queue"))
@@ -984,7 +984,7 @@ class Nic(_Registers, _OneOwner):
                 raise _refused(status, "collect")
 
     def link(self, up: bool) -> bool:
-        """Sets the link up or down. Returns False if it already was."""
+        """Sets the link up or down. Returns False if the link is already in this state."""
         return self._call("nic_link", bool(up)) == statuses.DONE
 
     def note(self, text: str) -> None:

@@ -25,5 +25,5 @@ class Dma:
 
     def put_descriptor(self, ring: int, slot: int, data: bytes) -> bool:
         """Writes a descriptor, as nic82599.descriptors packs it, with a single access. Returns what `dma_write`
-        does."""
+        returns."""
         return self.dma_write(ring + 16 * slot, data)

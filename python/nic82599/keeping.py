@@ -46,8 +46,8 @@ def end_once(end: Callable[[ctypes.Structure], None], handle: ctypes.Structure) 
 # --- buffers ---
 
 
-# The base class of all ctypes objects. Then, from Python 3.12 on, the wrapper that owns the memory of an object that
-# implements `__buffer__` in Python.
+# The base class of all ctypes objects. Then, in Python 3.12 and later, the wrapper that owns the memory of an object
+# that implements `__buffer__` in Python.
 _CData = ctypes.c_ubyte.__mro__[2]
 _WRAPPER = "_buffer_wrapper"
 

@@ -111,7 +111,7 @@ def record_of(microseconds: int, frame: bytes) -> bytes:
 
 @dataclass(frozen=True)
 class Packet:
-    """A frame for a pcapng: its time, its direction, and a comment that Wireshark shows with it."""
+    """A frame for a pcapng file: its time, its direction, and a comment that Wireshark shows with it."""
 
     microseconds: int
     frame: bytes
@@ -130,7 +130,7 @@ def _block(kind: int, body: bytes, options: list[tuple[int, bytes]]) -> bytes:
 
 
 def pcapng_of(packets: Iterable[Packet], name: str) -> Iterator[bytes]:
-    """Returns the blocks of a pcapng of Ethernet frames that passed an interface of this name."""
+    """Returns the blocks of a pcapng file with Ethernet frames from an interface of this name."""
     yield _block(SECTION, struct.pack("<IHHq", 0x1A2B3C4D, 1, 0, -1), [(4, b"nic82599")])
     yield _block(INTERFACE, struct.pack("<HHI", ETHERNET, 0, 0), [(2, name.encode())])
     for one in packets:

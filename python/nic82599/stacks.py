@@ -15,7 +15,8 @@ from .statuses import DONE
 
 RAISED, OVER = -1, -2
 _U8, _U32, _U64, _SIZE, _AT = ctypes.c_uint8, ctypes.c_uint32, ctypes.c_uint64, ctypes.c_size_t, ctypes.c_void_p
-# The engine's callbacks: a function by number with three arguments; the start of a thread; the source lines of a call.
+# The engine's callbacks: a function, called by number with three arguments; the start of a thread; the source lines of
+# a call.
 CALL = ctypes.CFUNCTYPE(ctypes.c_int64, _U32, _U64, _U64, _U64)
 BEGIN_THREAD = ctypes.CFUNCTYPE(None, _AT)
 LINES = ctypes.CFUNCTYPE(ctypes.c_uint, _AT, ctypes.c_uint)

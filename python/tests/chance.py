@@ -204,7 +204,7 @@ class Run:
         self.put(f"qstep {name} {queue}", answered(lambda: self.nic.queue_step(name, queue)))
 
     def repair(self) -> None:
-        """Sets up each side that a fault disabled again, and posts descriptors on all sides."""
+        """Sets up again each side that a fault disabled, and posts descriptors on all sides."""
         for queue in range(QUEUES):
             for side in "RT":
                 if not self.nic.peek(f"{side}XDCTL[{queue}]") & 0x0200_0000:

@@ -318,7 +318,7 @@ class Found(unittest.TestCase):
         search(Faulty("pause", "pause"), 50)
 
     def test_never(self) -> None:
-        """What never ran in a scenario is reported in the words of C; a strict search raises it."""
+        """What never ran in a scenario is reported in the same words as in C; a strict search raises it."""
         unsent = "handler isr never started: no message pf vector 5 was sent"
         wrong = ["task poll never got past its first wait", unsent]
         filtered = "no frame was ever written to memory: dropped filter"

@@ -106,7 +106,7 @@ class Driver(Points):
             """Changes the number of slots per ring. Frames in flight may be lost."""
 
         def reset(self) -> bool:
-            """Reinitializes the device after a fault. The setup stays; frames in flight may be lost."""
+            """Reinitializes the device after a fault. The setup stays the same; frames in flight may be lost."""
 
         def suspend(self) -> bool:
             """Stops the device: no frames, messages or accesses until `resume`."""
@@ -127,7 +127,7 @@ class Driver(Points):
             virtual function sends to the PF's driver, and vf is then 0. Returns False if the mailbox isn't free now."""
 
         def mailbox_receive(self, vf: int) -> Sequence[int] | None:
-            """Takes and acknowledges a message of 16 words from the other side. Returns None if there is none."""
+            """Receives and acknowledges a 16-word message from the other side. Returns None if there is none."""
 
         def mailbox_ready(self) -> bool:
             """For a virtual function: returns whether the device is ready because the PF's driver has set it up."""

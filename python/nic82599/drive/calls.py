@@ -119,7 +119,7 @@ def _nothing(_name: str, _answer: object) -> int:
 
 
 def _put_frame(answer: object, place: int) -> int:
-    """Writes a frame to the card's buffer. If it is too long, writes its length and as many bytes as fit."""
+    """Writes a frame to the card's buffer. If the frame is too long, writes its length and as many bytes as fit."""
     if answer is None:
         return 0
     data, number = answer if isinstance(answer, tuple) and len(answer) == 2 else (answer, 0)
@@ -168,7 +168,7 @@ _PLAIN: dict[str, tuple[int, Callable[[str, object], int]]] = {
 
 
 def _words_of(fault: BaseException) -> str:
-    """Returns an exception's message and place in one line."""
+    """Returns an exception's message and location in one line."""
     text = printable(" ".join(str(fault).split()))
     text = text if isinstance(fault, Failed) else f"{type(fault).__name__}{': ' * bool(text)}{text}"
     lines = list(_source.lines_of(fault))

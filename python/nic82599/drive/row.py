@@ -76,7 +76,7 @@ def tell_traceback(words: list[str]) -> None:
     elif traceback:
         file = traceback_file(words)
         file.write_text(traceback)
-        print(f"{file.stem}: the traceback is {file}")
+        print(f"{file.stem}: the traceback is in {file}")
 
 
 def program(driver: type[Driver], words: list[str]) -> int:

@@ -57,7 +57,7 @@ class Filter:
     all_unicast: bool
     all_multicast: bool
     broadcast: bool
-    addresses: tuple[bytes, ...]  # at most 4 addresses of 6 bytes, unicast or multicast
+    addresses: tuple[bytes, ...]  # at most four 6-byte addresses, unicast or multicast
 
 
 @dataclass(frozen=True)

@@ -7,7 +7,7 @@ scenario in C can be replayed here, and vice versa. Tested, not proved.
 
 Tasks are functions on threads, only one of which runs at any time. A schedule therefore needs no lock around the
 driver's memory, and code between two points isn't interrupted. A search runs in its own processes, forked after the
-device is up. What a scenario stores outside the schedule isn't seen by this process. A replay runs in this process.
+device is up. This process doesn't see what a scenario stores outside the schedule. A replay runs in this process.
 """
 
 from __future__ import annotations
@@ -127,7 +127,7 @@ def check_hang(hang: object) -> None:
 
 
 def check_out(out: object) -> None:
-    """Raises BadWord if a failure's files couldn't be written there."""
+    """Raises BadWord if a failure's files couldn't be written to this folder."""
     if not isinstance(out, (str, os.PathLike)) or not Path(out).is_dir() or not os.access(Path(out), os.W_OK):
         raise BadWord(f"out: no such folder, or it isn't writable: {out!r}")
 

@@ -39,7 +39,7 @@ class Turn:
 @dataclass
 class Parting:
     """Where a driver diverges from a schedule's file: the `point` of the schedule, the file's line, what the point was,
-    and what it is now. `point` is None if it never diverges."""
+    and what it is now. `point` is None if the driver never diverges."""
 
     path: str
     point: int | None = None

@@ -39,7 +39,7 @@ class Absent:
 
 
 def absent_at(address: int) -> Absent | None:
-    """Returns the card's register at an address that the bench doesn't have, if any."""
+    """Returns the card's register at this address, if there is one that the bench doesn't have."""
     for what, runs in ABSENT:
         for first, last, stride, name in runs:
             if first <= address <= last and not (address - first) % stride:

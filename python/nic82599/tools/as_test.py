@@ -10,9 +10,9 @@ from .printable import shortened
 from .regs import register_at
 from .script import Bench, Instruction, Op, Script
 
-# The number of blocks of packet memory that a script has.
+# The number of packet memory blocks that a script has.
 BLOCKS = 256
-# The most characters of a script's line in a comment.
+# The maximum number of characters of a script's line in a comment.
 MOST_SAID = 90
 REFUSALS = {"not lent": "NotLent", "no block": "NoBlock", "no queue": "NoQueue", "no group": "NoGroup"}
 # The library accepts any address; only nicbench refuses misaligned ones.

@@ -27,7 +27,7 @@ from .script import Bench, Fault, Refused, text_of
 TURN = 4 << 20
 # A longer incomplete line can't be part of a recording.
 LONGEST_LINE = 1 << 20
-# The most characters of a line, a comment or a reply in a part.
+# The maximum length of a line, a comment or a reply in a part, in characters.
 MOST_SHOWN = 2_000
 # niclint checks a whole recording up to this many events; checking a longer one again and again would take too long.
 MOST_WARNED = 20_000
@@ -172,7 +172,7 @@ class Recorded:
     def _part(self, until: int, is_last: bool) -> Part:
         limit = self.limit
         if is_last:
-            # The first event stays the same for some time, so that the steps keep their numbers.
+            # The first event stays the same for a while, so that the steps keep their numbers.
             if until - self.start > limit or until < self.start:
                 self.start = max(0, until - limit // 2)
             limit = until - self.start
@@ -215,7 +215,8 @@ def shorter(data: dict[str, Any]) -> dict[str, Any]:
 @dataclass
 class State:
     """The state of a followed file. `number` increases when the file starts over. `total` is its events, and `said` the
-    message to show. `at` is the file's last stat result, and `same` are bytes at some places, to recognize the file."""
+    message to show. `at` is the file's last stat result, and `same` are bytes at a few offsets, to recognize the
+    file."""
 
     number: int = 0
     total: int = 0

@@ -52,7 +52,7 @@ MOST = {
     "WORD": 3,
 }
 MOST_DIGITS, TOO_LARGE = 20, 1 << 128
-# The most characters of an explanation.
+# The maximum length of an explanation, in characters.
 MOST_DESCRIPTION = 300
 NUMBER = re.compile(r"0x[0-9a-fA-F]+|[0-9]+")
 NAME = re.compile(r"[A-Za-z_][A-Za-z0-9_]*")
@@ -125,7 +125,7 @@ class Looker:
                 what = (
                     "a label must be alone on its line"
                     if NAME.fullmatch(first[:-1])
-                    else "a label is a name and a colon: letters, digits and _"
+                    else "a label is a name (letters, digits and _) and a colon"
                 )
                 return self._at(1 if rest and NAME.fullmatch(first[:-1]) else 0, what)
             return self._at(0, f"no operation {first}", near_words(first))

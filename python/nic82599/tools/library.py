@@ -66,7 +66,7 @@ def _lent(words: list[str]) -> Instruction:
     if len(words) > 2:
         last = number_of(words[3])
         if words[2] != "to" or len(words) > 4 or not first < last < MOST_BLOCKS:
-            raise ValueError(f"a range of blocks looks like `lend 0 to 255`, below {MOST_BLOCKS}")
+            raise ValueError(f"a range of blocks looks like `lend 0 to 255`, with numbers below {MOST_BLOCKS}")
     return Instruction(Op.LEND, 0, first, last, 0)
 
 

@@ -295,7 +295,7 @@ def _slots_read(ring: Ring) -> list[int]:
 
 
 def look(trace: Trace) -> Seen:
-    """Adds to each step its changes of memory, of the waiting frames and of the sent ones."""
+    """Adds to each step its changes to memory, to the waiting frames and to the sent frames."""
     sides = sides_in_use(trace)
     replay = Replay(trace)
     arrived, sent = _account(trace, replay)
@@ -553,7 +553,7 @@ def _waiting_queues(trace: Trace, replay: Replay, count: int, frames: int) -> li
     run.
 
     The run enables all queues with a tail outside their rings. A receive step then faults on the first frame: its reply
-    names the queue, which is disabled. If that hides another frame of the same queue, the named queues are enabled
+    names the queue, which is disabled. If disabling a queue hides another of its frames, the named queues are enabled
     again for each frame."""
     if replay.asked == 2 * RUNS:
         trace.notes.append(f"the waiting frames and their queues are queried only before step {count}")

@@ -139,7 +139,7 @@ class Reasons:
         return reasons
 
     def _queue_off(self, step: Step, side: str, queue: int) -> Reason:
-        """Explains why a side of a queue is off, including earlier steps that requested it."""
+        """Explains why a side of a queue is off, and names the earlier step that requested its enable, if any."""
         row = "RXDCTL" if side == "rx" else "TXDCTL"
         asked = None if _value(self.words, row, "ENABLE", queue) else self._asked(step, row, queue)
         if asked:

@@ -237,7 +237,7 @@ class Recording:
         return BadLine(f"{self.path}:{number}: this line of a recording can't be replayed ({what})", number)
 
     def script(self) -> Script:
-        """Returns the whole recording as a script. Raises the first of the bad lines."""
+        """Returns the whole recording as a script. Raises the error for the first bad line."""
         if self.bad:
             raise self.bad[0]
         made = self.instructions

@@ -174,7 +174,7 @@ fn start(nic: &Nic) -> Answer<Vec<Queue>> {
     Ok(queues)
 }
 
-/// A hundred UDP frames, each of a different flow.
+/// A hundred UDP frames, each from a different flow.
 fn frames() -> Vec<Vec<u8>> {
     let frame = |number: u8| {
         let mut frame = vec![number; 60 + 7 * usize::from(number)];

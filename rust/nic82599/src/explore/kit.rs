@@ -69,8 +69,8 @@ impl<S: 'static> Begin<S> {
 }
 
 impl Bus {
-    /// Returns a flow's hash, 0 if none is computed, and the queue of its frames, under the current MRQC, RSSRK and
-    /// RETA. The queue is 0 if bits 3:0 of MRQC aren't 1. The call isn't a point.
+    /// Returns a flow's hash and the queue of its frames, under the current MRQC, RSSRK and RETA. The hash is 0 if none
+    /// is computed. The queue is 0 if bits 3:0 of MRQC aren't 1. The call isn't a point.
     pub fn rss(&self, flow: &Flow) -> (u32, u16) {
         raw::rss(&flow.raw())
     }

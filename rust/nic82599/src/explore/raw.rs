@@ -308,7 +308,7 @@ pub(super) fn panics_at(place: Option<&Location<'_>>) {
 /// Passes the running search to a function that the explorer called. Panics outside a search.
 fn running<T>(action: impl FnOnce(&Running) -> T) -> T {
     let it = RUNNING.with(Cell::get);
-    assert!(!it.is_null(), "a call for a search outside a search");
+    assert!(!it.is_null(), "this call is only for functions that a search runs");
     // SAFETY: the pointer isn't null, so `within` is on this thread's stack and keeps the search until it resets the
     // pointer.
     action(unsafe { &*it })

@@ -1,7 +1,7 @@
 #!/usr/bin/env python3
 """Checks the recipes for CI: two YAML readers agree on each of them, and its commands run here in order.
 
-    recipes/check.py        tries all of them; status 0: all passed; 1: one didn't
+    recipes/check.py        tries all of them; status 0: all passed; 1: at least one didn't
 
 The commands run in a folder like a runner's: a repository with a driver, an `apt-get` that records its arguments, and a
 `git` that provides this clone instead of fetching one. A card is produced, but no search runs: drivers/qemu/search

@@ -1,4 +1,4 @@
-// Answers requests of the tools' modules (MODULES) and of the page itself, using nicbench's WebAssembly module
+// Answers requests from the tools' modules (MODULES) and from the page itself, using nicbench's WebAssembly module
 // (NICBENCH, plain/wasm/nicbench.mjs). It runs in a worker, where instances may be created synchronously.
 let wasm = null;
 const LIMIT_OF_STEPS = 4096;

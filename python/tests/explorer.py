@@ -566,7 +566,7 @@ class Failures(unittest.TestCase):
         self.assertEqual(search(Fixed(), 20).never, [])
 
     def test_seconds(self) -> None:
-        """A search ends after its seconds with any strategy; without that limit, it completes its runs."""
+        """A search ends at its time limit with any strategy. Without that limit, it completes its runs."""
         for words in ({}, {"strategy": "exhaustive", "preemptions": 1_000}, {"jobs": 2}):
             self.assertGreater(search(Fixed(), None, seconds=0.3, **words).distinct, 0, words)
         self.assertEqual(search(Fixed(), 20, seconds=1_000_000).distinct, search(Fixed(), 20).distinct)

@@ -194,8 +194,8 @@ class Interrupted(unittest.TestCase):
 
 
 def by_signals(wanted: int) -> int:
-    """Lends and takes back while a timer's signal raises, until it has done so `wanted` times. Returns how often it
-    did."""
+    """Lends and takes back memory while a timer's signal handler raises, until it has raised `wanted` times. Returns
+    how often it raised."""
     armed = False
 
     def handler(_signal: int, _frame: FrameType | None) -> None:

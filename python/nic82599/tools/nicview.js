@@ -58,7 +58,7 @@ const isLent = (rows, block) => rows.some(([first, last]) => first <= block && b
 // Returns the scroll position at which the first visible row of a list isn't cut off.
 const wholeRow = (rows, top, under = 0) =>
   Math.max(0, ...[...rows].map((one) => one.offsetTop - under).filter((at) => at <= top));
-// A note of a virtual machine's recording about a ring: where the guest has it.
+// A note in a virtual machine's recording about a ring: where it is in the guest.
 const RING_OF_GUEST = /guest: the ring of ((?:rx|tx) \d+) is at (0x[0-9a-f]+)/g;
 // Returns the machine's state after n steps.
 function machine(n) {
@@ -80,7 +80,8 @@ function machine(n) {
   [state.routes, state.vectors] = [state.routes[0].map((text) => run.texts[text]), state.routes[1]];
   return state;
 }
-// Returns a register's value after n steps, and below the contents of 16 bytes of memory, searching backwards.
+// Returns a register's value after n steps, searching backwards. The next function returns the contents of 16 bytes of
+// memory.
 function wordAfter(address, n) {
   for (let k = n - 1; k >= 0; k--) for (const [at, word] of run.steps[k][3]) if (at === address) return word;
   return start.get(address) ?? 0;

@@ -1,6 +1,6 @@
 "use strict";
 // The rings of a page: the one that the step concerns as a circle with its descriptors, and all of them in a grid of
-// cards. The page loads this file before nicview.js, and it uses the helpers defined there.
+// cards. This file is loaded before nicview.js, and uses the helpers defined there.
 
 const ON = 1 << 25, CIRCLE = 64;
 const WHOSE = { device: "the device's", done: "done", driver: "the driver's", nobody: "nobody's" };

@@ -4,8 +4,8 @@
 
 FILE is a capture of Ethernet frames as tcpdump, tshark or Wireshark write it: pcapng, or pcap of either byte order with
 microseconds or nanoseconds; `-` is standard input. The tool takes --count frames, starting with number N (default 1). A
-script can name at most 1,024. They are named NAME1, NAME2 and so on (default `frame`). With --step each `arrive` is
-followed by `rx`, one receive step.
+script can name at most 1,024 frames. The frames are named NAME1, NAME2 and so on (default `frame`). With --step each
+`arrive` is followed by `rx`, one receive step.
 
 A script can't contain a frame that was captured in part, is empty, or is longer than 16,384 bytes. Status 1: there is
 such a frame, the link type isn't Ethernet, or the file isn't a capture.

@@ -384,7 +384,8 @@ COMMANDS: dict[str, Callable[[Session, list[str]], list[str]]] = {
 
 
 def answer(session: Session, line: str) -> list[str]:
-    """Runs a command and returns the lines that it prints. An invalid one returns why, and changes nothing."""
+    """Runs a command and returns the lines that it prints. For an invalid command it returns the reason, and changes
+    nothing."""
     words = line.split()
     name = SHORT.get(words[0].lower(), words[0].lower())
     begun = [one for one in COMMANDS if one.startswith(name)]

@@ -53,7 +53,7 @@ MOST_KEPT = 1 << 16
 NOT_KEPT = 1 << 31
 # Longer lines rarely repeat, and would take much memory.
 LONGEST_KEPT = 200
-# Starts of lines that rarely repeat, because they contain bytes or the name of bytes.
+# Starts of lines that rarely repeat, because they contain bytes or a data name.
 COLLECT = Instruction(Op.COLLECT, 0, 0, 0, 0)
 OF_BYTES = ("data ", "poke ", "arrive ")
 WITH_BYTES = (*OF_BYTES, "peek ", "collect")
@@ -252,8 +252,8 @@ def parts(line: str) -> tuple[str, str]:
 
 
 def named(one: Instruction, text: str) -> tuple[str, str]:
-    """Replaces an access's address by the register's name. The second value is a comment with the name if it can't
-    replace the address: for a virtual function's offset, or an address other than the register's first."""
+    """Replaces an access's address by the register's name. The second value is a comment with the name if the name
+    can't replace the address: for a virtual function's offset, or an address other than the register's first."""
     if one.op in (Op.VF_WRITE, Op.VF_READ):
         return text, OFFSETS.get(one.a, "")
     register = register_at(one.a) if one.op in (Op.WRITE, Op.READ) else None
@@ -301,7 +301,7 @@ def take(made: Recording, each: Iterator[str], first_number: int) -> None:
 
 
 def _take_bytes(made: Recording, names: Names, number: int, line: str) -> bool:
-    """Adds a line of a common kind in its usual form. Returns false if it has another form."""
+    """Adds a line of a common kind in its usual form. Returns false if the line has another form."""
     words = line.split()
     if words[0] == "data" and len(words) == 3:
         bytes.fromhex(words[2])
@@ -525,8 +525,8 @@ def _line(remark: tuple[int, str]) -> int:
 
 
 def _notes(recording: Recording) -> dict[int, str]:
-    """Returns the program's notes about each event that is shown, by its number from 0: those between it and the event
-    before."""
+    """Returns the program's notes about each shown event, keyed by the event's number from 0. An event's notes are
+    between it and the previous event."""
     notes: dict[int, list[str]] = {}
     end, before = recording.ends[1], recording.before
     begin = bisect_right(recording.remarks, recording.line_of[before - 1], key=_line) if before else 0

@@ -12,7 +12,7 @@ from collections.abc import Iterator
 from .forms import NAME, explained
 from .script import Bench, Refused
 
-# The most refusals reported, the most characters of scripts processed for them, and the most instructions in a script.
+# The maximum numbers of refusals reported, of script characters processed for them, and of instructions in a script.
 MOST, LOOKED, INSTRUCTIONS = 100, 1 << 26, 4_096
 ZEROS = "00" * 16
 
@@ -24,7 +24,7 @@ def most_of(text: str) -> int:
 
 
 def refusals(bench: Bench, text: str, first: Refused) -> Iterator[tuple[Refused, str]]:
-    """Yields each refusal with the refused text, in the order in which the bench finds them; line numbers match the
+    """Yields each refusal with the refused script, in the order in which the bench finds them; line numbers match the
     original. A refusal without a line is the last."""
     refused, lines, count, most = first, text.split("\n"), 0, most_of(text)
     while True:

@@ -9,7 +9,7 @@ from .fields import FIELDS, OPEN
 from .tables import FUNCTION, POOL_SIZES, TABLE, Row
 
 ENABLE = 1 << 25
-# The most characters of a word that are compared with names, and the most names.
+# The maximum number of a word's characters that are compared with names, and the maximum number of names.
 MOST_COMPARED, MOST_NAMES = 64, 2_000
 
 

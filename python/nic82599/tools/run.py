@@ -5,7 +5,7 @@ A source of steps fills a `Run`; `of_script` does so for a script on the bench. 
 
 A source numbers its steps from 0. It gives each step (`trace.Step`) the reply that `nicbench run` would print, what the
 step changed, wrote, lent, received and sent, and the ring that it concerns. `start` needs every register that a step
-changes, and those of the rings. A step's `pc` is an index into `line_of`; several steps may share one.
+changes, and the rings' registers. A step's `pc` is an index into `line_of`; several steps may share one.
 """
 
 from __future__ import annotations

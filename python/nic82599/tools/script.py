@@ -29,7 +29,7 @@ class Fault(Exception):
 
 
 class Refused(Exception):
-    """The bench refuses the input with this name, at this line, or 0 if it names none."""
+    """The bench refused the input: the refusal's name, and the line, or 0 if the refusal names none."""
 
     def __init__(self, name: str, line: int) -> None:
         super().__init__(f"refused {name}" + (f" {line}" if line else ""))
@@ -109,13 +109,13 @@ class Instruction:
 
     @property
     def blocks(self) -> range:
-        """The blocks that it lends or takes back. A recording's instruction may lend several; `a` is then the last
-        one."""
+        """The blocks that the instruction lends or takes back. A recording's instruction may lend several; `a` is then
+        the last one."""
         return range(self.x, max(self.x, self.a) + 1)
 
     @property
     def is_local(self) -> bool:
-        """Whether it doesn't access the device, so that `run` prints no line for it."""
+        """Whether the instruction doesn't access the device; `run` then prints no line for it."""
         return self.op >= Op.EXPECT
 
 
@@ -212,7 +212,8 @@ def _talk(ran: subprocess.Popen[bytes], text: bytes) -> tuple[bytes, bytes]:
 
 
 def _hear(stream: object) -> str:
-    """Reads the launcher's standard error. Reports at once that the launcher compiles, because this takes a while."""
+    """Reads the launcher's standard error. Reports immediately that the launcher compiles, because this takes a
+    while."""
     said = []
     for line in stream:  # type: ignore[attr-defined]
         text = line.decode(errors="replace")

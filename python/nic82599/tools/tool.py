@@ -1,4 +1,4 @@
-"""Shared by the tools: their options, and the way they end."""
+"""Shared by the tools: their options, and how they exit."""
 
 from __future__ import annotations
 

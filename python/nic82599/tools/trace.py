@@ -160,7 +160,7 @@ class Plan:
         return [register.address] if written is not None or kind == "Rc" else []
 
     def _mail(self, register: Register, written: int | None) -> list[int]:
-        """Returns the registers that an access of a mailbox or of CTRL_EXT can change."""
+        """Returns the registers that an access to a mailbox or to CTRL_EXT can change."""
         kind, i = register.row.kind, register.index
         if kind == "Ctrlext":
             boxes = [first("PVFMAILBOX", v) for v in range(64)] if (written or 0) & 1 << 14 else []

@@ -50,7 +50,7 @@ struct Queue {
     number: u16,
     rx: Ring,
     tx: Ring,
-    /// The number of transmit slots given to the device and not yet known to be done.
+    /// The number of transmit slots posted to the device and not yet known to be done.
     sending: u16,
     received: u32,
 }
@@ -85,7 +85,7 @@ impl Queue {
         Ok(())
     }
 
-    /// Returns the next frame that the device wrote, and gives its slot back.
+    /// Returns the next frame that the device wrote, and returns its slot to the device.
     fn receive(&mut self, nic: &Nic) -> Answer<Option<Vec<u8>>> {
         let slot = self.rx.next;
         let written = match nic.memory().descriptor(self.rx.base, slot)?.received() {
@@ -94,7 +94,8 @@ impl Queue {
         };
         let buffer = self.rx.buffer(slot);
         let frame = nic.memory().read(buffer..buffer + u64::from(written.length))?;
-        // The tail is set to this slot, so the device gets the one before it: a full ring would look like an empty one.
+        // The tail is set to this slot, so the device gets only the slot before it. Otherwise a full ring would look
+        // empty.
         nic.memory().put_descriptor(self.rx.base, slot, Descriptor::receive(buffer))?;
         nic.write(RDT.at(self.number), u32::from(slot));
         self.rx.advance();

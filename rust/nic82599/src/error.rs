@@ -82,7 +82,7 @@ pub enum Absent {
         /// The number of pools in this mode.
         pools: u8,
     },
-    /// The virtual function's pool has no queue of this register.
+    /// The virtual function's pool lacks this register's queue.
     Queue {
         /// The function's number.
         number: u8,

@@ -277,7 +277,7 @@ impl Handle {
     pub(crate) fn open(vfs: u8, fifo: u16, blocks: u32) -> Result<Handle, u8> {
         let mut device = ptr::null_mut();
         let _memory = OwnMemory::begin();
-        // SAFETY: the pointer is to room for a device pointer.
+        // SAFETY: the pointer points to room for a device pointer.
         match unsafe { nic_new(vfs, fifo, blocks, &mut device) } {
             status::DONE => Ok(Handle { raw: UnsafeCell::new(RawNic { device }) }),
             status => Err(status),
@@ -292,7 +292,7 @@ impl Handle {
     /// handles may be dropped, and neither may be restored.
     #[cfg(feature = "explore")]
     pub(crate) unsafe fn another(n: *mut RawNic) -> Handle {
-        // SAFETY: the pointer is to a controller's struct.
+        // SAFETY: the pointer points to a controller's struct.
         Handle { raw: UnsafeCell::new(RawNic { device: unsafe { (*n).device } }) }
     }
 
@@ -356,7 +356,7 @@ impl Handle {
     /// `room`.
     pub(crate) fn settle(&self, queues: u16, room: &mut [Outcome]) -> (u8, usize) {
         let mut count = 0;
-        // SAFETY: the controller is open; the room has as many events as its length; `count` has room for a number.
+        // SAFETY: the controller is open; the room's pointer is valid for its length; `count` has room for a number.
         let status = unsafe { nic_settle(self.n().raw, queues, room.as_mut_ptr(), room.len(), &mut count) };
         (status, count)
     }

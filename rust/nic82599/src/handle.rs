@@ -8,7 +8,7 @@ use crate::status;
 
 pub(crate) use crate::ffi::Kept;
 
-/// The number of events that one call of the library returns at most.
+/// The maximum number of events that one library call returns.
 const ROOM: usize = 256;
 
 /// A controller of the library.
@@ -44,7 +44,7 @@ pub(crate) fn vf_address(gcr_ext: u32, number: u8, offset: u32) -> Result<Option
     }
 }
 
-/// Returns the value of a read, or as an error the value that a driver sees where there is no register.
+/// Returns a read's value. Where there is no register, the error is the value that a driver sees.
 fn word_or_stray((status, word): (u8, u32)) -> Result<u32, u32> {
     if status == status::DONE {
         Ok(word)

@@ -434,7 +434,7 @@ fn steps_are_those_of_settle() {
 }
 
 /// A driver acts on events while the device continues. It sends the ring's 255 descriptors, and gets more events than
-/// one call of the library returns.
+/// one library call returns.
 #[test]
 fn a_long_settle() {
     let nic = with_queues();

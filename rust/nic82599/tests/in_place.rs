@@ -86,7 +86,7 @@ fn a_snapshot_is_restored_in_place() {
 fn by_a_pointer() {
     let nic = Nic::open(Sizes { blocks: 2, ..Sizes::default() }).unwrap();
     let first: *mut u8 = Box::into_raw(Box::new([4u8; 2048])).cast();
-    // SAFETY: the memory is 2,048 bytes long, with no reference to them until they are taken back.
+    // SAFETY: the memory is 2,048 bytes long, with no reference to it until it is taken back.
     unsafe { nic.memory().lend(2048, NonNull::new(first).unwrap(), 2048).unwrap() };
     nic.memory().write(2049, &[5]).unwrap();
     // SAFETY: no call is in progress.

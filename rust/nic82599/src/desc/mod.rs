@@ -94,8 +94,8 @@ impl Descriptor {
         })
     }
 
-    /// Returns whether the device reported this transmit descriptor as done. It reports those with [`txd::RS`], unless
-    /// it writes back the head instead.
+    /// Returns whether the device reported this transmit descriptor as done. The device reports descriptors with
+    /// [`txd::RS`], unless it writes back the head instead.
     pub const fn is_sent(self) -> bool {
         self.second & txwb::DD != 0
     }

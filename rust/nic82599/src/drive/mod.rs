@@ -118,12 +118,12 @@ pub trait Driver: Sized + 'static {
     /// interrupts.
     const THREADS: &'static [fn(&Self, &Platform)] = &[];
 
-    /// Sets which frames to accept. This function and those below return whether they succeeded; on false nothing has
-    /// changed.
+    /// Sets which frames to accept. This function and those below return whether they succeeded. If one returns false,
+    /// nothing has changed.
     const FILTER: Option<fn(&Self, &Platform, &Filter) -> bool> = None;
     /// Configures receive side scaling.
     const RSS: Option<fn(&Self, &Platform, &Rss) -> bool> = None;
-    /// Changes the longest frame; frames in flight may be lost.
+    /// Changes the maximum frame length; frames in flight may be lost.
     const MTU: Option<fn(&Self, &Platform, u32) -> bool> = None;
     /// Changes the number of slots per ring; frames in flight may be lost.
     const RESIZE: Option<fn(&Self, &Platform, u16) -> bool> = None;
@@ -149,7 +149,7 @@ pub trait Driver: Sized + 'static {
     const MAILBOX_READY: Option<Plain<Self>> = None;
 }
 
-/// Returns the next frame of a queue, complete; `None` immediately if there is none.
+/// Returns a queue's next complete frame, or `None` immediately if there is none.
 pub type Receive<D> = fn(&D, &Platform, u16) -> Option<Frame>;
 /// Sends a frame on a queue. It is at least 60 bytes long, and at most the setup's `frame`. Returns true if the frame
 /// is accepted: the caller may then reuse its bytes. Returns false if the ring has no room now or the frame is too

@@ -162,7 +162,7 @@ extern "C" fn close<D: Driver>() {
     called::<D, _>((), |driver, platform| driver.close(platform));
 }
 
-/// Copies a frame. If it is too long, reports its length and copies as many bytes as fit.
+/// Copies a frame. If the frame is too long, reports its length and copies as many bytes as fit.
 fn put(frame: &Frame, room: &mut RawFrame) {
     let length = frame.bytes.len().min(MOST_FRAME);
     room.bytes[..length].copy_from_slice(&frame.bytes[..length]);

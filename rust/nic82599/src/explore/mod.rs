@@ -94,7 +94,7 @@ pub trait Scenario: 'static {
         1
     }
 
-    /// The limit on a schedule's points; a longer one fails as endless. The default is 2,000.
+    /// The limit on a schedule's points; a longer schedule fails as endless. The default is 2,000.
     fn points(&self) -> u32 {
         2_000
     }
@@ -160,8 +160,8 @@ pub trait Scenario: 'static {
 /// How lent memory behaves, and which register accesses order it (docs/explore.md, "Missing barriers").
 #[derive(Clone, Copy, Debug, Default, PartialEq, Eq)]
 pub struct MemoryOrder {
-    /// Until a barrier, stores may reach memory late and loads may return old values. Without it, the other fields
-    /// apply only with `--memory weak`.
+    /// Until a barrier, stores may reach memory late and loads may return old values. Without this field, the other
+    /// fields apply only with `--memory weak`.
     pub is_weak: bool,
     /// A register write comes after all earlier stores, as with Linux's `writel()`.
     pub writes_order: bool,
@@ -517,7 +517,7 @@ impl Bus {
     }
 
     /// Returns a value below the bound (1 to 256) that is part of the schedule: whether an allocation fails, which
-    /// input arrives. All strategies choose it, and shrinking tries lower values. In [`Scenario::bring_up`] the call
+    /// input arrives. All strategies explore it, and shrinking tries lower values. In [`Scenario::bring_up`] the call
     /// fails.
     pub fn choose(&self, bound: u32) -> u32 {
         raw::choose(bound)

@@ -268,7 +268,7 @@ impl Running {
         names.entry(name.to_owned()).or_insert_with(|| text(name)).as_ptr()
     }
 
-    /// Stores a message until the next one is returned. It is put on one line, as the files of a failure need it.
+    /// Stores a message until the next one is returned. It is put on one line, as a failure's files require.
     fn tell(&self, words: &str) -> *const c_char {
         *self.words.borrow_mut() = text(&words.split_whitespace().collect::<Vec<_>>().join(" "));
         self.words.borrow().as_ptr()
@@ -450,7 +450,7 @@ pub(crate) fn why_not() -> Option<&'static str> {
     }
 }
 
-/// Runs a search of the process's one explorer and returns its status. `action` runs it; the explorer calls `driven`.
+/// Runs a search in the process's only explorer and returns its status. `action` runs it; the explorer calls `driven`.
 pub(crate) fn within(driven: &dyn Driven, is_quiet: bool, action: impl FnOnce() -> c_int) -> c_int {
     let _one = ONE.lock().unwrap_or_else(PoisonError::into_inner);
     // SAFETY: this only extends the lifetime, and `RUNNING` is reset before this function returns.

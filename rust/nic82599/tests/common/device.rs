@@ -4,7 +4,7 @@ use nic82599::desc::Descriptor;
 use nic82599::regs::{vf, *};
 use nic82599::{Absent, Device, Error};
 
-/// Takes the frame of a slot, if there is one, and gives the slot back. Returns whether there was one.
+/// Takes the frame in a slot, if there is one, and returns the slot to the device. Returns whether there was a frame.
 pub fn take(device: &impl Device, slot: u16) -> Result<bool, Error> {
     let is_done = device.descriptor(0, slot)?.received().is_some();
     if is_done {

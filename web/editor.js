@@ -145,7 +145,7 @@ function valueChoices(target, word) {
   return fields.map(([name, high, low, does]) => {
     const one = high === low, bits = one ? `bit ${low}` : `bits ${high} to ${low}`;
     const value = NUMBER.test(word) ? (Number(word) | (one ? 2 ** low : 0)) >>> 0 : 2 ** low;
-    return { text: hex(value), said: `${name}, ${bits}${does ? "" : " (no effect in the bench)"}`, key: name };
+    return { text: hex(value), said: `${name}, ${bits}${does ? "" : " (no effect on the bench)"}`, key: name };
   });
 }
 const OF_KIND = {

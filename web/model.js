@@ -115,7 +115,7 @@ function solved(text, { check, wants, sizes }) {
     const last = printed.pop(), failed = /^failed (\d+) have (\w+) want (\w+)/.exec(last);
     if (failed) {
       const line = loaded.lines[loaded.line_of[Number(failed[1])] - 1], isOwn = loaded.line_of[Number(failed[1])] <= text.trimEnd().split("\n").length;
-      return { is: false, why: isOwn ? `Your line \`${line.trim()}\` fails: the word is ${failed[2]}.` : `${remark(line)} The word is ${failed[2]}, expected ${failed[3]}.` };
+      return { is: false, why: isOwn ? `Your line \`${line.trim()}\` fails: the value is ${failed[2]}.` : `${remark(line)} The value is ${failed[2]} instead of ${failed[3]}.` };
     }
     const end = loaded.instructions.length - 1, isReached = printed.some((it) => it.startsWith(`${end} word `));
     if (!last.startsWith("ok") || !isReached) return { is: false, why: "The script doesn't reach its end." };

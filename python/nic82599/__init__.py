@@ -464,7 +464,7 @@ _NAME_SHOWN = 40
 
 def _no_name(name: str, names: Iterable[str]) -> NoSuchRegister:
     near = get_close_matches(name[:_NAME_SHOWN].split("[")[0].upper(), list(names), 3, 0.6)
-    shown = name if len(name) <= _NAME_SHOWN else f"{name[:_NAME_SHOWN]}.. ({len(name):,} letters)"
+    shown = name if len(name) <= _NAME_SHOWN else f"{name[:_NAME_SHOWN]}.. ({len(name):,} characters)"
     return NoSuchRegister(f"no register {shown}" + (f"; did you mean {', '.join(near)}?" if near else ""))
 
 

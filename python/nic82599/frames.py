@@ -159,7 +159,7 @@ class Rss:
         if len(self.key) != 40:
             raise ValueError(f"a key is 40 bytes long, not {len(self.key)}")
         if not self.table or len(self.table) > 128 or not all(0 <= queue <= 15 for queue in self.table):
-            raise ValueError("a table has 1 to 128 queues, each from 0 to 15")
+            raise ValueError("a table has 1 to 128 entries, each a queue from 0 to 15")
 
     def _hashed(self, frame: bytes) -> tuple[RssType, bytes]:
         """Returns the type of a frame and the bytes that are hashed."""

@@ -179,7 +179,7 @@ class Refusals(unittest.TestCase):
         self.refused("A.receive isn't a function", begin + "    receive = 3\n")
         self.refused("A.queues is 'two', not an allowed number", begin + "    queues = 'two'\n")
         self.refused("A.threads is -1, not an allowed number", begin + "    threads = -1\n")
-        self.refused("A.name isn't a string, or its can isn't a value of Can", begin + "    name = 3\n")
+        self.refused("A.name isn't a string, or A.can isn't a Can", begin + "    name = 3\n")
 
     def test_what_the_card_refuses(self) -> None:
         fields = {"name": "a b", "queues": 5, "slots": 12, "frame": 9, "threads": 1}

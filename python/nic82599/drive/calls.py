@@ -235,7 +235,7 @@ class Card:
         return answer(name, getattr(self._driver, name)(*numbers[:count]))
 
     def _begin(self, _a: int, _b: int, _c: int) -> int:
-        assert self._make, "a driver is already running in the card"
+        assert self._make, "a driver is already running on the card"
         self._conditions.clear()
         self._driver = self._make()
         return 0

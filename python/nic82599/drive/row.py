@@ -53,7 +53,7 @@ def checked(driver: type[Driver], path: Path) -> type[Driver]:
         if not isinstance(value, int) or isinstance(value, bool) or not 0 <= value < 1 << 16:
             raise Refused(f"{path}: {driver.__name__}.{name} is {value!r}, not an allowed number")
     if not isinstance(driver.name, str) or not isinstance(driver.can, Can):
-        raise Refused(f"{path}: {driver.__name__}.name isn't a string, or its can isn't a value of Can")
+        raise Refused(f"{path}: {driver.__name__}.name isn't a string, or {driver.__name__}.can isn't a Can")
     for name in ("open", "close", *(one for one in OPTIONAL if hasattr(driver, one))):
         if not callable(getattr(driver, name)):
             raise Refused(f"{path}: {driver.__name__}.{name} isn't a function")

@@ -167,7 +167,8 @@ class Looker:
             return self._at(0, "no such register")
         close = near(found[1], list(ROWS))
         data, labels = self._names()
-        more = " (it is a name of data)" if found[1] in data else " (it is a label)" if found[1] in labels else ""
+        named = " (it is the name of a data string)"
+        more = named if found[1] in data else " (it is a label)" if found[1] in labels else ""
         return self._at(1, f"no register {found[1]}{more}", close)
 
     def _names(self) -> tuple[dict[str, int], dict[str, int]]:
@@ -189,9 +190,9 @@ class Looker:
                 names, what = (data, "data") if kind == "DATA" else (labels, "label")
                 word = self.words[n][1]
                 other = (
-                    " (there is a label of this name)"
+                    " (a label has this name)"
                     if word in labels
-                    else " (there is data of this name)"
+                    else " (a data string has this name)"
                     if word in data
                     else ""
                 )

@@ -110,7 +110,7 @@ def main() -> int:
     parser.add_argument("out", metavar="OUT")
     parser.add_argument("run", metavar="RUN", nargs="?")
     parser.add_argument("--queue", type=int, metavar="Q", help="only the frames of this queue")
-    parser.add_argument("--limit", type=number(1, MOST_STEPS), metavar="N", help="the number of steps of RUN")
+    parser.add_argument("--limit", type=number(1, MOST_STEPS), metavar="N", help="the maximum number of steps of RUN")
     sizes(parser)
     add_version(parser, "nic2pcap")
     given = parser.parse_args()

@@ -142,7 +142,7 @@ function showChanges(n, state, changes, more) {
   for (const one of more.m || []) if (one[2] && one[1] !== null) rows.push(memoryChange(n, state, one));
   for (const [sign, first, last] of more.l || []) {
     const [name, is] = first < last ? [`blocks ${first} to ${last}`, "are"] : [`block ${first}`, "is"];
-    const way = sign === "+" ? `${is} lent to the device` : "came back from the device";
+    const way = sign === "+" ? `${is} lent to the device` : `${is} taken back from the device`;
     rows.push(change(make("b", { className: "mono" }, name), span("", way)));
   }
   const none = faint("No register or slot changed.");

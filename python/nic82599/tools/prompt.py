@@ -300,7 +300,7 @@ def do_offsets(session: Session, words: list[str]) -> list[str]:
     function, k = count_of(words, 0), _queues(session)
     if function >= session.bench.vfs or not k:
         raise Wrong(
-            f"no function {function}: the device has {session.bench.vfs} (--vfs), "
+            f"no virtual function {function}: the device has {session.bench.vfs} (--vfs), "
             f"and GCR_EXT.VT_Mode selects {128 // k if k else 'no'} pools"
         )
     named = regs.function_offsets(k, function)

@@ -1,3 +1,3 @@
-// What tsc (4.8) doesn't know yet of browsers, or of what the page's parts have from elsewhere.
+// What tsc (4.8) doesn't know yet about browsers, or about names that the page's parts get from elsewhere.
 declare class CompressionStream extends TransformStream { constructor(format: string) }
 declare class DecompressionStream extends TransformStream { constructor(format: string) }

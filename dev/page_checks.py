@@ -184,9 +184,8 @@ def check_when(look: Look) -> None:
         why, conditions = browser.value(words("#now > p:has(+ .why)")), browser.value(words("#now .why li"))
         look.expect(not conditions or why == ["Before this step:"], f"step {number}: its conditions are under {why}")
         counts = [found[1] for one in conditions if (found := re.match(r"(\w+) frames? (?:is|are) waiting\b", one))]
-        look.expect(
-            counts in ([], [str(before or "no")]), f"step {number}: {counts} frames are waiting before it; expected {before}"
-        )
+        said = f"step {number}: {counts} frames are waiting before it; expected {before}"
+        look.expect(counts in ([], [str(before or "no")]), said)
         panel = f"{(browser.value(words('#frames > p')) or [''])[0]};"
         parts = re.match(r"(\w+) frames? (?:is|are) waiting to be received[^;]*;(?: before this step (\w+))?", panel)
         shown = (parts[1], parts[2]) if parts else ("No", None)

@@ -29,7 +29,8 @@ with Nic(blocks=1) as nic:
 PRINTED = """\
 nic82599: stray: r 0x10148: this is FWSM, which the bench doesn't model: don't wait: \
 a reset is done when the write returns
-nic82599: 1 frame was dropped: FCTRL.UPE was 0, no RAL and RAH with AV 1 matched; the last one was addressed to 02:00:00:00:00:09
+nic82599: 1 frame was dropped: FCTRL.UPE was 0, no RAL and RAH with AV 1 matched; the last one was addressed to \
+02:00:00:00:00:09
 the driver goes on
 nic82599: rx: fault queue 0 outside: RDT[0] 9 of 8 slots (RDLEN[0] / 16)
 nic82599: frames dropped (filter): 2 in all

@@ -10,7 +10,8 @@ const ASKED: &str = "NIC82599_TELL";
 const IS_PROGRAM: &str = "NIC82599_TELLING_PROGRAM";
 const PRINTED: [&str; 4] = [
     "stray: r 0x10148: this is FWSM, which the bench doesn't model: don't wait: a reset is done when the write returns",
-    "1 frame was dropped: FCTRL.UPE was 0, no RAL and RAH with AV 1 matched; the last one was addressed to 02:00:00:00:00:09",
+    "1 frame was dropped: FCTRL.UPE was 0, no RAL and RAH with AV 1 matched; the last one was addressed to \
+     02:00:00:00:00:09",
     "rx: fault queue 0 outside: RDT[0] 9 of 8 slots (RDLEN[0] / 16)",
     "frames dropped (filter): 2 in all",
 ];

@@ -73,9 +73,9 @@ impl Calls {
         (self.made.as_slice(), self.rested)
     }
 
-    /// Runs the device steps of a queue only if it is at rest, which makes each step idle and changes nothing.
-    /// Otherwise it runs none. It may also run none although the queue is at rest; no clause says when it runs them.
-    /// Returns whether they ran. It allocates nothing.
+    /// Runs the device steps of a queue only if the queue is at rest: each step is then idle, and nothing changes. It
+    /// may run none even if the queue is at rest; no clause states when. Records the calls if the steps ran, and
+    /// returns whether they did. It allocates nothing.
     pub fn rest(&mut self, device: &Device, queue: u16) -> bool
         ensures made { result ≡ true → self.new ≡ self.old ++ idle_calls (steps_of_queue queue) }
         ensures idle { result ≡ true → Rests device.now queue }
@@ -90,9 +90,9 @@ impl Calls {
         }
     }
 
-    /// Runs a device step only if it is idle, and records its call with the idle steps since the last call. Otherwise
-    /// it does nothing. It may also do nothing although the step is idle; no clause says when it runs one. Returns
-    /// whether it ran. It allocates nothing.
+    /// Runs a device step only if it is idle, and records its call among the idle steps since the last call. It does
+    /// nothing if the step isn't idle, and sometimes even if it is; no clause states when. Returns whether the step
+    /// ran. It allocates nothing.
     #[inline(always)]
     pub fn idle(&mut self, device: &Device, step: &Event) -> bool
         ensures made { result ≡ true → self.new ≡ self.old ++ call_of step.now Idle ∷ [] }

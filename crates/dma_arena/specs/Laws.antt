@@ -7,7 +7,7 @@ use Rattle.std.specs.Prelude.{Some, None, Bool, ◌||◌, ◌&&◌}
 
 -- Ranges of bus addresses.
 
--- A range of bus addresses is lent exactly when each block that it touches is.
+-- A range of bus addresses is lent if and only if each block that it touches is lent.
 abbrev pub LentByBlocks : Type 0
 LentByBlocks =
     (m : Memory) (a n : ℕ) → (is_lent m a n ≡ true) ↔ ((c : ℕ) → a ≤ c → c < a + n → has_block m (c / 2048) ≡ true)
@@ -118,8 +118,8 @@ pub record PartsNumbers (a : Numbers) (at : ℕ) : Type 0 where
 abbrev pub CutLaw : Type 0
 CutLaw = (a : Numbers) (at : ℕ) → IsInside a at → PartsNumbers a at
 
--- The count of free numbers is 0 exactly when none is free, and changes by one with each number taken or given. All
--- numbers are free exactly when each owned one is. Each free number is owned.
+-- The count of free numbers is 0 if and only if no number is free, and changes by one with each number taken or given.
+-- All numbers are free if and only if each owned number is. Each free number is owned.
 pub record CountsFree (a : Numbers) : Type 0 where
   pub none : (free_count a ≡ 0) ↔ NoneFree a
   pub all : (are_all_free a ≡ true) ↔ ((number : ℕ) → is_own a number ≡ true → is_free a number ≡ true)
@@ -133,7 +133,7 @@ CountLaw = (a : Numbers) → CountsFree a
 
 -- Runs.
 
--- The run that is found is the lowest of all. None is found exactly when there is none.
+-- The run that is found is the lowest of all. No run is found if and only if there is none.
 pub record FindsLowest (a : Numbers) (count : ℕ) : Type 0 where
   pub found : (first : ℕ) → (run_in a count ≡ Some first) ↔ IsLowestRun a count first
   pub none : (run_in a count ≡ None) ↔ ((first : ℕ) → IsNoRun a first count)

@@ -7,26 +7,26 @@ pub record BlockRun : Type 0 where
   pub first : ℕ
   pub count : ℕ
 
--- Whether each of the `count` numbers from `first` on is free.
+-- Whether each of the `count` numbers starting at `first` is free.
 unfoldable pub are_free : Numbers → ℕ → ℕ → Bool
 are_free a first zero = true
 are_free a first (suc n) = is_free a first && are_free a (first + 1) n
 
--- The first of the `left` numbers from `number` on that begins a run of `count` free ones.
+-- The first of the `left` numbers starting at `number` that begins a run of `count` free numbers.
 unfoldable pub run_from : Numbers → ℕ → ℕ → ℕ → Option ℕ
 run_from a count number zero = None
 run_from a count number (suc left) =
     if are_free a number count then Some number else run_from a count (number + 1) left
 
--- The lowest number of the arena, from `from` on, that begins a run of `count` free blocks.
+-- The arena's lowest number, `from` or higher, that begins a run of `count` free blocks.
 abbrev pub lowest_run : Numbers → ℕ → ℕ → Option ℕ
 lowest_run a count from = run_from a count from (a.first + count_of a - from)
 
--- The lowest number of the arena that begins a run of `count` free blocks.
+-- The arena's lowest number that begins a run of `count` free blocks.
 abbrev pub run_in : Numbers → ℕ → Option ℕ
 run_in a count = lowest_run a count a.first
 
--- The arena after the `count` numbers from `first` on are taken.
+-- The arena after the `count` numbers starting at `first` are taken.
 unfoldable pub without_run : Numbers → ℕ → ℕ → Numbers
 without_run a first zero = a
 without_run a first (suc n) = with_free (without_run a first n) (first + n) false
@@ -36,7 +36,7 @@ unfoldable pub run_numbers : ℕ → ℕ → List ℕ
 run_numbers first zero = []
 run_numbers first (suc n) = (first + n) ∷ run_numbers first n
 
--- Each of the `count` numbers from `first` on is free.
+-- Each of the `count` numbers starting at `first` is free.
 abbrev pub IsFreeRun : Numbers → ℕ → ℕ → Type 0
 IsFreeRun a first count = (k : ℕ) → k < count → is_free a (first + k) ≡ true
 

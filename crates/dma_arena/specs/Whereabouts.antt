@@ -29,7 +29,7 @@ pub record MovesKeepEachOnce : Type 0 where
       → EachOnce a (number ∷ hand) m → EachOnce a hand (map.insert m number bytes)
   pub back : (a : Numbers) (hand : List ℕ) (m : Memory) (number : ℕ) → has_block m number ≡ true → EachOnce a hand m
       → EachOnce a (number ∷ hand) (map.remove m number)
-  -- A block arrives from an arena that shares no number with this one, and returns to its own arena.
+  -- A block is received from an arena that shares no number with this one, and returned to its own arena.
   pub foreign : (a : Numbers) (hand : List ℕ) (m : Memory) (number : ℕ) → is_own a number ≡ false → EachOnce a hand m
       → EachOnce a (number ∷ hand) m
   pub home : (a home : Numbers) (hand : List ℕ) (m : Memory) (number : ℕ) → is_own a number ≡ false

@@ -60,7 +60,7 @@ pub struct SplitRefused {
 }
 
 impl Arena {
-    /// Creates an arena of the block numbers `first` to `first + count - 1`, all of them free. It allocates 2,048 bytes
+    /// Creates an arena of the block numbers `first` to `first + count - 1`, all of them free. Allocates 2,048 bytes
     /// per block.
     ///
     /// Errors, in this order: `Empty` if `count` is 0; `TooMany` if a number would be above 65,535; `OutOfMemory`.
@@ -92,7 +92,7 @@ impl Arena {
         u32::from(self.first)
     }
 
-    /// Returns the number of this arena's block numbers, which are counted from its first.
+    /// Returns how many block numbers this arena has. They are consecutive, starting with its first.
     pub fn count(&self) -> u32
         ensures { result ≡ count_of self.now }
     {
@@ -124,10 +124,10 @@ impl Arena {
         self.list.count_free()
     }
 
-    /// Takes a free block, filled with zeros. Returns `None` exactly when no block is free.
+    /// Takes a free block, filled with zeros. Returns `None` if and only if no block is free.
     ///
-    /// Which free block is taken is unspecified. Only its number stops being free. If no block is free, nothing
-    /// changes.
+    /// Which free block is taken is unspecified. Only the taken block's number stops being free. If no block is free,
+    /// nothing changes.
     pub fn take(&mut self) -> Option<Buf>
         ensures none { IsNone result ↔ (free_count self.old ≡ 0) }
         ensures free { IfSome result (λ b. IsTrue (is_free self.old b.number)) }
@@ -139,7 +139,7 @@ impl Arena {
         self.take_at(number)
     }
 
-    /// Takes the block with this number, filled with zeros. Returns `None` exactly when the number isn't free in this
+    /// Takes the block with this number, filled with zeros. Returns `None` if and only if the number isn't free in this
     /// arena. Only this number stops being free. If it isn't free, nothing changes.
     pub fn take_at(&mut self, block: u32) -> Option<Buf>
         ensures none { IsNone result ↔ (is_free self.old block ≡ false) }
@@ -184,11 +184,11 @@ impl Arena {
         }
     }
 
-    /// Splits the arena into one with the numbers below `at` and one with the numbers from `at` on.
+    /// Splits the arena into one with the numbers below `at` and one with the remaining numbers.
     ///
-    /// Errors, in this order: `InUse` if a block isn't free; `OutsideArena` if one half would have no number;
-    /// `OutOfMemory`. Each error returns the arena unchanged. On success, all blocks were free, and both halves have a
-    /// number.
+    /// Errors, in this order: `InUse` if a block isn't free; `OutsideArena` if one half would have no numbers;
+    /// `OutOfMemory`. Each error contains the arena, unchanged. On success, all blocks were free, and both halves have
+    /// at least one number.
     pub fn split(self, at: u32) -> Result<(Arena, Arena), SplitRefused>
         ensures below { IfOk result (λ p. p.0 ≡ numbers_below self at) }
         ensures above { IfOk result (λ p. p.1 ≡ numbers_from self at) }
@@ -213,8 +213,8 @@ impl Arena {
         }
     }
 
-    /// Closes the arena and frees its memory. The error returns the arena unchanged, exactly when one of its blocks
-    /// isn't free.
+    /// Closes the arena and frees its memory. Fails if and only if one of its blocks isn't free; the error then
+    /// contains the arena, unchanged.
     pub fn close(self) -> Result<(), Arena>
         ensures ok { IsOk result ↔ IsTrue (are_all_free self) }
         ensures back { IfErr result (λ a. a ≡ self) }

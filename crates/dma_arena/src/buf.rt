@@ -42,9 +42,10 @@ pub(crate) fn nothing(slot: Option<Buf>)
 /// A block of packet memory that the program owns.
 ///
 /// In contracts, a block is its number and its bytes. It can't be cloned or dropped, so each block is in exactly one
-/// place, and finally it is given to an arena or lent.
+/// place, and must finally be given to an arena or lent.
 ///
-/// A block also stores an index from which on all of its bytes are still 0, as they are when it is taken from an arena.
+/// A block also stores an index. All of its bytes at and after this index are still 0, as they were when the block was
+/// taken from an arena.
 pub struct Buf {
     number: u16,
     written: u16,
@@ -97,7 +98,7 @@ impl Buf {
         mem::replace(&mut self.bytes, Raw::of(memory)).into_box()
     }
 
-    /// Copies bytes into the block, starting at index `at`. They must fit: a block has 2,048 bytes.
+    /// Copies bytes into the block, starting at index `at`. They must fit: a block is 2,048 bytes long.
     #[tactic(auto, unfolding(crate::specs::Memory::put_bytes))]
     pub fn put(&mut self, at: usize, bytes: &[u8])
         requires { at + length bytes.now ≤ 2048 }
@@ -108,8 +109,8 @@ impl Buf {
         self.bytes.get_mut()[at..end].copy_from_slice(bytes);
     }
 
-    /// Returns an index, at most 2,048, from which on all bytes are 0. The index is stored, not searched for, so bytes
-    /// before it may be 0 too.
+    /// Returns an index, at most 2,048; all bytes at and after it are 0. The index is stored, not searched for, so
+    /// bytes before it may be 0 too.
     pub fn zeros_from(&self) -> usize
         ensures within { result ≤ 2048 }
         ensures zeros { IsZeroFrom result self.now.bytes }
@@ -146,8 +147,8 @@ impl Buf {
         bytes
     }
 
-    /// Borrows the block's bytes for writing. The block keeps its number, and ends with the bytes last written through
-    /// the borrow.
+    /// Borrows the block's bytes for writing. The block keeps its number. When the borrow ends, it contains the bytes
+    /// last written through it.
     pub fn bytes_mut(&mut self) -> &mut [u8; BLOCK_BYTES]
         ensures* written { sem 𝓛 (LendsBytes self.entry result) }
         ensures value { result.now ≡ self.old.bytes }

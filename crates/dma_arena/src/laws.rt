@@ -4,8 +4,8 @@
 ghost use Rattle.dma_arena.specs.Laws.{LentByBlocks, LentEnds, ReadsBytes, ReadsBack, ReadsApart, WritesInside, WriteKeepsBlocks, MovesApart, WriteAvoids, BlockLaw, PutLaw, OwnsItsNumbers, ChangeLaw, CountLaw, GivenBack, CutLaw, LowestLaw, RunLaw, InsideAvoids, ReadsItsBlock};
 ghost use Rattle.dma_arena.specs.Whereabouts.{MovesKeepEachOnce, RunsKeepEachOnce};
 
-/// A range of bus addresses is lent exactly when each block that it touches is. A nonempty lent range ends with block
-/// 65,535 at the latest, so no address in it wraps.
+/// A range of bus addresses is lent if and only if each block that it touches is lent. A nonempty lent range doesn't
+/// extend past block 65,535, so no address in it wraps.
 pub fn lent_range()
     ensures blocks { LentByBlocks }
     ensures end { LentEnds }
@@ -59,9 +59,9 @@ pub fn put()
 {}
 
 /// A new arena owns exactly its numbers, and all of them are free. Taking or giving a block changes only whether its
-/// number is free; it changes neither another number nor which numbers are owned. The count of free blocks is 0 exactly
-/// when none is free, and changes by one with each block taken or given; all blocks are free exactly when each owned
-/// one is.
+/// number is free; it changes neither another number nor which numbers are owned. The count of free blocks is 0 if and
+/// only if no block is free, and changes by one with each block taken or given. All blocks are free if and only if each
+/// owned number is free.
 pub fn numbers()
     ensures own { OwnsItsNumbers }
     ensures change { ChangeLaw }
@@ -76,14 +76,14 @@ pub fn numbers_stay()
 {}
 
 /// If arenas share no number, each block of an arena is in exactly one place: free, owned or lent. This holds at first,
-/// and is kept when a block is taken, given, lent or taken back, when a foreign block arrives or returns to its own
-/// arena, and when an arena is split.
+/// and is kept when a block is taken, given, lent or taken back, when a foreign block is received or returned to its
+/// own arena, and when an arena is split.
 pub fn each_block_once()
     ensures { MovesKeepEachOnce }
 {}
 
-/// The run that an arena finds is its lowest free one. Taking it changes only the run's numbers. Each block of the
-/// arena stays in exactly one place when a run is taken, and when a block leaves the run.
+/// The run that is found in an arena is the lowest free one. Taking it changes only the run's numbers. Each block of
+/// the arena stays in exactly one place when a run is taken, and when a block leaves the run.
 pub fn runs()
     ensures lowest { LowestLaw }
     ensures taken { RunLaw }

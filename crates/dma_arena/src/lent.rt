@@ -54,8 +54,8 @@ impl LentMemory {
 
     /// Lends a block under its number.
     ///
-    /// Errors: `Twice` exactly when that number is already lent, otherwise `OutOfMemory`. Both errors return the block
-    /// and leave the lent memory as it was. A number is lent at most once.
+    /// Errors: `Twice` if and only if that number is already lent, otherwise `OutOfMemory`. Both errors contain the
+    /// block and leave the lent memory unchanged. A number is lent at most once.
     pub fn lend(&mut self, buf: Buf) -> Result<(), LendRefused>
         ensures lent { OnOk result (self.new ≡ map.insert self.old buf.number buf.bytes) }
         ensures once { OnOk result (has_block self.old buf.number ≡ false) }
@@ -84,7 +84,7 @@ impl LentMemory {
         self.blocks.remove(block)
     }
 
-    /// Returns the lowest lent number. Returns `None` exactly when no block is lent.
+    /// Returns the lowest lent number, or `None` if and only if no block is lent.
     pub fn lowest(&self) -> Option<u32>
         ensures none { IsNone result ↔ (self.now ≡ map.empty) }
         ensures lent { IfSome result (λ number. IsTrue (has_block self.now number)) }
@@ -94,8 +94,8 @@ impl LentMemory {
         self.blocks.lowest()
     }
 
-    /// Whether each of the `len` bytes from a bus address on is in a lent block. A range that would pass block 65,535
-    /// isn't lent; an empty range is.
+    /// Whether each of the `len` bytes starting at a bus address is in a lent block. A range that would extend past
+    /// block 65,535 isn't lent; an empty range is.
     pub fn is_lent(&self, address: u64, len: usize) -> bool
         ensures lent { result ≡ is_lent self.now address len }
         ensures whole { IsWhole self.now }
@@ -121,7 +121,7 @@ impl LentMemory {
         self.write_at(address, &bytes);
     }
 
-    /// Fills the slice with the bytes from a bus address on. All of them must be lent. Each byte is the one at its
+    /// Fills the slice with the bytes starting at a bus address. All of them must be lent. Each byte is the one at its
     /// address, even across blocks.
     pub fn read_at(&self, address: u64, bytes: &mut [u8])
         requires { is_lent self.now address (length bytes.old) ≡ true }
@@ -130,8 +130,8 @@ impl LentMemory {
         ranges::read_bytes(&self.blocks, address, bytes);
     }
 
-    /// Appends the `len` bytes from a bus address on to a vector that has room for them; it allocates nothing. All of
-    /// them must be lent. Each byte is the one at its address, even across blocks.
+    /// Appends the `len` bytes starting at a bus address to a vector that has room for them. It allocates nothing. All
+    /// of them must be lent. Each byte is the one at its address, even across blocks.
     pub fn append_to(&self, address: u64, len: usize, bytes: &mut Vec<u8>)
         requires lent { is_lent self.now address len ≡ true }
         requires room { length bytes.old.items + len ≤ vec_capacity bytes.old }
@@ -141,8 +141,8 @@ impl LentMemory {
         ranges::append_bytes(&self.blocks, address, len, bytes);
     }
 
-    /// Writes the bytes of the slice from a bus address on. All of them must be lent. Each byte goes to its address,
-    /// even across blocks.
+    /// Writes the bytes of the slice, starting at a bus address. All bytes of this range must be lent. Each byte goes
+    /// to its address, even across blocks.
     pub fn write_at(&mut self, address: u64, bytes: &[u8])
         requires { is_lent self.old address (length bytes.now) ≡ true }
         ensures { self.new ≡ write_at self.old address bytes.now }
@@ -153,7 +153,7 @@ impl LentMemory {
     /// Replaces the memory of a lent block without copying. The block now has the bytes of the new memory; the old
     /// memory is returned with the bytes that the block had.
     ///
-    /// Errors: returns the new memory exactly when the block isn't lent. Then nothing changes.
+    /// Fails if and only if the block isn't lent. The error then contains the new memory, and nothing changes.
     pub fn exchange(&mut self, block: u32, memory: BlockBox) -> Result<BlockBox, BlockBox>
         ensures ok { IsOk result ↔ IsTrue (has_block self.old block) }
         ensures put { OnOk result (self.new ≡ map.insert self.old block memory.value) }
@@ -169,7 +169,7 @@ impl LentMemory {
         Ok(self.blocks.exchange(block, memory))
     }
 
-    /// Ends the lent memory. The error returns it unchanged, exactly when a block is still lent.
+    /// Ends the lent memory. Fails if and only if a block is still lent; the error then contains the memory, unchanged.
     pub fn finish(self) -> Result<(), LentMemory>
         ensures ok { IsOk result ↔ (self ≡ map.empty) }
         ensures back { IfErr result (λ m. m ≡ self) }

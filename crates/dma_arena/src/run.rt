@@ -49,7 +49,7 @@ impl Run {
         self.count
     }
 
-    /// Takes out the block with the highest number, filled with zeros. Returns `None` exactly when the run is empty.
+    /// Takes out the block with the highest number, filled with zeros. Returns `None` if and only if the run is empty.
     /// The other blocks stay in the run; an empty run is unchanged.
     pub fn pop(&mut self) -> Option<Buf>
         ensures none { IsNone result ↔ (self.old.count ≡ 0) }
@@ -64,7 +64,7 @@ impl Run {
         self.slots[self.count as usize].take()
     }
 
-    /// Ends the run. The error returns it unchanged, exactly when it still has a block.
+    /// Ends the run. Fails if and only if blocks remain; the error then contains the run, unchanged.
     pub fn finish(self) -> Result<(), Run>
         ensures ok { IsOk result ↔ (self.count ≡ 0) }
         ensures back { IfErr result (λ r. r ≡ self) }
@@ -106,8 +106,8 @@ impl Run {
 }
 
 impl Arena {
-    /// Returns the lowest number, from `from` on, at which `count` consecutive blocks are free; `count` is at most 8.
-    /// Returns `None` exactly when there is no run of that length. `from` must not be below the arena's numbers.
+    /// Returns the lowest number, `from` or higher, at which `count` consecutive blocks are free; `count` must be at
+    /// most 8. Returns `None` if and only if there is no such number. `from` must not be below the arena's numbers.
     pub fn find_run(&self, from: u32, count: u32) -> Option<u32>
         requires from { self.now.first ≤ from }
         requires few { count ≤ 8 }
@@ -124,8 +124,8 @@ impl Arena {
         None
     }
 
-    /// Takes the lowest run of `count` free blocks (1 to 8), all filled with zeros. Returns `None` exactly when no
-    /// `count` consecutive blocks are free. It allocates nothing. Only the run's numbers stop being free; without a
+    /// Takes the lowest run of `count` free blocks (1 to 8), all filled with zeros. Returns `None` if and only if there
+    /// aren't `count` consecutive free blocks. It allocates nothing. Only the run's numbers stop being free; without a
     /// run, nothing changes.
     pub fn take_run(&mut self, count: u32) -> Option<Run>
         requires few { (1 ≤ count) × (count ≤ 8) }
@@ -161,7 +161,7 @@ fn nothing_left(slots: [Option<Buf>; RUN_BLOCKS])
     nothing(h);
 }
 
-/// Whether each of the `count` blocks from `first` on is free.
+/// Whether each of the `count` blocks starting at `first` is free.
 fn are_free(arena: &Arena, first: u32, count: u32) -> bool
     requires { (first < 65536) × (count ≤ 8) }
     ensures { result ≡ are_free arena.now first count }

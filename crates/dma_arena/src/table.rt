@@ -91,7 +91,7 @@ impl Table {
         Some(self.first)
     }
 
-    /// Copies bytes into a lent block, starting at index `offset`. They must fit: a block has 2,048 bytes.
+    /// Copies bytes into a lent block, starting at index `offset`. They must fit: a block is 2,048 bytes long.
     pub(crate) fn put(&mut self, number: u32, offset: usize, bytes: &[u8])
         requires lent { has_block self.old number ≡ true }
         requires room { offset + length bytes.now ≤ 2048 }

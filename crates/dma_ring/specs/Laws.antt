@@ -11,8 +11,8 @@ use Rattle.dma_ring.specs.declared.transmit.Command.{Command}
 
 -- Slots.
 
--- For a ring that contains its head and its tail: if they are equal, the device owns no slot. Otherwise it owns the
--- head, and the slots that it still owns after the head has advanced.
+-- Let a ring's head and tail be slots of the ring. If they are equal, the device owns no slot. Otherwise it owns the
+-- slot at the head, and the slots that it still owns after the head has advanced.
 pub record AvailableSlotsFollowTheHead : Type 0 where
   pub empty : (r : Ring) → IsFalse (is_outside r) → r.head ≡ r.tail → available_slots r ≡ []
   pub more : (r : Ring) → IsFalse (is_outside r) → r.head ≢ r.tail →

@@ -5,7 +5,7 @@ ghost use Rattle.dma_ring.specs.Descriptor.{first_half, second_half, of_halves};
 
 use byteorder::{ByteOrder, LittleEndian};
 
-/// Returns the word in a descriptor's bytes 0 to 7, little-endian.
+/// Returns the 64-bit value of a descriptor's bytes 0 to 7, little-endian.
 #[tactic(auto, unfolding(crate::specs::Descriptor::first_half))]
 pub fn first_half(descriptor: &[u8; 16]) -> u64
     ensures { result ≡ first_half descriptor.now }
@@ -13,7 +13,7 @@ pub fn first_half(descriptor: &[u8; 16]) -> u64
     LittleEndian::read_u64(&descriptor[..8])
 }
 
-/// Returns the word in a descriptor's bytes 8 to 15, little-endian.
+/// Returns the 64-bit value of a descriptor's bytes 8 to 15, little-endian.
 #[tactic(auto, unfolding(crate::specs::Descriptor::second_half))]
 pub fn second_half(descriptor: &[u8; 16]) -> u64
     ensures { result ≡ second_half descriptor.now }

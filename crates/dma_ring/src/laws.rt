@@ -3,8 +3,8 @@
 ghost use Rattle.dma_ring.specs.Driver.{PostedIsTheBuffer, ReportedIsRead, DataIsAsked};
 ghost use Rattle.dma_ring.specs.Laws.{AvailableSlotsFollowTheHead, SlotsAreApart, SlotsAreInBlocks, RingIsInBlock, HalvesComeBack, PacketIsReported, PieceIsReported, CommandIsAsked, DoneIsSet};
 
-/// For a ring that contains its head and its tail: if they are equal, the device owns no slot. Otherwise it owns the
-/// head, and the slots that it still owns after the head has advanced.
+/// Let a ring's head and tail be slots of the ring. If they are equal, the device owns no slot. Otherwise it owns the
+/// slot at the head, and the slots that it still owns after the head has advanced.
 pub fn available_slots_follow_the_head()
     ensures { AvailableSlotsFollowTheHead }
 {}
@@ -18,13 +18,13 @@ pub fn slots_are_apart()
     ensures ring { RingIsInBlock }
 {}
 
-/// A descriptor made from two halves of 64 bits has 16 bytes, and both halves are read back from it.
+/// A descriptor made from two 64-bit halves is 16 bytes long, and both halves are read back from it.
 pub fn halves_come_back()
     ensures { HalvesComeBack }
 {}
 
-/// A written-back descriptor reports each fact in its own bits. If the RSS type is below 16 and the hash below 2^32,
-/// each field of the packet is in its bits of the first half, and the other bits are 0. If the piece has fewer than
+/// A written-back descriptor reports each value in its own bits. If the RSS type is below 16 and the hash below 2^32,
+/// each field of the packet is in its bits of the first half, and the other bits are 0. If the piece is shorter than
 /// 65,536 bytes, the second half reports that the descriptor is done, whether the packet ends with the piece, and the
 /// number of bytes; bits 31:2 and 63:48 are 0.
 pub fn receive_fields()
@@ -32,7 +32,8 @@ pub fn receive_fields()
     ensures piece { PieceIsReported }
 {}
 
-/// The device reads each field of a command from its bits in the datasheet. Setting the done bit changes no other bit.
+/// The device reads each field of a command from the bits that the datasheet assigns to it. Setting the done bit
+/// changes no other bit.
 pub fn transmit_fields()
     ensures command { CommandIsAsked }
     ensures done { DoneIsSet }

@@ -32,8 +32,8 @@ impl Ring {
         u32::from(self.head) >= self.slots() || u32::from(self.tail) >= self.slots()
     }
 
-    /// Returns the number of slots that the device owns: those from the head up to the tail, tail excluded. It is 0 if
-    /// they are equal. Both must be slots of the ring.
+    /// Returns the number of slots that the device owns: from the head up to, but not including, the tail. It is 0 if
+    /// head and tail are equal. Both must be slots of the ring.
     pub fn available(&self) -> u32
         requires { IsFalse (is_outside self.now) }
         ensures { result ≡ length (available_slots self.now) }
@@ -47,7 +47,7 @@ impl Ring {
         }
     }
 
-    /// Returns the slot after this one, which is slot 0 after the last. The ring must have at most 65,536 slots.
+    /// Returns the slot after this one; after the last slot, this is slot 0. The ring must have at most 65,536 slots.
     pub fn next(&self, slot: u16) -> u16
         requires slot { slot < slots_of self.now }
         requires slots { slots_of self.now ≤ 65536 }

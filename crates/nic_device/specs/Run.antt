@@ -16,8 +16,8 @@ abbrev pub state_after : State → List (Event Block) → State
 state_after s [] = s
 state_after s (event ∷ events) = state_after (step_of s event).state events
 
--- A run that stopped: the replies and the state are the results of the events that ran. The rest are the other events,
--- unchanged; there is at least one.
+-- If a run stops, the replies and the state are the results of the events that ran. The other events, at least one, are
+-- returned unchanged.
 pub record IsStop (old : State) (events : List (Event Block)) (replies : List (Reply Block))
     (rest : List (Event Block)) (new : State) : Type 0 where
   pub replies_made : replies ≡ replies_of old (take (length replies) events)

@@ -41,8 +41,8 @@ after s e = (step_of s e).state
 abbrev pub reply_to : State → Event Block → Reply Block
 reply_to s e = (step_of s e).reply
 
--- An event that may be refused because memory ran out: `Lend` or `Arrive` if it would succeed, and a transmit step of a
--- queue below 128 that isn't idle. No other event may be.
+-- Only these events may fail because memory runs out: a `Lend` or `Arrive` that would succeed, and a transmit step of a
+-- queue below 128 that isn't idle.
 abbrev pub TakesMemory : State → Event Block → Type 0
 TakesMemory s (event.Lend block) = (lent s block).reply ≡ reply.Done
 TakesMemory s (event.Arrive frame) = (arrived s frame).reply ≡ reply.Done

@@ -42,11 +42,12 @@ impl Device {
         self.engine.write_range(bus, bytes)
     }
 
-    /// Exchanges the memory of a lent block for new memory. From then on the block holds the bytes of the new memory.
-    /// The former memory is returned with the bytes that the block held. Nothing is copied, although no clause says so.
+    /// Exchanges the memory of a lent block for new memory. From then on, the block contains the bytes of the new
+    /// memory. The former memory is returned with the bytes that the block contained. Nothing is copied, but no clause
+    /// states this.
     ///
-    /// To the device, this is a write of the new memory's 2,048 bytes to the block. Errors: returns the new memory if
-    /// and only if the block isn't lent.
+    /// To the device, this is a write of the new memory's 2,048 bytes to the block. Fails if and only if the block
+    /// isn't lent; the error then contains the new memory.
     pub fn exchange(&mut self, block: u32, memory: BlockBox) -> Result<BlockBox, BlockBox>
         ensures ok { IsOk result ↔ IsTrue (has_block self.old.memory block) }
         ensures put { OnOk result (self.new ≡

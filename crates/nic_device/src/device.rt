@@ -52,7 +52,7 @@ impl Device {
     ///
     /// Errors: `TooManyVfs` if and only if there are more than `MAX_VFS` (63) virtual functions. Otherwise `Fifo` if
     /// and only if the capacity of the receive list is 0 or above `MAX_FIFO` (4,096). `OutOfMemory` only if neither
-    /// applies. A refused configuration allocates nothing, although no clause says so.
+    /// applies. A refused configuration allocates nothing, but no clause states this.
     pub fn new(alloc: Global, config: Config) -> Result<Self, NewFault>
         ensures made { IfOk result (λ device. device ≡ new_state config.vfs config.fifo) }
         ensures fits { OnOk result ((config.vfs ≤ MAX_VFS) × ¬ IsBadFifo config.fifo) }
@@ -71,7 +71,7 @@ impl Device {
 
     /// Installs an EEPROM image and returns the old one. EEC shows the new image's size immediately, and the next
     /// EEPROM step reads its words; an answer already in EERD stays. While the image is installed, each reset performs
-    /// the register writes that it contains, except those to CTRL, to EERD or to an address without a register.
+    /// the register writes that it contains, except writes to CTRL, to EERD, or to an address without a register.
     pub fn install(&mut self, image: Image) -> Image
         ensures former { result ≡ self.old.image }
         ensures installed { self.new ≡ record self.old { image = image } }
@@ -100,18 +100,19 @@ impl Device {
     /// States that the device is sound between two calls, whatever happened before. It does nothing.
     ///
     /// A device is sound if its registers are sound, each lent block is whole, the EEPROM image is valid, and the
-    /// configuration is in range; and if its frames and staged bytes are sound. Each frame in the receive list has 60
-    /// to 65,535 bytes, some of them not yet written, and is for a queue below 128. It has the number of an RSS type
-    /// and a 32-bit hash, which is 0 with type 0. Only the oldest frame may be partly written, and only while the
-    /// receive side of its queue is enabled. The list holds at most its capacity. Each of 128 queues stages at most
-    /// 65,535 bytes, and none while its transmit side is disabled. Each transmitted frame is from a queue below 128 and
-    /// has at most 65,535 bytes.
+    /// configuration is in range; and if its frames and staged bytes are sound. Each frame in the receive list is 60 to
+    /// 65,535 bytes long, isn't completely written yet, and is for a queue below 128. It has the number of an RSS type
+    /// and a 32-bit hash, which is 0 if the type is 0. Only the oldest frame may be partly written, and only while the
+    /// receive side of its queue is enabled. The list isn't longer than its capacity. Each of the 128 queues stages at
+    /// most 65,535 bytes, and none while its transmit side is disabled. Each transmitted frame is from a queue below
+    /// 128 and at most 65,535 bytes long.
     ///
     /// Registers are sound if each place of the table exists, and the following holds. A word has only bits of its
     /// row's reset value and bits that can become 1 there. The bits that can become 1 are the mask's bits if the
     /// register is written, also bit 25 in an enable register, all bits in a counter and in EERD, bits 2 to 7 in
     /// PVFMAILBOX, and none in PFMAILBOX or in a register that only acts or is calculated. A bit is reported only while
-    /// its cause and its mask are 1. PVFMAILBOX has at most one of bits 2 and 3 set, and at most one of bits 6 and 7.
+    /// its cause and its mask are 1. Each PVFMAILBOX has at most one of bits 2 and 3 set, and at most one of bits 6 and
+    /// 7.
     pub fn stays_sound(&self)
         ensures { IsSound self.now }
     {

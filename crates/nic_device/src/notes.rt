@@ -17,7 +17,7 @@ use std::sync::Arc;
 
 impl Note {
     /// Returns the note of a block of packet memory. The stored bytes are copied into the vector, which must be empty
-    /// and have a capacity of at least 2,048 bytes. Spare capacity is freed, although no clause says so.
+    /// and have a capacity of at least 2,048 bytes. Spare capacity is freed, but no clause states this.
     pub fn of(buf: &Buf, room: Vec<u8>) -> Note
         requires empty { room.items ≡ [] }
         requires room { 2048 ≤ vec_capacity room }
@@ -141,7 +141,7 @@ impl Reply {
     }
 
     /// Returns the note of a reply. The copied bytes go into the vector, which must be empty and have room for them.
-    /// This allocates nothing, although no clause says so.
+    /// This allocates nothing, but no clause states this.
     pub fn note_in(&self, room: Vec<u8>) -> ReplyNote
         requires empty { room.items ≡ [] }
         requires room { note_length self.now ≤ vec_capacity room }
@@ -210,7 +210,7 @@ impl Reply {
     }
 
     /// Turns a reply without a block into its note. If it contains a block, the block is returned in the error. This
-    /// copies nothing, although no clause says so.
+    /// copies nothing, but no clause states this.
     pub fn into_note(self) -> Result<ReplyNote, Buf>
         ensures note { IfOk result (λ note. note ≡ self) }
         ensures block { result_err result ≡ handed_block self }

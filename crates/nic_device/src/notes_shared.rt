@@ -27,8 +27,8 @@ impl Notes {
         }
     }
 
-    /// Returns the note of a block. It shares the bytes of the last note at the block's place if they are equal and
-    /// there is memory for that, although no clause says so.
+    /// Returns the note of a block. If the last note at the block's place has equal bytes and there is memory for
+    /// sharing, the new note shares these bytes; no clause states this.
     ///
     /// `AllocError` if there is no memory for a new copy of the bytes.
     #[inline(always)]

@@ -89,10 +89,11 @@ impl Device {
         let engine = &self.engine;
         engine.is_at_rest(queue)
     }
-    /// Returns the note of an event that would be idle now, would change nothing and lends no block; or `None`. No
-    /// clause says when it returns a note. It does so for the enable step of a side in the state that its enable bit
-    /// requests, for the transmit step of a queue that can't send, and for a receive step while the receive list is
-    /// empty. It allocates nothing.
+    /// Returns the event's note, or `None`. It returns the note only if the event would be idle now, would change
+    /// nothing, and lends no block. It may return `None` even for such an event; no clause states when. In practice, it
+    /// returns the note for three kinds of events: the enable step of a side that already has its requested state, the
+    /// transmit step of a queue that can't send, and a receive step while the receive list is empty. It allocates
+    /// nothing.
     pub fn idle_note(&self, event: &Event) -> Option<EventNote>
         ensures note { IfSome result (λ note. note ≡ event.now) }
         ensures idle { IfSome result (λ note. IsIdle self.now event.now) }

@@ -26,7 +26,7 @@ impl Device {
         ensures stopped { IfErr result
             (λ stop. IsStop self.old events.items stop.replies.items stop.rest.items self.new) }
 
-        // After at least one event has run, the run stops only before an event that takes memory.
+        // After at least one event has run, the run stops only before an event that needs memory.
         ensures memory { IfErr result (λ stop. (event : Event Block) (rest : List (Event Block)) →
             0 < length stop.replies.items → stop.rest.items ≡ event ∷ rest → TakesMemory self.new event) }
     {

@@ -77,8 +77,7 @@ impl Device {
         requires away { AreAway arena.old self.old.memory }
         requires lent { AreAmong self.old.memory snapshot.now.memory }
         ensures restored { OnOk result (self.new ≡ snapshot.now) }
-        // If the arena was some arena without the blocks lent before, it is now that arena without the snapshot's
-        // blocks.
+        // If the arena was an arena A without the blocks lent before, it is now A without the snapshot's blocks.
         ensures left { OnOk result (StillLeft arena.old self.old.memory arena.new snapshot.now.memory) }
         ensures unchanged { OnErr result (self.new ≡ self.old) }
         ensures kept { OnErr result (arena.new ≡ arena.old) }
@@ -94,8 +93,8 @@ impl Device {
     /// Creates a device in the snapshot's state. The blocks lent to it are taken out of the arena, so each must be free
     /// there.
     ///
-    /// Errors: `NotFree` with the lowest of these blocks that isn't free in the arena; it may not be one of the arena's
-    /// blocks at all. Otherwise `OutOfMemory`. Both leave the arena unchanged.
+    /// Errors: `NotFree` with the lowest of these blocks that isn't free in the arena; that block may not even belong
+    /// to the arena. Otherwise `OutOfMemory`. Both leave the arena unchanged.
     pub fn restore(snapshot: &Snapshot, arena: &mut Arena) -> Result<Device, RestoreRefused>
         ensures restored { IfOk result (λ device. device ≡ snapshot.now) }
         ensures left { OnOk result (HaveLeft arena.old arena.new snapshot.now.memory) }

@@ -81,10 +81,10 @@ impl RegisterFile {
     /// Reads a place. Returns the value that `peek` returns, before the address masks it. `around` is the state of the
     /// link and the EEPROM. The index must be below the row's count.
     ///
-    /// Reading a clear-on-read counter resets it to 0. Reading a group's causes clears them; with GPIE bit 5 set, a
-    /// read of EICR clears bits 29 to 16 only. Where the auto-mask acts on reads, it also clears the masks that it
-    /// selects. A reported bit is forgotten if its cause or mask is then 0. Reading PVFMAILBOX clears bits 4, 5 and 7
-    /// of it. Nothing else changes.
+    /// Reading a clear-on-read counter resets it to 0. Reading a group's causes clears them; if GPIE bit 5 is set, a
+    /// read of EICR clears only bits 29 to 16. If the auto-mask acts on reads, the read also clears the masks that the
+    /// auto-mask selects. A bit whose cause or mask is then 0 is no longer reported. Reading PVFMAILBOX clears its bits
+    /// 4, 5 and 7. Nothing else changes.
     #[inline(always)]
     pub fn read(&mut self, around: Surroundings, place: Place) -> u32
         requires { place.index < (row_of place.row).count }
@@ -135,7 +135,8 @@ impl RegisterFile {
     /// PVFMAILBOX[v], and bit 1 sets bit 5. Either one sets in PVTEICR[v] the cause that bits 5:0 of PVTIVAR_MISC[v]
     /// name, if bit 7 there is 1 and the cause is at most 2.
     ///
-    /// CTRL_EXT is stored. With bit 14 set, each PVFMAILBOX that has bit 6 set then has bit 6 cleared and bit 7 set.
+    /// CTRL_EXT is stored. If bit 14 is written as 1, each PVFMAILBOX with bit 6 set then has bit 6 cleared and bit 7
+    /// set.
     #[inline(always)]
     pub fn write(&mut self, place: Place, view: u32, word: u32)
         requires { place.index < (row_of place.row).count }

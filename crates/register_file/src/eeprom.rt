@@ -16,7 +16,7 @@ const DATA: u32 = 0x0001_0000;
 
 impl RegisterFile {
     /// Returns the index, below 16,384, of the EEPROM word that EERD requests: bits 15 to 2, if bit 0, START, is 1.
-    /// Returns `None` if EERD requests none.
+    /// Returns `None` if EERD requests no word.
     pub fn eeprom_asked(&self) -> Option<u16>
         ensures asked { result ≡ eeprom_asked self.now }
         ensures range { IfSome result (λ index. index < 16384) }

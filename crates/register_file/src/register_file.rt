@@ -42,8 +42,8 @@ impl Model for RegisterFile {
 }
 
 impl RegisterFile {
-    /// Returns the registers after a reset. Each has its row's reset value, no side of the 128 queues is enabled or
-    /// requested to be, and no bit is reported for the physical function's group or the groups of the 64 virtual
+    /// Returns the registers after a reset. Each has its row's reset value, no side of the 128 queues is enabled or has
+    /// an enable request, and no bit is reported for the physical function's group or the groups of the 64 virtual
     /// functions.
     pub fn new() -> Self
         ensures { result ≡ reset_registers }
@@ -86,7 +86,7 @@ impl RegisterFile {
         self.cell(row, index)
     }
 
-    /// Whether a side of a queue below `QUEUES` is requested to be enabled.
+    /// Whether a side of a queue below `QUEUES` has an enable request.
     pub fn is_wanted(&self, dir: Dir, queue: u16) -> bool
         requires { queue < 128 }
         ensures { result ≡ is_wanted self.now dir queue }

@@ -39,8 +39,8 @@ impl RegisterFile {
         has_flag(self.word(RowId::Dmatxctl, 0), Dmatxctl::TE)
     }
 
-    /// Returns the longest frame in bytes, without the frame check sequence. This is 1,514, or, with HLREG0 bit 2
-    /// (jumbo frames) set, MAXFRS bits 31 to 16 minus 4, but at least 0.
+    /// Returns the longest frame in bytes, without the frame check sequence. This is 1,514, or, if HLREG0 bit 2 (jumbo
+    /// frames) is set, MAXFRS bits 31 to 16 minus 4, but at least 0.
     #[inline(always)]
     pub fn frame_limit(&self) -> u16
         ensures { result ≡ frame_limit self.now }

@@ -22,8 +22,8 @@ pub use Rattle.register_laws.specs.Sound.{HasShape}
 abbrev pub after_write : Registers → Place → ℕ → ℕ → Registers
 after_write r p view word = written (row_of p.row).kind r p view word
 
--- After a reset each place has its row's reset value, no side of a queue is enabled or requested to be enabled, and
--- nothing is reported.
+-- After a reset each place has its row's reset value, no side of a queue is enabled or has an enable request, and no
+-- bit is reported.
 abbrev pub ResetGivesResetValues : Type 0
 ResetGivesResetValues =
     (p : Place) → p.index < (row_of p.row).count → word_at reset_registers.words p ≡ (row_of p.row).reset
@@ -36,7 +36,7 @@ ResetSwitchesOff =
 abbrev pub ResetTellsNothing : Type 0
 ResetTellsNothing = (g : Group) → index_of g < 64 → reported_by reset_registers g ≡ 0
 
--- A word that is stored at a place is there, and everything else is unchanged.
+-- A word that is stored at a place is found there, and everything else is unchanged.
 abbrev pub PutWordIsThere : Type 0
 PutWordIsThere =
     (r : Registers) → HasShape r → (p : Place) → p.index < (row_of p.row).count → (word : ℕ) →
@@ -98,7 +98,7 @@ EnableReadTellsOn =
     (r : Registers) (dir : Dir) (queue : ℕ) (around : Surroundings) →
     has_bit 25 (read_word (row_of (enable_row dir)).kind r around (place (enable_row dir) queue)) ≡ is_on r dir queue
 
--- After a side is shut, it is disabled and not requested to be enabled, and the rest of the side is unchanged.
+-- After a side is shut, it is disabled, its enable request is withdrawn, and the rest of the side is unchanged.
 abbrev pub ShutIsOffReceive : Type 0
 ShutIsOffReceive =
     (r : Registers) → HasShape r → (queue : ℕ) → queue < 128 →
@@ -118,7 +118,7 @@ RingIsHeldWhileOn =
     (r : Registers) (dir : Dir) (queue view word : ℕ) → IsTrue (is_on r dir queue) →
     All (λ row. after_write r (place row queue) view word ≡ r) (held_rows dir)
 
--- Of a side, a write of its enable word changes only the enable request, which becomes bit 25 of the written word: the
+-- A write of a side's enable word changes only the side's enable request, which becomes bit 25 of the written word: the
 -- side stays enabled or disabled, and its ring is unchanged.
 abbrev pub EnableWriteAsksReceive : Type 0
 EnableWriteAsksReceive =
@@ -278,7 +278,7 @@ WordIsOnePlace = (p q : Place) → q ≢ p → LacksWord (the_word p) q
 abbrev pub PendingIsPending : Type 0
 PendingIsPending = (g : Group) → Covers any_pending (pending g)
 
--- Owners that aren't equal are different owners.
+-- Two owners that aren't equal pass the test for different owners.
 abbrev pub OwnersDiffer : Type 0
 OwnersDiffer = (o other : Owner) → o ≢ other → IsFalse (is_owner o other)
 

@@ -12,18 +12,18 @@ ghost use Rattle.register_laws.specs.SoundWords.{SoundWordsAreSmall, ActingWords
 ghost use Rattle.register_laws.specs.PoolReset.{PoolIsReset, PoolResetTakesTheRest, PoolResetStaysWithin, PoolResetKeepsSound};
 ghost use Rattle.register_laws.specs.Agreement.{PoolReadsStayWithin, PoolWritesStayWithin, SharedReadsChangeNothing, SharedWritesChangeNothing, PoolReadsTellTheSame, SharedReadsTellTheSame, PoolReadsKeepAgreement, PoolWritesKeepAgreement, PoolResetKeepsAgreement, PoolsHaveNothingInCommon, MissedAgreementStands};
 
-/// Registers are sound after a reset and after every change. They have each place of the table. Each word has only bits
-/// that its row can have. Bits are reported only if their cause and mask are 1. Each mailbox has at most one holder and
-/// at most one of the bits that report a reset.
+/// Registers are sound after a reset and stay sound through every change. Sound registers have every place in the
+/// table. Each word has only bits that its row can have. A bit is reported only if its cause and mask are 1. Each
+/// mailbox has at most one holder and at most one of the bits that report a reset.
 pub fn soundness_is_kept()
     ensures reset { ResetIsSound }
     // A read keeps them sound.
     ensures read { ReadKeepsSound }
-    // A write keeps them sound. The reset that it may request isn't part of it.
+    // A write keeps them sound. A reset that the write requests isn't part of it.
     ensures write { WriteKeepsSound }
-    // Counting a counter that stays at the largest word keeps them sound.
+    // Incrementing a counter that saturates keeps them sound.
     ensures count { CountKeepsSound }
-    // Counting a counter that wraps around keeps them sound.
+    // Incrementing a counter that wraps keeps them sound.
     ensures count_wrapping { CountWrappingKeepsSound }
     // An EEPROM answer below 65,536 keeps them sound.
     ensures answer { AnswerKeepsSound }
@@ -50,15 +50,15 @@ pub fn sound_words_are_of_their_rows()
     ensures rings { RingsAreAligned }
 {}
 
-/// After a reset each place has its row's reset value, no side of a queue is enabled or requested to be enabled, and
-/// nothing is reported.
+/// After a reset each place has its row's reset value, no side of a queue is enabled or has an enable request, and no
+/// bit is reported.
 pub fn reset_is_the_tables()
     ensures words { ResetGivesResetValues }
     ensures off { ResetSwitchesOff }
     ensures reported { ResetTellsNothing }
 {}
 
-/// A word that is stored at a place is there, and everything else is unchanged.
+/// A word that is stored at a place is found there, and everything else is unchanged.
 pub fn put_word_is_there()
     ensures there { PutWordIsThere }
     ensures alone { PutWordIsAlone }
@@ -77,16 +77,16 @@ pub fn stored_word_reads_back()
 
 /// An operation changes only what is in its footprint. For a read or a write, this is the footprint of its place. For a
 /// count, an EEPROM answer and a moved head, it is one word. For raised causes and a message, it is the causes, masks
-/// and reported bits of the group. For a switch, it is the enable word; for a fault, it is the enable word and whether
-/// the side is requested to be enabled.
+/// and reported bits of the group. For a switch, it is the enable word; for a fault, it is the enable word and the
+/// side's enable request.
 #[tactic(auto, using(crate::proofs::Within::changes_within))]
 pub fn changes_stay_in_their_footprint()
     ensures read { ReadStaysWithin }
     // A write changes nothing outside its footprint.
     ensures write { WriteStaysWithin }
-    // Counting a counter that stays at the largest word changes nothing outside its footprint.
+    // Incrementing a counter that saturates changes nothing outside its footprint.
     ensures count { CountStaysWithin }
-    // Counting a counter that wraps around changes nothing outside its footprint.
+    // Incrementing a counter that wraps changes nothing outside its footprint.
     ensures count_wrapping { CountWrappingStaysWithin }
     // An EEPROM answer changes nothing outside its footprint.
     ensures answer { AnswerStaysWithin }
@@ -142,7 +142,7 @@ pub fn switched_side_is_as_wanted()
     ensures stays { SwitchedSideStays }
 {}
 
-/// After a side is shut, it is disabled and not requested to be enabled, and the rest of the side is unchanged.
+/// After a side is shut, it is disabled, its enable request is withdrawn, and the rest of the side is unchanged.
 pub fn shut_side_is_off()
     ensures receive { ShutIsOffReceive }
     ensures transmit { ShutIsOffTransmit }
@@ -153,17 +153,17 @@ pub fn ring_is_held_while_on()
     ensures { RingIsHeldWhileOn }
 {}
 
-/// A written tail, control word or write-back address becomes the side's. So does a written base, length or head while
-/// the side is disabled. Only the bits that the register's mask has and the address shows are written. The rest of the
-/// side is unchanged.
+/// After a write of a side's tail, control word or write-back address, the side has the written value. The same holds
+/// for a base, length or head while the side is disabled. Only the bits that the register's mask has and the address
+/// shows are written. The rest of the side is unchanged.
 pub fn written_word_is_the_sides()
     ensures receive { WrittenReceiveIsTheSides }
     ensures transmit { WrittenTransmitIsTheSides }
 {}
 
-/// Of a side, a write of its enable word changes only the enable request, which becomes bit 25 of the written word: the
-/// side stays enabled or disabled, and its ring is unchanged. Bit 25 of a side's enable word, as read, shows whether
-/// the side is enabled.
+/// A write of a side's enable word changes only the side's enable request, which becomes bit 25 of the written word:
+/// the side stays enabled or disabled, and its ring is unchanged. Bit 25 of a side's enable word, as read, shows
+/// whether the side is enabled.
 pub fn enable_write_only_asks()
     ensures receive { EnableWriteAsksReceive }
     ensures transmit { EnableWriteAsksTransmit }
@@ -182,26 +182,27 @@ pub fn read_only_counters_go_round()
     ensures { ReadOnlyCountersGoRound }
 {}
 
-/// Only STATUS, LINKS and EEC are calculated rows. They have formulas over the registers, the link and the size of the
-/// EEPROM image.
+/// Only STATUS, LINKS and EEC are calculated rows. Formulas calculate their values from the registers, the link and the
+/// size of the EEPROM image.
 #[tactic(auto, using(crate::proofs::Formulas::calculated_rows))]
 pub fn calculated_rows_have_formulas()
     ensures { CalculatedRowsHaveFormulas }
 {}
 
-/// An EEPROM answer below 65,536 is read back, with the requested index and with DONE; then no word is requested.
+/// An EEPROM answer below 65,536 is read back, with the requested index and with DONE set. Afterwards, no word is
+/// requested.
 pub fn eeprom_answer_is_read()
     ensures { EepromAnswerIsRead }
 {}
 
 /// A change to the interrupts of a group below 64 is stored in the group's registers: causes, masks and reported bits,
-/// which have their cause and mask at 1. The auto-clear and the auto-mask are unchanged.
+/// each of which has its cause and mask at 1. The auto-clear and the auto-mask are unchanged.
 pub fn interrupts_stand()
     ensures { InterruptsStand }
 {}
 
 /// After a pool reset, everything that the reset covers is as after a reset. Each word has its row's reset value, no
-/// side of the pool's queues is requested to be enabled, and no bit of its function's interrupts is reported. The reset
+/// side of the pool's queues has an enable request, and no bit of its function's interrupts is reported. The reset
 /// covers everything that belongs to the pool, except PFMBMEM and all bits of PVFMAILBOX other than 2, 4 and 5.
 /// Everything else is unchanged. Sound registers stay sound.
 pub fn reset_pool_is_reset()

@@ -54,7 +54,7 @@ pub fn pool_is_the_lowest_of_the_first_match()
 {}
 
 /// While VT_CTL bit 0 is 1, an accepted frame for a pool without queues is dropped for the reason `NoPool`. If GCR_EXT
-/// selects 16 pools and MRQC has a code for pools, these are the pools above 15. Otherwise, with MRQC's code for 32
+/// selects 16 pools and MRQC has a code for pools, these are the pools above 15. Otherwise, if MRQC has the code for 32
 /// pools, these are the pools above 31.
 pub fn pools_beyond_get_none()
     ensures { PoolsBeyondGetNone }
@@ -66,11 +66,11 @@ pub fn functions_get_theirs()
     ensures { FunctionsGetTheirs }
 {}
 
-/// The queue that receives a frame. With MRQC's code for hashing alone, the queue is the frame's entry: bits 3 to 0 of
-/// the RETA byte that the low seven bits of its hash select, or 0 if its RSS type is 0. With VT_CTL bit 0 at 1 and a
-/// code for pools, it is a queue of the frame's pool p. If GCR_EXT selects 16 pools, it is 8p + entry mod 8 with
-/// hashing, and 8p without. Otherwise it is 4p + entry mod 4 with 32 pools, 2p + entry mod 2 with 64 pools and hashing,
-/// and 2p with 64 pools alone.
+/// MRQC and GCR_EXT determine the queue that receives a frame. With MRQC's code for hashing alone, the queue is the
+/// frame's entry: bits 3 to 0 of the RETA byte that the low seven bits of its hash select, or 0 if its RSS type is 0.
+/// If VT_CTL bit 0 is 1 and MRQC has a code for pools, it is a queue of the frame's pool p. If GCR_EXT selects 16
+/// pools, it is 8p + entry mod 8 with hashing, and 8p without. Otherwise it is 4p + entry mod 4 with 32 pools, 2p +
+/// entry mod 2 with 64 pools and hashing, and 2p with 64 pools alone.
 pub fn queue_is_by_the_mode()
     ensures { QueuesByMode }
 {}

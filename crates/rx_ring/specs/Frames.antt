@@ -57,8 +57,8 @@ unfoldable pub joined : List Piece → List ℕ
 joined [] = []
 joined (p ∷ ps) = p.bytes ++ joined ps
 
--- The piece reports the packet as every piece of the frame does. It has EOP exactly when the frame is complete with it,
--- and then no piece follows.
+-- The piece reports the packet as every piece of the frame does. It has EOP if and only if it completes the frame, and
+-- then no piece follows.
 pub record IsPieceOf (frame : Rest) (before : List Piece) (p : Piece) (after : List Piece) : Type 0 where
   pub reported : p.first ≡ frame.first
   pub end : IsTrue p.end ↔ (joined before ++ p.bytes ≡ frame.bytes)
@@ -73,8 +73,8 @@ pub record MakeFrame (frame : Rest) (pieces : List Piece) : Type 0 where
 
 -- The pieces that a driver reads, joined in order, are a prefix of the frame. This requires that at every fill each
 -- lent block is whole and the buffer shares no byte with its descriptor. It also requires the first half to be below
--- 2^64. A piece has EOP exactly when the frame is complete with it, and then no piece follows. Each piece reports the
--- same packet.
+-- 2^64. A piece has EOP if and only if it completes the frame, and then no piece follows. Each piece reports the same
+-- packet.
 abbrev pub PiecesMakeFrame : Type 0
 PiecesMakeFrame =
     (turns : List Turn) (frame : Rest) → All IsSound turns → frame.first < 2 ^ 64

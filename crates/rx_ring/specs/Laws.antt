@@ -58,7 +58,7 @@ pub record IsHealthy (m : Memory) (r : Ring) (srrctl : ℕ) : Type 0 where
   pub descriptor : HasDescriptor m r
   pub buffer : IsTrue (is_lent m (buffer_address m r) (buffer_size_of srrctl))
 
--- A slot is filled, whatever the frame, if the head and the tail are in the ring, its descriptors have one buffer, the
+-- Whatever the frame, a slot is filled if the head and the tail are in the ring, its descriptors have one buffer, the
 -- buffer size isn't 0, and the descriptor and the whole buffer are lent.
 abbrev pub HealthyIsFilled : Type 0
 HealthyIsFilled =
@@ -67,7 +67,7 @@ HealthyIsFilled =
     (filled_of r rest (buffer_address m r) (piece_length (buffer_size_of srrctl) rest))
 
 -- The filled slot is the one at the head, and the head advances to the next slot. The buffer takes as much of the rest
--- of the frame as it has room for. The frame ends there exactly when none of its bytes remain.
+-- of the frame as it has room for. The frame ends there if and only if none of its bytes remain.
 pub record TakesPiece (m : Memory) (r : Ring) (srrctl : ℕ) (rest : Rest) (f : Filled) : Type 0 where
   pub slot : f.slot ≡ r.head
   pub head : f.head ≡ next_of (slots_of r) r.head

@@ -11,21 +11,21 @@ pub fn faults()
     ensures memory { FaultWritesNothing }
 {}
 
-/// A slot is filled, whatever the frame, if the head and the tail are in the ring, its descriptors have one buffer, the
+/// Whatever the frame, a slot is filled if the head and the tail are in the ring, its descriptors have one buffer, the
 /// buffer size isn't 0, and the descriptor and the whole buffer are lent.
 pub fn healthy()
     ensures { HealthyIsFilled }
 {}
 
 /// The filled slot is the one at the head, and the head advances to the next slot of the ring. The buffer takes as much
-/// of the frame as it has room for, at least one byte if any remains. The frame ends there exactly when none of its
+/// of the frame as it has room for, at least one byte if any remains. The frame ends there if and only if none of its
 /// bytes remain.
 pub fn piece()
     ensures { PieceLaw }
 {}
 
 /// What a driver reads from a filled slot, if each lent block is whole and the first half is below 2^64. The descriptor
-/// is done, ends the packet exactly when the frame ends, and contains the number of bytes and the first half. The
+/// is done, ends the packet if and only if the frame ends, and contains the number of bytes and the first half. The
 /// buffer contains the bytes, if it shares none with the descriptor.
 pub fn read_back()
     ensures { DriverReads }
@@ -33,8 +33,8 @@ pub fn read_back()
 
 /// The pieces that a driver reads, joined in order, are a prefix of the frame. This requires that at every fill each
 /// lent block is whole and the buffer shares no byte with its descriptor. It also requires the first half to be below
-/// 2^64. A piece has EOP exactly when the frame is complete with it, and then no piece follows. Each piece reports the
-/// same packet.
+/// 2^64. A piece has EOP if and only if it completes the frame, and then no piece follows. Each piece reports the same
+/// packet.
 pub fn frames()
     ensures { PiecesMakeFrame }
 {}

@@ -125,7 +125,7 @@ GoOn [] staged = ⊤
 GoOn (t ∷ ts) staged = GoesOn t staged × GoOn ts (turn_of t staged).staged
 
 -- The frame that is sent at the end of a packet consists of the bytes of its data descriptors in order, padded with
--- zeros to 60 bytes if short frames are padded when the last descriptor is fetched. After it no byte is staged.
+-- zeros to 60 bytes if short frames are padded when the last descriptor is fetched. Afterwards, no bytes are staged.
 abbrev pub PacketLaw : Type 0
 PacketLaw =
     (turns : List Turn) (last : Turn) (f : Fetched) (frame : List ℕ) → GoOn turns []

@@ -4,35 +4,35 @@
 ghost use Rattle.tx_ring.specs.Laws.{TestLaw, FaultChangesNothing, SlotLaw, PacketLaw, DriverReads, WritesInsideReport, FetchKeepsBlocks, ReportLaw, ReportsInOneBlock, DoneChangesDoneAlone};
 
 /// The first test that fails determines the fault. The tests are, in order: head and tail in the ring, descriptor lent,
-/// advanced format, known type. A data descriptor has four more: no offload, frame within the limit, the descriptor's
-/// bytes lent, the write-back's bytes lent. If none fails, the descriptor is completed. A fault changes neither the
-/// memory nor the staged bytes.
+/// advanced format, known type. For a data descriptor, four more follow: no offload, frame within the limit, the
+/// descriptor's bytes lent, the write-back's bytes lent. If none fails, the descriptor is completed. A fault changes
+/// neither the memory nor the staged bytes.
 pub fn faults()
     ensures order { TestLaw }
     ensures unchanged { FaultChangesNothing }
 {}
 
-/// The fetched slot is the one at the head, and the head advances to the next slot of the ring. Its descriptor was a
-/// context descriptor, which does nothing else, or a data descriptor that passed its tests.
+/// The fetched slot is the one at the head, and the head advances to the next slot of the ring. Its descriptor was
+/// either a context descriptor, which has no other effect, or a data descriptor that passed its tests.
 pub fn slot()
     ensures { SlotLaw }
 {}
 
 /// The frame that is sent at the end of a packet consists of the bytes of its data descriptors in order, padded with
-/// zeros to 60 bytes if short frames are padded when the last descriptor is fetched. After it no byte is staged.
+/// zeros to 60 bytes if short frames are padded when the last descriptor is fetched. Afterwards, no bytes are staged.
 pub fn packet()
     ensures { PacketLaw }
 {}
 
-/// What a driver reads from a reported slot, if each lent block is whole: the new head at the head write-back address,
-/// or without such an address the descriptor with its done bit set and every other bit unchanged.
+/// What a driver reads from a reported slot, if each lent block is whole. This is the new head at the head write-back
+/// address. Without such an address, it is the descriptor with its done bit set and every other bit unchanged.
 pub fn read_back()
     ensures { DriverReads }
 {}
 
-/// A slot is reported if RS requests it: at the head write-back address, or without such an address in its descriptor.
-/// If the ring's base is at a multiple of 16 bytes and the head write-back address at a multiple of 4, the bytes
-/// written back are within one block. A done descriptor differs from its earlier value only in DD, if both of its
+/// A slot is reported if RS requests it: at the head write-back address, or, without such an address, in its
+/// descriptor. If the ring's base is at a multiple of 16 bytes and the head write-back address at a multiple of 4, the
+/// bytes written back are within one block. A done descriptor differs from its earlier value only in DD, if both of its
 /// halves are below 2^64.
 pub fn reports()
     ensures address { ReportLaw }

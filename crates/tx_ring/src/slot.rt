@@ -26,11 +26,11 @@ const SHORTEST_FRAME: usize = 60;
 
 /// Fetches the slot at the head of a transmit ring. It stages the bytes that the descriptor names, returns the frame at
 /// the end of a packet, and writes back a report if the descriptor requests it. A context descriptor only advances the
-/// head. Unless the head or the tail is outside the ring, the device must own a slot of it. The ring must have at most
-/// 65,536 slots.
+/// head. If the head and the tail are in the ring, the device must own at least one of its slots. The ring must have at
+/// most 65,536 slots.
 ///
 /// Errors, in the order of the tests: `Outside` if the head or the tail isn't a slot; `NotLent` with the descriptor's
-/// address; `Legacy`; `UnknownType`. For a data descriptor, then: `Offload`; `TooLong` if the staged bytes and the
+/// address; `Legacy`; `UnknownType`. For a data descriptor, then: `Offload`; `TooLong` if the staged bytes plus the
 /// descriptor's bytes exceed the limit; `NotLent` with its buffer's address; `NotLent` with the address of the
 /// write-back. `OutOfMemory` is returned only after all tests, and only if more bytes must be stored than before. Each
 /// error leaves the memory and the staged bytes as they were.
@@ -48,7 +48,7 @@ pub fn fetch(
     requires slots { slots_of ring.now ≤ 65536 }
     ensures fault { (f : RingFault) → (result ≡ Err (TxRefused.Fault f))
         ↔ (fault_of memory.old ring.now tx.now (length staged.old) ≡ Some f) }
-    // The clauses hold for all settings, memory and staged bytes.
+    // All clauses hold for every setting, every memory, and any staged bytes.
     ensures answer { IfOk result (λ f. (fetch_of memory.old staged.old ring.now tx.now).answer ≡ Ok f) }
     ensures memory { OnOk result (memory.new ≡ (fetch_of memory.old staged.old ring.now tx.now).memory) }
     ensures staged { OnOk result (staged.new ≡ (fetch_of memory.old staged.old ring.now tx.now).staged) }

@@ -21,7 +21,7 @@ impl Model for Staged {
 }
 
 impl Staged {
-    /// Returns an empty value, which every queue starts with. It allocates nothing.
+    /// Returns an empty value; every queue starts with it. It allocates nothing.
     pub fn new(alloc: Global) -> Staged
         ensures { result ≡ [] }
     {

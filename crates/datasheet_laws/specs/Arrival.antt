@@ -110,7 +110,7 @@ IsAnswered s frame Done = IsWelcome s frame × (length s.waiting < s.fifo)
 IsAnswered s frame (Dropped why) = IsDroppedFor s frame why
 IsAnswered s frame other = ⊥
 
--- An arriving frame gets a reply exactly if its reason applies and no earlier one does.
+-- An arriving frame gets a reply if and only if its reason applies and no earlier one does.
 abbrev pub ArrivingHasAnOrder : Type 0
 ArrivingHasAnOrder =
     (s : State) → IsSound s → (frame : List ℕ) (reply : Reply Block) →

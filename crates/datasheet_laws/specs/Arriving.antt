@@ -15,9 +15,10 @@ queue_mode s = read_at s 0x05818 % 16
 abbrev pub pool_mode : State → ℕ
 pool_mode s = read_at s mode_address % 4
 
--- A queue belongs to pool p with its bit of VFRE at 1. It is 2p with MRQC bits 3 to 0 at 8, one of the four from 4p on
--- with 10, and one of the two from 2p on with 11. If GCR_EXT selects 16 pools, it is 8p with 8, and one of the eight
--- from 8p on with 10 and 11. With any other code, except 1 (RSS without pools), it is queue 0.
+-- A queue belongs to pool p, whose bit of VFRE is 1. MRQC bits 3 to 0, the code, select it. With code 8, it is queue
+-- 2p; with 10, one of queues 4p to 4p + 3; with 11, queue 2p or 2p + 1. If GCR_EXT selects 16 pools, it is queue 8p
+-- with 8, and one of queues 8p to 8p + 7 with 10 or 11. With any other code, except 1 (RSS without pools), it is queue
+-- 0.
 pub record IsOfOpenPool (s : State) (queue pool : ℕ) : Type 0 where
   pub small : pool < 64
   pub on : IsTrue (pool_bit_at s 0x051E0 pool)

@@ -109,7 +109,7 @@ points_past content n =
     let count = plain_word content at in
     names_none at || (nat_le 0x40 at && nat_lt (at + (if names_none count then 0 else count)) content.size)
 
--- Only words 0x03 to 0x0E of a text's image are pointers.
+-- Only words 0x03 to 0x0E of an image assembled from source are pointers.
 abbrev pub TextsPoint : Type 0
 TextsPoint =
     (content : Content) →
@@ -125,7 +125,7 @@ with_5 n = record { size = 128; words = (n, 5) ∷ []; triples = [] }
 abbrev pub IsPointer : ℕ → Type 0
 IsPointer n = content_fault (with_5 n) ≡ Some PointerOutside
 
--- Each of words 0x03 to 0x0E is a pointer, but a text can't set 0x0D. Words 0x02 and 0x0F aren't pointers.
+-- Each of words 0x03 to 0x0E is a pointer, but a source can't set word 0x0D. Words 0x02 and 0x0F aren't pointers.
 pub record WordsPoint : Type 0 where
   pub below : content_fault (with_5 0x02) ≡ None
   pub first : IsPointer 0x03 × IsPointer 0x04 × IsPointer 0x05 × IsPointer 0x06 × IsPointer 0x07 × IsPointer 0x08
@@ -160,7 +160,7 @@ pub record TwiceIsFirst : Type 0 where
   pub outside : text_fault 64 ((0x03, 5) ∷ (0x40, 1) ∷ (0x40, 1) ∷ []) 1 ≡ Some (TwoValues 0x40)
 
 -- Next is the lowest index among 0x0D, 0x3F and the section of the register writes: word 0x40 and three words for each
--- write, from 0x41 on; no words if there are none.
+-- write, starting at 0x41; no words if there are no writes.
 pub record ReservedIsSecond : Type 0 where
   pub pointer : text_fault 64 ((0x0D, 0xFFFF) ∷ []) 0 ≡ Some (Reserved 0x0D)
   pub checksum : text_fault 64 ((0x3F, 0xFFFF) ∷ []) 0 ≡ Some (Reserved 0x3F)
@@ -172,7 +172,7 @@ pub record ReservedIsSecond : Type 0 where
   pub without : text_fault 128 ((0x40, 1) ∷ (0x43, 1) ∷ []) 0 ≡ None
   pub outside : text_fault 64 ((0x40, 1) ∷ (0x3F, 1) ∷ []) 0 ≡ Some (Reserved 0x3F)
 
--- Last is what doesn't fit: an index from the size on, or a section that ends after the last word.
+-- Last is what doesn't fit: an index at or above the size, or a section that ends after the last word.
 pub record FittingIsThird : Type 0 where
   pub index : text_fault 64 ((0x40, 1) ∷ []) 0 ≡ Some DoesNotFit
   pub within : text_fault 64 ((0x3E, 1) ∷ []) 0 ≡ None

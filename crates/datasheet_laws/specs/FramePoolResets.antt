@@ -7,8 +7,8 @@ use Rattle.nic_device.specs.declared.named.Named.TheVariants.{Register}
 use Rattle.datasheet_laws.specs.FramePrelude.{GcrExt, Pvfctrl, Registers, State, after, place, staged_by, word_of}
 use Rattle.datasheet_laws.specs.Bits.{bit, field}
 
--- Whether a queue, out of 128, belongs to pool v: eight from 8v on while GCR_EXT bits 1 to 0 are 1, four from 4v on
--- while they are 2, two from 2v on while they are 3, and none while they are 0.
+-- Whether a queue, out of 128, belongs to pool v: 8v to 8v + 7 while GCR_EXT bits 1 to 0 are 1, 4v to 4v + 3 while they
+-- are 2, 2v and 2v + 1 while they are 3, and none while they are 0.
 abbrev pub is_queue_of : (parts v queue : ℕ) → Bool
 is_queue_of parts v queue =
     nat_lt queue 128
@@ -31,8 +31,8 @@ pub record DropsItsFrames (s : State) (v : ℕ) (new : State) : Type 0 where
   pub out : new.out ≡ s.out
   pub link : new.link ≡ s.link
 
--- A write of PVFCTRL[v] with bit 26, through either port, drops the frames that wait for pool v's queues, and what
--- these have staged, and no others.
+-- A write of PVFCTRL[v] with bit 26, through either port, drops the frames that are waiting for pool v's queues and
+-- what these queues have staged, and nothing else.
 abbrev pub PoolResetsDropFrames : Type 0
 PoolResetsDropFrames =
     (s : State) (port : Port) (number view word v : ℕ) → named s port number ≡ Register (place Pvfctrl v) view →

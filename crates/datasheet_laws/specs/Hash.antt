@@ -5,8 +5,8 @@ use Rattle.rss_hash.specs.Flow.{flow_of}
 use Rattle.datasheet_laws.specs.NumberPrelude.{HasShape, Registers, has_bit, range_with_len, rss_hash, rss_type}
 use Rattle.datasheet_laws.specs.ByAddress.{holds}
 
--- Bit k of the key: byte k / 8 of it is byte k / 8 mod 4, from the lowest on, of RSSRK[k / 32], at 0x0EB80 + 4(k / 32).
--- Bit 0 is the most significant of the first byte.
+-- Bit k of the key: byte k / 8 of it is byte k / 8 mod 4, counted from the lowest, of RSSRK[k / 32], at 0x0EB80 + 4(k /
+-- 32). Bit 0 is the most significant of the first byte.
 abbrev pub key_bit : Registers → (k : ℕ) → Bool
 key_bit r k = holds r (0x0EB80 + 4 * (k / 32)) (8 * (k / 8 % 4) + (7 - k % 8))
 

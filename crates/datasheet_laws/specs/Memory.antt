@@ -13,7 +13,7 @@ IsNotLent s number = map.get s.memory number ≡ None
 abbrev pub IsLentWith : State → ℕ → List ℕ → Type 0
 IsLentWith s number bytes = map.get s.memory number ≡ Some bytes
 
--- The 16 bytes of a block from `at` on.
+-- The 16 bytes of a block starting at `at`.
 abbrev pub sixteen : ℕ → List ℕ → List ℕ
 sixteen at bytes = take 16 (drop at bytes)
 

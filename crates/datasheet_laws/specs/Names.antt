@@ -8,7 +8,7 @@ abbrev pub IsGroup : Group → Type 0
 IsGroup Pf = ⊤
 IsGroup (Vf v) = v < 64
 
--- How many bits the registers of a group have, from bit 0 on.
+-- How many bits the registers of a group have, starting at bit 0.
 abbrev pub bits_in : Group → ℕ
 bits_in Pf = 31
 bits_in (Vf v) = 3

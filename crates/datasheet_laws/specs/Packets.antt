@@ -6,7 +6,7 @@ use Rattle.std.specs.Prelude.{ℕ, ◌+◌, ◌*◌, ◌/◌, ◌%◌, ◌^◌, 
 abbrev pub pair_at : List ℕ → ℕ → ℕ
 pair_at frame k = 256 * slice_index frame k + slice_index frame (k + 1)
 
--- `n` bytes from byte `at` on.
+-- `n` bytes starting at byte `at`.
 abbrev pub bytes_at : List ℕ → (at n : ℕ) → List ℕ
 bytes_at frame at n = take n (drop at frame)
 
@@ -20,7 +20,7 @@ is_ipv4 frame =
     pair_at frame 12 == 0x0800 && slice_index frame 14 / 16 == 4 && nat_le 20 (header_bytes frame)
     && nat_le (14 + header_bytes frame) (length frame)
 
--- IPv6: bytes 12 and 13 are 0x86DD, byte 14 has 6 in bits 7 to 4, and the header of 40 bytes is complete.
+-- IPv6: bytes 12 and 13 are 0x86DD, byte 14 has 6 in bits 7 to 4, and the 40-byte header is complete.
 abbrev pub is_ipv6 : List ℕ → Bool
 is_ipv6 frame = pair_at frame 12 == 0x86DD && slice_index frame 14 / 16 == 6 && nat_le 54 (length frame)
 

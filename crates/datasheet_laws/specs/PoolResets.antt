@@ -7,8 +7,7 @@ use Rattle.datasheet_laws.specs.ByAddress.{holds}
 use Rattle.datasheet_laws.specs.ByKind.{at}
 use Rattle.datasheet_laws.specs.Table.{line_of}
 
--- Pool v contains queue q: the eight from 8v on with 16 pools, the four from 4v on with 32 and the two from 2v on with
--- 64.
+-- Pool v contains queue q. Its queues are 8v to 8v + 7 with 16 pools, 4v to 4v + 3 with 32, and 2v and 2v + 1 with 64.
 abbrev pub pool_has : Mode → (v q : ℕ) → Bool
 pool_has Off v q = false
 pool_has Pools16 v q = q / 8 == v

@@ -96,7 +96,8 @@ transmit_counter s queue = counter_by s 0x08600 queue
 abbrev pub one_more : ℕ → ℕ
 one_more word = if word == 0xFFFFFFFF then word else word + 1
 
--- Of the 16 counters from an address on, the counter with this number reads one more, and the others read as before.
+-- Of the 16 counters starting at an address, the counter with this number reads one more, and the others read as
+-- before.
 abbrev pub CountsIn : (s new : State) → (counters number : ℕ) → Type 0
 CountsIn s new counters number =
     (i : ℕ) → i < 16 → read_at new (counters + 0x40 * i)

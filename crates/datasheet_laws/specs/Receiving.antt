@@ -7,7 +7,7 @@ use Rattle.datasheet_laws.specs.FramePrelude.{Waiting, Why, Wrote, after, first_
 use Rattle.datasheet_laws.specs.FramePrelude.{word_of}
 use Rattle.datasheet_laws.specs.Bits.{bit, field}
 
--- The device takes steps, with CTRL bit 2 at 0, and this frame is the first of those that wait.
+-- The device takes steps (CTRL bit 2 is 0), and this frame is the oldest in the receive list.
 pub record IsNext (s : State) (w : Waiting) (others : List Waiting) : Type 0 where
   pub runs : bit 2 (word_of s.registers Ctrl 0) ≡ 0
   pub first : s.waiting ≡ w ∷ others

@@ -34,7 +34,7 @@ abbrev pub AreWithoutReset : State → List (Event Block) → Type 0
 AreWithoutReset s [] = ⊤
 AreWithoutReset s (e ∷ es) = IsEvent e × IsSparing SparesDevice s e × AreWithoutReset (after s e) es
 
--- From any device on, and so from one reset to the next, at most one read returns that a reset is done.
+-- Starting with any device, and so from one reset to the next, at most one read reports that a reset is done.
 abbrev pub EndIsReportedOnce : Type 0
 EndIsReportedOnce =
     (s : State) → IsSound s → (v : ℕ) → v < 64 → (es : List (Event Block)) → AreWithoutReset s es

@@ -18,12 +18,12 @@ enable_bit r dir queue = bit 25 (enable_word r dir queue)
 abbrev pub wanted_bit : Registers → Dir → ℕ → ℕ
 wanted_bit r dir queue = if is_wanted r dir queue then 1 else 0
 
--- The device takes steps, with CTRL bit 2 at 0, and the side isn't in its requested state.
+-- The device takes steps (CTRL bit 2 is 0), and the side isn't in its requested state.
 pub record IsToSwitch (s : State) (dir : Dir) (queue : ℕ) : Type 0 where
   pub runs : bit 2 (word_of s.registers Ctrl 0) ≡ 0
   pub differs : enable_bit s.registers dir queue ≢ wanted_bit s.registers dir queue
 
--- There is no queue from 128 on, whatever else holds. Below that, the step is done exactly if the side is to be
+-- Queues 128 and above don't exist, whatever else holds. Below that, the step is done if and only if the side is to be
 -- switched, and idle otherwise. Only a step that is done changes anything.
 pub record SwitchesOnReason (s : State) (dir : Dir) (queue : ℕ) : Type 0 where
   pub none : (reply_to s (event.QueueStep dir queue) ≡ NoQueue) ↔ (128 ≤ queue)

@@ -122,7 +122,7 @@ HasFault s queue (NotLent address) =
     LacksDescriptor s queue address ⊎ (LacksBuffer s queue address ⊎ LacksReport s queue address)
 HasFault s queue other = ⊥
 
--- No report is requested, with RS at 0, or its bytes are lent.
+-- No report is requested (RS is 0), or its bytes are lent.
 pub record CanReport (s : State) (queue : ℕ) : Type 0 where
   pub address : ℕ
   pub bytes : ℕ

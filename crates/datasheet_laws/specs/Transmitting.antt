@@ -39,8 +39,8 @@ pub data IsSilent (s : State) (queue : ℕ) : Type 0 where
   muted : IsMuted s.registers queue → IsSilent s queue
   slotless : HasNoSlot s.registers queue → IsSilent s queue
 
--- There is no queue from 128 on, whatever else holds. A queue below that is idle exactly if it has a reason. Neither
--- changes anything.
+-- Queues 128 and above don't exist, whatever else holds. A queue below that is idle if and only if it has a reason.
+-- Neither changes anything.
 pub record SendsOnReason (s : State) (queue : ℕ) : Type 0 where
   pub none : (reply_to s (event.TxStep queue) ≡ NoQueue) ↔ (128 ≤ queue)
   pub idle : (reply_to s (event.TxStep queue) ≡ Idle) ↔ ((queue < 128) × IsSilent s queue)

@@ -19,7 +19,7 @@ ghost use Rattle.datasheet_laws.specs.Reports.{ReportsAreWrittenBack};
 ghost use Rattle.datasheet_laws.specs.Transmitting.{SilenceHasItsReasons, FramesGoOutWhole};
 
 /// An arriving frame is dropped for the first of these reasons that applies. `LinkDown`: the link is down. `Off`:
-/// RXCTRL bit 0 is 0. `Short`: the frame has fewer than 60 bytes. `Long`: it is longer than the limit, which is 1,514
+/// RXCTRL bit 0 is 0. `Short`: the frame is shorter than 60 bytes. `Long`: it is longer than the limit, which is 1,514
 /// bytes, or MAXFRS bits 31 to 16 minus 4 while HLREG0 bit 2 is 1. `Filter`: its destination doesn't pass the filter.
 /// `NoPool`, while VT_CTL bit 0 is 1: it has no pool; or its pool is above 15 while GCR_EXT bits 1 to 0 are 1 and MRQC
 /// bits 3 to 0 are 8, 0xA or 0xB; or its pool is above 31 while GCR_EXT bits 1 to 0 aren't 1 and MRQC bits 3 to 0 are
@@ -30,8 +30,8 @@ pub fn arriving_has_an_order()
     ensures { ArrivingHasAnOrder }
 {}
 
-/// An accepted frame is appended to the receive list, with its bytes and the filter's queue, hash and RSS type, and
-/// with none of it written. A frame that isn't accepted leaves the list unchanged.
+/// An accepted frame is appended to the receive list, with its bytes and the filter's queue, hash and RSS type. No part
+/// of it is written yet. A frame that isn't accepted leaves the list unchanged.
 #[tactic(auto, using(crate::proofs::Joining::joins_last))]
 pub fn frames_join_last()
     ensures { FramesJoinLast }
@@ -54,7 +54,7 @@ pub fn queues_go_by_mrqc()
 /// Any other frame has type 0.
 ///
 /// IPv4 has 0x0800 in bytes 12 and 13, version 4 in byte 14, and a complete header of at least 20 bytes. IPv6 has
-/// 0x86DD, version 6 and a complete header of 40 bytes. TCP is protocol 6 and UDP 17, in byte 23 of an IPv4 packet that
+/// 0x86DD, version 6 and a complete 40-byte header. TCP is protocol 6 and UDP 17, in byte 23 of an IPv4 packet that
 /// isn't a fragment, or byte 20 of an IPv6 packet; the four bytes of its ports are present. While RXCSUM bit 13 is 1,
 /// the hash, with the key in RSSRK, covers source and destination address, and also the ports for types 1, 7, 3 and 8;
 /// for type 0 it covers no bytes. While the bit is 0, the hash is 0.
@@ -63,10 +63,10 @@ pub fn frames_have_types()
     ensures { FramesHaveTypes }
 {}
 
-/// A receive step is idle exactly while CTRL bit 2 is 1, the receive list is empty, or the oldest frame keeps waiting.
-/// The oldest frame is dropped (`QueueOff`) if RXDCTL bit 25 of its queue is 0. If there is no free descriptor, with
-/// RDH equal to RDT inside the ring, it is dropped (`NoSlot`) if SRRCTL bit 28 is 1 and none of it is written;
-/// otherwise it keeps waiting, and nothing changes. In every other case a slot is written, or has a fault.
+/// A receive step is idle if and only if CTRL bit 2 is 1, the receive list is empty, or the oldest frame keeps waiting.
+/// The oldest frame is dropped (`QueueOff`) if RXDCTL bit 25 of its queue is 0. If there is no free descriptor (RDH
+/// equals RDT inside the ring), it is dropped (`NoSlot`) if SRRCTL bit 28 is 1 and no part of it is written; otherwise
+/// it keeps waiting, and nothing changes. In every other case a slot is written, or has a fault.
 #[tactic(auto, using(crate::proofs::Receiving::received_so, crate::proofs::Receiving::reasons_met))]
 pub fn receiving_has_its_reasons()
     ensures reason { ReceivedForAReason }
@@ -74,8 +74,8 @@ pub fn receiving_has_its_reasons()
 {}
 
 /// A receive step removes the oldest frame from the receive list if and only if the step writes its last byte, drops
-/// it, or has a fault; the other frames are unchanged. A piece from its middle leaves it at the front. Its offset
-/// advances by the number of written bytes, at least one, and some bytes remain.
+/// it, or has a fault; the other frames are unchanged. If the step writes a piece that isn't the last, the frame stays
+/// at the front. Its offset advances by the number of written bytes, at least one, and some bytes remain.
 #[tactic(auto, using(crate::proofs::Leaving::leaves_at_end))]
 pub fn frames_leave_at_their_end()
     ensures { FramesLeaveAtTheirEnd }
@@ -88,11 +88,11 @@ pub fn slots_are_written_at_the_head()
     ensures { SlotsAreWrittenAtHead }
 {}
 
-/// A receive step that processes a slot writes as many of the remaining bytes as fit into the buffer, exactly if three
-/// conditions hold: head and tail are slots; SRRCTL bits 27 to 25 are 1 and bits 4 to 0 aren't 0; and its descriptor
-/// and these bytes of its buffer are lent. Otherwise the slot has the first fault that applies: head or tail outside
-/// (`Outside`), the descriptor type (`DescType`), the buffer size (`NoBufferSize`), the descriptor (`NotLent` with its
-/// address), the buffer (`NotLent` with its address).
+/// A receive step that processes a slot writes as many of the remaining bytes as fit into the buffer if and only if
+/// three conditions hold. Head and tail are slots. SRRCTL bits 27 to 25 are 1, and bits 4 to 0 aren't 0. The slot's
+/// descriptor and these bytes of its buffer are lent. Otherwise the slot has the first fault that applies: head or tail
+/// outside (`Outside`), the descriptor type (`DescType`), the buffer size (`NoBufferSize`), the descriptor (`NotLent`
+/// with its address), the buffer (`NotLent` with its address).
 #[tactic(auto, using(crate::proofs::Faults::slots_so))]
 pub fn slots_have_their_faults()
     ensures { SlotsHaveTheirFaults }
@@ -107,36 +107,37 @@ pub fn descriptors_are_written_back()
     ensures { DescriptorsAreWrittenBack }
 {}
 
-/// A transmit step of a queue from 128 on gets the reply `NoQueue`. A step of a queue below that is idle exactly if
+/// A transmit step of queue 128 or above gets the reply `NoQueue`. A step of a queue below 128 is idle if and only if
 /// CTRL bit 2 is 1, the link is down, DMATXCTL bit 0 is 0, TXDCTL bit 25 is 0, TDH equals TDT inside the ring, or the
-/// queue's pool is muted. A pool, by GCR_EXT bits 1 to 0, is muted while its bit in VFTE is 0 and VT_CTL bit 0 is 1.
-/// Neither step changes anything.
+/// queue's pool is muted. A pool, as GCR_EXT bits 1 to 0 divide the queues, is muted while its bit in VFTE is 0 and
+/// VT_CTL bit 0 is 1. Neither step changes anything.
 #[tactic(auto, using(crate::proofs::Silence::silence_reasons))]
 pub fn silence_has_its_reasons()
     ensures { SilenceHasItsReasons }
 {}
 
-/// A transmit descriptor has its buffer's address in bytes 0 to 7 and the length in bytes 8 and 9, the lowest first,
-/// and its type in byte 10 bits 7 to 4. EOP, RS, DEXT, VLE and TSE are bits 0, 3, 5, 6 and 7 of byte 11, and POPTS is
-/// byte 13 bits 5 to 0. IFCS and PAYLEN have no effect.
+/// A transmit descriptor has its buffer's address in bytes 0 to 7 and the length in bytes 8 and 9, both with the lowest
+/// byte first, and its type in byte 10 bits 7 to 4. EOP, RS, DEXT, VLE and TSE are bits 0, 3, 5, 6 and 7 of byte 11,
+/// and POPTS is byte 13 bits 5 to 0. IFCS and PAYLEN have no effect.
 ///
 /// A descriptor that a step processes has the first fault that applies. `Outside`: TDH or TDT isn't a slot of the ring
 /// in TDLEN bits 19 to 0. `NotLent` with the descriptor's address: the descriptor isn't lent. `Legacy`: DEXT is 0.
 /// `UnknownType`: the type is neither 2 nor 3. The remaining faults are only for type 3. `Offload`: VLE, TSE or POPTS
 /// isn't 0. `TooLong`: the staged bytes and the length together exceed the frame limit, which is 1,514 bytes, or MAXFRS
-/// bits 31 to 16 minus 4 while HLREG0 bit 2 is 1. `NotLent` with the buffer's address: the buffer isn't lent. With RS
+/// bits 31 to 16 minus 4 while HLREG0 bit 2 is 1. `NotLent` with the buffer's address: the buffer isn't lent. If RS is
 /// 1, `NotLent` with the report's address: the report's bytes aren't lent. These are 4 bytes at TDWBAH and TDWBAL bits
 /// 31 to 2 if TDWBAL bit 0 is 1, otherwise the 16 of the descriptor. Without a fault, the descriptor is done. A
-/// descriptor of type 3 sends a frame with EOP 1, and none with EOP 0.
+/// descriptor of type 3 sends a frame if EOP is 1, and no frame if EOP is 0.
 #[tactic(auto, using(crate::proofs::TransmitFaults::faults_so))]
 pub fn descriptors_have_their_faults()
     ensures { DescriptorsHaveTheirFaults }
 {}
 
-/// A transmit step that is done writes nothing back with RS 0 or for a descriptor of type 2. With RS 1 and TDWBAL bit 0
-/// at 1, it writes the new head as 4 bytes, the lowest first, at TDWBAH and TDWBAL bits 31 to 2: the slot after TDH, or
-/// 0 after the last. With RS 1 and TDWBAL bit 0 at 0, it writes the descriptor with bit 0 of byte 12, DD, set, and its
-/// other bits unchanged. The reply names the step's own queue, and, if no frame is sent, the slot in TDH bits 15 to 0.
+/// A transmit step that is done writes nothing back if RS is 0 or the descriptor is of type 2. If RS is 1 and TDWBAL
+/// bit 0 is 1, it writes the new head as 4 bytes, the lowest first, at TDWBAH and TDWBAL bits 31 to 2: the slot after
+/// TDH, or 0 after the last. If RS is 1 and TDWBAL bit 0 is 0, it writes the descriptor with bit 0 of byte 12, DD, set,
+/// and its other bits unchanged. The reply names the step's own queue, and, if no frame is sent, the slot in TDH bits
+/// 15 to 0.
 #[tactic(auto, using(crate::proofs::Reports::reports_so))]
 pub fn reports_are_written_back()
     ensures { ReportsAreWrittenBack }
@@ -152,7 +153,7 @@ pub fn frames_go_out_whole()
     ensures { FramesGoOutWhole }
 {}
 
-/// An enable step of a queue from 128 on gets the reply `NoQueue`. For a queue below that, it is done exactly if CTRL
+/// An enable step of queue 128 or above gets the reply `NoQueue`. For a queue below 128, it is done if and only if CTRL
 /// bit 2 is 0 and bit 25 of RXDCTL or TXDCTL doesn't have its requested value; otherwise it is idle. Only a step that
 /// is done changes anything.
 #[tactic(auto, using(crate::proofs::Switching::switching_reasons))]
@@ -160,19 +161,17 @@ pub fn switching_has_its_reason()
     ensures { SwitchingHasItsReason }
 {}
 
-/// After an enable step that is done, bit 25 has exactly its requested value, and no other bit of that word has
-/// changed. A receive side that becomes disabled loses the oldest frame if part of it is written on that queue, and no
-/// other frame. A transmit side that becomes disabled loses its staged bytes. A side that becomes enabled loses
-/// nothing.
+/// After an enable step that is done, bit 25 has its requested value, and no other bit of that word has changed. A
+/// receive side that becomes disabled loses the oldest frame if part of it is written on that queue, and no other
+/// frame. A transmit side that becomes disabled loses its staged bytes. A side that becomes enabled loses nothing.
 pub fn switched_side_is_as_wanted()
     ensures { SwitchedSideIsAsWanted }
 {}
 
 /// A write of PVFCTRL[v] with bit 26, through either port, drops the frames of the receive list for pool v's queues,
-/// whether partly written or not, and what these queues staged. By GCR_EXT bits 1 to 0, these are the eight queues from
-/// 8v on with 1, the four from 4v on with 2, the two from 2v on with 3, and none with 0. The frames for all other
-/// queues stay in order, and these queues keep what they staged. Lent memory, the transmitted frames and the link are
-/// unchanged.
+/// whether partly written or not, and what these queues staged. With GCR_EXT bits 1 to 0 at 1, these are queues 8v to
+/// 8v + 7; with 2, 4v to 4v + 3; with 3, 2v and 2v + 1; with 0, none. The frames for all other queues stay in order,
+/// and these queues keep what they staged. Lent memory, the transmitted frames and the link are unchanged.
 #[tactic(auto, using(crate::proofs::FramePoolResets::resets_drop))]
 pub fn pool_resets_drop_their_frames()
     ensures { PoolResetsDropFrames }
@@ -186,16 +185,16 @@ pub fn link_changes_raise()
 {}
 
 /// A `Collect` returns the oldest transmitted frame with its queue and removes it from the list; the others stay. It is
-/// idle, and changes nothing, exactly if there is no such frame.
+/// idle and changes nothing if and only if there is no such frame.
 #[tactic(auto, using(crate::proofs::Link::oldest_out))]
 pub fn oldest_is_collected()
     ensures { OldestIsCollected }
 {}
 
-/// Lending a block succeeds exactly if no block with its number is lent; otherwise the block is handed back. A `Take`,
-/// and at a multiple of 16 a `Peek16` and a `Poke16`, get the reply `NotLent`, and change nothing, exactly if the block
-/// isn't lent. A lent block is taken back once, with the bytes that it then contains. A `Peek16` at a multiple of 16
-/// returns 16 of a lent block's bytes, and changes nothing.
+/// Lending a block succeeds if and only if no block with its number is lent; otherwise the block is handed back. A
+/// `Take` gets the reply `NotLent` and changes nothing if and only if the block isn't lent. So does a `Peek16` or a
+/// `Poke16` at a multiple of 16. A lent block is taken back once, with the bytes that it then contains. A `Peek16` at a
+/// multiple of 16 returns 16 bytes of a lent block and changes nothing.
 #[tactic(auto, using(crate::proofs::Memory::calls_answer))]
 pub fn memory_calls_answer()
     ensures { MemoryCallsAnswer }

@@ -39,10 +39,10 @@ pub fn causes_are_set()
     ensures { WriteOfCauseSetSets }
 {}
 
-/// A write of EICR or PVTEICR clears the causes of the bits written as 1, and no others. A read clears all of them; a
-/// read of EICR while GPIE bit 5 is 1 clears only bits 29 to 16. While the auto-mask acts on accesses, a write clears
-/// the masks of the written bits that EIAM or PVTEIAM contains. While it does, a read clears the masks of all bits that
-/// EIAM or PVTEIAM contains. Neither changes another bit, or another group.
+/// A write of EICR or PVTEICR clears the causes of the bits written as 1, and no others. A read clears all causes; a
+/// read of EICR while GPIE bit 5 is 1 clears only bits 29 to 16. While the auto-mask acts on accesses, a write also
+/// clears the masks of the bits that are written as 1 and that EIAM or PVTEIAM contains. A read then clears the masks
+/// of all bits that EIAM or PVTEIAM contains. Neither access changes another bit or another group.
 #[tactic(auto, using(crate::proofs::Causes::causes_clear, crate::proofs::Causes::read_clears))]
 pub fn causes_are_cleared()
     ensures write { WriteOfCausesClears }
@@ -71,10 +71,10 @@ pub fn auto_words_are_kept()
     ensures mask { WriteOfAutoMaskIsKept }
 {}
 
-/// In every device that events lead to from a new one, PFMAILBOX[v] reads in bits 2 and 3 as PVFMAILBOX[v] does: both
-/// sides read the same holder of a function's mailbox, either the function (VFU, bit 2) or the physical function (PFU,
-/// bit 3), and at most one of them. The function reads that a reset began (RSTI, bit 6) or that it is done (RSTD, bit
-/// 7), but never both.
+/// In every device that was new and to which any events then happened, PFMAILBOX[v] reads in bits 2 and 3 as
+/// PVFMAILBOX[v] does: both sides read the same holder of a function's mailbox, either the function (VFU, bit 2) or the
+/// physical function (PFU, bit 3), and at most one of them. The function reads that a reset began (RSTI, bit 6) or that
+/// it is done (RSTD, bit 7), but never both.
 pub fn mailboxes_are_shared()
     ensures { MailboxesAreShared }
 {}
@@ -112,9 +112,10 @@ pub fn requests_are_apart()
     ensures { RequestsAreApart }
 {}
 
-/// An interrupt step gets the reply `NoGroup` exactly for a virtual function that the device doesn't have or that has
-/// no pool: from `vfs` on, or from 16 on with GCR_EXT bits 1 to 0 at 1, 32 with 2, 64 with 3, and 0 with 0. Otherwise
-/// it is idle exactly while CTRL bit 2 is 1 or no bit is due. A bit is due if its cause and mask are 1, it isn't
+/// An interrupt step gets the reply `NoGroup` if and only if it names a virtual function v that the device doesn't have
+/// or that has no pool. The device doesn't have it if v is `vfs` or more. It has no pool if v is 16 or more and GCR_EXT
+/// bits 1 to 0 are 1, if v is 32 or more and they are 2, if v is 64 or more and they are 3, or if they are 0. Otherwise
+/// the step is idle if and only if CTRL bit 2 is 1 or no bit is due. A bit is due if its cause and mask are 1, it isn't
 /// reported, and it has a vector. A step that gets `NoGroup` or is idle changes nothing. In every other case, the step
 /// reports the lowest due bit, and no other. The vector of bits 0 to 15 of EICR and of the bits of PVTEICR is their own
 /// number. For bits 16 to 29, it is IVAR_MISC bits 13 to 8 if bit 15 is 1, and for bit 30 its bits 5 to 0 if bit 7 is
@@ -152,8 +153,8 @@ pub fn heads_move_on()
 /// The end of a frame on queue q, which belongs to no virtual function, raises the cause in EICR that byte 2(q mod 2)
 /// of IVAR[q/2] names. A report of the queue raises the cause that the next byte names. For queue x of virtual function
 /// v with k queues, the same holds of byte 2(x mod 2) of PVTIVAR[v*k/2 + x/2] and the next byte. The cause is then in
-/// PVTEICR[v]. A byte with bit 7 at 1 names the cause in its bits 5 to 0: at most 15 in EICR, at most 2 in PVTEICR[v].
-/// No other bit of EICR, EIMS, EIAC and EIAM changes, in any group.
+/// PVTEICR[v]. If bit 7 of a byte is 1, its bits 5 to 0 name the cause: at most 15 in EICR, at most 2 in PVTEICR[v]. No
+/// other bit of EICR, EIMS, EIAC and EIAM changes, in any group.
 #[tactic(auto, using(crate::proofs::Raising::ivar_names, crate::proofs::Raising::pvtivar_names))]
 pub fn vectors_name_causes()
     ensures ivar { IvarNamesCauses }
@@ -168,7 +169,7 @@ pub fn device_raises_by_number()
     ensures { DeviceRaisesByNumber }
 {}
 
-/// A frame that is written to its end on queue q is counted in the QPRC with the number in bits 8(q mod 4)+3 to 8(q mod
+/// A frame that is completely written on queue q is counted in the QPRC with the number in bits 8(q mod 4)+3 to 8(q mod
 /// 4) of RQSMR[q/4]. A frame that is dropped because no descriptor was free is counted in the QPRDC with that number. A
 /// transmitted frame is counted in the QPTC with the number in the same bits of TQSM[q/4]. That counter reads one more,
 /// at most 0xFFFFFFFF; the other 15 are unchanged.
@@ -220,9 +221,9 @@ pub fn ctrl_ext_keeps_what_is_written()
 
 /// While VT_CTL bit 0 is 1, an accepted frame is appended to the receive list with its bytes, for a queue of its pool
 /// p, below 64. Bit p mod 32 of VFRE[p/32] is 1. Pool p is the lowest pool of the first address that is the frame's
-/// destination, or the default pool. The queue is 2p with MRQC bits 3 to 0 at 8, one of the four from 4p on with 10,
-/// and one of the two from 2p on with 11. But while GCR_EXT selects 16 pools, it is 8p with 8, and one of the eight
-/// from 8p on with 10 and 11. With any code except these and 1, the queue is 0, whatever the pool.
+/// destination, or the default pool. MRQC bits 3 to 0, the code, select the queue. With code 8, it is queue 2p; with
+/// 10, one of queues 4p to 4p + 3; with 11, queue 2p or 2p + 1. But while GCR_EXT selects 16 pools, it is queue 8p with
+/// 8, and one of queues 8p to 8p + 7 with 10 or 11. With any code except these and 1, it is queue 0, whatever the pool.
 #[tactic(auto, using(crate::proofs::Arriving::lets_in))]
 pub fn vfre_lets_into_pools()
     ensures { VfreLetsIntoPools }

@@ -48,19 +48,19 @@ pub fn offsets_are_listed()
     ensures { OffsetsAreListed }
 {}
 
-/// An offset that isn't listed is a hole. For a function from the number of functions on, and for a function with a
-/// pool beyond those that GCR_EXT bits 1 to 0 select, each offset is absent.
+/// An offset that isn't listed is a hole. Each offset is absent for a function that the device doesn't have, and for a
+/// function whose pool is beyond those that GCR_EXT bits 1 to 0 select.
 #[tactic(auto, using(crate::proofs::Holes::holes))]
 pub fn other_offsets_are_holes()
     ensures { OtherOffsetsAreHoles }
 {}
 
-/// A write of PVFMAILBOX[v], at 0x04C00 + 4v, with bit 2 takes the mailbox for the function if bit 3 reads 0, and
-/// changes neither bit if that reads 1; without bit 2, it releases the mailbox. A write of PFMAILBOX[v], at 0x04B00 +
-/// 4v, with bit 4 frees the mailbox from the function. With bit 3, it takes the mailbox for the physical function if
-/// bit 2 reads 0, or is freed by this write; without bit 3, it releases the mailbox. Both sides read who holds it, and
-/// the physical function reads nothing more. Bits 0 and 1 of PFMAILBOX[v] are read as bits 4 and 5 of PVFMAILBOX[v],
-/// until one read, which clears only bits 4, 5 and 7.
+/// A write of PVFMAILBOX[v], at 0x04C00 + 4v, with bit 2 set takes the mailbox for the function if bit 3 reads 0. If
+/// bit 3 reads 1, it changes neither bit. With bit 2 clear, it releases the mailbox. A write of PFMAILBOX[v], at
+/// 0x04B00 + 4v, with bit 4 set frees the mailbox from the function. With bit 3 set, it takes the mailbox for the
+/// physical function if bit 2 reads 0 or is cleared by this write. With bit 3 clear, it releases the mailbox. Both
+/// sides read who holds the mailbox, and the physical function reads nothing more. Bits 0 and 1 of PFMAILBOX[v] are
+/// read as bits 4 and 5 of PVFMAILBOX[v] until that register is read once. This read clears only bits 4, 5 and 7.
 pub fn mailboxes_shake()
     ensures { MailboxesShake }
 {}
@@ -115,12 +115,12 @@ pub fn pool_resets_take_the_pools_registers()
     ensures { PoolResetsTake }
 {}
 
-/// A unicast frame passes the filter exactly if bit 9 of FCTRL, at 0x05080, is 1, or one of the 128 receive addresses
+/// A unicast frame passes the filter if and only if bit 9 of FCTRL, at 0x05080, is 1 or a receive address, out of 128,
 /// is its destination, byte by byte. Bytes 0 to 3 are in bits 7 to 0, 15 to 8, 23 to 16 and 31 to 24 of 0x0A200 + 8i;
-/// bytes 4 and 5 are in bits 7 to 0 and 15 to 8 of 0x0A204 + 8i, and its bit 31 marks it as valid. A multicast frame
-/// passes exactly if bit 8 is 1, a receive address is its destination, or it is listed in MTA. It is listed if bit 2 of
-/// MCSTCTRL, at 0x05090, is 1, and so is its bit of MTA, from 0x05200 on. A broadcast frame passes exactly if bit 10 or
-/// bit 8 is 1.
+/// bytes 4 and 5 are in bits 7 to 0 and 15 to 8 of 0x0A204 + 8i, and its bit 31 marks the address as valid. A multicast
+/// frame passes if and only if bit 8 is 1, a receive address is its destination, or it is listed in MTA. It is listed
+/// if bit 2 of MCSTCTRL, at 0x05090, and the frame's bit of MTA are 1. MTA begins at 0x05200. A broadcast frame passes
+/// if and only if bit 10 or bit 8 is 1.
 #[tactic(auto, using(crate::proofs::Filter::frames_let_in))]
 pub fn frames_are_let_in()
     ensures { FramesAreLetIn }
@@ -129,12 +129,12 @@ pub fn frames_are_let_in()
 /// VT_CTL, at 0x051B0, distributes frames among pools by bit 0. A frame's pool is the lowest pool of the first receive
 /// address that is its destination: for address i, the bits of 0x0A600 + 8i are pools 0 to 31, and the bits of the next
 /// word pools 32 to 63. If no address is its destination, or the first has no pool, the frame is for the pool in bits
-/// 12 to 7 of VT_CTL, or for none with bit 29. Bit p mod 32 of 0x051E0 + 4(p/32) enables reception for pool p.
+/// 12 to 7 of VT_CTL, or for no pool if bit 29 is 1. Bit p mod 32 of 0x051E0 + 4(p/32) enables reception for pool p.
 pub fn pools_are_chosen()
     ensures { PoolsAreChosen }
 {}
 
-/// Codes 1, 0xA and 0xB of MRQC bits 3 to 0 enable hashing, and no other does. Ports take precedence over addresses:
+/// Codes 1, 0xA and 0xB of MRQC bits 3 to 0 enable hashing; no other code does. Ports take precedence over addresses:
 /// bit 16 for TCP over IPv4, type 1; bit 22 for UDP over IPv4, type 7; bit 17 for IPv4 by its addresses, type 2; bit 21
 /// for TCP over IPv6, type 3; bit 23 for UDP over IPv6, type 8; bit 20 for IPv6 by its addresses, type 5; otherwise
 /// type 0.
@@ -143,18 +143,19 @@ pub fn types_are_chosen()
     ensures { TypesAreChosen }
 {}
 
-/// MRQC bits 3 to 0, at 0x05818, and GCR_EXT bits 1 to 0, at 0x11050, determine the queue of a frame. With MRQC at 1,
-/// it is the entry. For pool p, while VT_CTL bit 0 is 1, it is 2p with 8, 4p plus two bits of the entry with 0xA, and
-/// 2p plus one bit with 0xB. While GCR_EXT bits 1 to 0 are 1, it is 8p with 8, and 8p plus three bits of the entry with
-/// 0xA and 0xB. The entry of a frame with a type is in bits 8(n mod 4) + 3 to 8(n mod 4) of 0x05C00 + 4(n/4), where n
-/// is the low seven bits of its hash. The reported hash is that hash if RXCSUM bit 13, at 0x05000, is 1, otherwise 0.
+/// The code in MRQC bits 3 to 0, at 0x05818, and GCR_EXT bits 1 to 0, at 0x11050, determine the queue of a frame. With
+/// code 1, the queue is the entry. For pool p, while VT_CTL bit 0 is 1, it is 2p with code 8, 4p plus two entry bits
+/// with 0xA, and 2p plus one entry bit with 0xB. While GCR_EXT bits 1 to 0 are 1, it is 8p with code 8, and 8p plus
+/// three entry bits with 0xA or 0xB. The entry of a frame with a type is in bits 8(n mod 4) + 3 to 8(n mod 4) of
+/// 0x05C00 + 4(n/4), where n is the low seven bits of its hash. The reported hash is that hash if RXCSUM bit 13, at
+/// 0x05000, is 1, otherwise 0.
 #[tactic(auto, using(crate::proofs::Choice::queues_chosen))]
 pub fn queues_are_chosen()
     ensures { QueuesAreChosen }
 {}
 
-/// A write of CTRL requests a reset of the device with bit 3 or bit 26. A write of PVFCTRL requests a reset of its pool
-/// with bit 26. No other write requests one.
+/// A write of CTRL with bit 3 or bit 26 set requests a reset of the device. A write of PVFCTRL with bit 26 set requests
+/// a reset of its pool. No other write requests a reset.
 #[tactic(auto, using(crate::proofs::Choice::resets))]
 pub fn resets_are_asked()
     ensures { ResetsAreAsked }
@@ -174,21 +175,23 @@ pub fn rings_are_held()
     ensures { RingsAreHeld }
 {}
 
-/// A counter that a read clears reads 0 after it. No write changes it, nor VFGPRC, VFGPTC, STATUS, LINKS or EEC. A read
-/// of any other register except EICR, PVTEICR and PVFMAILBOX changes nothing. EICS, PVTEICS, EIMC, PVTEIMC and PVFCTRL
-/// read 0. A write of PVFCTRL that requests no reset changes nothing.
+/// A clear-on-read counter reads 0 after a read. No write changes such a counter, nor VFGPRC, VFGPTC, STATUS, LINKS or
+/// EEC. A read of any other register except EICR, PVTEICR and PVFMAILBOX changes nothing. EICS, PVTEICS, EIMC, PVTEIMC
+/// and PVFCTRL read 0. A write of PVFCTRL that requests no reset changes nothing.
 #[tactic(auto, using(crate::proofs::ByKind::read_kinds))]
 pub fn kinds_are_read()
     ensures { KindsAreRead }
 {}
 
-/// Bit 25 of what is written to RXDCTL[q] or TXDCTL[q] says whether that side of queue q is requested to be enabled.
+/// Bit 25 of the value written to RXDCTL[q] or TXDCTL[q] requests that this side of queue q be enabled (1) or disabled
+/// (0).
 pub fn sides_are_asked()
     ensures { SidesAreAsked }
 {}
 
-/// A write of EERD, at 0x10014, stores bits 0 and 15 to 2, and clears all others. With bit 0 at 1, it requests the word
-/// with the index in bits 15 to 2. The answer keeps these, clears bit 0, sets bit 1, and has the word in bits 31 to 16.
+/// A write of EERD, at 0x10014, stores bits 0 and 15 to 2, and clears all others. If bit 0 is 1, the write requests the
+/// word with the index in bits 15 to 2. The answer keeps these bits, clears bit 0, sets bit 1, and has the word in bits
+/// 31 to 16.
 pub fn eeprom_is_read()
     ensures { EepromIsRead }
 {}
@@ -202,11 +205,11 @@ pub fn hash_is_of_the_key()
 {}
 
 /// CTRL bit 2, at 0x00000, stops the device's steps. RXCTRL bit 0, at 0x03000, enables reception, and DMATXCTL bit 0,
-/// at 0x04A80, transmission. Bit 10 of HLREG0, at 0x04240, pads frames. The frame limit is 1,514 bytes, or, with HLREG0
-/// bit 2, MAXFRS bits 31 to 16, at 0x04268, minus 4. Bit 5 of GPIE, at 0x00898, says whether a read of EICR clears only
-/// bits 29 to 16, and bit 30 whether the auto-mask is only for messages. SRRCTL[q] bit 28 drops frames for which there
-/// is no descriptor. With TDWBAL[q] bit 0, the head is written to the address in TDWBAH[q] and TDWBAL[q] bits 31 to 2.
-/// A counter that a read clears counts one more each time, and stays at 0xFFFFFFFF.
+/// at 0x04A80, transmission. Bit 10 of HLREG0, at 0x04240, pads frames. The frame limit is 1,514 bytes, or, if HLREG0
+/// bit 2 is 1, MAXFRS bits 31 to 16, at 0x04268, minus 4. Bit 5 of GPIE, at 0x00898, says whether a read of EICR clears
+/// only bits 29 to 16, and bit 30 whether the auto-mask is only for messages. SRRCTL[q] bit 28 drops frames for which
+/// there is no descriptor. If TDWBAL[q] bit 0 is 1, the head is written to the address in TDWBAH[q] and TDWBAL[q] bits
+/// 31 to 2. A clear-on-read counter is incremented by one each time, and saturates at 0xFFFFFFFF.
 pub fn settings_are_bits()
     ensures device { DevicesAreSet }
     ensures queue { QueuesAreSet }
@@ -227,10 +230,11 @@ pub fn images_are_by_number()
     ensures writes { WritesAreByNumber }
 {}
 
-/// In the image of a text, each of words 0x03 to 0x0E points to nothing or to a word from 0x40 on that is in the image
-/// with all words that follow it. So a value of 5 is refused in each of them, but not in words 0x02 and 0x0F. Register
-/// write k of a text is in words 0x41 + 3k to 0x43 + 3k of its image, in the order of the text. Word 0x40 says how many
-/// words follow it, and word 0x0D is 0x40. Without register writes, word 0x0D is 0xFFFF.
+/// In an image assembled from source, each of words 0x03 to 0x0E points to nothing or to a word at 0x40 or above. That
+/// word is in the image, and so are all words that follow it. So a value of 5 is refused in each of them, but not in
+/// words 0x02 and 0x0F. Register write k of the source is in words 0x41 + 3k to 0x43 + 3k of its image, in the order of
+/// the source. Word 0x40 says how many words follow it, and word 0x0D is 0x40. Without register writes, word 0x0D is
+/// 0xFFFF.
 #[tactic(auto, using(crate::proofs::Eeprom::point, crate::proofs::Eeprom::words_point, crate::proofs::Eeprom::texts))]
 pub fn texts_are_laid_out()
     ensures pointers { TextsPoint }
@@ -238,9 +242,9 @@ pub fn texts_are_laid_out()
     ensures text { TextsAreByNumber }
 {}
 
-/// A text that sets words has the first of these faults, as 21 texts just inside and just outside the limits show.
+/// A source that sets words has the first of these faults, as 21 sources just inside and just outside the limits show.
 /// First, an index with two values: the lowest such index is reported. Second, a reserved index: 0x0D, 0x3F, and 0x40
-/// to 0x40 + 3k of a text with k register writes; the lowest such index is reported. Third, an index, or the last of
+/// to 0x40 + 3k of a source with k register writes; the lowest such index is reported. Third, an index, or the last of
 /// the reserved words, that isn't below the size: 21 register writes fit into 128 words, and 22 don't. Last, a pointer
 /// that points outside.
 #[tactic(auto, using(crate::proofs::Eeprom::faults))]

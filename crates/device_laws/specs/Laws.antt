@@ -115,7 +115,7 @@ AskedResetResets =
     (s : State) (address word : ℕ) (p : Place) → Names address p → IsTrue (asks_reset (row_of p.row).kind word) →
     IsReset s (after_write s address word)
 
--- Each register has its reset value, no side of a queue is requested to be enabled, and no bit is reported.
+-- Each register has its reset value, no side of a queue has an enable request, and no bit is reported.
 pub record HasResetValues (s : State) : Type 0 where
   pub words : (p : Place) → p.index < (row_of p.row).count → word_at s.registers.words p ≡ (row_of p.row).reset
   pub wanted : (dir : Dir) (queue : ℕ) → queue < 128 → IsFalse (is_wanted s.registers dir queue)

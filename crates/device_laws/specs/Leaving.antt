@@ -11,12 +11,13 @@ use Rattle.device_laws.specs.Prelude.{Avoids, Block, Dir, Event, Group, Place, P
 use Rattle.device_laws.specs.Prelude.{Waiting, Wrote, after, asks_pool_reset, asks_reset, interrupts_of, named}
 use Rattle.device_laws.specs.Prelude.{owner_of, receive_queue_of, reply_to, row_of, staged_by, transmit_queue_of}
 
--- The receive side of a queue is unchanged: its ring and control word, and whether it is enabled and requested to be.
+-- The receive side of a queue is unchanged: its ring and control word, and whether it is enabled and has an enable
+-- request.
 abbrev pub LeavesReceive : ℕ → State → State → Type 0
 LeavesReceive queue old new = receive_queue_of new.registers queue ≡ receive_queue_of old.registers queue
 
--- The transmit side of a queue is unchanged: its ring, where it writes its head, whether it is enabled and requested to
--- be, and its staged bytes.
+-- The transmit side of a queue is unchanged: its ring, where it writes its head, whether it is enabled and has an
+-- enable request, and its staged bytes.
 pub record LeavesTransmit (queue : ℕ) (old new : State) : Type 0 where
   pub side : transmit_queue_of new.registers queue ≡ transmit_queue_of old.registers queue
   pub staged : staged_by new queue ≡ staged_by old queue

@@ -75,27 +75,26 @@ pub fn let_in_frame_is_counted()
 
 /// MPC counts frames that find the receive list full, RUC frames that are too short, ROC frames that are too long, GPRC
 /// accepted frames, and GPTC transmitted frames. QPRC, QPRDC and QPTC count the frames of queues in the counters that
-/// RQSMR and TQSM assign: QPRC those written to their end, QPRDC those dropped because no descriptor was free, and QPTC
-/// those transmitted. These counters saturate at 0xFFFFFFFF. Otherwise only a read of the counter or a reset changes
-/// them.
+/// RQSMR and TQSM assign: QPRC counts completely written frames, QPRDC frames dropped because no descriptor was free,
+/// and QPTC transmitted frames. All these counters saturate at 0xFFFFFFFF. Otherwise only a read of the counter or a
+/// reset changes them.
 #[tactic(auto, using(crate::proofs::Counts::events_count))]
 pub fn events_count()
     ensures { EventsCount }
 {}
 
-/// If the device has a virtual function, its VFGPRC counts the frames written to their end on a queue of the function's
-/// pool, and its VFGPTC those transmitted from one. These counters wrap from 0xFFFFFFFF to 0. Otherwise only a reset of
-/// the device or of the function's pool changes them; a read doesn't.
+/// For each virtual function that the device has, VFGPRC counts the frames completely written on queues of the
+/// function's pool, and VFGPTC the frames transmitted from these queues. These counters wrap from 0xFFFFFFFF to 0.
+/// Otherwise only a reset of the device or of the function's pool changes them; a read doesn't.
 #[tactic(auto, using(crate::proofs::FunctionEvents::events_count_for_functions))]
 pub fn events_count_for_functions()
     ensures { EventsCountForFunctions }
 {}
 
 /// In the physical function's causes, a frame that finds the receive list full raises bit 17, a fault bit 18, and a
-/// link change bit 20. A frame that is written to its end raises, in its queue's group, the cause that IVAR or PVTIVAR
-/// assigns to the receive queue. A report that is written back raises the cause of its transmit queue in the same way.
-/// None of these changes any other group. Any other event changes no group, unless it is a register access or a
-/// message.
+/// link change bit 20. A completely written frame raises, in its queue's group, the cause that IVAR or PVTIVAR assigns
+/// to the receive queue. A report that is written back raises the cause of its transmit queue in the same way. None of
+/// these changes any other group. Any other event changes no group, unless it is a register access or a message.
 #[tactic(auto, using(crate::proofs::Causes::events_raise))]
 pub fn events_raise()
     ensures { EventsRaise }
@@ -103,8 +102,8 @@ pub fn events_raise()
 
 /// Writing CTRL with a reset request empties the receive list, drops the staged bytes, and otherwise changes only
 /// registers: lent memory, the transmitted frames, the link, the image and the configuration are unchanged. If the
-/// image writes no register, each register then has its reset value, no side of a queue is requested to be enabled, and
-/// no bit is reported. For an image that writes registers, see `reset_applies_the_image`.
+/// image writes no register, each register then has its reset value, no side of a queue has an enable request, and no
+/// bit is reported. For an image that writes registers, see `reset_applies_the_image`.
 #[tactic(auto, using(crate::proofs::Resetting::asked_resets, crate::proofs::Resetting::reset_values))]
 pub fn asked_reset_resets()
     ensures rest { AskedResetResets }
@@ -112,8 +111,8 @@ pub fn asked_reset_resets()
 {}
 
 /// A reset performs the register writes of the EEPROM image one by one. If an image has one more write at its end, the
-/// reset leaves the device as with the image without it, followed by that write. A write of CTRL or EERD is skipped,
-/// and doesn't end the list.
+/// reset leads to the same state as with the image without this write, followed by this write. A write of CTRL or EERD
+/// is skipped, and doesn't end the list.
 #[tactic(auto, using(crate::proofs::Imaged::last_write, crate::proofs::Imaged::stepped_over))]
 pub fn reset_applies_the_image()
     ensures writes { LastWriteIsMade }
@@ -127,8 +126,8 @@ pub fn image_is_reported_by_its_size()
 {}
 
 /// While CTRL bit 2 is 0, an EEPROM step provides the word that EERD requests: EERD then reads as the index, DONE set,
-/// START clear, and the image's word at that index, or 0xFFFF outside the image. If none is requested, the step is idle
-/// and changes nothing. It changes no queue, no group, no memory and no frame.
+/// START clear, and the image's word at that index, or 0xFFFF outside the image. If no word is requested, the step is
+/// idle and changes nothing. It changes no queue, no group, no memory and no frame.
 pub fn eeprom_step_gives_the_word()
     ensures word { StepGivesWord }
     ensures idle { StepWithoutStartIsIdle }
@@ -179,16 +178,16 @@ pub fn arrival_leaves_the_rest()
     ensures { ArrivalLeavesTheRest }
 {}
 
-/// A receive step changes no queue except the receive side of the queue that the oldest frame waits for, no transmitted
-/// frame, and no block except the blocks of the descriptor and of the bytes that it reports.
+/// Of the queues, a receive step changes only the receive side of the queue that the oldest frame is for. It changes no
+/// transmitted frame. Of the blocks, it changes only those with the descriptor and with the bytes that it reports.
 #[tactic(auto, using(crate::proofs::StandingQueues::receiving_rest, crate::proofs::StandingQueues::receiving_blocks))]
 pub fn receiving_leaves_the_rest()
     ensures rest { ReceivingLeavesTheRest }
     ensures blocks { ReceivingLeavesOtherBlocks }
 {}
 
-/// A transmit step changes no queue except the transmit side of its own, no frame in the receive list, and no block
-/// except those that it reports writing back to.
+/// Of the queues, a transmit step changes only the transmit side of its own queue. It changes no frame in the receive
+/// list. Of the blocks, it changes only those to which it reports a write-back.
 pub fn transmitting_leaves_the_rest()
     ensures rest { TransmittingLeavesTheRest }
     ensures blocks { TransmittingLeavesOtherBlocks }
@@ -212,18 +211,18 @@ pub fn link_leaves_the_rest()
 {}
 
 /// While CTRL bit 2 is 0, a receive step is idle if the receive list is empty. It drops the oldest frame if the frame's
-/// queue is disabled. Without a free descriptor, it drops the frame if drop enable is set and none of it is written;
-/// otherwise the frame stays. With a free descriptor, the descriptor is filled or has a fault. Each reply occurs only
-/// in its own case.
+/// queue is disabled. Without a free descriptor, it drops the frame if drop enable is set and no part of the frame is
+/// written yet; otherwise the frame stays. With a free descriptor, the descriptor is filled or has a fault. Each reply
+/// occurs only in its own case.
 pub fn receiving_has_an_order()
     ensures order { ReceivingHasAnOrder }
     ensures alone { EachReplyInItsCase }
     ensures nothing { NothingWaitsIsIdle }
 {}
 
-/// A filled slot was the one at the head of the queue that the oldest frame waits for. That receive side is then
-/// unchanged except for its head, which is the next slot. A fault disables that side, withdraws its enable request, and
-/// leaves the rest of the side unchanged.
+/// A filled slot was the one at the head of the queue that the oldest frame is for. That receive side is then unchanged
+/// except for its head, which is the next slot. A fault disables that side, withdraws its enable request, and leaves
+/// the rest of the side unchanged.
 #[tactic(auto, using(crate::proofs::RepliesReceived::receiving_tells))]
 pub fn receiving_tells()
     ensures { ReceivingTells }

@@ -10,7 +10,7 @@ use Rattle.device_lock.specs.Kept.{entries_of}
 use Rattle.device_lock.specs.Pass.{PassValue, IsOwn}
 use Rattle.device_lock.specs.Closing.{Answers, AreAll, Closes, IsMissing, IsSurplus, TagStands}
 
--- If no tag from this number on has an entry, all tags are below this number.
+-- If no tag at or above this number has an entry, all tags are below this number.
 all_below : (count : ℕ) (h : List Entry) → AllBelow 64 h
     → ((tag : ℕ) → count ≤ tag → tag < 64 → entries_of tag h ≡ 0) → AllBelow count h
 all_below count [] below none = tt
@@ -63,7 +63,7 @@ tag_in ForeignPass = 0
 tag_in (Mismatch tag) = tag
 tag_in OutOfMemory = 0
 
--- A tag is reported as missing exactly if it is the lowest missing tag.
+-- A tag is reported as missing if and only if it is the lowest missing tag.
 pub missing_exactly : (bench count : ℕ) (h : List Entry) (ps : List PassValue) (fault : CloseFault) (tag : ℕ)
     → Answers bench count h ps (Some fault) → (fault ≡ MissingPass tag) ↔ IsMissing bench count ps tag
 unfolding tag_in
@@ -80,7 +80,7 @@ missing_exactly bench count h ps (Mismatch other) tag is =
     (λ same. absurd cc, λ missing. absurd (none_missing bench count ps tag is.0 missing))
 missing_exactly bench count h ps OutOfMemory tag is = absurd is
 
--- A surplus pass is reported exactly if there is one and no tag is missing.
+-- A surplus pass is reported if and only if there is one and no tag is missing.
 pub surplus_exactly : (bench count : ℕ) (h : List Entry) (ps : List PassValue) (fault : CloseFault)
     → Answers bench count h ps (Some fault) → (fault ≡ ForeignPass) ↔ IsSurplus bench count ps
 surplus_exactly bench count h ps (MissingPass tag) is = (

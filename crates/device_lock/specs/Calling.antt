@@ -42,6 +42,6 @@ pub record IsAnsweredStepped (vfs fifo queue : ℕ) (old new : PassValue) (event
   pub answer : reply ≡ (step_of (state_after made.held.device (steps_of_queue queue)) event).reply
 
 -- From a state that a legal history of a new device led to, some of the queue's device steps ran as calls of the pass,
--- from the first on, but nothing else.
+-- starting with the first, but nothing else.
 abbrev pub StopsAnswered : ℕ → ℕ → ℕ → PassValue → PassValue → Type 0
 StopsAnswered vfs fifo queue old new = (count : ℕ) × AreAnswered vfs fifo old (take count (steps_of_queue queue)) new

@@ -30,7 +30,7 @@ abbrev pub AreStepped : PassValue → PassValue → List (Event Block) → Type 
 AreStepped old new events =
     (steps : List Call) × (events_in steps ≡ events) × (new ≡ with_calls old steps)
 
--- Some of the queue's device steps ran, from the first on, but nothing else.
+-- Some of the queue's device steps ran, starting with the first, but nothing else.
 abbrev pub StopsStepping : ℕ → PassValue → PassValue → Type 0
 StopsStepping queue old new = (count : ℕ) × AreStepped old new (take count (steps_of_queue queue))
 
@@ -40,7 +40,7 @@ StepsAndMakes queue old new event reply =
     (steps : List Call) × (events_in steps ≡ steps_of_queue queue)
     × (new ≡ with_calls old (steps ++ call_of event reply ∷ []))
 
--- The calls of these events, which run from a state on, each with the device's reply.
+-- The calls of these events, which run starting in a state, each with the device's reply.
 abbrev pub calls_made : State → List (Event Block) → List Call
 calls_made s [] = []
 calls_made s (event ∷ events) = call_of event (step_of s event).reply ∷ calls_made (step_of s event).state events
@@ -52,6 +52,6 @@ pub record AreMade (held : Held) (old : PassValue) (events : List (Event Block))
   pub under : then ≡ after_calls held old.tag events
   pub noted : new ≡ with_calls old (calls_made held.device events)
 
--- Some of the queue's device steps ran in this way, from the first on, but nothing else.
+-- Some of the queue's device steps ran in this way, starting with the first, but nothing else.
 abbrev pub StopsMaking : ℕ → Held → PassValue → Held → PassValue → Type 0
 StopsMaking queue held old then new = (count : ℕ) × AreMade held old (take count (steps_of_queue queue)) then new

@@ -39,7 +39,7 @@ leaves_blocks mine (event.Take number) = not (mine number)
 leaves_blocks mine (event.Poke16 address bytes) = not (mine (address / 2048))
 leaves_blocks mine other = true
 
--- Whether none of the `count` blocks from `number` on is in the set.
+-- Whether none of the `count` blocks starting at `number` is in the set.
 unfoldable pub none_of : Blocks → ℕ → ℕ → Bool
 none_of mine number zero = true
 none_of mine number (suc count) = not (mine number) && none_of mine (number + 1) count

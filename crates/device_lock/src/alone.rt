@@ -30,7 +30,7 @@ pub struct Watched {
 
 /// The register that a number names at a port, in this pool mode and with `vfs` virtual functions, as `left_alone`
 /// looks it up for each write. The number is a register address of the physical function, or an offset of a virtual
-/// one. Returns `None` if it names no register.
+/// function. Returns `None` if it names no register.
 pub fn place_at(mode: Mode, vfs: u8, port: Port, number: u32) -> Option<Place>
     ensures { result ≡ place_at mode vfs port number }
 {

@@ -149,10 +149,10 @@ impl<const VFS: u8, const FIFO: u16> Locked<VFS, FIFO> {
 impl<const VFS: u8, const FIFO: u16> Shared<VFS, FIFO> {
     /// Closes a shared device with its passes. It never blocks.
     ///
-    /// `MissingPass`, with the lowest such tag, exactly if no pass of this bench has some tag. `ForeignPass` exactly if
-    /// none is missing and a pass belongs to another bench, has no tag of this one, or has the tag of another pass. Any
-    /// other refusal is `Mismatch`, with the lowest tag for which the entries in some legal history aren't the calls of
-    /// its pass. Each returns the shared device and the passes.
+    /// Fails with `MissingPass`, with the lowest such tag, if and only if no pass of this bench has some tag.
+    /// `ForeignPass` if and only if none is missing and a pass belongs to another bench, has no tag of this one, or has
+    /// the tag of another pass. Any other refusal is `Mismatch`, with the lowest tag for which the entries in some
+    /// legal history aren't the calls of its pass. Each returns the shared device and the passes.
     pub fn close(self, passes: Vec<Pass>) -> Result<Closed<VFS, FIFO>, CloseRefused<VFS, FIFO>>
         ensures closed { IfOk result
             (λ closed. Closes self.entry.bench self.entry.passes closed.history passes.items) }

@@ -160,8 +160,8 @@ impl<const VFS: u8, const FIFO: u16> Locked<VFS, FIFO> {
     /// Applies one event for the pass with this tag, which is below 64, and appends its entry. Returns the device's
     /// reply.
     ///
-    /// `HistoryFull` exactly if the history is at its limit; otherwise `OutOfMemory`. Both return the event and change
-    /// nothing.
+    /// `HistoryFull` if and only if the history is at its limit; otherwise `OutOfMemory`. Both return the event and
+    /// change nothing.
     pub fn step(&mut self, alloc: Global, tag: u8, event: Event) -> Result<Reply, CallFault>
         requires { tag < 64 }
         ensures reply { IfOk result (λ reply. reply ≡ (step_of self.old.device event).reply) }

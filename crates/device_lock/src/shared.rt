@@ -114,7 +114,7 @@ impl<const VFS: u8, const FIFO: u16> Shared<VFS, FIFO> {
 
     /// Applies one event to the device and records the call in the pass. The call waits for the lock.
     ///
-    /// `ForeignPass` exactly if the pass belongs to another bench or has no tag of this one; it takes no lock.
+    /// `ForeignPass` if and only if the pass belongs to another bench or has no tag of this one; it takes no lock.
     /// Otherwise `HistoryFull` or `OutOfMemory`; the clauses of `Locked::step` say when, but this call's clauses don't.
     /// Each returns the event and leaves the pass unchanged.
     pub fn call<R: Wait>(

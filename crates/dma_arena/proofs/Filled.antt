@@ -166,7 +166,7 @@ module _ {s : List (Option Block)} {f e n : ℕ} (table : IsTable s f e n) {m : 
   pub block_at-table : (q : ℕ) → at_place s q ≡ block_at m q
   block_at-table q = block_at-shown s q (table.numbered q) ∙ ap (λ (k : Memory). block_at k q) view
 
-  -- No block is lent exactly when there is no lowest one.
+  -- No block is lent if and only if there is no lowest one.
 
   pub none_lent : f ≡ 65536 → m ≡ fin.empty
   none_lent e =

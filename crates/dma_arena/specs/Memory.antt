@@ -19,12 +19,12 @@ block_at m number = option_map (λ bytes. record { number = number; bytes = byte
 unfoldable pub byte_at : Memory → ℕ → ℕ
 byte_at m a = slice_index (unwrap_or (map.get m (a / 2048)) []) (a % 2048)
 
--- Whether each of the `n` bytes from address `a` on is in a lent block.
+-- Whether each of the `n` bytes starting at address `a` is in a lent block.
 unfoldable pub is_lent : Memory → ℕ → ℕ → Bool
 is_lent m a zero = true
 is_lent m a (suc n) = has_block m (a / 2048) && is_lent m (a + 1) n
 
--- The `n` bytes from address `a` on.
+-- The `n` bytes starting at address `a`.
 unfoldable pub read_at : Memory → ℕ → ℕ → List ℕ
 read_at m a zero = []
 read_at m a (suc n) = byte_at m a ∷ read_at m (a + 1) n
@@ -38,20 +38,20 @@ with_byte m a byte (Some bytes) = map.insert m (a / 2048) (slice_set bytes (a % 
 unfoldable pub set_byte : Memory → ℕ → ℕ → Memory
 set_byte m a byte = with_byte m a byte (map.get m (a / 2048))
 
--- The memory after these bytes are written from address `a` on.
+-- The memory after these bytes are written, starting at address `a`.
 unfoldable pub write_at : Memory → ℕ → List ℕ → Memory
 write_at m a [] = m
 write_at m a (byte ∷ bytes) = write_at (set_byte m a byte) (a + 1) bytes
 
--- The bytes of a block, with these bytes in place of those from index `at` on.
+-- The bytes of a block, with these bytes in place of the bytes starting at index `at`.
 unfoldable pub put_bytes : List ℕ → ℕ → List ℕ → List ℕ
 put_bytes block at bytes = take at block ++ bytes ++ drop (at + length bytes) block
 
--- The `n` bytes of a block from index `at` on.
+-- The `n` bytes of a block starting at index `at`.
 unfoldable pub part : List ℕ → ℕ → ℕ → List ℕ
 part block at n = take n (drop at block)
 
--- Each lent block is a valid block: it has 2,048 bytes and a number below 65,536.
+-- Each lent block is a valid block: it is 2,048 bytes long, and its number is below 65,536.
 pub record IsWhole (m : Memory) : Type 0 where
   pub block : (number : ℕ) (bytes : List ℕ) → map.get m number ≡ Some bytes
       → IsBlock (record { number = number; bytes = bytes })
@@ -60,18 +60,18 @@ pub record IsWhole (m : Memory) : Type 0 where
 abbrev pub SameLent : Memory → Memory → Type 0
 SameLent m n = (number : ℕ) → has_block m number ≡ has_block n number
 
--- The address `c` is outside the `n` bytes from `a` on.
+-- The address `c` is outside the `n` bytes starting at `a`.
 abbrev pub IsOutside : ℕ → ℕ → ℕ → Type 0
 IsOutside c a n = (c < a) ⊎ (a + n ≤ c)
 
--- The `k` bytes from `c` on and the `n` bytes from `a` on share no byte.
+-- The `k` bytes starting at `c` and the `n` bytes starting at `a` share no byte.
 abbrev pub AreApart : ℕ → ℕ → ℕ → ℕ → Type 0
 AreApart c k a n = (c + k ≤ a) ⊎ (a + n ≤ c)
 
--- All `n` bytes from `a` on are in the block.
+-- All `n` bytes starting at `a` are in the block.
 abbrev pub LiesIn : ℕ → ℕ → ℕ → Type 0
 LiesIn number a n = (2048 * number ≤ a) × (a + n ≤ 2048 * number + 2048)
 
--- None of the `n` bytes from `a` on is in the block.
+-- None of the `n` bytes starting at `a` is in the block.
 abbrev pub Avoids : ℕ → ℕ → ℕ → Type 0
 Avoids number a n = (a + n ≤ 2048 * number) ⊎ (2048 * number + 2048 ≤ a)

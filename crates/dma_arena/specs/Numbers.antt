@@ -1,7 +1,7 @@
 use Rattle.std.specs.Prelude.{◌≡◌, ℕ, ◌+◌, ◌-◌, ◌<◌, ◌≤◌, Bool, true, false, ◌&&◌, nat_le, nat_lt, List, length, replicate, slice_index_or, slice_set, count_by}
 use Rattle.std.specs.List.{list_all}
 
--- An arena's block numbers, from `first` on, and for each of them whether it is free.
+-- An arena's block numbers, starting at `first`, and for each of them whether it is free.
 pub record Numbers : Type 0 where
   pub first : ℕ
   pub free : List Bool
@@ -26,11 +26,11 @@ is_free a number = nat_le a.first number && slice_index_or a.free (number - a.fi
 abbrev pub are_all_free : Numbers → Bool
 are_all_free a = list_all (λ free. free) a.free
 
--- The `count` numbers from `first` on, all free.
+-- The `count` numbers starting at `first`, all free.
 abbrev pub all_free : ℕ → ℕ → Numbers
 all_free first count = record { first = first; free = replicate count true }
 
--- The arena's numbers below a cut (`numbers_below`) or from it on (`numbers_from`), all free.
+-- The arena's numbers below a cut (`numbers_below`), or at and above it (`numbers_from`), all free.
 abbrev pub numbers_below : Numbers → ℕ → Numbers
 numbers_below a at = all_free a.first (at - a.first)
 

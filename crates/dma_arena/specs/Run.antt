@@ -40,7 +40,7 @@ run_numbers first (suc n) = (first + n) ∷ run_numbers first n
 abbrev pub IsFreeRun : Numbers → ℕ → ℕ → Type 0
 IsFreeRun a first count = (k : ℕ) → k < count → is_free a (first + k) ≡ true
 
--- One of the `count` numbers from `first` on isn't free.
+-- One of the `count` numbers starting at `first` isn't free.
 abbrev pub IsNoRun : Numbers → ℕ → ℕ → Type 0
 IsNoRun a first count = (k : ℕ) × (k < count) × (is_free a (first + k) ≡ false)
 

@@ -139,7 +139,7 @@ impl FreeList {
         unlink(&mut self.ends, &mut self.slots, place)
     }
 
-    /// Moves free blocks from another list, from its index `from` on, into all slots of this one.
+    /// Moves free blocks from another list, starting at its index `from`, into all slots of this one.
     fn fill(&mut self, other: &mut FreeList, from: usize)
         requires empty { self.old ≡ replicate (length self.old) false }
         requires fits { from + length self.old ≤ 65536 }
@@ -156,8 +156,8 @@ impl FreeList {
         }
     }
 
-    /// Splits the slots into those below index `place` and those from it on. The error returns the list if there isn't
-    /// enough memory.
+    /// Splits the slots into those below index `place` and the rest. If there isn't enough memory, the error contains
+    /// the list.
     pub(crate) fn split(mut self, place: usize) -> Result<(FreeList, FreeList), FreeList>
         requires free { self ≡ replicate (length self) true }
         requires inside { place ≤ length self }

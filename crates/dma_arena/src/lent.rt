@@ -84,7 +84,7 @@ impl LentMemory {
         self.blocks.remove(block)
     }
 
-    /// Returns the lowest lent number, or `None` if and only if no block is lent.
+    /// Returns the lowest lent number. Returns `None` if and only if no block is lent.
     pub fn lowest(&self) -> Option<u32>
         ensures none { IsNone result ↔ (self.now ≡ map.empty) }
         ensures lent { IfSome result (λ number. IsTrue (has_block self.now number)) }

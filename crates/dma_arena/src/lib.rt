@@ -1,4 +1,4 @@
-//! Packet memory: blocks of 2,048 bytes, and the bus through which the device reads and writes them.
+//! Packet memory: 2,048-byte blocks, and the bus through which the device reads and writes them.
 //!
 //! At any time a block is in one place: free in an [`Arena`], owned as a [`Buf`] or in a [`Run`], or lent to the device
 //! in a [`LentMemory`], where bus address `a` is byte `a % 2048` of block `a / 2048`. [`Octets`] are stored bytes, for

@@ -24,7 +24,7 @@ pub(crate) fn are_lent(blocks: &Table, address: u64, len: usize) -> bool
     true
 }
 
-/// Fills the slice with the bytes from an address on.
+/// Fills the slice with the bytes starting at an address.
 pub(crate) fn read_bytes(blocks: &Table, address: u64, bytes: &mut [u8])
     requires whole { IsWhole blocks.now }
     requires lent { is_lent blocks.now address (length bytes.old) ≡ true }
@@ -50,7 +50,7 @@ pub(crate) fn read_bytes(blocks: &Table, address: u64, bytes: &mut [u8])
     }
 }
 
-/// Appends the bytes from an address on to a vector that has room for them; it allocates nothing.
+/// Appends the bytes starting at an address to a vector that has room for them. It allocates nothing.
 pub(crate) fn append_bytes(blocks: &Table, address: u64, len: usize, bytes: &mut Vec<u8>)
     requires whole { IsWhole blocks.now }
     requires lent { is_lent blocks.now address len ≡ true }
@@ -78,7 +78,7 @@ pub(crate) fn append_bytes(blocks: &Table, address: u64, len: usize, bytes: &mut
     }
 }
 
-/// Writes the bytes of the slice from an address on.
+/// Writes the bytes of the slice, starting at an address.
 pub(crate) fn write_bytes(blocks: &mut Table, address: u64, bytes: &[u8])
     requires whole { IsWhole blocks.old }
     requires lent { is_lent blocks.old address (length bytes.now) ≡ true }

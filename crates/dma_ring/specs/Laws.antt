@@ -39,7 +39,7 @@ RingIsInBlock =
 
 -- Descriptors.
 
--- A descriptor made from two halves has 16 bytes, and both halves are read back from it.
+-- A descriptor made from two halves is 16 bytes long, and both halves are read back from it.
 pub record HasHalves (low high : ℕ) : Type 0 where
   pub size : length (of_halves low high) ≡ 16
   pub first : low < 2 ^ 64 → first_half (of_halves low high) ≡ low

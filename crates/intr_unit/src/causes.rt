@@ -168,7 +168,7 @@ impl Causes {
         self.settle(causes, enabled, self.reported);
     }
 
-    /// Reads the cause register: returns its word and clears it. For the PF with GPIE bit 5 (`ocd`), it clears only
+    /// Reads the cause register: returns its word and clears it. For the PF, if GPIE bit 5 (`ocd`) is 1, it clears only
     /// bits 29 to 16; `ocd` has no effect for a VF. With `auto`, from [`Group::auto_mask_acts`], the masks of all bits
     /// in the auto-mask become 0, whichever causes were set.
     #[inline]

@@ -32,7 +32,7 @@ const POSTED: [u8; 16] = [0, 8, 0, 0, 0, 0, 0, 0, 0, 0, 0, 0, 0, 0, 0, 0];
 /// A transmit descriptor of a 60-byte frame in block 2, with report status set.
 const OUTGOING: [u8; 16] = [0, 16, 0, 0, 0, 0, 0, 0, 60, 0, 0x30, 0x2B, 0, 0, 15, 0];
 
-/// Returns a frame of 60 bytes.
+/// Returns a 60-byte frame.
 pub fn frame<R: Abort>(rt: &R, alloc: Global) -> Octets {
     let mut bytes = Vec::new(alloc);
     for number in 0..60u8 {

@@ -1,4 +1,4 @@
-//! The set-up of a device, and the calls of a driver.
+//! The setup of a device, and the calls of a driver.
 
 use crate::devices::{frame, number_of};
 use crate::outcome::{done, none, put, some};
@@ -14,7 +14,7 @@ use std::alloc::Global;
 use std::process::Abort;
 use std::sync::Wait;
 
-/// A promiscuous set-up with neither pools nor hashing.
+/// A promiscuous setup with neither pools nor hashing.
 pub const PLAIN: Setup = Setup {
     mode: Mode::Off,
     mrqc: 0,
@@ -147,7 +147,7 @@ impl Driving {
         driving
     }
 
-    /// Lets a frame arrive, or adds a packet to send, depending on the call.
+    /// Delivers a frame, or adds a packet to send, depending on the call.
     fn ready<R: Abort>(&mut self, rt: &R, alloc: Global) {
         let mut pmd = some(rt, self.pmd.take());
         match self.kind {

@@ -66,7 +66,7 @@ fn answers<R: Read>(
     holds(rt, answer, outcome == Outcome::Ended(wanted));
 }
 
-/// A text of 8,388,608 bytes is read; one more byte is too long.
+/// An input of 8,388,608 bytes is read; one more byte is too long.
 #[test]
 fn longest_input(rt: HostRuntime) {
     answers(&rt, rt.alloc(), &RUN, &mut Newlines(8_388_608), "ok 0\n", 0);

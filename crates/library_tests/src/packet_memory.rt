@@ -11,7 +11,7 @@ use nic_device::{Device, Event, Reply};
 /// Requires that a value can be sent to another thread.
 fn can_be_sent<T: Send>() {}
 
-/// Returns an arena of `count` blocks from `first` on.
+/// Returns an arena of `count` blocks, starting at `first`.
 fn arena(rt: &impl Hand, first: u32, count: u32) -> Arena {
     done(rt, Arena::new(rt.alloc(), first, count))
 }

@@ -47,7 +47,7 @@ fn started<N: Nic>(rt: &impl Abort, alloc: Global, nic: &mut N, queue: u16) -> P
     done(rt, Pmd::start(alloc, nic, Port::Pf, queue, 8, 1518, arena))
 }
 
-/// Lets a frame arrive from the link.
+/// Delivers a frame from the link.
 fn arrive<N: Nic>(rt: &impl Abort, alloc: Global, nic: &mut N, frame: &[u8]) {
     let bytes = done(rt, frame.to_vec(alloc));
     match done(rt, nic.call(alloc, Event::Arrive(Octets::of(bytes)))) {
@@ -81,7 +81,7 @@ fn poll<N: Nic>(rt: &impl Abort, alloc: Global, nic: &mut N, pmd: &mut Pmd) {
     }
 }
 
-/// Starts a driver, lets frames for its queue arrive, sends each received packet, and stops.
+/// Starts a driver, delivers frames for its queue, sends each received packet, and stops.
 fn drive<R: Abort + Wait>(
     rt: &R,
     alloc: Global,

@@ -7,7 +7,7 @@ use dma_arena::Arena;
 use nic_device::{Device, Event, Parts, Reply, RestoreRefused, Snapshot};
 use script_asm::{Machine, assemble};
 
-/// Returns an arena of this many blocks from block 0 on.
+/// Returns an arena of this many blocks, starting at block 0.
 fn arena(rt: &impl Hand, count: u32) -> Arena {
     done(rt, Arena::new(rt.alloc(), 0, count))
 }

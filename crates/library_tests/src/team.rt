@@ -15,7 +15,7 @@ use std::process::Abort;
 use std::sync::Wait;
 use std::thread::Threads;
 
-/// The set-up with hashing. Frames of an unknown kind go to queue 0.
+/// The setup with hashing. Frames of an unknown kind go to queue 0.
 const SETUP: Setup = Setup { mrqc: 1, ..PLAIN };
 
 /// Returns two workers' jobs, on queues 0 and 1.

@@ -53,9 +53,9 @@ copy-of_some m n k lent bytes whole is test has read =
     let there = got_lent m n whole (ap (λ i. is_lent m (i * 2048) 2048) (sym is) ∙ sym test ∙ has) in
     ap Some (read ∙ ap (λ i. read_at m (i * 2048) 2048) is) ∙ sym there
 
--- The blocks from a number on.
+-- The blocks at and above a number.
 
--- The second memory has the first one's blocks from a number on, and none below it.
+-- The second memory has the first memory's blocks at and above a number, and no blocks below it.
 pub record IsFrom (whole part : Memory) (start : ℕ) : Type 0 where
   pub below : (number : ℕ) → number < start → map.get part number ≡ None
   pub above : (number : ℕ) → start ≤ number → map.get part number ≡ map.get whole number

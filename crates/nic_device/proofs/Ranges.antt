@@ -30,7 +30,7 @@ poked-lent : (s : State) (a : ℕ) (bytes : List ℕ) → a % 16 ≡ 0 → is_le
     → poked s a bytes ≡ gives Done (record s { memory = write_at s.memory a bytes })
 poked-lent s a bytes aligned lent = rw (aligned, lent) refl
 
--- A range of 16 bytes, followed by another range.
+-- A 16-byte range, followed by another range.
 
 lent_parts : (m : Memory) (a n : ℕ) → is_lent m a (16 * suc n) ≡ true
     → (is_lent m a 16 ≡ true) × (is_lent m (a + 16) (16 * n) ≡ true)

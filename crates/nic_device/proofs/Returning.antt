@@ -121,7 +121,7 @@ lies-below copy (c ∷ copies) rest (suc at) n rising is has =
           (sym (has-insert_other (memory_of copies) c.0 c.1 n ne) ∙ has)
     ]
 
--- The numbers from one on are visited: their blocks match the copies, and the others are unchanged.
+-- The numbers at and above this one are visited: their blocks match the copies, and the others are unchanged.
 pub record IsReturned (copies : List (ℕ × List ℕ)) (a : Numbers) (m : Memory) (at number : ℕ) (b : Numbers)
     (n : Memory) : Type 0 where
   pub inside : at ≤ length copies

@@ -45,8 +45,8 @@ abbrev pub sorted_in : State → List ℕ → Result Target Unwanted → Outcome
 sorted_in s frame (Ok t) = joined s frame t
 sorted_in s frame (Err why) = gives (Dropped (why_unwanted why)) s
 
--- A frame arrives. It is dropped if the link is down, if reception is disabled, if it has fewer than 60 bytes, if it is
--- longer than the limit, if its destination or pool is rejected, or if the receive list is full. Otherwise it is
+-- A frame arrives. It is dropped if the link is down, if reception is disabled, if it is shorter than 60 bytes, if it
+-- is longer than the limit, if its destination or pool is rejected, or if the receive list is full. Otherwise it is
 -- appended to the receive list.
 abbrev pub arrived : State → List ℕ → Outcome
 arrived s frame =

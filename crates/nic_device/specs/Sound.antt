@@ -21,7 +21,7 @@ use Rattle.nic_device.specs.declared.event.Port.TheVariants.{Pf, Vf}
 abbrev pub AreBytes : List ℕ → Type 0
 AreBytes bytes = All (λ byte. byte < 256) bytes
 
--- Each lent block has 2,048 bytes and a number below 65,536.
+-- Each lent block is 2,048 bytes long and has a number below 65,536.
 pub record AreBlocks (m : Memory) : Type 0 where
   pub whole : IsWhole m
   pub bytes : (number : ℕ) (block : List ℕ) → map.get m number ≡ Some block → AreBytes block
@@ -30,8 +30,9 @@ pub record AreBlocks (m : Memory) : Type 0 where
 abbrev pub IsTypeNumber : ℕ → Type 0
 IsTypeNumber number = (type : RssType) × (code_of type ≡ number)
 
--- A frame in the receive list. It has at least 60 bytes and at most the maximum frame limit, and some remain to be
--- written. Its queue is below 128, its RSS type exists, and its hash is a 32-bit word, 0 if the type is 0.
+-- A frame in the receive list. It is at least 60 bytes long and at most as long as the maximum frame limit, and some
+-- bytes remain to be written. Its queue is below 128, its RSS type exists, and its hash is a 32-bit word, 0 if the type
+-- is 0.
 pub record IsWaiting (w : Waiting) : Type 0 where
   pub bytes : AreBytes w.frame
   pub least : 60 ≤ length w.frame

@@ -68,7 +68,7 @@ impl Device {
 }
 
 impl Engine {
-    /// Fills the slice with the bytes from a bus address on, if all of them are lent.
+    /// Fills the slice with the bytes starting at a bus address, if all of them are lent.
     fn read_range(&self, bus: u64, bytes: &mut [u8]) -> bool
         ensures lent { result ≡ is_lent self.now.memory bus (length bytes.old) }
         ensures read { result ≡ true → bytes.new ≡ read_at self.now.memory bus (length bytes.old) }
@@ -93,7 +93,7 @@ impl Engine {
         self.memory.exchange(block, memory)
     }
 
-    /// Writes the bytes of the slice from a bus address on, if all of them are lent.
+    /// Writes the bytes of the slice, starting at a bus address, if all bytes of this range are lent.
     fn write_range(&mut self, bus: u64, bytes: &[u8]) -> bool
         ensures lent { result ≡ is_lent self.old.memory bus (length bytes.now) }
         ensures written { result ≡ true → self.new ≡

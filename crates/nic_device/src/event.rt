@@ -159,7 +159,7 @@ pub enum Why {
     LinkDown,
     /// Reception is disabled: RXCTRL bit 0, receive enable, is 0.
     Off,
-    /// The frame has fewer than 60 bytes without its frame check sequence. RUC counts it.
+    /// The frame is shorter than 60 bytes without its frame check sequence. RUC counts it.
     Short,
     /// The frame is longer than the limit that MAXFRS and HLREG0 set. ROC counts it.
     Long,

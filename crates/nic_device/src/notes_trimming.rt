@@ -17,7 +17,7 @@ pub(crate) fn kept_in(buf: &Buf) -> usize
     kept_before(bytes, buf.zeros_from())
 }
 
-/// Returns the length of the bytes without the trailing zeros. All bytes from `from` on must be 0.
+/// Returns the length of the bytes without the trailing zeros. All bytes at and after `from` must be 0.
 fn kept_before(bytes: &[u8], from: usize) -> usize
     requires within { from ≤ length bytes.now }
     requires zeros { (k : ℕ) → from ≤ k → slice_index bytes.now k ≡ 0 }
@@ -44,7 +44,7 @@ fn zeros_begin(bytes: &[u8], from: usize) -> usize
     end
 }
 
-/// Whether the 64 bytes from index `first` on are all 0.
+/// Whether the 64 bytes starting at index `first` are all 0.
 fn are_zeros(bytes: &[u8], first: usize) -> bool
     requires { first + 64 ≤ length bytes.now }
     ensures { result ≡ true → (k : ℕ) → first ≤ k → k < first + 64 → slice_index bytes.now k ≡ 0 }

@@ -52,7 +52,7 @@ pub table_sound : list_all is_sound runs ≡ true
 unfolding runs
 table_sound = refl
 
--- An address names a place exactly when the search finds that place.
+-- An address names a place if and only if the search finds that place.
 pub found-named : (a : ℕ) (p : Place) → (place_among runs a ≡ Some p) ↔ Names a p
 found-named a p = (λ e. found_is_named runs a p table_sound e, λ n. named_is_found runs a p table_sound table_apart n)
 
@@ -63,7 +63,7 @@ none_when_free (Some p) free = absurd (free p refl)
 none_or_some : {A : Type 0} (o : Option A) (x : A) → o ≡ None → o ≡ Some x → ⊥
 none_or_some o x n s = cc
 
--- The search finds nothing exactly when the address names nothing.
+-- The search finds nothing if and only if the address names nothing.
 pub missed-free : (a : ℕ) → (place_among runs a ≡ None) ↔ ((p : Place) → Names a p → ⊥)
 missed-free a = (
   λ e p n. none_or_some (place_among runs a) p e ((found-named a p).1 n),

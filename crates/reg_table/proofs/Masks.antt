@@ -21,7 +21,7 @@ contains_bit : (word k : ℕ) → (bit_and word (2 ^ k) == 2 ^ k) ≡ has_flag (
 contains_bit word k = ap (λ n. n == 2 ^ k) (and_pow word k)
     ∙ times-eq (bit_at word k) (2 ^ k) (bit_at-lt word k) (pow_pos k)
 
--- A word contains a single-bit mask exactly when that bit is 1.
+-- A word contains a single-bit mask if and only if that bit is 1.
 pub contains_single : (word mask : ℕ) → IsSingle mask → (bit_and word mask == mask) ≡ has_flag mask word
 contains_single word mask single =
     ap (λ m. bit_and word m == m) single ∙ contains_bit word (length_in 32 mask - 1)

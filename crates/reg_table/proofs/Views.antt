@@ -98,7 +98,7 @@ shown_is_low (r ∷ rs) a s e =
       | inr f ↦ inr (shown_is_low rs a u.1 (sym (cond-false (has_address r a) own (view_among rs a) f) ∙ e))
     ]
 
--- An address shows only bits 15:0 exactly when a low run has a place there.
+-- An address shows only bits 15:0 if and only if a low run has a place there.
 pub low_where : (a : ℕ) → (view_among runs a ≡ 0xFFFF) ↔ IsLow a
 low_where a = (λ e. shown_is_low runs a table_sound e, λ n. low_is_shown runs a table_apart n)
 

@@ -19,7 +19,7 @@ pub struct Access {
 }
 
 /// Returns the place at an address, a byte offset into the register space, with the bits that show there. Returns
-/// `None` exactly when no register has the address. An address that isn't a multiple of 4 has none.
+/// `None` if and only if no register has the address. An address that isn't a multiple of 4 has none.
 #[inline(always)]
 pub fn resolve(address: u32) -> Option<Access>
     ensures value { result ≡ access_at address }
@@ -43,7 +43,7 @@ fn at(address: u32) -> Option<Access>
     aligned(address)
 }
 
-/// Returns the access at an offset from the first address of a row with a stride of 4 bytes.
+/// Returns the access at an offset from the first address of a row with a 4-byte stride.
 #[inline(always)]
 pub(crate) fn words(row: RowId, first_index: u16, offset: u32) -> Option<Access>
     requires near { offset < 0x10000 }
@@ -53,7 +53,7 @@ pub(crate) fn words(row: RowId, first_index: u16, offset: u32) -> Option<Access>
     seen(row, first_index + (offset / 4) as u16, 0xFFFF_FFFF)
 }
 
-/// Returns the access at an offset from the first address of a row with a stride of 4 bytes, if the addresses show only
+/// Returns the access at an offset from the first address of a row with a 4-byte stride, if the addresses show only
 /// bits 15:0.
 #[inline(always)]
 pub(crate) fn low_words(row: RowId, first_index: u16, offset: u32) -> Option<Access>
@@ -64,7 +64,7 @@ pub(crate) fn low_words(row: RowId, first_index: u16, offset: u32) -> Option<Acc
     seen(row, first_index + (offset / 4) as u16, 0xFFFF)
 }
 
-/// Returns the access at an offset from the first address of a row with a stride of 8 bytes.
+/// Returns the access at an offset from the first address of a row with an 8-byte stride.
 #[inline(always)]
 pub(crate) fn pairs(row: RowId, first_index: u16, offset: u32) -> Option<Access>
     requires near { offset < 0x10000 }
@@ -74,7 +74,7 @@ pub(crate) fn pairs(row: RowId, first_index: u16, offset: u32) -> Option<Access>
     seen(row, first_index + (offset / 8) as u16, 0xFFFF_FFFF)
 }
 
-/// Returns the access at an offset from the first address of a row with a stride of 64 bytes.
+/// Returns the access at an offset from the first address of a row with a 64-byte stride.
 #[inline(always)]
 pub(crate) fn queues(row: RowId, first_index: u16, offset: u32) -> Option<Access>
     requires near { offset < 0x10000 }

@@ -79,8 +79,7 @@ word_reset index r renewal = with_word r renewal.row index (renewed renewal (wor
 abbrev pub rows_reset : Registers → List Renewal → ℕ → Registers
 rows_reset r table index = fold (word_reset index) r table
 
--- The registers after a side of a queue is reset: its words have their reset values, and it isn't requested to be
--- enabled.
+-- The registers after a side of a queue is reset: its words have their reset values, and it has no enable request.
 abbrev pub side_reset : Dir → Registers → ℕ → Registers
 side_reset dir r queue = with_wanted (rows_reset r (side_renewals dir) queue) dir queue false
 

@@ -32,8 +32,7 @@ registers_code =
     })
     (λ _. refl)
 
--- After a reset every register has its reset value, no side of a queue is requested to be enabled, and no bit is
--- reported.
+-- After a reset every register has its reset value, no side of a queue has an enable request, and no bit is reported.
 abbrev pub reset_registers : Registers
 reset_registers =
     record {
@@ -52,12 +51,12 @@ word_of r row index = word_at r.words (place row index)
 abbrev pub with_word : Registers → RowId → ℕ → ℕ → Registers
 with_word r row index word = record r { words = put r.words (place row index) word }
 
--- Whether a side of a queue is requested to be enabled.
+-- Whether a side of a queue has an enable request.
 abbrev pub is_wanted : Registers → Dir → ℕ → Bool
 is_wanted r Rx queue = slice_index_or r.wanted_rx queue false
 is_wanted r Tx queue = slice_index_or r.wanted_tx queue false
 
--- The registers with a side of a queue requested to be enabled or disabled.
+-- The registers after a request that a side of a queue be enabled or disabled.
 abbrev pub with_wanted : Registers → Dir → ℕ → Bool → Registers
 with_wanted r Rx queue wanted = record r { wanted_rx = slice_set r.wanted_rx queue wanted }
 with_wanted r Tx queue wanted = record r { wanted_tx = slice_set r.wanted_tx queue wanted }

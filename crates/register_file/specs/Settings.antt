@@ -16,7 +16,8 @@ can_receive r = has_bit 0 (word_of r Rxctrl 0)
 abbrev pub can_transmit : Registers → Bool
 can_transmit r = has_bit 0 (word_of r Dmatxctl 0)
 
--- The longest frame in bytes: 1,514, or, with HLREG0 bit 2, JUMBOEN, set, MAXFRS bits 31 to 16 minus 4, but at least 0.
+-- The longest frame in bytes: 1,514, or, if HLREG0 bit 2, JUMBOEN, is set, MAXFRS bits 31 to 16 minus 4, but at least
+-- 0.
 abbrev pub frame_limit : Registers → ℕ
 frame_limit r = if has_bit 2 (word_of r Hlreg0 0) then word_of r Maxfrs 0 / 2 ^ 16 - 4 else 1514
 

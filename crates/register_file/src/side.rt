@@ -17,7 +17,7 @@ pub(crate) struct ReceiveSide {
     pub(crate) tail: u32,
     /// RXDCTL: receive descriptor control, with the enable bit.
     pub(crate) enable: u32,
-    /// Whether the side is requested to be enabled.
+    /// Whether the side has an enable request.
     pub(crate) wanted: bool,
 }
 
@@ -40,7 +40,7 @@ pub(crate) struct TransmitSide {
     pub(crate) writeback_low: u32,
     /// TDWBAH: high part of the head write-back address.
     pub(crate) writeback_high: u32,
-    /// Whether the side is requested to be enabled.
+    /// Whether the side has an enable request.
     pub(crate) wanted: bool,
 }
 

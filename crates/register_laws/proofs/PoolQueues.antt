@@ -12,7 +12,7 @@ use Rattle.register_laws.proofs.Renewed.{any_of}
 pub turned : (a b : ℕ) → (a == b) ≡ (b == a)
 turned a b = grind (arith, nat_tests)
 
--- Whether a number is among `count` numbers from the first on.
+-- Whether a number is among `count` numbers starting at the first.
 abbrev pub among : (first count i : ℕ) → Bool
 among first zero i = false
 among first (suc count) i = (first == i) || among (first + 1) count i
@@ -22,7 +22,7 @@ among-is zero first i = grind (arith, nat_tests)
 among-is (suc count) first i =
     ap (λ b. (first == i) || b) (among-is count (first + 1) i) ∙ grind (arith, nat_tests)
 
--- The pool's queues, and the words of its vectors, are those from its first on.
+-- The pool's queues, and the words of its vectors, begin with its first.
 pub queues-among : (mode : Mode) (v i : ℕ) → v < pools_in mode
     → among (v * queues_each mode) (queues_each mode) i ≡ has_queue mode v i
 queues-among mode v i small =

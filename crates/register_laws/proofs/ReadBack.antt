@@ -25,7 +25,7 @@ goes_round r p h b = record {
   kept = λ view word. refl;
 }
 
--- After a reset no side of a queue is enabled or requested to be enabled.
+-- After a reset, no side of a queue is enabled or has an enable request.
 pub off-reset : ResetSwitchesOff
 off-reset Rx queue b =
     (ap (has_bit 25) (word_at-reset (place Rxdctl queue) b), get_or-replicate 128 queue false false b)

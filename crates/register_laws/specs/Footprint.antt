@@ -7,8 +7,7 @@ use Rattle.register_laws.specs.Prelude.{Dir, Group, Kind, Mode, Owner, Place, Re
 use Rattle.register_laws.specs.Prelude.{has_bit, has_queue, is_group, is_of_pool, is_owner, is_renewed, is_wanted}
 use Rattle.register_laws.specs.Prelude.{owner_of, reported_by, row_of, word_at}
 
--- A part of the registers: whole words at places, which sides are requested to be enabled, and what is reported for
--- groups.
+-- A part of the registers: whole words at places, which sides have enable requests, and what is reported for groups.
 pub record Part : Type 0 where
   pub words : Place → Bool
   pub wanted : Dir → ℕ → Bool
@@ -52,7 +51,7 @@ pub record AgreeWithin (f : Part) (a b : Registers) : Type 0 where
 abbrev pub everything : Footprint
 everything = record { bits = λ p bit. true; wanted = λ dir queue. true; reported = λ g. true }
 
--- Everything that belongs to an owner: the words at its places, whether a side is requested to be enabled, and what is
+-- Everything that belongs to an owner: the words at its places, whether a side has an enable request, and what is
 -- reported for a group.
 abbrev pub of_owner : Owner → Footprint
 of_owner o =
@@ -71,8 +70,8 @@ of_side dir queue = of_owner (owner.Side dir queue)
 abbrev pub of_group : Group → Footprint
 of_group g = of_owner (owner.Group g)
 
--- Everything that belongs to a pool: the words at its places, whether the sides of its queues are requested to be
--- enabled, and what is reported for the virtual function with its number.
+-- Everything that belongs to a pool: the words at its places, whether the sides of its queues have enable requests, and
+-- what is reported for the virtual function with its number.
 abbrev pub pool_agrees : Mode → ℕ → Part
 pool_agrees mode v =
     record {

@@ -42,7 +42,7 @@ transmit_queue_of r queue =
 abbrev pub with_row : (RowId → ℕ) → RowId → ℕ → RowId → ℕ
 with_row words row word other = if number_of other == number_of row then word else words other
 
--- A side with these words of its rows, and whether it is requested to be enabled.
+-- A side with these words of its rows, and whether it has an enable request.
 abbrev pub receive_queue_by : (RowId → ℕ) → Bool → ReceiveQueue
 receive_queue_by words wanted =
     record {

@@ -10,7 +10,7 @@ use Rattle.rss_hash.proofs.Sliding.{no_bits}
 use Rattle.rss_hash.proofs.WindowTables.{half_share-joined}
 use Rattle.rss_hash.proofs.Windows.{bits_from_more}
 
--- The two keys have the same bits from bit `k` on.
+-- The two keys have the same bits at and after bit `k`.
 abbrev AgreeFrom : (old new : List ℕ) (k count : ℕ) → Type 0
 AgreeFrom old new k count = (j : ℕ) → j < count → bit_of new (k + j) ≡ bit_of old (k + j)
 

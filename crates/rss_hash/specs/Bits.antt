@@ -16,10 +16,10 @@ set_bits bytes = filter (λ k. bit_of bytes k == 1) (range_with_len 0 (8 * lengt
 abbrev pub half_bits : (v : ℕ) → List ℕ
 half_bits v = filter (λ j. bit_at v (3 - j) == 1) (range_with_len 0 4)
 
--- The `count` bits from bit `k` on, read as a binary number.
+-- The `count` bits starting at bit `k`, read as a binary number.
 unfoldable pub bits_from : List ℕ → ℕ → ℕ → ℕ
 bits_from bytes k count = number_from_digits 2 (map (bit_of bytes) (range_with_len k count))
 
--- The window of a key at bit `k`: the 32 bits from there on.
+-- The window of a key at bit `k`: the 32 bits starting there.
 abbrev pub window : (key : List ℕ) (k : ℕ) → ℕ
 window key k = bits_from key k 32

@@ -9,6 +9,6 @@ number_at bytes i = 256 * slice_index bytes i + slice_index bytes (i + 1)
 abbrev pub ether_type : List ℕ → ℕ
 ether_type frame = number_at frame 12
 
--- The packet after the frame's header of 14 bytes.
+-- The packet after the frame's 14-byte header.
 abbrev pub packet_of : List ℕ → List ℕ
 packet_of frame = drop 14 frame

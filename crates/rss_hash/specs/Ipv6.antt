@@ -1,7 +1,7 @@
 -- An IPv6 packet, which may be truncated or followed by padding.
 use Rattle.std.specs.Prelude.{ℕ, ◌/◌, ◌==◌, nat_le, ◌&&◌, Bool, List, ◌++◌, length, slice_index, slice_range}
 
--- Version 6, with a complete header of 40 bytes.
+-- Version 6, with a complete 40-byte header.
 unfoldable pub is_ipv6 : List ℕ → Bool
 is_ipv6 packet = (slice_index packet 0 / 16 == 6) && nat_le 40 (length packet)
 

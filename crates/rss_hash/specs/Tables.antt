@@ -25,13 +25,13 @@ half_share key k v = xor_of (map (λ j. window key (4 * k + j)) (half_bits v))
 abbrev pub HoldsItsShare : (tables : List (List ℕ)) (words : List ℕ) (k v : ℕ) → Type 0
 HoldsItsShare tables words k v = slice_index (slice_index_or tables k []) v ≡ half_share (bytes_of_registers words) k v
 
--- The tables contain the windows of the key. There is one table for each half byte of an input of 36 bytes, with an
--- entry for each value of a half byte.
+-- The tables contain the windows of the key. There is one table for each half byte of a 36-byte input, with an entry
+-- for each value of a half byte.
 pub record AreItsWindows (tables : List (List ℕ)) (words : List ℕ) : Type 0 where
   pub whole : length tables ≡ 72
   pub entry : (k v : ℕ) → k < 72 → v < 16 → HoldsItsShare tables words k v
 
--- Half byte `n` uses no bit of this word of the key: its windows, 35 bits from bit `4n` on, end before the word or
+-- Half byte `n` uses no bit of this word of the key: its windows, 35 bits starting at bit `4n`, end before the word or
 -- begin after it.
 abbrev pub IsBeyond : (index n : ℕ) → Type 0
 IsBeyond index n = (n + 8 < 8 * index) ⊎ (8 * index + 8 ≤ n)

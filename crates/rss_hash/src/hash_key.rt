@@ -6,7 +6,7 @@ use crate::tables::{refill_tables, shares};
 use std::marker::Model;
 
 /// The hash key in the registers RSSRK, with tables. For each half byte `k` of an input and each value `v` of it, the
-/// tables contain the exclusive or, over the bits `j` of `v` that are 1, of the 32 key bits from bit `4k + j` on. A
+/// tables contain the exclusive or, over the bits `j` of `v` that are 1, of the 32 key bits starting at bit `4k + j`. A
 /// hash therefore combines only two numbers for each byte. In contracts, a hash key is the list of its ten words.
 ///
 /// Intel 82599 datasheet, section on receive side scaling.

@@ -2,8 +2,8 @@ ghost use Rattle.std.specs.Prelude.{◌≡◌, ◌+◌, ◌≤◌, [], ◌++◌,
 
 use std::marker::Model;
 
-/// The hashed part of a frame: its addresses, and its ports if they are hashed, in network order. It has at most 36
-/// bytes, and the array is 0 after them. In contracts, it is the list of its bytes.
+/// The hashed part of a frame: its addresses, and its ports if they are hashed, in network order. It is at most 36
+/// bytes long, and the array is 0 after them. In contracts, it is the list of its bytes.
 #[derive(Clone, Copy, PartialEq, Eq, Debug)]
 pub struct Input {
     /// The bytes, followed by zeros.

@@ -5,7 +5,7 @@ ghost use Rattle.rss_hash.specs.Flow.{ipv6_flow};
 use crate::flow::{Flow, TCP, UDP};
 use crate::input::Input;
 
-/// Whether the packet has version 6 and a complete header of 40 bytes.
+/// Whether the packet has version 6 and a complete 40-byte header.
 #[tactic(auto, unfolding(crate::specs::Ipv6::is_ipv6))]
 pub(crate) fn is_packet(packet: &[u8]) -> bool
     ensures value { result ≡ is_ipv6 packet.now }

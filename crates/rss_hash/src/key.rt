@@ -23,7 +23,7 @@ impl Key {
         Key(bytes)
     }
 
-    /// Returns the 32 key bits from bit `first` on, with bit `first` as the highest.
+    /// Returns the 32 key bits starting at bit `first`, with bit `first` as the highest.
     pub(crate) fn window(&self, first: usize) -> u32
         requires { first + 32 ≤ 320 }
         ensures { result ≡ bits_from self.now.0 first 32 }
@@ -35,7 +35,7 @@ impl Key {
         window
     }
 
-    /// Returns the window of 32 key bits from bit `first + 1` on, given the window from bit `first` on.
+    /// Returns the window of 32 key bits starting at bit `first + 1`, given the window starting at bit `first`.
     #[tactic(auto, using(crate::proofs::Sliding::bits_from_next))]
     pub(crate) fn next_window(&self, first: usize, window: u32) -> u32
         requires room { first + 32 < 320 }

@@ -14,7 +14,7 @@ pub(crate) fn bit(bytes: &[u8], k: usize) -> u8
 }
 
 /// Returns the Toeplitz hash of an input of at most 36 bytes: the exclusive or, over the input bits `k` that are 1, of
-/// the 32 key bits from bit `k` on.
+/// the 32 key bits starting at bit `k`.
 ///
 /// Intel 82599 datasheet, section on the RSS hash function.
 pub fn hash(key: &Key, input: &[u8]) -> u32

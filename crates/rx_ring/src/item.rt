@@ -1,4 +1,4 @@
-/// What to write: the bytes of a frame from an offset on.
+/// What to write: the bytes of a frame, starting at an offset.
 #[derive(Clone, Copy, Debug)]
 pub struct Item<'a> {
     /// All bytes of the frame, without its frame check sequence.

@@ -68,8 +68,8 @@ impl Staged {
         if end { Some(self.take(alloc)) } else { None }
     }
 
-    /// Stages `len` bytes from a bus address on, then `zeros` zero bytes. If there isn't enough memory for them, the
-    /// staged bytes are unchanged.
+    /// Stages `len` bytes starting at a bus address, then `zeros` zero bytes. If there isn't enough memory for them,
+    /// the staged bytes are unchanged.
     pub(crate) fn stage(
         &mut self,
         memory: &LentMemory,

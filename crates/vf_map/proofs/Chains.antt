@@ -84,7 +84,7 @@ in_piece g k (suc n) o w l h free =
           ∙ in_piece g (k + 1) n o w (omega arith) (omega arith) (λ y a b c. free y (omega arith) (omega arith) c)
     ]
 
--- The registers of a side, from an offset on.
+-- The registers of a side, starting at an offset.
 pub in_side : (c q r : ℕ) (first : RowId) (rs : List RowId) →
     place_at (side_entries c first rs q) (c + r) ≡ of_queue (row_after first rs r) q
 in_side c q r first [] = refl

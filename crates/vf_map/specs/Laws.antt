@@ -59,7 +59,7 @@ PoolsAreApart =
     x < queues_each mode → y < queues_each mode →
     (v * queues_each mode + x ≢ w * queues_each mode + y) × (v * queues_each mode + x < 128)
 
--- The queue is one of the given number of queues from the first on.
+-- The queue is one of the given number of queues starting at the first.
 abbrev pub IsAmong : Option (ℕ × ℕ) → (queue : ℕ) → Type 0
 IsAmong None queue = ⊥
 IsAmong (Some queues) queue = (queues.0 ≤ queue) × (queue < queues.0 + queues.1)
@@ -73,7 +73,7 @@ EachQueueHasOnePool =
 
 -- The registers of a function's queue are at offsets given by the queue's index `x` among the function's queues. The
 -- receive registers are at 0x1000 + 0x40 * x and the transmit registers at 0x2000 + 0x40 * x, with the same distances
--- as in the device. Each pair of queues has one vector register, from 0x120 on.
+-- as in the device. Each pair of queues has one vector register; the first is at 0x120.
 pub record QueueRegistersAreThere : Type 0 where
   pub receive : (mode : Mode) (vfs v first count x : ℕ) (row : RowId) → v < vfs →
       queues_of mode v ≡ Some (first, count) → x < count → IsTrue (is_receive row) →

@@ -55,7 +55,7 @@ transmit_rows = filter is_transmit rows
 abbrev pub distance : (first row : RowId) → ℕ
 distance first row = (first_of row).first - (first_of first).first
 
--- The registers of one side of a queue, from an offset on, with the same distances as in the device.
+-- The registers of one side of a queue, starting at an offset, with the same distances as in the device.
 abbrev pub side_entries : (offset : ℕ) → (first : RowId) → List RowId → (queue : ℕ) → List Entry
 side_entries offset first rows queue = map (λ row. entry (offset + distance first row) row queue) rows
 
@@ -65,7 +65,7 @@ queue_entries x queue =
     side_entries (0x1000 + 0x40 * x) Rdbal receive_rows queue
     ++ side_entries (0x2000 + 0x40 * x) Tdbal transmit_rows queue
 
--- All registers that a virtual function with `count` queues from `first` on reaches.
+-- All registers that a virtual function with `count` queues, starting at `first`, reaches.
 unfoldable pub entries : (vf first count : ℕ) → List Entry
 entries vf first count =
     function_entries vf ++ vector_entries first count

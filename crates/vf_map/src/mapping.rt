@@ -59,7 +59,7 @@ pub fn map(mode: Mode, vfs: u8, v: u8, offset: u32) -> Mapped
     }
 }
 
-/// Returns the register at an offset of function v, which has `count` queues from `first` on.
+/// Returns the register at an offset of function v, which has `count` queues, starting at `first`.
 fn place(v: u8, first: u8, count: u8, offset: u32) -> Option<Place>
     requires { count ≤ most_queues }
     ensures { result ≡ place_at (entries v first count) offset }

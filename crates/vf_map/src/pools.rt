@@ -66,7 +66,7 @@ pub fn queue_in(mode: Mode, pool: u16, number: u8) -> u16
     }
 }
 
-/// Whether a queue belongs to a pool. In a mode without pools no queue does, and queues from 128 on never do.
+/// Whether a queue belongs to a pool. In a mode without pools, no queue does; queues 128 and above never do.
 pub fn has_queue(mode: Mode, pool: u16, queue: u16) -> bool
     ensures { result ≡ has_queue mode pool queue }
 {

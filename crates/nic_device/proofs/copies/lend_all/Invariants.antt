@@ -2,7 +2,7 @@ use Rattle.std.proofs.Common.{◌≡◌, ◌≤◌, drop, length}
 use Rattle.nic_device.specs.Blocks.{memory_of, HaveLeft}
 use Rattle.nic_device.proofs.copies.lend_all.Given as goal
 
--- The copies from an index on are lent.
+-- The copies at and after an index are lent.
 abbrev pub invariant-each : goal.invariant-each
 invariant-each l = record {
   inside : l.at ≤ length l.copies;

@@ -2,7 +2,7 @@ use Rattle.std.proofs.Common.{◌≤◌, drop, length}
 use Rattle.nic_device.specs.Blocks.{memory_of, TellsTaken}
 use Rattle.nic_device.proofs.copies.Blocks.lowest_taken.Given as goal
 
--- The copies from an index on are visited.
+-- The copies at and after an index are visited.
 abbrev pub invariant-each : goal.invariant-each
 invariant-each l = record {
   inside : l.at ≤ length l.copies.items;

@@ -37,12 +37,12 @@ pub fn frames_join_last()
     ensures { FramesJoinLast }
 {}
 
-/// An accepted frame goes to the queue that MRQC bits 3 to 0 select. With 1, it is the queue of its entry in the
-/// redirection table. With 8, 0xA and 0xB, it is one of its pool's queues: the first with 8, otherwise the one that the
-/// entry names. These are two from 2p on, four from 4p on with 0xA, or eight from 8p on while GCR_EXT bits 1 to 0 are
-/// 1. With any other code, it is queue 0, with RSS type 0 and hash 0. While VT_CTL bit 0 is 0, the frame's pool is pool
-/// 0, whatever VFRE is. While it is 1, the pool is the frame's own; it has queues and its bit of VFRE is 1, whatever
-/// the code.
+/// An accepted frame goes to the queue that the code in MRQC bits 3 to 0 selects. With code 1, this is the queue of its
+/// entry in the redirection table. With 8, 0xA or 0xB, it is one of the queues of its pool p: the first with 8,
+/// otherwise the one that the entry names. The pool's queues are 8p to 8p + 7 while GCR_EXT bits 1 to 0 are 1.
+/// Otherwise they are 4p to 4p + 3 with 0xA, and 2p and 2p + 1 with 8 or 0xB. With any other code, the frame goes to
+/// queue 0, with RSS type 0 and hash 0. While VT_CTL bit 0 is 0, the frame's pool is pool 0, whatever VFRE is. While it
+/// is 1, the pool is the frame's own; it has queues and its bit of VFRE is 1, whatever the code.
 #[tactic(auto, using(crate::proofs::Queues::queues_by_mrqc))]
 pub fn queues_go_by_mrqc()
     ensures { QueuesGoByMrqc }

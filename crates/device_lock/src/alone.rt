@@ -1,4 +1,4 @@
-//! Whether a history leaves a queue alone: what other passes did to the queue after its driver began.
+//! Whether a history leaves a queue alone, judged by what other passes did to the queue after its driver began.
 
 ghost use Rattle.std.specs.Prelude.{◌≡◌, ◌↔◌, ◌==◌, ◌||◌, not, ℕ, IsTrue, IfSome, IfNone, false};
 ghost use Rattle.nic_device.specs.VfMap.declared.mode.Mode.TheVariants.{Off};
@@ -28,9 +28,9 @@ pub struct Watched {
     pub queue: u16,
 }
 
-/// The register that a number names at a port, in this pool mode and with `vfs` virtual functions, as `left_alone`
-/// looks it up for each write. The number is a register address of the physical function, or an offset of a virtual
-/// function. Returns `None` if it names no register.
+/// Returns the register that a number names at a port, in this pool mode and with `vfs` virtual functions, as
+/// `left_alone` looks it up for each write. The number is a register address of the physical function, or an offset of
+/// a virtual function. Returns `None` if it names no register.
 pub fn place_at(mode: Mode, vfs: u8, port: Port, number: u32) -> Option<Place>
     ensures { result ≡ place_at mode vfs port number }
 {
@@ -43,7 +43,7 @@ pub fn place_at(mode: Mode, vfs: u8, port: Port, number: u32) -> Option<Place>
     }
 }
 
-/// The mode after a write.
+/// Returns the mode after a write.
 fn mode_written(mode: Mode, place: Option<Place>, word: u32) -> Mode
     ensures { result ≡ mode_written mode place word }
 {
@@ -53,7 +53,7 @@ fn mode_written(mode: Mode, place: Option<Place>, word: u32) -> Mode
     }
 }
 
-/// The mode after a write to a register.
+/// Returns the mode after a write to a register.
 fn mode_set(mode: Mode, place: Place, word: u32) -> Mode
     ensures { result ≡ mode_set mode place.row word }
 {
@@ -64,7 +64,7 @@ fn mode_set(mode: Mode, place: Place, word: u32) -> Mode
     }
 }
 
-/// The mode after an event.
+/// Returns the mode after an event.
 pub(crate) fn mode_after(vfs: u8, mode: Mode, event: &EventNote) -> Mode
     ensures { result ≡ mode_after vfs mode event.now }
 {
@@ -127,7 +127,7 @@ fn leaves_blocks(blocks: &Blocks, event: &EventNote) -> bool
     }
 }
 
-/// The number of blocks that a range touches.
+/// Returns the number of blocks that a range touches.
 fn touched(at: u64, len: u64) -> u64
     ensures { result ≡ touched at len }
 {
@@ -186,7 +186,7 @@ fn leaves_alone(watched: Watched, blocks: &Blocks, mode: Mode, entry: &Entry) ->
         && writes_outside(watched.queue, blocks, &entry.reply)
 }
 
-/// The block that an entry lends.
+/// Returns the block that an entry lends.
 fn lends(entry: &Entry) -> Option<u32>
     ensures none { IfNone result ((number : ℕ) → lends entry.now.event entry.now.reply number ≡ false) }
     ensures some { IfSome result
@@ -210,7 +210,7 @@ fn mark(blocks: &mut Blocks, pass: u8, entry: &Entry)
     }
 }
 
-/// The blocks that a pass lends in a history.
+/// Returns the blocks that a pass lends in a history.
 fn lent_by(pass: u8, history: &[Entry]) -> Blocks
     ensures { (number : ℕ) → marked result number ≡ lent_by pass history.now number }
 {
@@ -225,8 +225,8 @@ fn lent_by(pass: u8, history: &[Entry]) -> Blocks
 ///
 /// After the first entry of the driver's pass, no entry of another pass may write a register of the queue, or CTRL,
 /// HLREG0, MAXFRS or GCR_EXT. None may reset a pool that contains the queue. None may lend, take or poke a block that
-/// the pass lends anywhere in the history; peeking at one is allowed. Entries of the pass itself may do all of this.
-/// But after that first entry, no entry of any pass may report that another queue's step wrote into one of these
+/// the pass lends anywhere in the history; peeking at such a block is allowed. Entries of the pass itself may do all of
+/// this. But after that first entry, no entry of any pass may report that another queue's step wrote into one of these
 /// blocks. It allocates nothing.
 pub fn left_alone(watched: Watched, history: &[Entry]) -> bool
     ensures { IsTrue result ↔ LeavesAlone watched history.now }
@@ -235,7 +235,7 @@ pub fn left_alone(watched: Watched, history: &[Entry]) -> bool
     are_left_alone(watched, &blocks, history)
 }
 
-/// `left_alone`, given the blocks that the pass lends.
+/// Returns what `left_alone` does, given the blocks that the pass lends.
 fn are_left_alone(watched: Watched, blocks: &Blocks, history: &[Entry]) -> bool
     ensures { result ≡ rest_leaves_alone watched (marked blocks.now) Off false history.now }
 {

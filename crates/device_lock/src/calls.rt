@@ -66,7 +66,7 @@ impl Calls {
         }
     }
 
-    /// The calls as stored: each with the idle device steps before it, and the idle steps after the last one.
+    /// Returns the calls as stored: each with the idle device steps before it, and the idle steps after the last one.
     pub fn kept(&self) -> (&[Made], IdleSteps)
         ensures { calls_in result.0.now result.1 ≡ self.now }
     {
@@ -113,8 +113,8 @@ impl Calls {
 
     /// Applies one event to a device and records the call. Returns the device's reply.
     ///
-    /// `OutOfMemory` if there is no memory for the event or its note. It returns the event; the device and the calls
-    /// are unchanged.
+    /// Fails with `OutOfMemory` if there is no memory for the event or its note. The error returns the event; the
+    /// device and the calls are unchanged.
     pub fn make(
         &mut self,
         alloc: Global,
@@ -206,8 +206,8 @@ impl Calls {
 
     /// Applies one event under the lock for the pass with this tag, and records the call.
     ///
-    /// `HistoryFull` only if the history is at its limit, otherwise `OutOfMemory`. Both return the event and change
-    /// nothing.
+    /// Fails with `HistoryFull` only if the history is at its limit; any other error is `OutOfMemory`. Both errors
+    /// return the event and change nothing.
     pub(crate) fn make_locked<const VFS: u8, const FIFO: u16>(
         &mut self,
         alloc: Global,

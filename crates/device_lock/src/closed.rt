@@ -42,8 +42,8 @@ impl<const VFS: u8, const FIFO: u16> Model for Closed<VFS, FIFO> {
 }
 
 impl<const VFS: u8, const FIFO: u16> Closed<VFS, FIFO> {
-    /// All calls, oldest first. They are legal from a new device, lead to the device held, and each belongs to a pass.
-    /// Their events are ones that a driver can cause.
+    /// Returns all calls, oldest first. They are legal from a new device and lead to the device held. Each belongs to a
+    /// pass. Their events are ones that a driver can cause.
     pub fn history(&self) -> &[Entry]
         ensures entries { result.now ≡ self.now.history }
         ensures legal { IsLegal (new_state VFS FIFO) self.now.history }
@@ -54,14 +54,15 @@ impl<const VFS: u8, const FIFO: u16> Closed<VFS, FIFO> {
         self.unlocked.history()
     }
 
-    /// The positions in the history of the calls of the pass with this tag. The first call of the history is at 0.
+    /// Returns the positions in the history of the calls of the pass with this tag. The first call of the history is at
+    /// 0.
     pub fn of_pass(&self, alloc: Global, tag: u8) -> Result<Vec<usize>, AllocError>
         ensures { IfOk result (λ places. places.items ≡ positions_of tag self.now.history) }
     {
         positions(alloc, self.unlocked.history(), tag)
     }
 
-    /// Returns whether the history leaves a queue of the device alone, where the queue's driver has the pass with this
+    /// Returns whether the history leaves a queue of the device alone, if the queue's driver has the pass with this
     /// tag. See `left_alone` for the definition. It never blocks and allocates nothing.
     pub fn left_alone(&self, pass: u8, queue: u16) -> bool
         ensures { IsTrue result ↔ LeavesAlone (record { vfs = VFS; pass = pass; queue = queue }) self.now.history }
@@ -87,12 +88,12 @@ impl<const VFS: u8, const FIFO: u16> Closed<VFS, FIFO> {
 }
 
 impl<const VFS: u8, const FIFO: u16> Unlocked<VFS, FIFO> {
-    /// Why these passes don't close the history of the bench with this number and `count` passes, at most 64. Returns
-    /// `None` if they do.
+    /// Returns why these passes don't close the history of the bench with this number and `count` passes, at most 64.
+    /// Returns `None` if they do.
     ///
-    /// In this order: `MissingPass` with the lowest tag that no pass of the bench has; `ForeignPass` if a pass belongs
-    /// to another bench, has no tag of this one, or has the tag of another pass; `Mismatch` with the lowest tag for
-    /// which the entries aren't the calls of its pass, in order, or which has entries but no pass.
+    /// The reasons, in this order: `MissingPass` with the lowest tag that no pass of the bench has; `ForeignPass` if a
+    /// pass belongs to another bench, has no tag of this one, or has the tag of another pass; `Mismatch` with the
+    /// lowest tag for which the entries aren't the calls of its pass, in order, or which has entries but no pass.
     pub fn refusal(&self, bench: u64, count: u8, passes: &[Pass]) -> Option<CloseFault>
         requires { count ≤ 64 }
         ensures answers { Answers bench count self.now.history passes.now result }
@@ -149,10 +150,10 @@ impl<const VFS: u8, const FIFO: u16> Locked<VFS, FIFO> {
 impl<const VFS: u8, const FIFO: u16> Shared<VFS, FIFO> {
     /// Closes a shared device with its passes. It never blocks.
     ///
-    /// Fails with `MissingPass`, with the lowest such tag, if and only if no pass of this bench has some tag.
-    /// `ForeignPass` if and only if none is missing and a pass belongs to another bench, has no tag of this one, or has
-    /// the tag of another pass. Any other refusal is `Mismatch`, with the lowest tag for which the entries in some
-    /// legal history aren't the calls of its pass. Each returns the shared device and the passes.
+    /// Fails with `MissingPass`, with the lowest such tag, if and only if no pass of this bench has some tag. Fails
+    /// with `ForeignPass` if and only if no tag is missing and a pass belongs to another bench, has no tag of this one,
+    /// or shares its tag. Any other error is `Mismatch`, with the lowest tag for which the entries in some legal
+    /// history aren't the calls of its pass. Each error returns the shared device and the passes.
     pub fn close(self, passes: Vec<Pass>) -> Result<Closed<VFS, FIFO>, CloseRefused<VFS, FIFO>>
         ensures closed { IfOk result
             (λ closed. Closes self.entry.bench self.entry.passes closed.history passes.items) }

@@ -148,7 +148,7 @@ fn stands_as(history: &[Entry], tag: u8, pass: &Pass) -> bool
     pass.tag() != tag || stands(history, tag, pass.calls())
 }
 
-/// The number of passes of the bench with this tag.
+/// Returns the number of passes of the bench with this tag.
 fn tag_count(bench: u64, tag: u8, passes: &[Pass]) -> usize
     ensures { result ≡ tag_count bench tag passes.now }
 {
@@ -158,7 +158,7 @@ fn tag_count(bench: u64, tag: u8, passes: &[Pass]) -> usize
         .count()
 }
 
-/// The lowest tag that no pass has.
+/// Returns the lowest tag that no pass has.
 pub(crate) fn lowest_missing(bench: u64, count: u8, passes: &[Pass]) -> Option<u8>
     ensures some { IfSome result (λ tag. IsMissing bench count passes.now tag) }
     ensures none { IfNone result (AllThere bench count passes.now) }
@@ -199,7 +199,7 @@ fn is_each_once(bench: u64, count: u8, passes: &[Pass]) -> bool
     true
 }
 
-/// The lowest tag for which the entries aren't the calls of its pass, given the number of entries of each tag.
+/// Returns the lowest tag for which the entries aren't the calls of its pass, given the number of entries of each tag.
 pub(crate) fn lowest_mismatch(history: &[Entry], counts: &Counts, passes: &[Pass]) -> Option<u8>
     requires { (tag : ℕ) → tag < 64 → slice_index counts.now tag ≡ entries_of tag history.now }
     ensures some { IfSome result (λ tag. IsMismatch history.now passes.now tag) }

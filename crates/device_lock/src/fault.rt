@@ -26,7 +26,7 @@ pub enum CallFault<E = Event> {
 }
 
 impl<E> CallFault<E> {
-    /// Replaces the event of a refusal with `other`. Returns the new refusal and the event.
+    /// Replaces the event of a refusal with `other`. Returns the new refusal and the former event.
     pub fn replace<F>(self, other: F) -> (CallFault<F>, E)
         ensures fault { result.0 ≡ fault_with self other }
         ensures event { result.1 ≡ event_of self }

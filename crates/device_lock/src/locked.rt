@@ -103,14 +103,14 @@ impl<const VFS: u8, const FIFO: u16> Locked<VFS, FIFO> {
         })
     }
 
-    /// The maximum number of entries in the history.
+    /// Returns the maximum number of entries in the history.
     pub fn limit(&self) -> u32
         ensures { result ≡ self.now.limit }
     {
         self.limit
     }
 
-    /// The number of entries with this tag, which is below 64.
+    /// Returns the number of entries with this tag, which is below 64.
     pub fn entries_of(&self, tag: u8) -> u32
         requires { tag < 64 }
         ensures { result ≡ entries_of tag self.now.history }
@@ -118,7 +118,7 @@ impl<const VFS: u8, const FIFO: u16> Locked<VFS, FIFO> {
         self.counts[usize::from(tag)]
     }
 
-    /// The device, read-only. The history leads to its state.
+    /// Returns the device, read-only. The history leads to its state.
     pub(crate) fn device(&self) -> &Device
         ensures value { result.now ≡ self.now.device }
         ensures led { IsLed VFS FIFO self.now }
@@ -147,7 +147,7 @@ impl<const VFS: u8, const FIFO: u16> Locked<VFS, FIFO> {
         ready(alloc, &self.device, calls, spare, &mut self.notes, event)
     }
 
-    /// The note of a reply for a pass's calls, made as `note_of` does.
+    /// Returns the note of a reply for a pass's calls, made as `note_of` does.
     pub(crate) fn note_of(&mut self, alloc: Global, reply: &Reply, spare: &mut Vec<u8>) -> ReplyNote
         requires empty { spare.old.items ≡ [] }
         requires room { note_length reply.now ≤ vec_capacity spare.old }
@@ -160,8 +160,8 @@ impl<const VFS: u8, const FIFO: u16> Locked<VFS, FIFO> {
     /// Applies one event for the pass with this tag, which is below 64, and appends its entry. Returns the device's
     /// reply.
     ///
-    /// `HistoryFull` if and only if the history is at its limit; otherwise `OutOfMemory`. Both return the event and
-    /// change nothing.
+    /// Fails with `HistoryFull` if and only if the history is at its limit. Any other error is `OutOfMemory`. Both
+    /// errors return the event and change nothing.
     pub fn step(&mut self, alloc: Global, tag: u8, event: Event) -> Result<Reply, CallFault>
         requires { tag < 64 }
         ensures reply { IfOk result (λ reply. reply ≡ (step_of self.old.device event).reply) }

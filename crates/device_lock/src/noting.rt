@@ -33,7 +33,7 @@ pub(crate) fn ready<T>(
     note_event(alloc, notes, event)
 }
 
-/// The note of an event. A block shares its bytes with its previous note if they are unchanged.
+/// Returns the note of an event. A block shares its bytes with its previous note if they are unchanged.
 fn note_event(alloc: Global, notes: &mut Notes, event: &Event) -> Result<EventNote, AllocError>
     ensures { IfOk result (λ note. note ≡ event.now) }
 {
@@ -46,8 +46,8 @@ fn note_event(alloc: Global, notes: &mut Notes, event: &Event) -> Result<EventNo
     }
 }
 
-/// The note of a reply. A block's note is made as for an event. If there is no memory for it, the note goes into the
-/// spare vector, which has room for it.
+/// Returns the note of a reply. A block's note is made as for an event. If there is no memory for it, the note goes
+/// into the spare vector, which has room for it.
 #[inline(always)]
 pub(crate) fn note_of(
     alloc: Global,
@@ -67,8 +67,8 @@ pub(crate) fn note_of(
     note_alone(alloc, reply, spare)
 }
 
-/// The note of a reply in a new vector, or in the spare one if there is no memory for a new one. The spare one has room
-/// for the note.
+/// Returns the note of a reply in a new vector, or in the spare one if there is no memory for a new one. The spare one
+/// has room for the note.
 #[inline(always)]
 fn note_alone(alloc: Global, reply: &Reply, spare: &mut Vec<u8>) -> ReplyNote
     requires empty { spare.old.items ≡ [] }

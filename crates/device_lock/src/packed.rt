@@ -22,7 +22,7 @@ pub struct Rested {
 }
 
 impl Rested {
-    /// Returns no steps.
+    /// Returns an empty set of steps.
     pub(crate) fn none() -> Rested
         ensures { rested_entries result ≡ [] }
     {
@@ -32,7 +32,7 @@ impl Rested {
         }
     }
 
-    /// These steps followed by this event of a pass, if the event is the step that comes after them.
+    /// Returns these steps followed by this event of a pass, if the event is the step that comes after them.
     pub(crate) fn and(&self, pass: u8, event: &EventNote) -> Option<Rested>
         ensures { IfSome result (λ more.
             rested_entries more ≡ rested_entries self.now ++ entry_of pass event.now Idle ∷ []) }
@@ -64,8 +64,8 @@ pub struct Packed {
 const LEAST_ROOM: u32 = 131_072;
 
 /// Makes room for `count` separate entries, if the history may have that many. Returns whether there is memory for
-/// them. It reserves more room if possible, because room that grows in small steps is moved each time, and so touched
-/// before anything is stored in it.
+/// them. It reserves more room if possible, because storage that grows in small steps is moved each time, and its pages
+/// are touched before anything is stored there.
 #[inline(always)]
 pub(crate) fn hold_room(whole: &mut Vec<Entry>, count: u32, limit: u32) -> bool
     ensures same { whole.new.items ≡ whole.old.items }

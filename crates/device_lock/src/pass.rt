@@ -40,21 +40,21 @@ impl Pass {
         }
     }
 
-    /// The number of the bench that the pass belongs to.
+    /// Returns the number of the bench that the pass belongs to.
     pub fn bench(&self) -> u64
         ensures { result ≡ self.now.bench }
     {
         self.bench
     }
 
-    /// The pass's tag. The passes from `Shared::new` have tags below 64.
+    /// Returns the pass's tag. The passes from `Shared::new` have tags below 64.
     pub fn tag(&self) -> u8
         ensures { result ≡ self.now.tag }
     {
         self.tag
     }
 
-    /// The calls made by the pass, with their replies, oldest first.
+    /// Returns the calls made by the pass, with their replies, oldest first.
     pub fn calls(&self) -> &Calls
         ensures { result.now ≡ self.now.calls }
     {
@@ -63,8 +63,8 @@ impl Pass {
 
     /// Applies one event under the lock with the pass's tag, and records its call in the pass.
     ///
-    /// `HistoryFull` only if the history is at its limit, otherwise `OutOfMemory`. Both return the event and change
-    /// nothing.
+    /// Fails with `HistoryFull` only if the history is at its limit; any other error is `OutOfMemory`. Both errors
+    /// return the event and change nothing.
     pub(crate) fn call<const VFS: u8, const FIFO: u16>(
         &mut self,
         alloc: Global,

@@ -1,4 +1,4 @@
-//! The device's settings, according to a history's entries.
+//! The device's settings, as a history's entries show them.
 
 ghost use Rattle.std.specs.Prelude.{◌≡◌};
 ghost use Rattle.device_lock.specs.Reported.{first_settings, frames_set, frames_written, limit_of, settings_after, usual_frames};
@@ -35,7 +35,7 @@ pub struct Settings {
 }
 
 impl Frames {
-    /// The limits after a reset.
+    /// Returns the limits after a reset.
     fn usual() -> Frames
         ensures { result ≡ usual_frames }
     {
@@ -45,7 +45,7 @@ impl Frames {
         }
     }
 
-    /// The frame limit: the maximum length of a frame in bytes, without its check sequence.
+    /// Returns the frame limit: the maximum length of a frame in bytes, without its check sequence.
     pub fn limit(self) -> u16
         ensures { result ≡ limit_of self }
     {
@@ -56,7 +56,7 @@ impl Frames {
         }
     }
 
-    /// The limits after a write to a register.
+    /// Returns the limits after a write to a register.
     fn set(self, place: Place, word: u32) -> Frames
         ensures { result ≡ frames_set self place.row word }
     {
@@ -74,7 +74,7 @@ impl Frames {
         }
     }
 
-    /// The limits after writing a value to a place. Without a place nothing changes.
+    /// Returns the limits after writing a value to a place. Without a place nothing changes.
     fn written(self, place: Option<Place>, word: u32) -> Frames
         ensures { result ≡ frames_written self place word }
     {
@@ -86,7 +86,7 @@ impl Frames {
 }
 
 impl Settings {
-    /// The settings of a new device.
+    /// Returns the settings of a new device.
     pub fn new() -> Settings
         ensures { result ≡ first_settings }
     {
@@ -96,7 +96,7 @@ impl Settings {
         }
     }
 
-    /// The settings after an event of a device with `vfs` virtual functions.
+    /// Returns the settings after an event of a device with `vfs` virtual functions.
     pub fn after(self, vfs: u8, event: &EventNote) -> Settings
         ensures { result ≡ settings_after vfs self event.now }
     {

@@ -30,7 +30,7 @@ pub struct IdleSteps {
 }
 
 impl IdleSteps {
-    /// Returns no steps.
+    /// Returns an empty set of steps.
     pub(crate) fn none() -> IdleSteps
         ensures { steps_in result ≡ [] }
     {
@@ -43,7 +43,7 @@ impl IdleSteps {
         }
     }
 
-    /// All steps of a queue. Returns `None` if there is no queue with this number.
+    /// Returns all steps of a queue, or `None` if there is no queue with this number.
     pub(crate) fn all(queue: u16) -> Option<IdleSteps>
         ensures { IfSome result (λ all. steps_in all ≡ steps_of_queue queue) }
     {
@@ -66,7 +66,7 @@ impl IdleSteps {
         !(self.receive_side || self.transmit_side || self.sending || self.receiving)
     }
 
-    /// The number of steps.
+    /// Returns the number of steps.
     pub fn count(&self) -> usize
         ensures { result ≡ length (steps_in self.now) }
     {
@@ -76,7 +76,8 @@ impl IdleSteps {
             + usize::from(self.receiving)
     }
 
-    /// These steps followed by this event, if the event is the queue's step that comes after them. Otherwise `None`.
+    /// Returns these steps followed by this event, if the event is the queue's step that comes after them. Otherwise
+    /// returns `None`.
     pub(crate) fn and(&self, event: &EventNote) -> Option<IdleSteps>
         ensures { IfSome result (λ more. steps_in more ≡ steps_in self.now ++ event.now ∷ []) }
     {
@@ -107,7 +108,7 @@ impl IdleSteps {
         }
     }
 
-    /// The number of a queue, if these steps belong to that queue or there are none.
+    /// Returns the number of a queue, if these steps belong to that queue or there are none.
     fn queue_as(&self, queue: u16) -> Option<u8>
         ensures queue { IfSome result (λ number. number ≡ queue) }
         ensures same { IfSome result (λ number. (steps_in self.now ≡ []) ⊎ (number ≡ self.now.queue)) }
@@ -119,7 +120,7 @@ impl IdleSteps {
     }
 }
 
-/// The call of an idle step.
+/// Returns the call of an idle step.
 pub(crate) fn idle_call(event: EventNote) -> Call
     ensures { result ≡ call_of event Idle }
 {
@@ -155,7 +156,7 @@ fn keep_call(calls: &mut Vec<Call>, made: bool, event: EventNote)
     }
 }
 
-/// The entry of an idle step.
+/// Returns the entry of an idle step.
 fn idle_entry(pass: u8, event: EventNote) -> Entry
     ensures { result ≡ entry_of pass event Idle }
 {

@@ -97,14 +97,14 @@ impl<const VFS: u8, const FIFO: u16> Shared<VFS, FIFO> {
         }
     }
 
-    /// The number of the bench.
+    /// Returns the number of the bench.
     pub fn bench(&self) -> u64
         ensures { result ≡ self.now.bench }
     {
         self.bench
     }
 
-    /// The number of passes; each tag is below it.
+    /// Returns the number of passes; each tag is below it.
     pub fn passes(&self) -> u8
         ensures number { result ≡ self.now.passes }
         ensures range { (0 < result) × (result ≤ 64) }
@@ -114,9 +114,10 @@ impl<const VFS: u8, const FIFO: u16> Shared<VFS, FIFO> {
 
     /// Applies one event to the device and records the call in the pass. The call waits for the lock.
     ///
-    /// `ForeignPass` if and only if the pass belongs to another bench or has no tag of this one; it takes no lock.
-    /// Otherwise `HistoryFull` or `OutOfMemory`; the clauses of `Locked::step` say when, but this call's clauses don't.
-    /// Each returns the event and leaves the pass unchanged.
+    /// Fails with `ForeignPass` if and only if the pass belongs to another bench or has no tag of this one; the call
+    /// then takes no lock. Any other error is `HistoryFull` or `OutOfMemory`. The clauses of `Locked::step` say when
+    /// each is returned, but the clauses of this call don't. Each error returns the event and leaves the pass
+    /// unchanged.
     pub fn call<R: Wait>(
         &self,
         rt: &R,
@@ -145,8 +146,8 @@ impl<const VFS: u8, const FIFO: u16> Shared<VFS, FIFO> {
 
 impl<const VFS: u8, const FIFO: u16> Shared<VFS, FIFO> {
     /// Acquires the lock and returns the data under it. A call holds the lock so briefly that a thread first tries it
-    /// several times before it sleeps. It tries rarely, because each time the lock's data move from one processor's
-    /// cache to another's.
+    /// several times before it sleeps. It pauses between two tries, because each try moves the lock's cache line from
+    /// one processor to another.
     pub(crate) fn hold<R: Wait>(&self, rt: &R) -> MutexGuard<'_, Locked<VFS, FIFO>> {
         for _ in 0..LOOKS {
             if let Some(locked) = self.lock.try_lock() {

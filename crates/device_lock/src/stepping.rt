@@ -130,9 +130,10 @@ impl<const VFS: u8, const FIFO: u16> Shared<VFS, FIFO> {
     /// Runs the device steps of a queue, then applies the event, each as a call. The thread waits for the lock once and
     /// holds it until all are done. The steps switch both sides of the queue, then send, then receive.
     ///
-    /// `ForeignPass` if and only if the pass belongs to another bench or has no tag of this one; it takes no lock, and
-    /// nothing is done. Otherwise it fails for any reason for which `call` refuses one of them. The earlier steps have
-    /// run; the event hasn't been applied. Each error returns the event. Each reply is the device's, as for `call`.
+    /// Fails with `ForeignPass` if and only if the pass belongs to another bench or has no tag of this one; the call
+    /// then takes no lock and does nothing. Otherwise it fails if `call` would refuse one of these steps or the event,
+    /// and for the same reason. The earlier steps have then run, and the event hasn't been applied. Each error returns
+    /// the event. Each reply is the device's, as for `call`.
     pub fn call_stepped<R: Wait>(
         &self,
         rt: &R,

@@ -38,7 +38,7 @@ pub fn tried<R: Abort + Wait + Print, T: Trial>(rt: &R, alloc: Global, subject: 
 
 /// A call that creates something new and changes nothing else.
 pub trait Maker: Drop {
-    /// Returns a checksum of the value that the call creates. `None` if it was refused for lack of memory.
+    /// Returns a checksum of the value that the call creates. Returns `None` if it was refused for lack of memory.
     fn make<R: Abort>(&self, rt: &R, alloc: Global) -> Option<u64>;
 
     /// Returns a checksum of the call's input.

@@ -31,7 +31,7 @@ impl Engine {
         }
     }
 
-    /// Returns what a read would return, without its side effects. `None` if there is no register.
+    /// Returns what a read would return, without its side effects. Returns `None` if there is no register.
     pub(crate) fn peek(&self, port: Port, number: u32) -> Option<u32>
         ensures { result ≡ reported_word (register_read self.now port number).reply }
     {

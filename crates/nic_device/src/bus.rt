@@ -14,8 +14,8 @@ impl Device {
     /// Fills the slice with bytes of packet memory, starting at a bus address. The range may span blocks. Returns
     /// `false` and leaves the slice unchanged if and only if one of the bytes isn't in a lent block.
     ///
-    /// Suppose that it returns `true` for an address that is a multiple of 16 and a slice of 16 n bytes. Then n
-    /// consecutive `Peek16` events return the same bytes and change nothing.
+    /// Suppose that it returns `true` for an address that is a multiple of 16 and a slice whose length is 16 n bytes.
+    /// Then n consecutive `Peek16` events return the same bytes and change nothing.
     pub fn dma_read(&self, bus: u64, bytes: &mut [u8]) -> bool
         ensures lent { result ≡ is_lent self.now.memory bus (length bytes.old) }
         ensures read { result ≡ true → bytes.new ≡ read_at self.now.memory bus (length bytes.old) }
@@ -29,8 +29,8 @@ impl Device {
     /// Writes the bytes of the slice to packet memory, starting at a bus address. The range may span blocks. Returns
     /// `false` and changes nothing if and only if one of the bytes wouldn't be in a lent block.
     ///
-    /// Suppose that it returns `true` for an address that is a multiple of 16 and a slice of 16 n bytes. Then n
-    /// consecutive `Poke16` events have the same result, and each is answered `Done`.
+    /// Suppose that it returns `true` for an address that is a multiple of 16 and a slice whose length is 16 n bytes.
+    /// Then n consecutive `Poke16` events have the same result, and each is answered `Done`.
     pub fn dma_write(&mut self, bus: u64, bytes: &[u8]) -> bool
         ensures lent { result ≡ is_lent self.old.memory bus (length bytes.now) }
         ensures written { result ≡ true → self.new ≡
@@ -61,7 +61,7 @@ impl Device {
     {
         let all: &[u8] = &*memory;
         prove!(all.len() == BLOCK_BYTES);
-        // Every lent element must stay below 256, and all of the new memory's elements are.
+        // Every element of lent memory must stay below 256; all elements of the new memory are.
         Event::are_bytes(all);
         self.engine.exchange(block, memory)
     }

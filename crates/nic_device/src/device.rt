@@ -99,13 +99,13 @@ impl Device {
 
     /// States that the device is sound between two calls, whatever happened before. It does nothing.
     ///
-    /// A device is sound if its registers are sound, each lent block is whole, the EEPROM image is valid, and the
-    /// configuration is in range; and if its frames and staged bytes are sound. Each frame in the receive list is 60 to
-    /// 65,535 bytes long, isn't completely written yet, and is for a queue below 128. It has the number of an RSS type
-    /// and a 32-bit hash, which is 0 if the type is 0. Only the oldest frame may be partly written, and only while the
-    /// receive side of its queue is enabled. The list isn't longer than its capacity. Each of the 128 queues stages at
-    /// most 65,535 bytes, and none while its transmit side is disabled. Each transmitted frame is from a queue below
-    /// 128 and at most 65,535 bytes long.
+    /// A device is sound if its registers, frames and staged bytes are sound, each lent block is whole, the EEPROM
+    /// image is valid, and the configuration is in range. Frames and staged bytes are sound if the following holds.
+    /// Each frame in the receive list is 60 to 65,535 bytes long, isn't completely written yet, and is for a queue
+    /// below 128. It has the number of an RSS type and a 32-bit hash, which is 0 if the type is 0. Only the oldest
+    /// frame may be partly written, and only while the receive side of its queue is enabled. The list isn't longer than
+    /// its capacity. Each of the 128 queues stages at most 65,535 bytes, and none while its transmit side is disabled.
+    /// Each transmitted frame is from a queue below 128 and at most 65,535 bytes long.
     ///
     /// Registers are sound if each place of the table exists, and the following holds. A word has only bits of its
     /// row's reset value and bits that can become 1 there. The bits that can become 1 are the mask's bits if the
@@ -120,8 +120,8 @@ impl Device {
     }
 
     #[tactic(auto, unfolding(crate::specs::Step::step_of))]
-    /// Returns what a read of an address of the physical function would return, without the read's side effects. `None`
-    /// if there is no register.
+    /// Returns what a read of an address of the physical function would return, without the read's side effects.
+    /// Returns `None` if there is no register.
     pub fn peek_register(&self, address: u32) -> Option<u32>
         ensures { result ≡ reported_word (step_of self.now (Event.Read Port.Pf address)).reply }
     {
@@ -129,8 +129,9 @@ impl Device {
     }
 
     #[tactic(auto, unfolding(crate::specs::Step::step_of))]
-    /// Returns what a read of an offset of virtual function v would return, without the read's side effects. `None` if
-    /// there is no register: at a hole, or if the device doesn't have the function or the function has no pool.
+    /// Returns what a read of an offset of virtual function v would return, without the read's side effects. Returns
+    /// `None` if there is no register: at a hole, or if the device doesn't have the function or the function has no
+    /// pool.
     pub fn peek_vf(&self, v: u8, offset: u32) -> Option<u32>
         ensures { result ≡ reported_word (step_of self.now (Event.Read (Port.Vf v) offset)).reply }
     {

@@ -47,7 +47,8 @@ impl Engine {
         }
     }
 
-    /// Performs one of them as a write to that address. Writes to CTRL, to EERD and to no register are skipped.
+    /// Performs one of these writes at its address. Writes to CTRL, to EERD and to addresses without a register are
+    /// skipped.
     fn apply_triple(&mut self, address: u32, word: u32)
         ensures { self.new ≡ with_triple self.old (address, word) }
     {

@@ -14,7 +14,7 @@ use std::marker::Model;
 use tx_ring::Staged;
 
 /// The parts of a device, and how it runs each event; `Device` keeps it sound. It can't be dropped while packet memory
-/// is lent to it; it is dismantled at the end.
+/// is lent to it; it is finally dismantled.
 pub(crate) struct Engine {
     pub(crate) registers: Box<RegisterFile>,
     pub(crate) memory: LentMemory,

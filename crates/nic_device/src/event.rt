@@ -225,7 +225,8 @@ pub enum Reply<B = Buf> {
         queue: u16,
         /// The index of the fetched descriptor in the queue's ring.
         slot: u16,
-        /// The bus address of the write-back, of the descriptor or of the head. `None` if nothing was written back.
+        /// The bus address of the write-back, of the descriptor or of the head. Returns `None` if nothing was written
+        /// back.
         back: Option<u64>,
     },
     /// A transmit step fetched the last descriptor of a frame and sent the frame.
@@ -234,7 +235,8 @@ pub enum Reply<B = Buf> {
         queue: u16,
         /// The frame's length in bytes, padding included.
         len: usize,
-        /// The bus address of the write-back, of the descriptor or of the head. `None` if nothing was written back.
+        /// The bus address of the write-back, of the descriptor or of the head. Returns `None` if nothing was written
+        /// back.
         back: Option<u64>,
     },
     /// A descriptor couldn't be processed. Its side of the queue is disabled and must be enabled again.
@@ -251,7 +253,7 @@ pub enum Reply<B = Buf> {
         /// The MSI-X vector within the group, below 16.
         vector: u8,
     },
-    /// The oldest transmitted frame. This reply collects it.
+    /// The oldest transmitted frame, which is now collected.
     Frame {
         /// The transmit queue that sent it, 0 to 127.
         queue: u16,
@@ -344,6 +346,6 @@ pub type EventNote = Event<Note>;
 /// A copy of a reply that a program can keep and drop: it has a note in place of a packet buffer.
 pub type ReplyNote = Reply<Note>;
 
-/// An event that memory ran out for. It didn't run, and is returned unchanged.
+/// An event that didn't run because memory ran out. It is returned unchanged.
 #[derive(Debug, Drop)]
 pub struct OutOfMemory<E>(pub E);

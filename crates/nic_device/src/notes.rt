@@ -80,7 +80,8 @@ fn fitted(bytes: &[u8], room: Vec<u8>) -> Octets
 }
 
 impl Event {
-    /// Returns the note of an event. `AllocError` if there is no memory for the copy of a block or a frame.
+    /// Returns the note of an event. Fails with `AllocError` if there isn't enough memory for the copy of a block or a
+    /// frame.
     pub fn note(&self, alloc: Global) -> Result<EventNote, AllocError>
         ensures { IfOk result (λ note. note ≡ self.now) }
     {
@@ -132,7 +133,8 @@ impl Reply {
         }
     }
 
-    /// Returns the note of a reply. `AllocError` if there is no memory for the copy of a block or a frame.
+    /// Returns the note of a reply. Fails with `AllocError` if there isn't enough memory for the copy of a block or a
+    /// frame.
     pub fn note(&self, alloc: Global) -> Result<ReplyNote, AllocError>
         ensures { IfOk result (λ note. note ≡ self.now) }
     {

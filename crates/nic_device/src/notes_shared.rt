@@ -30,7 +30,7 @@ impl Notes {
     /// Returns the note of a block. If the last note at the block's place has equal bytes and there is memory for
     /// sharing, the new note shares these bytes; no clause states this.
     ///
-    /// `AllocError` if there is no memory for a new copy of the bytes.
+    /// Fails with `AllocError` if there isn't enough memory for a new copy of the bytes.
     #[inline(always)]
     pub fn of(&mut self, alloc: Global, buf: &Buf) -> Result<Note, AllocError>
         ensures { IfOk result (λ note. note ≡ buf.now) }

@@ -12,8 +12,8 @@ use std::alloc::Global;
 pub struct RunStop {
     /// The replies to the events that ran, in order.
     pub replies: Vec<Reply>,
-    /// The events that didn't run, in order; there is at least one. If any event ran, the first of these takes memory
-    /// and was refused.
+    /// The events that didn't run, in order; there is at least one. If any event ran, the first of these needs memory
+    /// that wasn't available.
     pub rest: Vec<Event>,
 }
 

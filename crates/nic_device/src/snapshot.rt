@@ -47,7 +47,8 @@ pub enum RestoreRefused {
 }
 
 impl Device {
-    /// Returns a snapshot of the device, which is unchanged. `AllocError` if there is no memory for it.
+    /// Returns a snapshot of the device, which is unchanged. Fails with `AllocError` if there isn't enough memory for
+    /// it.
     pub fn snapshot(&self) -> Result<Snapshot, AllocError>
         ensures { IfOk result (λ snapshot. snapshot ≡ self.now) }
     {

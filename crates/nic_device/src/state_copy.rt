@@ -76,7 +76,7 @@ impl Engine {
 }
 
 impl StateCopy {
-    /// Returns another copy. `AllocError` if there is no memory for it.
+    /// Returns another copy. Fails with `AllocError` if there isn't enough memory for it.
     pub(crate) fn copy(&self) -> Result<StateCopy, AllocError>
         ensures { IfOk result (λ copy. copy ≡ self.now) }
     {

@@ -65,8 +65,8 @@ impl Waiting {
         }
     }
 
-    /// Returns a copy of the frame, with equally many bytes marked as written. `AllocError` if there is no memory for
-    /// it.
+    /// Returns a copy of the frame, with equally many bytes marked as written. Fails with `AllocError` if there isn't
+    /// enough memory for it.
     pub(crate) fn copy(&self, alloc: Global) -> Result<Waiting, AllocError>
         ensures { IfOk result (λ waiting. waiting ≡ self.now) }
     {

@@ -71,7 +71,7 @@ fn example(rt: &HostRuntime, name: &str, kind: &str) -> io::Result<Vec<u8>> {
 }
 
 /// Whether the program, run with these words on an example's file of one kind, writes exactly the file of the other
-/// kind and ends with this status.
+/// kind and exits with this status.
 fn is_as_written(
     rt: &HostRuntime,
     name: &str,

@@ -33,7 +33,7 @@ pub fn answer(alloc: Global, call: Call<'_>) -> Result<String, AllocError> {
     }
 }
 
-/// Returns the text of an image after it was loaded again from its file.
+/// Returns the printed form of an image after it was loaded again from its file.
 fn again_text(alloc: Global, image: &Image) -> Result<String, AllocError> {
     let file = image.to_bytes(alloc)?;
     match load(alloc, file.as_slice()) {

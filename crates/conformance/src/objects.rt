@@ -32,7 +32,7 @@ pub fn answer(alloc: Global, call: Call<'_>) -> Result<String, AllocError> {
     }
 }
 
-/// Returns the text of a program, after its object was encoded again.
+/// Returns the printed form of a program after its object was encoded again.
 fn program_text(alloc: Global, program: &Program, bytes: &[u8]) -> Result<String, AllocError> {
     if program.to_bytes(alloc)?.as_slice() != bytes {
         return format!(in alloc; "other");

@@ -118,7 +118,7 @@ fn has_parts(printed: &str, parts: &str) -> bool {
     !parts.is_empty()
 }
 
-/// The status returned for words that request threads. The program itself never ends with it.
+/// The status returned for words that request threads. The program itself never exits with it.
 const NOT_ENDED: u8 = 255;
 
 /// Runs the program with these words. Returns its output and its exit status.
@@ -133,7 +133,7 @@ pub fn answer(alloc: Global, words: &str, input: &[u8]) -> Result<(Vec<u8>, u8),
     Ok((written, status))
 }
 
-/// Whether each line of a case, run separately after the table's setup, prints the expected text and ends with the
+/// Whether each line of a case, run separately after the table's setup, prints the expected output and exits with the
 /// expected status. There must be at least one line.
 fn each_ends_so(alloc: Global, setup: &str, case: Case<'_>) -> Result<bool, AllocError> {
     for line in case.lines.lines() {

@@ -24,8 +24,8 @@ SlotsAreApart =
     (r : Ring) (i j : ℕ) → r.length < 2 ^ 20 → i < slots_of r → j < slots_of r → i ≢ j
     → (descriptor_address r i + 16 ≤ descriptor_address r j) ⊎ (descriptor_address r j + 16 ≤ descriptor_address r i)
 
--- If slot 0 is at a multiple of 16 bytes, no slot crosses the end of a block. RDBAL and TDBAL keep slot 0 at a multiple
--- of 128.
+-- If slot 0 is at a multiple of 16, no slot crosses the end of a block. RDBAL and TDBAL keep slot 0 at a multiple of
+-- 128.
 abbrev pub SlotsAreInBlocks : Type 0
 SlotsAreInBlocks =
     (r : Ring) (slot : ℕ) → r.base % 16 ≡ 0

@@ -9,9 +9,9 @@ pub fn available_slots_follow_the_head()
     ensures { AvailableSlotsFollowTheHead }
 {}
 
-/// Two slots of a ring shorter than 2^20 bytes share no byte, even if addresses wrap. If slot 0 is at a multiple of 16
-/// bytes, no slot crosses the end of a block. RDBAL and TDBAL keep slot 0 at a multiple of 128. A ring of at most 128
-/// slots that begins at the start of a block is within that block.
+/// Two slots of a ring shorter than 2^20 bytes share no byte, even if addresses wrap. If slot 0 is at a multiple of 16,
+/// no slot crosses the end of a block. RDBAL and TDBAL keep slot 0 at a multiple of 128. A ring of at most 128 slots
+/// that begins at the start of a block is within that block.
 pub fn slots_are_apart()
     ensures apart { SlotsAreApart }
     ensures blocks { SlotsAreInBlocks }

@@ -68,8 +68,8 @@ pub record Leaves (before left : Interrupts) (bits : Bits) : Type 0 where
   pub auto_clear : left.auto_clear ≡ before.auto_clear
   pub auto_mask : left.auto_mask ≡ before.auto_mask
 
--- A raise, bit by bit: the raised causes that the group has become 1. If the auto-mask acts, the masks of the raised
--- bits that are in it become 1. Reported bits stay if their cause and mask are 1.
+-- A raise, bit by bit: the raised causes that belong to the group are set. If the auto-mask acts, the masks of the
+-- raised bits that are in it become 1. Reported bits stay if their cause and mask are 1.
 abbrev pub RaisesChangeBits : Type 0
 RaisesChangeBits =
     (s : Interrupts) (raise : BitSet) (auto : Bool) → Leaves s (raised s raise auto)

@@ -34,7 +34,7 @@ impl BitSet {
         BitSet { word }
     }
 
-    /// Returns the word with a 1 exactly at the members of the set.
+    /// Returns the word whose bits with value 1 are the members of the set.
     #[inline(always)]
     pub(crate) fn word(self) -> u32
         ensures { result ≡ self }

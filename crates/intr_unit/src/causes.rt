@@ -12,12 +12,12 @@ use std::marker::Model;
 
 /// The interrupts of one group, which belongs to the physical function or to a virtual function.
 ///
-/// A message reports a bit only once; it is reported again only after its cause or its mask was 0. In contracts, this
-/// is the group, its words as sets of bits, and the set of reported bits. Each reported bit has its cause and its mask
-/// at 1.
+/// A message reports a bit only once; the bit is reported again only after its cause or its mask has been 0. In
+/// contracts, this is the group, its words as sets of bits, and the set of reported bits. Each reported bit has its
+/// cause and its mask at 1.
 ///
-/// Intel 82599 datasheet, sections on interrupt registers and on clearing interrupt causes. What a read of EICR clears
-/// and what the auto-mask does are this project's profile.
+/// Intel 82599 datasheet, sections on interrupt registers and on clearing interrupt causes. This project's profile
+/// defines what a read of EICR clears and what the auto-mask does.
 #[derive(Clone, Copy, PartialEq, Eq, Debug)]
 pub struct Causes {
     group: Group,
@@ -146,7 +146,7 @@ impl Causes {
     }
 
     /// Returns the bits that messages have reported. Each has its cause and its mask at 1, and isn't reported again
-    /// before one of them was 0.
+    /// until one of them has been 0.
     #[inline(always)]
     pub fn reported(&self) -> u32
         ensures { result ≡ self.now.reported }
@@ -156,8 +156,8 @@ impl Causes {
 
     /// Raises causes, for the device (`auto` is false) or for a write of the set register (EICS, PVTEICS). For such a
     /// write, `bits` is the written word without the bits that the address doesn't show, and `auto` comes from
-    /// [`Group::auto_mask_acts`]. With `auto`, the masks of the raised bits that are in the auto-mask become 1. Bits
-    /// that the group doesn't have are dropped.
+    /// [`Group::auto_mask_acts`]. If `auto` is true, the masks of the raised bits that are in the auto-mask become 1.
+    /// Bits that the group doesn't have are dropped.
     #[inline]
     pub fn raise(&mut self, bits: u32, auto: bool)
         ensures { self.new ≡ raised self.old bits auto }
@@ -169,8 +169,8 @@ impl Causes {
     }
 
     /// Reads the cause register: returns its word and clears it. For the PF, if GPIE bit 5 (`ocd`) is 1, it clears only
-    /// bits 29 to 16; `ocd` has no effect for a VF. With `auto`, from [`Group::auto_mask_acts`], the masks of all bits
-    /// in the auto-mask become 0, whichever causes were set.
+    /// bits 29 to 16; `ocd` has no effect for a VF. If `auto`, from [`Group::auto_mask_acts`], is true, the masks of
+    /// all bits in the auto-mask become 0, whichever causes were set.
     #[inline]
     pub fn read(&mut self, ocd: bool, auto: bool) -> u32
         ensures word { result ≡ self.old.causes }
@@ -183,9 +183,9 @@ impl Causes {
         word
     }
 
-    /// Writes the cause register: the causes that are 1 in `bits` become 0. With `auto`, from
-    /// [`Group::auto_mask_acts`], the masks of the bits that are 1 in `bits` and in the auto-mask become 0. `bits` is
-    /// the written word without the bits that the address doesn't show.
+    /// Writes the cause register: the causes that are 1 in `bits` become 0. If `auto`, from [`Group::auto_mask_acts`],
+    /// is true, the masks of the bits that are 1 in `bits` and in the auto-mask become 0. `bits` is the written word
+    /// without the bits that the address doesn't show.
     #[inline]
     pub fn write_one(&mut self, bits: u32, auto: bool)
         ensures { self.new ≡ after_write_one self.old bits auto }

@@ -60,8 +60,8 @@ impl Group {
     }
 
     /// Whether the auto-mask acts on reads and writes of the cause register and on writes of the set register. For the
-    /// PF it acts while GPIE bit 30 (EIAME, the argument `eiame`) is 0. For a VF it always acts, which is this
-    /// project's profile.
+    /// PF it acts while GPIE bit 30 (EIAME, the argument `eiame`) is 0. For a VF it always acts; this project's profile
+    /// defines so.
     #[inline(always)]
     pub fn auto_mask_acts(self, eiame: bool) -> bool
         ensures { result ≡ auto_mask_acts self eiame }

@@ -26,8 +26,8 @@ pub fn masking_loses_no_cause()
     ensures { MaskingLosesNoCause }
 {}
 
-/// A raise, bit by bit: the raised causes that the group has become 1. If the auto-mask acts, the masks of the raised
-/// bits that are in it become 1. Reported bits stay if their cause and mask are 1.
+/// A raise, bit by bit: the raised causes that belong to the group are set. If the auto-mask acts, the masks of the
+/// raised bits that are in it become 1. Reported bits stay if their cause and mask are 1.
 pub fn raises_change_bits()
     ensures { RaisesChangeBits }
 {}

@@ -1,4 +1,4 @@
-//! The commands of the debugger, with refused allocations.
+//! The debugger's commands, with allocations that fail.
 
 use crate::machines::{Building, CONFIG, OfProgram, program};
 use crate::outcome::done;
@@ -16,7 +16,7 @@ fn view<R: Abort>(rt: &R, debugger: &mut Debugger, command: Command) -> u64 {
     with(with(START, view.steps), u64::from(view.acc))
 }
 
-/// Runs to the script's end, shows the register at 0x04074, and closes the debugger. Returns a checksum of both
+/// Runs the script to its end, shows the register at 0x04074, and closes the debugger. Returns a checksum of both
 /// results.
 fn end_debugger<R: Abort>(rt: &R, debugger: Debugger) -> u64 {
     let mut debugger = debugger;
@@ -44,7 +44,7 @@ fn a_debugger_is_made(rt: HostRuntime) {
     tried(&rt, alloc, subject, calm);
 }
 
-/// A debugger that moves to a step. After a refusal, the steps already taken stay taken.
+/// A debugger that moves to a step. After a refusal, the steps already taken aren't undone.
 struct Moving {
     debugger: Debugger,
     kind: Kind,

@@ -16,7 +16,7 @@ pub fn stepped(rt: &impl Hand, device: &mut Device, event: Event) -> Reply {
     done(rt, device.step(event))
 }
 
-/// Makes an event and checks that the reply is `Done`.
+/// Runs an event and checks that the reply is `Done`.
 pub fn make(rt: &impl Hand, device: &mut Device, event: Event) {
     match stepped(rt, device, event) {
         Reply::Done => {}

@@ -41,7 +41,7 @@ pub fn frame<R: Abort>(rt: &R, alloc: Global) -> Octets {
     Octets::of(bytes)
 }
 
-/// Makes an event and checks that the reply is `Done`.
+/// Runs an event and checks that the reply is `Done`.
 fn make<R: Abort>(rt: &R, device: &mut Device, event: Event) {
     match done(rt, device.step(event)) {
         Reply::Done => {}
@@ -90,7 +90,7 @@ pub fn number_of<R: Abort>(rt: &R, reply: Reply) -> u64 {
     }
 }
 
-/// An event for a device to make.
+/// An event for a device to run.
 struct Stepping {
     device: Device,
     arena: Arena,
@@ -173,7 +173,7 @@ fn a_frame_is_sent(rt: HostRuntime) {
     tried(&rt, alloc, subject, calm);
 }
 
-/// Events for a device to run. After a refusal, the events already made stay made.
+/// Events for a device to run. After a refusal, the events that already ran aren't undone.
 struct Running {
     device: Device,
     arena: Arena,

@@ -116,8 +116,8 @@ enum Kind {
     Stop,
 }
 
-/// A driver of queue 0 that makes a call. It has the packet to send or the one received, and keeps its arena here while
-/// it isn't started.
+/// A driver of queue 0 that makes a call. It has the packet to send or the packet that was received. While the driver
+/// isn't started, its arena is kept here.
 struct Driving {
     kind: Kind,
     nic: Direct,
@@ -168,7 +168,7 @@ impl Driving {
         put(rt, &mut self.pmd, pmd);
     }
 
-    /// Starts the driver. After a refused start is stopped, its arena comes back with all blocks free.
+    /// Starts the driver. After a refused start is stopped, its arena is returned with all blocks free.
     fn start<R: Abort>(&mut self, rt: &R, alloc: Global) -> bool {
         let arena = in_turn(rt, some(rt, self.arena.take()));
         match Pmd::start(alloc, &mut self.nic, Port::Pf, 0, 8, 1518, arena) {

@@ -1,4 +1,4 @@
-//! Frames that arrive through a pass, up to the first refused one.
+//! Frames that arrive through a pass, up to the first refused frame.
 
 use crate::locks::{Opened, closed, open_bench};
 use crate::sums::{START, end_device};
@@ -46,7 +46,7 @@ fn arrived<R: Abort>(rt: &R, pass: &Pass) -> usize {
     count
 }
 
-/// Whether the feeding ended for lack of memory. Any other reason fails the test.
+/// Whether feeding stopped for lack of memory. Any other reason fails the test.
 fn is_refused<R: Abort>(rt: &R, refused: Option<CallFault<()>>) -> bool {
     match refused {
         None => false,
@@ -57,8 +57,8 @@ fn is_refused<R: Abort>(rt: &R, refused: Option<CallFault<()>>) -> bool {
     }
 }
 
-/// Whichever allocation is refused, no frame arrives after the first refused one, and the reported count is the number
-/// of frames that arrived.
+/// Whichever allocation fails, no frame arrives after the first refused frame, and the reported count is the number of
+/// frames that arrived.
 #[test]
 fn feeding_ends_at_the_first_refused_frame(rt: HostRuntime) {
     let alloc = rt.alloc();

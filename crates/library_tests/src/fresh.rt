@@ -79,7 +79,7 @@ fn device<R: Abort>(rt: &R, alloc: Global) -> Option<u64> {
     }
 }
 
-/// Assembles the image that a text describes, and returns a checksum of it.
+/// Assembles the image that a source describes, and returns a checksum of it.
 fn assembled_image<R: Abort>(rt: &R, alloc: Global) -> Option<u64> {
     match image_of(alloc, EEPROM) {
         Ok(image) => Some(sum_of_image(&image)),

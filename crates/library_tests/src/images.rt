@@ -4,7 +4,7 @@ use crate::device::{device, end, make, reads, write};
 use crate::outcome::{Hand, done, same};
 use nic_device::{Device, Event, Image, assemble};
 
-/// Returns the image that a text describes.
+/// Returns the image that a source describes.
 pub fn image(rt: &impl Hand, text: &str) -> Image {
     done(rt, assemble(rt.alloc(), text))
 }

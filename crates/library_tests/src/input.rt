@@ -44,7 +44,7 @@ const IMAGE_TEXT: &[u8] = b"size 128\nword 0 5\ncsr 0x05080 0x400\n";
 
 const LOAD: [&str; 3] = ["nicbench", "eeprom", "--load"];
 
-/// Returns the program's output for a reader, and how it ended.
+/// Returns the program's output and exit status for a reader.
 pub fn ran<R: Read>(alloc: Global, words: &[&str], reader: &mut R) -> (Vec<u8>, Outcome) {
     let mut written = Vec::new(alloc);
     let mut output = Output::of(&mut written);
@@ -74,7 +74,7 @@ fn longest_input(rt: HostRuntime) {
     answers(&rt, rt.alloc(), &RUN, &mut longer, "refused TooLong\n", 2);
 }
 
-/// Bytes that aren't UTF-8 are refused by a command that reads a text. An input that is too long is reported first.
+/// A command that reads text refuses bytes that aren't UTF-8. An input that is too long is reported first.
 #[test]
 fn no_text(rt: HostRuntime) {
     let mut bytes = b"\xff".as_slice();
@@ -163,8 +163,8 @@ fn writer(taken: u32, kind: ErrorKind) -> FailingWriter {
 /// Words, an input, and the exit status for both.
 type Case<'w, 's, 'b> = (&'w [&'s str], &'b [u8], u8);
 
-/// Runs the program with a writer that fails with an error of this kind. If a write failed, the program ends with the
-/// given status and makes no later write. Otherwise it ends with the input's own status. Returns whether a write
+/// Runs the program with a writer that fails with an error of this kind. If a write failed, the program exits with the
+/// given status and doesn't write again. Otherwise it exits with the status for its input. Returns whether a write
 /// failed.
 fn fails_at(
     rt: &impl Abort,

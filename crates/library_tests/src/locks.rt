@@ -45,7 +45,8 @@ pub fn closed<R: Abort>(rt: &R, alloc: Global, bench: Bench, pass: Pass) -> Clos
     done(rt, bench.close(passes))
 }
 
-/// Adds a history to a checksum: its number of entries, the numbers of lent blocks, and the lengths of arrived frames.
+/// Adds a history to a checksum: its number of entries, the numbers of lent blocks, and the lengths of the frames that
+/// arrived.
 pub fn with_history(sum: u64, history: &[Entry]) -> u64 {
     let mut sum = with(sum, history.len() as u64);
     for entry in history {
@@ -69,7 +70,7 @@ pub fn lends_in(closed: &Closed<0, 64>) -> u64 {
     lends
 }
 
-/// Returns the event to make: a frame arrives, or a block is lent.
+/// Returns the event to run: a frame arrives, or a block is lent.
 fn event_of<R: Abort>(rt: &R, alloc: Global, arena: &mut Arena, arrives: bool) -> Event {
     if arrives {
         Event::Arrive(frame(rt, alloc))
@@ -78,8 +79,7 @@ fn event_of<R: Abort>(rt: &R, alloc: Global, arena: &mut Arena, arrives: bool) -
     }
 }
 
-/// Returns the checksum of the reply if the event was made. If it was refused for lack of memory, the event is put
-/// back.
+/// Returns the checksum of the reply if the event ran. If it was refused for lack of memory, the event is put back.
 fn answered<R: Abort>(
     rt: &R,
     answer: Result<Reply, CallFault>,
@@ -167,7 +167,7 @@ fn a_frame_arrives_by_a_pass(rt: HostRuntime) {
     calls(&rt, rt.alloc(), true);
 }
 
-/// An event to make on the locked part of a shared device, outside the lock.
+/// An event to run on the locked part of a shared device, outside the lock.
 struct Stepping {
     locked: Locked<0, 64>,
     arena: Arena,

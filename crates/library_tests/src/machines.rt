@@ -56,7 +56,7 @@ pub trait OfProgram {
     /// Creates the value from a program. A refusal returns the program.
     fn of(alloc: Global, program: Program) -> Result<Self, NewRefused>;
 
-    /// Runs to the script's end, and returns a checksum of the results.
+    /// Runs the script to its end, and returns a checksum of the results.
     fn to_end<R: Abort>(self, rt: &R) -> u64;
 }
 
@@ -134,7 +134,7 @@ pub fn machine_after<R: Abort>(rt: &R, alloc: Global, steps: u32) -> Machine {
     machine
 }
 
-/// Runs on to the script's end. Returns a checksum of each step and of the final state.
+/// Runs the rest of the script. Returns a checksum of each step and of the final state.
 pub fn end_machine<R: Abort>(rt: &R, machine: Machine) -> u64 {
     let (mut machine, mut sum) = (machine, START);
     for _step in 0..20 {

@@ -24,7 +24,7 @@ fn give(rt: &impl Hand, arena: &mut Arena, buf: Buf) {
     done(rt, arena.give(buf));
 }
 
-/// Closes an arena. All its blocks must be back.
+/// Closes an arena. All its blocks must be free.
 fn close(rt: &impl Hand, arena: Arena) {
     done(rt, arena.close());
 }
@@ -42,7 +42,7 @@ fn back(rt: &impl Hand, memory: &mut LentMemory, block: u32) -> Buf {
     some(rt, memory.take(block))
 }
 
-/// Closes lent memory. All its blocks must be back.
+/// Closes lent memory. All its blocks must have been taken back.
 fn finish(rt: &impl Hand, memory: LentMemory) {
     done(rt, memory.finish());
 }

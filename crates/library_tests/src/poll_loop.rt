@@ -100,7 +100,7 @@ fn drive<R: Abort + Wait>(
     nic.finish()
 }
 
-/// Checks that a driver received and sent its frames, and that all its blocks are back.
+/// Checks that a driver received and sent its frames, and that all its blocks were returned.
 fn close(rt: &impl Abort, home: Home, frame: &[u8]) {
     let Home {
         arena,

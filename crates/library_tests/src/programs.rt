@@ -1,4 +1,4 @@
-//! Programs: from text to object and back.
+//! Programs: from source to object and back.
 
 use crate::outcome::done;
 use crate::sums::{START, with, with_bytes};

@@ -1,4 +1,4 @@
-//! The longest accepted texts and programs.
+//! The longest accepted inputs and programs.
 
 use crate::input::ran;
 use crate::outcome::{Hand, holds};
@@ -7,7 +7,7 @@ use std::alloc::{AllocError, Global};
 use std::fmt::Write;
 use std::test::Fail;
 
-/// Whether `nicbench run` ends with this status for a script, and its output ends with this text.
+/// Whether `nicbench run` exits with this status for a script, and its output ends with this string.
 fn ends_so(alloc: Global, script: &str, end: &str, wanted: u8) -> bool {
     let (written, outcome) = ran(alloc, &["nicbench", "run"], &mut script.as_bytes());
     outcome == Outcome::Ended(wanted) && written.as_slice().ends_with(end.as_bytes())
@@ -48,7 +48,7 @@ const ROWS: [Row<'static>; 10] = [
     ("data d ", "5a", 16_385, "5", "refused Syntax 1\n", 2),
 ];
 
-/// Checks that each script ends as its row says.
+/// Checks that each script has the outcome in its row.
 fn end_as_reported(rt: &impl Hand, rows: &[Row<'_>]) -> Result<(), AllocError> {
     for (start, part, count, rest, end, ended) in rows {
         let script = repeated(rt.alloc(), start, part, *count, rest)?;
@@ -104,7 +104,7 @@ fn object(alloc: Global, instructions: u16, strings: u16) -> Result<Vec<u8>, All
     Ok(bytes)
 }
 
-/// Whether `nicbench dis` ends with this status for an object, and its output ends with this text.
+/// Whether `nicbench dis` exits with this status for an object, and its output ends with this string.
 fn is_listed(alloc: Global, object: &[u8], end: &str, wanted: u8) -> bool {
     let mut input = object;
     let (written, outcome) = ran(alloc, &["nicbench", "dis"], &mut input);

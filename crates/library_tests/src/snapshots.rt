@@ -110,7 +110,7 @@ fn a_machine_is_restored(rt: HostRuntime) {
     machine.finish();
 }
 
-/// Checks that the copy of a text's image has the same words, and this word at index 0x3F.
+/// Checks that the copy of an image assembled from source has the same words, and this word at index 0x3F.
 fn is_copied(rt: &impl Hand, text: &str, last: u16) {
     let image = image(rt, text);
     let copy = done(rt, image.copy());

@@ -43,7 +43,7 @@ pub fn with_arena(sum: u64, arena: &Arena) -> u64 {
     sum
 }
 
-/// Adds an event that wasn't made to a checksum.
+/// Adds an event that didn't run to a checksum.
 pub fn with_event(sum: u64, event: &Option<Event>) -> u64 {
     match event {
         Some(Event::Lend(buf)) => with_buf(with(sum, 2), buf),

@@ -111,7 +111,7 @@ fn bring_home<R: Abort + Wait>(
     pass
 }
 
-/// Checks how the workers ended, and closes the shared device.
+/// Checks the workers' outcomes, and closes the shared device.
 fn settle<R: Abort + Wait>(rt: &R, alloc: Global, bench: Bench, ran: Ran, host: Pass) {
     let Ran { mut ends, fed } = ran;
     let (mut passes, mut all, mut packets) = (Vec::new(alloc), true, 0);
@@ -139,7 +139,7 @@ fn settle<R: Abort + Wait>(rt: &R, alloc: Global, bench: Bench, ran: Ran, host: 
     done(rt, memory.finish());
 }
 
-/// Whichever allocation of the run is refused, both workers return their passes and blocks, and the history closes.
+/// Whichever allocation of the run fails, both workers return their passes and blocks, and the history closes.
 #[test]
 fn workers_run(rt: HostRuntime) {
     let alloc = rt.alloc();

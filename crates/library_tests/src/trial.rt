@@ -1,4 +1,4 @@
-//! Tests of a single call with a refused allocation.
+//! Tests of a single call with an allocation that fails.
 
 use std::alloc::Global;
 use std::process::Abort;

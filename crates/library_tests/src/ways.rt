@@ -12,7 +12,7 @@ use std::alloc::Global;
 use std::process::Abort;
 use std::sync::Wait;
 
-/// Makes the event of a call through a way to access a device, and adds the reply to a checksum. Returns `false` if it
+/// Runs the event of a call through a way to access a device, and adds the reply to a checksum. Returns `false` if it
 /// was refused for lack of memory; the event is then put back.
 fn called<R: Abort, N: Nic>(
     rt: &R,
@@ -40,7 +40,7 @@ trait Ends: Nic {
     fn ended<R: Abort>(self, rt: &R, sum: u64) -> (Device, u64);
 }
 
-/// An event to make through a way to access an owned device.
+/// An event to run through a way to access an owned device.
 struct InHand<N> {
     nic: N,
     arena: Arena,

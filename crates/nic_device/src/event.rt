@@ -225,8 +225,7 @@ pub enum Reply<B = Buf> {
         queue: u16,
         /// The index of the fetched descriptor in the queue's ring.
         slot: u16,
-        /// The bus address of the write-back, of the descriptor or of the head. Returns `None` if nothing was written
-        /// back.
+        /// The bus address of the write-back, of the descriptor or of the head. `None` if nothing was written back.
         back: Option<u64>,
     },
     /// A transmit step fetched the last descriptor of a frame and sent the frame.
@@ -235,8 +234,7 @@ pub enum Reply<B = Buf> {
         queue: u16,
         /// The frame's length in bytes, padding included.
         len: usize,
-        /// The bus address of the write-back, of the descriptor or of the head. Returns `None` if nothing was written
-        /// back.
+        /// The bus address of the write-back, of the descriptor or of the head. `None` if nothing was written back.
         back: Option<u64>,
     },
     /// A descriptor couldn't be processed. Its side of the queue is disabled and must be enabled again.

@@ -19,7 +19,7 @@ pub struct Access {
 }
 
 /// Returns the place at an address, a byte offset into the register space, with the bits that show there. Returns
-/// `None` if and only if no register has the address. An address that isn't a multiple of 4 has none.
+/// `None` if and only if no register has the address. An address that isn't a multiple of 4 has no register.
 #[inline(always)]
 pub fn resolve(address: u32) -> Option<Access>
     ensures value { result ≡ access_at address }
@@ -31,7 +31,7 @@ pub fn resolve(address: u32) -> Option<Access>
     at(address)
 }
 
-/// Returns the access at an address, as the definition has it. `resolve` states what else holds for it.
+/// Returns the access at an address, as it is defined. `resolve` states what else holds for it.
 #[tactic(auto, using(crate::proofs::Views::no_part_of_a_word))]
 #[inline(always)]
 fn at(address: u32) -> Option<Access>

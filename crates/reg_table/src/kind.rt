@@ -46,7 +46,7 @@ pub enum Kind {
     /// takes it from the function, takes it for the physical function if nobody holds it, or releases it, and sends a
     /// status or an acknowledgement.
     Pfmail,
-    /// Extended device control. As `Rw`; in addition, a write with bit 14 reports to each virtual function that a reset
-    /// is done.
+    /// Extended device control. Like `Rw`; in addition, a write with bit 14 set reports to each virtual function that a
+    /// reset is done.
     Ctrlext,
 }

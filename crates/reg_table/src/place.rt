@@ -18,7 +18,8 @@ pub struct Place {
 }
 
 /// Returns the place at an address, a byte offset into the register space, from the first run of the table that has the
-/// address. Returns `None` if and only if no register has the address. An address that isn't a multiple of 4 has none.
+/// address. Returns `None` if and only if no register has the address. An address that isn't a multiple of 4 has no
+/// register.
 pub fn place_of(address: u32) -> Option<Place>
     ensures value { result ≡ place_among runs address }
     // No run has another place there.
@@ -33,8 +34,8 @@ pub fn place_of(address: u32) -> Option<Place>
     }
 }
 
-/// Returns a mask of the bits that show at an address: 0xFFFF if and only if, according to a run of the table, it shows
-/// only bits 15:0, and 0xFFFFFFFF otherwise.
+/// Returns a mask of the bits that show at an address. The mask is 0xFFFF if and only if a run of the table says that
+/// the address shows only bits 15:0; otherwise it is 0xFFFFFFFF.
 pub fn view_of(address: u32) -> u32
     // It is the mask of the first run that has the address.
     ensures value { result ≡ view_among runs address }

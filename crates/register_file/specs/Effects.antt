@@ -54,7 +54,7 @@ is_running r (owner.Pool number) = false
 is_running r (owner.VfCounters number) = false
 is_running r (owner.Vectors number) = false
 
--- The registers after a request that an owner be enabled or disabled. Only a queue's side can be.
+-- The registers after a request that an owner be enabled or disabled. This has an effect only for a queue's side.
 abbrev pub asked : Registers → Owner → Bool → Registers
 asked r owner.Device wanted = r
 asked r owner.Counters wanted = r

@@ -121,19 +121,19 @@ impl RegisterFile {
     /// device or of a pool. The index must be below the row's count. It changes only bits that are both shown by the
     /// address and in the row's mask, with the exceptions below for some kinds of registers.
     ///
-    /// Calculated registers, counters and PVFCTRL ignore writes. So do a ring's base, length and head while that side
-    /// is enabled. An enable register stores the bits of its mask, which excludes bit 25; bit 25 of the written value
-    /// becomes the enable request. EERD stores bits 15 to 0 except bit 1, and clears its other bits. In PFMBICR, bits
-    /// written as 1 are cleared. For the cause and mask registers of a group, see `intr_unit`.
+    /// Calculated registers, counters and PVFCTRL ignore writes. So do a ring's base, length and head while the ring's
+    /// side is enabled. An enable register stores the bits of its mask, which excludes bit 25; bit 25 of the written
+    /// value becomes the enable request. EERD stores bits 15 to 0 except bit 1, and clears its other bits. In PFMBICR,
+    /// bits written as 1 are cleared. For the cause and mask registers of a group, see `intr_unit`.
     ///
-    /// Writing PVFMAILBOX[v] with bit 2 set sets that bit if bit 3 is 0; without bit 2, it clears the bit. Bit 0 of the
-    /// written value sets bit v mod 16 of PFMBICR[v/16], and bit 1 sets bit 16 + v mod 16. Either one sets EICR bit 19
-    /// if bit v mod 32 of PFMBIMR[v/32] is 1.
+    /// Writing PVFMAILBOX[v] with bit 2 set sets that bit if bit 3 is 0. Writing it with bit 2 clear clears the bit.
+    /// Bit 0 of the written value sets bit v mod 16 of PFMBICR[v/16], and bit 1 sets bit 16 + v mod 16. Either one sets
+    /// EICR bit 19 if bit v mod 32 of PFMBIMR[v/32] is 1.
     ///
     /// Writing PFMAILBOX[v] with bit 4 set first clears bit 2 of PVFMAILBOX[v]. Then bit 3 of PVFMAILBOX[v] is set if
-    /// bit 3 is written and bit 2 is 0, and cleared if bit 3 isn't written. Bit 0 of the written value sets bit 4 of
-    /// PVFMAILBOX[v], and bit 1 sets bit 5. Either one sets in PVTEICR[v] the cause that bits 5:0 of PVTIVAR_MISC[v]
-    /// name, if bit 7 there is 1 and the cause is at most 2.
+    /// bit 3 is written as 1 and bit 2 is 0, and cleared if bit 3 is written as 0. Bit 0 of the written value sets bit
+    /// 4 of PVFMAILBOX[v], and bit 1 sets bit 5. Either one sets in PVTEICR[v] the cause that bits 5:0 of
+    /// PVTIVAR_MISC[v] name, if bit 7 there is 1 and the cause is at most 2.
     ///
     /// CTRL_EXT is stored. If bit 14 is written as 1, each PVFMAILBOX with bit 6 set then has bit 6 cleared and bit 7
     /// set.
@@ -233,7 +233,7 @@ impl RegisterFile {
         }
     }
 
-    /// Requests that an owner be enabled or disabled. Only the side of a queue can be.
+    /// Requests that an owner be enabled or disabled. This has an effect only for a queue's side.
     fn ask(&mut self, owner: Owner, wanted: bool)
         requires { IsThere owner }
         ensures { self.new ≡ asked self.old owner wanted }

@@ -48,7 +48,7 @@ impl RegisterFile {
         self.word(RowId::Pvfmailbox, v) & HOLDERS
     }
 
-    /// Applies the side effects of a function, below 64, reading its mailbox.
+    /// Applies the side effects of a mailbox read by a function below 64.
     pub(crate) fn end_mail_read(&mut self, v: u16)
         requires { v < 64 }
         ensures { self.new ≡ mail_read self.old v }

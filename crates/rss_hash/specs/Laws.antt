@@ -76,7 +76,7 @@ OthersOverIpv6 classify =
     header.next_header ≢ 6 → header.next_header ≢ 17 →
     classify (ipv6_frame to from header payload) ≡ plain_flow 6 (header.source ++ header.destination)
 
--- A frame whose EtherType is neither IPv4's nor IPv6's, tagged frames included, is no flow, whatever it carries.
+-- A frame whose EtherType is neither IPv4's nor IPv6's, tagged frames included, isn't a flow, whatever it carries.
 abbrev pub OtherTypesAreNoFlow : (List ℕ → Flow) → Type 0
 OtherTypesAreNoFlow classify =
     (to from : List ℕ) (type : ℕ) (packet : List ℕ) → AreStations to from → type ≢ 0x0800 → type ≢ 0x86DD →

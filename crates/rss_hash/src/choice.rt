@@ -28,7 +28,7 @@ pub enum RssType {
 }
 
 impl RssType {
-    /// Returns the type of a flow under a word of MRQC. In a mode that hashes, this is the type with ports if it is
+    /// Returns the type of a flow for a value of MRQC. In a mode that hashes, this is the type with ports if it is
     /// enabled, otherwise the type with addresses if it is enabled. In all other cases it is `NoHash`.
     #[tactic(auto, using(crate::proofs::Types::no_types), unfolding(crate::specs::Choice::rss_type_of))]
     pub fn of(mrqc: u32, flow: &Flow) -> RssType
@@ -44,7 +44,7 @@ impl RssType {
         }
     }
 
-    /// Whether a word of MRQC enables this type.
+    /// Whether a value of MRQC enables this type.
     #[tactic(auto, using(crate::proofs::Fields::contains_bit))]
     fn is_enabled(self, mrqc: u32) -> bool
         ensures { result ≡ is_enabled mrqc self }
@@ -69,8 +69,8 @@ impl RssType {
     }
 }
 
-/// Returns the RSS type of a flow under a word of MRQC, and the part of the flow that is hashed. For type 0 this part
-/// is empty, so the hash is 0.
+/// Returns the RSS type of a flow for a value of MRQC, and the part of the flow that is hashed. For type 0 this part is
+/// empty, so the hash is 0.
 pub fn choose(mrqc: u32, flow: &Flow) -> (u8, Input)
     ensures rss_type { result.0 ≡ code_of (rss_type_of mrqc flow.now) }
     ensures input { result.1 ≡ hashed_part (rss_type_of mrqc flow.now) flow.now.input }
@@ -80,12 +80,12 @@ pub fn choose(mrqc: u32, flow: &Flow) -> (u8, Input)
     (rss_type, Input::empty().with(bytes))
 }
 
-/// Returns the RSS type of a flow under a word of MRQC, and the hashed bytes as they are stored in the flow.
+/// Returns the RSS type of a flow for a value of MRQC, and the hashed bytes as they are stored in the flow.
 pub fn choose_bytes(mrqc: u32, flow: &Flow) -> (u8, &[u8])
     // The type is the first enabled one that applies to the flow, ports before addresses.
     ensures rss_type { result.0 ≡ code_of (rss_type_of mrqc flow.now) }
     ensures bytes { result.1.now ≡ hashed_part (rss_type_of mrqc flow.now) flow.now.input }
-    // The bytes are at most 36.
+    // There are at most 36 bytes.
     ensures fits { length result.1.now ≤ 36 }
     // Type 0 hashes nothing.
     ensures nothing { result.0 ≡ 0 → result.1.now ≡ [] }

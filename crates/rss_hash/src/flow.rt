@@ -19,8 +19,8 @@ pub struct Flow {
     pub input: Input,
 }
 
-/// Classifies a frame, given without its frame check sequence. Any bytes are accepted. A tagged frame, and a frame with
-/// a truncated IP header, is neither version of IP. A fragment, and a frame without its four port bytes, is neither TCP
+/// Classifies a frame, given without its frame check sequence. Any bytes are accepted. Tagged frames and frames with a
+/// truncated IP header are neither IPv4 nor IPv6. Fragments and frames without their four port bytes are neither TCP
 /// nor UDP. The lengths in IP headers are ignored.
 #[inline(always)]
 pub fn classify(frame: &[u8]) -> Flow
@@ -37,7 +37,7 @@ pub fn classify(frame: &[u8]) -> Flow
     }
 }
 
-/// A frame with the EtherType of a VLAN tag, 0x8100, is neither version of IP, whatever it carries: it is no flow.
+/// A frame with the EtherType of a VLAN tag, 0x8100, is neither IPv4 nor IPv6, whatever it carries, so it isn't a flow.
 pub fn tagged_frames_are_no_flow()
     ensures { (frame : List ℕ) → ether_type frame ≡ 0x8100 → flow_of frame ≡ no_flow }
 {}

@@ -58,8 +58,8 @@ impl HashKey {
         refill_tables(&mut self.tables, &self.words, index);
     }
 
-    /// Returns the Toeplitz hash of an input of at most 36 bytes, without branching on its bits. The shares of high and
-    /// low half bytes are combined separately, so neither chain waits for the other.
+    /// Returns the Toeplitz hash of an input of at most 36 bytes, without branching on its bits. The contributions of
+    /// high and low half bytes are combined separately, so neither chain of operations waits for the other.
     pub fn hash(&self, input: &[u8]) -> u32
         requires { length input.now ≤ 36 }
         ensures { result ≡ toeplitz_hash (bytes_of_registers self.now) input.now }

@@ -3,7 +3,7 @@ ghost use Rattle.std.specs.Prelude.{◌≡◌, ◌+◌, ◌≤◌, [], ◌++◌,
 use std::marker::Model;
 
 /// The hashed part of a frame: its addresses, and its ports if they are hashed, in network order. It is at most 36
-/// bytes long, and the array is 0 after them. In contracts, it is the list of its bytes.
+/// bytes long, and the rest of the array is 0. In contracts, it is the list of its bytes.
 #[derive(Clone, Copy, PartialEq, Eq, Debug)]
 pub struct Input {
     /// The bytes, followed by zeros.
@@ -54,7 +54,7 @@ impl Input {
     /// Returns the bytes that are hashed, at most 36.
     pub fn as_slice(&self) -> &[u8]
         ensures bytes { result.now ≡ self.now }
-        // The bytes are at most 36.
+        // There are at most 36 bytes.
         ensures fits { length result.now ≤ 36 }
     {
         &self.bytes[..self.len]

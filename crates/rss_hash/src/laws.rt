@@ -43,7 +43,7 @@ pub fn other_packets_over_ipv6_are_addresses()
     ensures { OthersOverIpv6 flow_of }
 {}
 
-/// A frame whose EtherType is neither IPv4's nor IPv6's, tagged frames included, is no flow, whatever it carries.
+/// A frame whose EtherType is neither IPv4's nor IPv6's, tagged frames included, isn't a flow, whatever it carries.
 pub fn other_types_are_no_flow()
     ensures { OtherTypesAreNoFlow flow_of }
 {}

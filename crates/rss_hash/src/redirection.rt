@@ -2,8 +2,8 @@ ghost use Rattle.std.specs.Prelude.{◌≡◌, ◌*◌, ◌<◌, length, slice_i
 ghost use Rattle.std.specs.Int.{to_le_bytes, w32};
 ghost use Rattle.rss_hash.specs.Registers.{bytes_of_registers, entry_of, IsEntryIn};
 
-/// Returns the entry of the redirection table, 0 to 15, that the low seven bits of a hash select. `table` is the words
-/// of RETA, with four entries in each: entry 4i + j is in bits 8j+3:8j of word i.
+/// Returns the entry of the redirection table, 0 to 15, that the low seven bits of a hash select. `table` contains the
+/// words of RETA, with four entries in each: entry 4i + j is in bits 8j+3:8j of word i.
 ///
 /// Intel 82599 datasheet, section on the register RETA.
 #[tactic(auto, unfolding(crate::specs::Registers::entry_of))]

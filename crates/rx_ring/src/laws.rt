@@ -24,9 +24,9 @@ pub fn piece()
     ensures { PieceLaw }
 {}
 
-/// What a driver reads from a filled slot, if each lent block is whole and the first half is below 2^64. The descriptor
-/// is done, ends the packet if and only if the frame ends, and contains the number of bytes and the first half. The
-/// buffer contains the bytes, if it shares none with the descriptor.
+/// If each lent block is whole and the first half is below 2^64, a driver reads a filled slot as follows. The
+/// descriptor is done, ends the packet if and only if the frame ends, and contains the number of bytes and the first
+/// half. The buffer contains the bytes, if it shares none with the descriptor.
 pub fn read_back()
     ensures { DriverReads }
 {}
@@ -41,8 +41,8 @@ pub fn frames()
 
 /// Filling a slot changes no byte outside the descriptor and the written bytes of the buffer. Whether the slot is
 /// filled or not, the same blocks stay lent and each keeps its length of 2,048 bytes. If the descriptor is within one
-/// block and the bytes are within one, every other block is unchanged; if the two blocks differ, each changes only by
-/// what was written to it.
+/// block and the bytes are within one block, every other block is unchanged; if the two blocks differ, each changes
+/// only by what was written to it.
 pub fn elsewhere()
     ensures bytes { WritesInsideSlot }
     ensures blocks { FillKeepsBlocks }

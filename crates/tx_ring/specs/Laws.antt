@@ -188,8 +188,8 @@ pub record IsAligned (r : Ring) (tx : Tx) : Type 0 where
   pub base : r.base % 16 ≡ 0
   pub writeback : (a : ℕ) → tx.writeback ≡ Some a → a % 4 ≡ 0
 
--- If the ring's base is at a multiple of 16 bytes and the head write-back address at a multiple of 4, the bytes written
--- back are within one block.
+-- If the ring's base is a multiple of 16 and the head write-back address is a multiple of 4, the bytes written back are
+-- within one block.
 abbrev pub ReportsInOneBlock : Type 0
 ReportsInOneBlock =
     (m : Memory) (staged : List ℕ) (r : Ring) (tx : Tx) (f : Fetched) (at : ℕ) → IsAligned r tx

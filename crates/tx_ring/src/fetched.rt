@@ -7,8 +7,8 @@ pub struct Fetched {
     pub slot: u16,
     /// The new head of the ring.
     pub head: u16,
-    /// The bus address of the write-back: the descriptor's address, or the head write-back address. Returns `None` if
-    /// nothing was written back.
+    /// The bus address of the write-back: the descriptor's address, or the head write-back address. `None` if nothing
+    /// was written back.
     pub back: Option<u64>,
     /// Whether a data descriptor requested a report (RS), which was written back.
     pub rs: bool,

@@ -24,15 +24,15 @@ pub fn packet()
     ensures { PacketLaw }
 {}
 
-/// What a driver reads from a reported slot, if each lent block is whole. This is the new head at the head write-back
-/// address. Without such an address, it is the descriptor with its done bit set and every other bit unchanged.
+/// If each lent block is whole, a driver reads a reported slot as follows. At the head write-back address, it reads the
+/// new head. Without such an address, it reads the descriptor with its done bit set and every other bit unchanged.
 pub fn read_back()
     ensures { DriverReads }
 {}
 
 /// A slot is reported if RS requests it: at the head write-back address, or, without such an address, in its
-/// descriptor. If the ring's base is at a multiple of 16 bytes and the head write-back address at a multiple of 4, the
-/// bytes written back are within one block. A done descriptor differs from its earlier value only in DD, if both of its
+/// descriptor. If the ring's base is a multiple of 16 and the head write-back address is a multiple of 4, the bytes
+/// written back are within one block. A done descriptor differs from its earlier value only in DD, if both of its
 /// halves are below 2^64.
 pub fn reports()
     ensures address { ReportLaw }

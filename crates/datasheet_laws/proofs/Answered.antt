@@ -1,4 +1,4 @@
--- The replies to accesses of registers.
+-- The replies to register accesses.
 use Rattle.std.proofs.Common.{◌≡◌, refl, ap, sym, subst}
 use Rattle.datasheet_laws.specs.Prelude.{Named, Word, named_read, named_written, step_of}
 use Rattle.datasheet_laws.specs.Answered.{AccessesAreAnswered}

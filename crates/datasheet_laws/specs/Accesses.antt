@@ -1,4 +1,4 @@
--- What accesses of a group's registers do, as later reads show it.
+-- What accesses to a group's registers do, as later reads show.
 use Rattle.std.specs.Prelude.{ℕ, ◌≡◌, ◌<◌, ◌≤◌, Bool, false, not, ◌&&◌, ◌||◌, nat_le, if◌then◌else◌}
 use Rattle.nic_device.specs.declared.event.Event.TheVariants as event
 use Rattle.nic_device.specs.declared.event.Port.TheVariants as port

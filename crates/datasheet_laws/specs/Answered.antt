@@ -1,4 +1,4 @@
--- The replies to accesses of registers.
+-- The replies to register accesses.
 use Rattle.std.specs.Prelude.{ℕ, ◌≡◌}
 use Rattle.nic_device.specs.declared.event.Event.TheVariants as event
 use Rattle.datasheet_laws.specs.Prelude.{Done, Place, Port, Register, State, Word, named, reply_to}

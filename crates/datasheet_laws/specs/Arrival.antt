@@ -67,7 +67,7 @@ pub record HasPoolOff (r : Registers) (frame : List ℕ) : Type 0 where
   pub has : HasPool r frame pool
   pub off : receive_bit r pool ≡ 0
 
--- A frame is heard if the link is up and receiving is on.
+-- A frame is heard if the link is up and reception is enabled.
 pub record IsHeard (s : State) : Type 0 where
   pub link : IsTrue s.link
   pub on : bit 0 (word_of s.registers Rxctrl 0) ≡ 1
@@ -116,8 +116,8 @@ ArrivingHasAnOrder =
     (s : State) → IsSound s → (frame : List ℕ) (reply : Reply Block) →
     (reply_to s (event.Arrive frame) ≡ reply) ↔ IsAnswered s frame reply
 
--- A frame is appended to the receive list with its bytes, its queue, its hash and its RSS type, and none of it written.
--- The other frames are unchanged.
+-- A frame is appended to the receive list with its bytes, its queue, its hash and its RSS type, and with no part of it
+-- written yet. The other frames are unchanged.
 pub record Joins (s : State) (frame : List ℕ) (new : State) : Type 0 where
   pub last : Waiting
   pub waiting : new.waiting ≡ s.waiting ++ last ∷ []

@@ -49,16 +49,16 @@ RingsAreHeld =
     (around : Surroundings) (r : Registers) → HasShape r → (row : RowId) (q w : ℕ) →
     (line_of row).kind ≡ kind.Held → q < (line_of row).count → IsHeldWhileOn around r row q w
 
--- The kinds with reads that change nothing: all except counters that a read clears, causes, and a function's mailbox.
+-- The kinds whose reads change nothing: all except clear-on-read counters, causes, and a function's mailbox.
 abbrev pub is_silent : Kind → Bool
 is_silent kind.Rc = false
 is_silent kind.Cause = false
 is_silent kind.Vfmail = false
 is_silent other = true
 
--- A counter that a read clears reads 0 after that read. A write changes neither such a counter nor a read-only or
--- calculated register. A register that only sets causes or only clears masks reads 0, as does PVFCTRL. A write of
--- PVFCTRL that requests no reset changes nothing.
+-- A clear-on-read counter reads 0 after a read. A write changes neither such a counter nor a read-only or calculated
+-- register. A register that only sets causes or only clears masks reads 0, as does PVFCTRL. A write of PVFCTRL that
+-- requests no reset changes nothing.
 pub record ReadsByKind (around : Surroundings) (r : Registers) (row : RowId) (i w bit : ℕ) : Type 0 where
   pub silent : is_silent (line_of row).kind ≡ true → read_at r (at row i) ≡ r
   pub counter : (line_of row).kind ≡ kind.Rc → reads around (read_at r (at row i)) (at row i) bit ≡ false
@@ -83,9 +83,9 @@ pub record AsksForASide (r : Registers) (q w : ℕ) : Type 0 where
 abbrev pub SidesAreAsked : Type 0
 SidesAreAsked = (r : Registers) → HasShape r → (q w : ℕ) → q < 128 → AsksForASide r q w
 
--- EERD, at 0x10014: a write stores bits 0 and 15 to 2, and clears all others. With bit 0, START, it requests the word
--- with the index in bits 15 to 2. The answer keeps these, has the word in bits 31 to 16, and bit 1, DONE, instead of
--- START.
+-- EERD, at 0x10014: a write stores bits 0 and 15 to 2, and clears all others. If bit 0, START, is 1, it requests the
+-- word with the index in bits 15 to 2. The answer keeps these bits, has the word in bits 31 to 16, and has bit 1, DONE,
+-- set instead of START.
 pub record ReadsTheEeprom (around : Surroundings) (r : Registers) (w : ℕ) : Type 0 where
   pub stores : (bit : ℕ) → bit < 32 →
       reads around (write_at r 0x10014 w) 0x10014 bit ≡ (has_bit bit w && has_bit bit 0xFFFD)

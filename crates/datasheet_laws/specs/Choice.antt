@@ -48,7 +48,7 @@ TypesAreChosen = (mrqc : ℕ) (flow : Flow) → HasTypes mrqc flow
 -- A frame goes to queue t.queue. With code 1, this is the entry of RETA. With a code for pools, it is one of the pool's
 -- queues: if GCR_EXT bits 1 to 0 aren't 1, the first of two with code 8, one of four with 0xA, and one of two with 0xB;
 -- otherwise, the first of eight with code 8, and one of eight with 0xA and 0xB. The entry is selected by the low seven
--- bits n of the hash, in bits 8(n mod 4)+3 on of RETA[n / 4]. The hash is reported if RXCSUM bit 13 is 1.
+-- bits n of the hash, in bits 8(n mod 4)+3 to 8(n mod 4) of RETA[n / 4]. The hash is reported if RXCSUM bit 13 is 1.
 pub record ChoosesQueues (r : Registers) (t : Target) (frame : List ℕ) : Type 0 where
   pub hashing : word r 0x05818 % 16 ≡ 1 → t.queue ≡ rss_entry r frame
   pub first_of_two : (pool : ℕ) → GoesToPool r frame pool t → word r 0x11050 % 4 ≢ 1 → word r 0x05818 % 16 ≡ 8 →
@@ -71,8 +71,8 @@ abbrev pub QueuesAreChosen : Type 0
 QueuesAreChosen =
     (r : Registers) → HasShape r → (frame : List ℕ) (t : Target) → sorted r frame ≡ Ok t → ChoosesQueues r t frame
 
--- A write of CTRL, at 0x00000 and 0x00004, requests a reset of the device with bit 3 or bit 26. A write of PVFCTRL
--- requests a reset of a pool with bit 26. No other write requests one.
+-- A write of CTRL, at 0x00000 and 0x00004, with bit 3 or bit 26 set requests a reset of the device. A write of PVFCTRL
+-- with bit 26 set requests a reset of a pool. No other write requests a reset.
 pub record Asks (w : ℕ) : Type 0 where
   pub control : asks_reset (row_of Ctrl).kind w ≡ (has_bit 3 w || has_bit 26 w)
   pub pool : asks_pool_reset (row_of Pvfctrl).kind w ≡ has_bit 26 w

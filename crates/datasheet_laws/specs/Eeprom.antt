@@ -102,7 +102,8 @@ pub record WritesStand (words : List ℕ) : Type 0 where
 abbrev pub WritesAreByNumber : Type 0
 WritesAreByNumber = (words : List ℕ) → IsImage words → WritesStand words
 
--- The word that word n of a text's image points to is at 0x40 or above, and in the image with all that follow it.
+-- The word that word n of an image assembled from source points to is at 0x40 or above. It is in the image, with all
+-- words that follow it.
 abbrev pub points_past : Content → ℕ → Bool
 points_past content n =
     let at = plain_word content n in
@@ -117,7 +118,7 @@ TextsPoint =
     ≡ list_all (points_past content)
     (0x03 ∷ 0x04 ∷ 0x05 ∷ 0x06 ∷ 0x07 ∷ 0x08 ∷ 0x09 ∷ 0x0A ∷ 0x0B ∷ 0x0C ∷ 0x0D ∷ 0x0E ∷ [])
 
--- A text of 128 words that sets word n to 5.
+-- A source of 128 words that sets word n to 5.
 abbrev pub with_5 : ℕ → Content
 with_5 n = record { size = 128; words = (n, 5) ∷ []; triples = [] }
 
@@ -133,8 +134,8 @@ pub record WordsPoint : Type 0 where
   pub section : content_fault (with_5 0x0D) ≡ Some (Reserved 0x0D)
   pub above : content_fault (with_5 0x0F) ≡ None
 
--- Register write k of a text is in words 0x41 + 3k to 0x43 + 3k, in the order of the text, and word 0x40 says how many
--- words follow it. Word 0x0D is then 0x40; without register writes, it is 0xFFFF.
+-- Register write k of a source is in words 0x41 + 3k to 0x43 + 3k, in the order of the source, and word 0x40 says how
+-- many words follow it. Word 0x0D is then 0x40; without register writes, it is 0xFFFF.
 pub record IsLaidOutSo (content : Content) : Type 0 where
   pub none : content.triples ≡ [] → plain_word content 0x0D ≡ 0xFFFF
   pub some : content.triples ≢ [] → plain_word content 0x0D ≡ 0x40
@@ -147,12 +148,12 @@ pub record IsLaidOutSo (content : Content) : Type 0 where
 abbrev pub TextsAreByNumber : Type 0
 TextsAreByNumber = (content : Content) → IsLaidOutSo content
 
--- The fault of a text of `size` words that sets these words, and repeats the same register write `writes` times.
+-- The fault of a source of `size` words that sets these words, and repeats the same register write `writes` times.
 abbrev pub text_fault : (size : ℕ) → List (ℕ × ℕ) → (writes : ℕ) → Option AsmFault
 text_fault size words writes =
     content_fault (record { size = size; words = words; triples = replicate writes (0x05080, 0x400) })
 
--- The lowest index that is given twice, with the same value or not, is reported whatever else is wrong.
+-- The lowest index that occurs twice, with the same value or not, is reported whatever else is wrong.
 pub record TwiceIsFirst : Type 0 where
   pub lowest : text_fault 64 ((0x05, 1) ∷ (0x05, 1) ∷ (0x01, 1) ∷ (0x01, 2) ∷ []) 0 ≡ Some (TwoValues 0x01)
   pub apart : text_fault 64 ((0x05, 1) ∷ (0x06, 1) ∷ (0x05, 2) ∷ []) 0 ≡ Some (TwoValues 0x05)

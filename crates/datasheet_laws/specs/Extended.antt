@@ -1,5 +1,5 @@
--- CTRL_EXT stores what is written, as a plain read/write register does. With bit 14, a write also reports the end of a
--- reset to functions, in their mailboxes.
+-- CTRL_EXT stores what is written, as a plain read/write register does. With bit 14 set, a write also reports the end
+-- of a reset to functions, in their mailboxes.
 use Rattle.std.specs.Prelude.{ℕ, ◌≡◌, ◌≢◌, ◌<◌, IsFalse}
 use Rattle.nic_device.specs.declared.event.Event.TheVariants as event
 use Rattle.nic_device.specs.declared.event.Port.TheVariants.{Pf}

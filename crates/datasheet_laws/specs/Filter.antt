@@ -77,9 +77,9 @@ pub record IsFirst (r : Registers) (frame : List ℕ) (i : ℕ) : Type 0 where
 abbrev pub default_of : Registers → ℕ
 default_of r = word r 0x051B0 / 128 % 64
 
--- VT_CTL bit 0 distributes frames among pools. A frame without its own pool is for the default pool, or with bit 29 for
--- none. A frame lacks its own pool if no address is its destination, or if the first such address has no pool, whatever
--- pools the others have. VFRE says which pools accept frames.
+-- VT_CTL bit 0 distributes frames among pools. A frame without its own pool is for the default pool, or, if bit 29 is
+-- 1, for no pool. A frame lacks its own pool if no address is its destination, or if the first such address has no
+-- pool, whatever pools the others have. VFRE says which pools accept frames.
 pub record ChoosesPools (r : Registers) (frame : List ℕ) : Type 0 where
   pub parts : uses_pools r ≡ holds r 0x051B0 0
   pub matched : (i pool : ℕ) → IsChosen r frame i pool → selected_pool r frame ≡ Some pool

@@ -10,8 +10,8 @@ own v = 0x04C00 + 4 * v
 abbrev pub other : ℕ → ℕ
 other v = 0x04B00 + 4 * v
 
--- The function writes. With bit 2, it takes the mailbox if bit 3 reads 0, and waits if bit 3 reads 1. Without bit 2, it
--- releases the mailbox. The value that bit 3 reads stays unchanged.
+-- The function writes. With bit 2 set, it takes the mailbox if bit 3 reads 0, and waits if bit 3 reads 1. With bit 2
+-- clear, it releases the mailbox. The value that bit 3 reads stays unchanged.
 pub record FunctionShakes (around : Surroundings) (r : Registers) (v w : ℕ) : Type 0 where
   pub takes : has_bit 2 w ≡ true → reads around r (own v) 3 ≡ false →
       reads around (write_at r (own v) w) (own v) 2 ≡ true
@@ -20,9 +20,9 @@ pub record FunctionShakes (around : Surroundings) (r : Registers) (v w : ℕ) : 
   pub gives_up : has_bit 2 w ≡ false → reads around (write_at r (own v) w) (own v) 2 ≡ false
   pub leaves : reads around (write_at r (own v) w) (own v) 3 ≡ reads around r (own v) 3
 
--- The physical function writes. With bit 4, it takes the mailbox from the function; without it, the value that bit 2
--- reads stays unchanged. With bit 3, it takes the mailbox if the function doesn't hold it, or no longer does, and
--- otherwise waits. Without bit 3, it releases the mailbox.
+-- The physical function writes. With bit 4 set, it takes the mailbox from the function; with bit 4 clear, the value
+-- that bit 2 reads stays unchanged. With bit 3 set, it takes the mailbox if the function doesn't hold it, or no longer
+-- does, and otherwise waits. With bit 3 clear, it releases the mailbox.
 pub record PhysicalShakes (around : Surroundings) (r : Registers) (v w : ℕ) : Type 0 where
   pub frees : has_bit 4 w ≡ true → reads around (write_at r (other v) w) (own v) 2 ≡ false
   pub leaves : has_bit 4 w ≡ false →

@@ -1,4 +1,4 @@
--- Which other registers accesses of mailboxes, CTRL, EERD and PFMBICR leave unchanged.
+-- Which other registers are unchanged by accesses to mailboxes, CTRL, EERD and PFMBICR.
 use Rattle.std.specs.Prelude.{ℕ, ◌≡◌, ◌≢◌, ◌<◌, ◌+◌, ◌*◌, ◌/◌}
 use Rattle.reg_table.specs.declared.rows.RowId.TheVariants.{Ctrl, Eerd, Eicr, Pvteicr, Pfmbicr, Pvfmailbox}
 use Rattle.datasheet_laws.specs.NumberPrelude.{Registers, RowId}

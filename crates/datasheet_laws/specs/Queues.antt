@@ -103,7 +103,7 @@ CountsIn s new counters number =
     (i : ℕ) → i < 16 → read_at new (counters + 0x40 * i)
     ≡ (if number == i then one_more (read_at s (counters + 0x40 * i)) else read_at s (counters + 0x40 * i))
 
--- QPRC counts a frame that is written to its end, QPRDC a frame dropped for lack of a slot, QPTC a sent frame.
+-- QPRC counts a completely written frame, QPRDC a frame dropped for lack of a slot, QPTC a sent frame.
 pub record QueueCounts (s : State) : Type 0 where
   pub written :
       (queue slot desc at len : ℕ) → queue < 128 → reply_to s event.RxStep ≡ Wrote queue slot true desc at len

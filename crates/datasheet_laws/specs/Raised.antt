@@ -17,7 +17,7 @@ abbrev pub RaisesNone : (s new : State) → Type 0
 RaisesNone s new = (g : Group) → IsGroup g → (bit : ℕ) → bit < bits_in g → bit_of new g bit ≡ bit_of s g bit
 
 -- Cause 17 is raised if an arriving frame finds the list full, 18 if a receive or transmit step has a fault, 20 if the
--- link changes. No other arrival, and no other call of the link, raises any.
+-- link changes. No other arrival, and no other `Link` event, raises any.
 pub record RaisesByNumber (s : State) : Type 0 where
   pub missed : (frame : List ℕ) → reply_to s (event.Arrive frame) ≡ Dropped Full →
       Raises s (after s (event.Arrive frame)) 17

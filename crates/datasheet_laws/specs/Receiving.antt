@@ -12,7 +12,7 @@ pub record IsNext (s : State) (w : Waiting) (others : List Waiting) : Type 0 whe
   pub runs : bit 2 (word_of s.registers Ctrl 0) ≡ 0
   pub first : s.waiting ≡ w ∷ others
 
--- Its queue is also on: RXDCTL bit 25 is 1.
+-- Its queue is also enabled: RXDCTL bit 25 is 1.
 pub record IsMet (s : State) (w : Waiting) (others : List Waiting) : Type 0 where
   pub next : IsNext s w others
   pub on : bit 25 (word_of s.registers Rxdctl w.queue) ≡ 1
@@ -32,14 +32,14 @@ pub record WaitsOn (s : State) : Type 0 where
   pub slotless : HasNoSlot s.registers w.queue
   pub keeps : (bit 28 (word_of s.registers Srrctl w.queue) ≡ 0) ⊎ (w.offset ≢ 0)
 
--- Its queue is off.
+-- Its queue is disabled.
 pub record IsTurnedAway (s : State) : Type 0 where
   pub w : Waiting
   pub others : List Waiting
   pub next : IsNext s w others
   pub off : bit 25 (word_of s.registers Rxdctl w.queue) ≡ 0
 
--- There is no slot for it, SRRCTL bit 28 is 1, and none of the frame is written.
+-- There is no slot for it, SRRCTL bit 28 is 1, and no part of the frame is written.
 pub record IsDroppedSlotless (s : State) : Type 0 where
   pub w : Waiting
   pub others : List Waiting
@@ -56,7 +56,7 @@ pub record LooksAtSlot (s : State) (queue : ℕ) : Type 0 where
   pub slot : HasNoSlot s.registers w.queue → ⊥
   pub own : queue ≡ w.queue
 
--- Nothing is received: the device takes no steps, no frame waits, or the first keeps waiting.
+-- Nothing is received: the device takes no steps, no frame is waiting, or the first frame keeps waiting.
 abbrev pub ReceivesNothing : State → Type 0
 ReceivesNothing s = (bit 2 (word_of s.registers Ctrl 0) ≡ 1) ⊎ ((s.waiting ≡ []) ⊎ WaitsOn s)
 
@@ -111,8 +111,8 @@ abbrev pub AfterPiece : Bool → ℕ → List Waiting → List Waiting → Type 
 AfterPiece true len old new = EndsFirst len old new
 AfterPiece false len old new = MovesOnFirst len old new
 
--- The waiting frames after a receive step, by the reply. A frame leaves the list if it is written to its end, is
--- dropped or meets a fault. Otherwise the list is unchanged, except for how much of the first frame is written.
+-- The waiting frames after a receive step, by the reply. A frame leaves the list if it is completely written, is
+-- dropped, or its slot has a fault. Otherwise the list is unchanged, except for how much of the first frame is written.
 abbrev pub WaitsAfterReceiving : Reply Block → List Waiting → List Waiting → Type 0
 WaitsAfterReceiving (Wrote queue slot end desc at len) old new = AfterPiece end len old new
 WaitsAfterReceiving (Dropped why) old new = LosesFirst old new

@@ -29,7 +29,7 @@ times_reported s v (e ∷ es) = (if tells_end s v e then 1 else 0) + times_repor
 abbrev pub SparesDevice : Place → (word : ℕ) → Type 0
 SparesDevice p word = p ≡ place Ctrl 0 → IsFalse (has_bit 3 word || has_bit 26 word)
 
--- These events can be made, and none requests a reset of the device.
+-- These events can occur, and none requests a reset of the device.
 abbrev pub AreWithoutReset : State → List (Event Block) → Type 0
 AreWithoutReset s [] = ⊤
 AreWithoutReset s (e ∷ es) = IsEvent e × IsSparing SparesDevice s e × AreWithoutReset (after s e) es
@@ -40,7 +40,7 @@ EndIsReportedOnce =
     (s : State) → IsSound s → (v : ℕ) → v < 64 → (es : List (Event Block)) → AreWithoutReset s es
     → times_reported s v es ≤ 1
 
--- A write of CTRL_EXT with bit 14 reports it to each function to which the beginning of a reset was reported.
+-- A write of CTRL_EXT with bit 14 set reports it to each function to which the beginning of a reset was reported.
 pub record IsReportedOfTheEnd (s new : State) (v : ℕ) : Type 0 where
   pub begun : IsFalse (reads_one new (function_mail v) 6)
   pub done : reads_one new (function_mail v) 7

@@ -1,4 +1,4 @@
--- What a step of a side's enable does, by the bits of registers.
+-- What an enable step of a side does, by the bits of registers.
 use Rattle.std.specs.Prelude.{ℕ, ◌≡◌, ◌≢◌, ◌<◌, ◌≤◌, ◌⊎◌, ◌↔◌, ◌+◌, ◌^◌, Bool, true, false, List, [], ◌∷◌, if◌then◌else◌}
 use Rattle.nic_device.specs.declared.event.Event.TheVariants as event
 use Rattle.datasheet_laws.specs.FramePrelude.{Ctrl, Dir, Done, Idle, IsSound, NoQueue, Registers, Rx, Rxdctl, State, Tx}
@@ -11,7 +11,7 @@ abbrev pub enable_word : Registers → Dir → ℕ → ℕ
 enable_word r Rx queue = word_of r Rxdctl queue
 enable_word r Tx queue = word_of r Txdctl queue
 
--- Bit 25 of it, 1 while the side is on; and its requested value.
+-- Bit 25 of that word, 1 while the side is enabled; and its requested value.
 abbrev pub enable_bit : Registers → Dir → ℕ → ℕ
 enable_bit r dir queue = bit 25 (enable_word r dir queue)
 
@@ -53,7 +53,7 @@ abbrev pub WordAfter : Bool → ℕ → ℕ → Type 0
 WordAfter true old new = new ≡ old + 2 ^ 25
 WordAfter false old new = old ≡ new + 2 ^ 25
 
--- The side is exactly in its requested state, and the request stays.
+-- The side is in its requested state, and the request stays.
 pub record BecomesAsWanted (s : State) (dir : Dir) (queue : ℕ) (new : State) : Type 0 where
   pub as_wanted : enable_bit new.registers dir queue ≡ wanted_bit s.registers dir queue
   pub word :

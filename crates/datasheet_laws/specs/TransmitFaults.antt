@@ -91,7 +91,7 @@ IsReportedAt r queue address bytes =
     × (address ≡ word_of r Tdwbah queue * 2 ^ 32 + 4 * field 31 2 (word_of r Tdwbal queue)) × (bytes ≡ 4))
     ⊎ ((bit 0 (word_of r Tdwbal queue) ≡ 0) × (address ≡ descriptor_address r queue) × (bytes ≡ 16))
 
--- What isn't lent: the descriptor, the buffer, or the report's destination, which is required only with RS 1.
+-- What isn't lent: the descriptor, the buffer, or the report's destination, which is required only if RS is 1.
 pub record LacksDescriptor (s : State) (queue address : ℕ) : Type 0 where
   pub inside : IsInside s.registers queue
   pub reported : address ≡ descriptor_address s.registers queue
@@ -135,8 +135,8 @@ pub record CanBeDone (s : State) (queue eop : ℕ) : Type 0 where
   pub report : CanReport s queue
   pub end : end_bit s queue ≡ eop
 
--- A descriptor that a step processes is done if it can be: one of type 2 without further conditions, and one of type 3
--- sends a frame with EOP 1. Otherwise it has the first fault that applies.
+-- A descriptor that a step processes is done if it can be. A descriptor of type 2 has no further conditions; a
+-- descriptor of type 3 sends a frame if EOP is 1. Otherwise it has the first fault that applies.
 abbrev pub DescriptorIsSo : State → ℕ → Reply Block → Type 0
 DescriptorIsSo s own (Advanced queue slot back) = IsAdvanced s own 2 ⊎ CanBeDone s own 0
 DescriptorIsSo s own (Sent queue len back) = CanBeDone s own 1

@@ -30,7 +30,7 @@ pub record HasNoSlot (r : Registers) (queue : ℕ) : Type 0 where
   pub same : field 15 0 (word_of r Tdh queue) ≡ field 15 0 (word_of r Tdt queue)
 
 -- Each reason for a queue to send nothing: CTRL bit 2 is 1, the link is down, DMATXCTL bit 0, TE, is 0, the queue is
--- off (TXDCTL bit 25 is 0), its pool is muted, or it has no slot.
+-- disabled (TXDCTL bit 25 is 0), its pool is muted, or it has no slot.
 pub data IsSilent (s : State) (queue : ℕ) : Type 0 where
   stopped : bit 2 (word_of s.registers Ctrl 0) ≡ 1 → IsSilent s queue
   down : IsFalse s.link → IsSilent s queue

@@ -7,8 +7,8 @@ use Rattle.device_laws.specs.Prelude.{Rc, Register, Registers, Reply, Roc, Ruc, 
 use Rattle.device_laws.specs.Prelude.{Wrote, after, asks_reset, bumped, counter_of, is_place, named, place, reply_to}
 use Rattle.device_laws.specs.Prelude.{row_of, word_at}
 
--- A frame that arrives: RUC counts those that are too short, ROC those that are too long, MPC those that find the list
--- full, and GPRC those that are accepted.
+-- A frame that arrives: RUC counts frames that are too short, ROC frames that are too long, MPC frames that find the
+-- list full, and GPRC accepted frames.
 abbrev pub counts_dropped : Why → Place → Bool
 counts_dropped Short p = is_place (place Ruc 0) p
 counts_dropped Long p = is_place (place Roc 0) p
@@ -20,8 +20,8 @@ counts_arrived Done p = is_place (place Gprc 0) p
 counts_arrived (Dropped why) p = counts_dropped why p
 counts_arrived other p = false
 
--- A receive step: QPRC counts a frame that is written to its end, and QPRDC one dropped because there was no slot. Both
--- use the counter that RQSMR names for its queue.
+-- A receive step: QPRC counts a completely written frame, and QPRDC a frame dropped because there was no slot. Both use
+-- the counter that RQSMR names for its queue.
 abbrev pub counts_slotless : Registers → List Waiting → Place → Bool
 counts_slotless r [] p = false
 counts_slotless r (w ∷ others) p = is_place (place Qprdc (counter_of r Rx w.queue)) p

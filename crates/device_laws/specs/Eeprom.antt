@@ -15,7 +15,7 @@ with_image s image = record s { image = image }
 abbrev pub HasOneMore : List ℕ → List ℕ → ℕ → ℕ → Type 0
 HasOneMore image more offset value = triples_of more ≡ triples_of image ++ (offset, value) ∷ []
 
--- The address is of neither CTRL nor EERD.
+-- The address is neither CTRL's nor EERD's.
 abbrev pub IsWritten : ℕ → Type 0
 IsWritten offset = (p : Place) → Names offset p → (p.row ≢ Ctrl) × (p.row ≢ Eerd)
 

@@ -10,7 +10,7 @@ abbrev pub is_counter_of : Option ℕ → RowId → Place → Bool
 is_counter_of None row p = false
 is_counter_of (Some v) row p = is_place (place row v) p
 
--- A receive step: VFGPRC counts a frame that is written to its end, for the function of the queue's pool.
+-- A receive step: VFGPRC counts a completely written frame, for the function of the queue's pool.
 abbrev pub function_received : State → Reply Block → Place → Bool
 function_received s (Wrote queue slot end desc at len) p =
     end && is_counter_of (function_of_queue s.registers s.vfs queue) Vfgprc p

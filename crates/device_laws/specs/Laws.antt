@@ -97,8 +97,8 @@ LetInFrameIsCounted =
 
 -- Resets and settings.
 
--- No frame waits and nothing is staged. Lent memory, transmitted frames, the link, the image and the configuration are
--- unchanged.
+-- No frame is waiting and nothing is staged. Lent memory, transmitted frames, the link, the image and the configuration
+-- are unchanged.
 pub record IsReset (old new : State) : Type 0 where
   pub waiting : new.waiting ≡ []
   pub staged : (queue : ℕ) → queue < 128 → staged_by new queue ≡ []

@@ -130,8 +130,8 @@ abbrev pub IsFirstFor : ℕ → List Waiting → Type 0
 IsFirstFor queue [] = ⊥
 IsFirstFor queue (w ∷ others) = w.queue ≡ queue
 
--- A receive step changes no receive side except the one of the queue that the first frame waits for, no transmit side
--- and no transmitted frame.
+-- Of the queues' sides, a receive step changes only the receive side that the first frame is for. It changes no
+-- transmitted frame.
 pub record ReceivingLeaves (s new : State) : Type 0 where
   pub receive : (queue : ℕ) → ¬ IsFirstFor queue s.waiting → LeavesReceive queue s new
   pub transmit : (queue : ℕ) → LeavesTransmit queue s new

@@ -15,8 +15,8 @@ abbrev pub filling : State → Waiting → Outcome
 filling s w = fill_of s.memory (side_for s w).ring (side_for s w).control (rest_of w)
 
 -- The first frame is dropped if its queue is disabled. If the device owns no slot, the frame is dropped if the queue
--- has drop enable set and none of it is written; otherwise it keeps waiting. If the device owns a slot, the slot is
--- filled or has a fault.
+-- has drop enable set and no part of the frame is written; otherwise it keeps waiting. If the device owns a slot, the
+-- slot is filled or has a fault.
 pub record ReceivesInOrder (s : State) (w : Waiting) (others : List Waiting) : Type 0 where
   pub off :
       IsFalse (side_for s w).on → step_of s event.RxStep ≡ gives (Dropped QueueOff) (record s { waiting = others })

@@ -53,7 +53,7 @@ pub record IsMismatch (h : List Entry) (ps : List PassValue) (tag : ℕ) : Type 
   pub lowest : (other : ℕ) → other < tag → TagStands h other ps
 
 -- These passes close a history: they are all of the bench's passes, each pass's calls are in the history in order, and
--- it contains no other entries.
+-- the history contains no other entries.
 pub record Closes (bench count : ℕ) (h : List Entry) (ps : List PassValue) : Type 0 where
   pub all : AreAll bench count ps
   pub stand : All (StandsIn h) ps

@@ -48,7 +48,7 @@ pub record HaveLeft (before after : Numbers) (m : Memory) : Type 0 where
   pub lent : (number : ℕ) → has_block m number ≡ true → (is_free before number ≡ true) × (is_free after number ≡ false)
   pub others : (number : ℕ) → has_block m number ≡ false → is_free after number ≡ is_free before number
 
--- If removing the first memory's blocks from some arena yields the first arena, removing the second memory's blocks
--- from it yields the second arena.
+-- If removing the first memory's blocks from some arena yields the first arena, then removing the second memory's
+-- blocks from that same arena yields the second arena.
 abbrev pub StillLeft : Numbers → Memory → Numbers → Memory → Type 0
 StillLeft a m b n = (before : Numbers) → HaveLeft before a m → HaveLeft before b n

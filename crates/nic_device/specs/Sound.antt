@@ -43,7 +43,7 @@ pub record IsWaiting (w : Waiting) : Type 0 where
   pub hash : w.hash < 2 ^ 32
   pub unhashed : w.rss ≡ 0 → w.hash ≡ 0
 
--- A frame in the receive list of which nothing is written.
+-- A frame in the receive list with no byte written yet.
 pub record IsUnbegun (w : Waiting) : Type 0 where
   pub waits : IsWaiting w
   pub none : w.offset ≡ 0
@@ -71,7 +71,7 @@ pub record AreStaged (staged : List (List ℕ)) : Type 0 where
 abbrev pub AreStagedWhileOn : Registers → List (List ℕ) → Type 0
 AreStagedWhileOn r staged = (queue : ℕ) → IsFalse (is_on r Tx queue) → slice_index_or staged queue [] ≡ []
 
--- A transmitted frame: its queue is below 128, and it has at most as many bytes as the maximum frame limit.
+-- A transmitted frame: its queue is below 128, and it isn't longer than the maximum frame limit.
 pub record IsOut (sent : ℕ × List ℕ) : Type 0 where
   pub queue : sent.0 < 128
   pub bytes : AreBytes sent.1

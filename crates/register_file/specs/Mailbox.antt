@@ -21,15 +21,15 @@ use Rattle.register_file.specs.Registers.{Registers, word_of, with_word}
 abbrev pub set_if : Bool → (bit word : ℕ) → ℕ
 set_if condition bit word = if condition then bit_set bit word else word
 
--- The mailbox's word after a write by the function. With bit 2 it takes the mailbox unless the physical function holds
--- it; without bit 2 it releases the mailbox.
+-- The mailbox's word after a write by the function. With bit 2 set, it takes the mailbox unless the physical function
+-- holds it. With bit 2 clear, it releases the mailbox.
 abbrev pub function_wrote : (mail word : ℕ) → ℕ
 function_wrote mail word =
     if has_bit 2 word then (if has_bit 3 mail then mail else bit_set 2 mail) else bit_cleared 2 mail
 
 -- The word after a write by the physical function. Bit 4 takes the mailbox from the function. Then bit 3 takes it for
--- the physical function unless the function holds it; without bit 3 the physical function releases it. Bit 0 sends a
--- status, bit 1 an acknowledgement.
+-- the physical function unless the function holds it; if bit 3 is clear, the physical function releases it. Bit 0 sends
+-- a status, bit 1 an acknowledgement.
 abbrev pub released : (mail word : ℕ) → ℕ
 released mail word = if has_bit 4 word then bit_cleared 2 mail else mail
 

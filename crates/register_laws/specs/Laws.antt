@@ -18,7 +18,7 @@ use Rattle.register_laws.specs.Sides.{receive_queue_of, transmit_queue_of, with_
 use Rattle.register_laws.specs.Sound.{AreSound}
 pub use Rattle.register_laws.specs.Sound.{HasShape}
 
--- The registers after a write of a place.
+-- The registers after a write to a place.
 abbrev pub after_write : Registers → Place → ℕ → ℕ → Registers
 after_write r p view word = written (row_of p.row).kind r p view word
 
@@ -188,7 +188,7 @@ abbrev pub CalculatedRowsHaveFormulas : Type 0
 CalculatedRowsHaveFormulas =
     (row : RowId) → (row_of row).kind ≡ kind.Calc → (row ≡ Status) ⊎ (row ≡ Links) ⊎ (row ≡ Eec)
 
--- An EEPROM answer is read back with the requested index and with DONE, and no word is requested any longer.
+-- An EEPROM answer is read back with the requested index and with DONE set. Afterwards, no word is requested.
 pub record IsAnswered (r : Registers) (asked answer : ℕ) : Type 0 where
   pub word : word_of r Eerd 0 / 2 ^ 16 ≡ answer
   pub index : eeprom_index r ≡ asked
@@ -278,11 +278,11 @@ WordIsOnePlace = (p q : Place) → q ≢ p → LacksWord (the_word p) q
 abbrev pub PendingIsPending : Type 0
 PendingIsPending = (g : Group) → Covers any_pending (pending g)
 
--- Two owners that aren't equal pass the test for different owners.
+-- For two different owners, the test for equal owners returns false.
 abbrev pub OwnersDiffer : Type 0
 OwnersDiffer = (o other : Owner) → o ≢ other → IsFalse (is_owner o other)
 
--- The counters that a read clears have their own owner.
+-- The clear-on-read counters have their own owner.
 abbrev pub CountersAreTheirOwn : Type 0
 CountersAreTheirOwn = (p : Place) → (row_of p.row).kind ≡ kind.Rc → owner_of p ≡ owner.Counters
 

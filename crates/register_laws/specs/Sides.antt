@@ -6,7 +6,8 @@ use Rattle.register_file.specs.Settings.{writeback_of}
 use Rattle.register_laws.specs.Prelude.{Registers, RowId, Rx, Tx, has_bit, is_on, is_wanted, number_of, ring_of}
 use Rattle.register_laws.specs.Prelude.{word_of}
 
--- The receive side of a queue: its ring, its control word SRRCTL, whether it is enabled, and whether this is requested.
+-- The receive side of a queue: its ring, its control word SRRCTL, whether it is enabled, and whether it has an enable
+-- request.
 pub record ReceiveQueue : Type 0 where
   pub ring : Ring
   pub control : ℕ
@@ -22,7 +23,8 @@ receive_queue_of r queue =
       wanted = is_wanted r Rx queue;
     }
 
--- The transmit side of a queue: its ring, its write-back address, whether it is enabled, and whether this is requested.
+-- The transmit side of a queue: its ring, its write-back address, whether it is enabled, and whether it has an enable
+-- request.
 pub record TransmitQueue : Type 0 where
   pub ring : Ring
   pub writeback : Option ℕ

@@ -22,7 +22,7 @@ abbrev pub NoWordAsksReset : Type 0
 NoWordAsksReset =
     (r : Registers) → AreSound r → (p : Place) → IsFalse (asks_reset (row_of p.row).kind (word_at r.words p))
 
--- A ring has its base and its length at multiples of 128.
+-- A ring's base and length are multiples of 128.
 pub record IsAligned (ring : Ring) : Type 0 where
   pub base : ring.base % 128 ≡ 0
   pub length : ring.length % 128 ≡ 0

@@ -104,9 +104,9 @@ pub fn changes_stay_in_their_footprint()
     ensures shut { ShutStaysWithin }
 {}
 
-/// Every place has an owner. A read changes nothing that belongs to another owner. Neither does a write that requests
-/// no reset, except a write of PVFMAILBOX, PFMAILBOX or CTRL_EXT. Raised causes and messages change only causes, masks
-/// and reported bits.
+/// Every place has an owner. A read changes nothing that belongs to another owner. The same holds for a write that
+/// requests no reset, unless it is a write of PVFMAILBOX, PFMAILBOX or CTRL_EXT. Raised causes and messages change only
+/// causes, masks and reported bits.
 pub fn accesses_stay_with_their_owner()
     ensures read { ReadStaysWithOwner }
     ensures write { WriteStaysWithOwner }
@@ -233,8 +233,8 @@ pub fn pool_accesses_tell_of_the_pool()
     ensures reset { PoolResetKeepsAgreement }
 {}
 
-/// The only bit that accesses of two pools can both change is EICR bit 19. What accesses of one pool can change has
-/// nothing in common with what must agree for the other. Register files that agree in a part still agree after any
+/// The only bit that accesses to either of two pools can change is EICR bit 19. What accesses to one pool can change
+/// has nothing in common with what must agree for the other. Register files that agree in a part still agree after any
 /// changes within a footprint that has nothing in common with it.
 pub fn pools_have_nothing_in_common()
     ensures apart { PoolsHaveNothingInCommon }

@@ -31,7 +31,7 @@ head_address r = descriptor_address r r.head
 abbrev pub buffer_address : Memory → Ring → ℕ
 buffer_address m r = buffer_of (first_half (read_at m (head_address r) 16))
 
--- The number of bytes that go into a buffer of `size` bytes: as many of the remaining ones as fit.
+-- The number of bytes that go into a buffer of `size` bytes: as many of the remaining bytes as fit.
 abbrev pub piece_length : ℕ → Rest → ℕ
 piece_length size rest = min size (length rest.bytes)
 

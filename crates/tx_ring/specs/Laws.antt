@@ -133,8 +133,8 @@ PacketLaw =
     → (frame ≡ frame_of last.tx.pad (pieces_of turns ++ piece_of last))
     × ((turn_of last (staged_after turns [])).staged ≡ [])
 
--- What a driver reads at the write-back address: the new head at the head write-back address, or without such an
--- address the descriptor with its done bit set.
+-- What a driver reads at the write-back address: the new head at the head write-back address, or, without such an
+-- address, the descriptor with its done bit set.
 pub record ShowsReport (old new : Memory) (r : Ring) (tx : Tx) (f : Fetched) : Type 0 where
   pub head : (a : ℕ) → tx.writeback ≡ Some a → (f.back ≡ Some a) × (read_at new a 4 ≡ to_le_bytes w32 f.head)
   pub descriptor :
@@ -170,8 +170,8 @@ FetchKeepsBlocks =
     (m : Memory) (staged : List ℕ) (r : Ring) (tx : Tx)
     → SameLent (fetch_of m staged r tx).memory m × (IsWhole m → IsWhole (fetch_of m staged r tx).memory)
 
--- Where a slot is reported: nowhere if RS is 0; otherwise at the head write-back address, TDWBAH and TDWBAL, or without
--- such an address in the descriptor.
+-- Where a slot is reported: nowhere if RS is 0; otherwise at the head write-back address, TDWBAH and TDWBAL, or,
+-- without such an address, in the descriptor.
 pub record ReportsAt (r : Ring) (tx : Tx) (f : Fetched) : Type 0 where
   pub none : IsFalse f.rs → f.back ≡ None
   pub head : (a : ℕ) → tx.writeback ≡ Some a → IsTrue f.rs → f.back ≡ Some a
@@ -182,8 +182,8 @@ ReportLaw =
     (m : Memory) (staged : List ℕ) (r : Ring) (tx : Tx) (f : Fetched) → (fetch_of m staged r tx).answer ≡ Ok f
     → ReportsAt r tx f
 
--- The ring's base is at a multiple of 16 bytes, and the head write-back address at a multiple of 4. TDBAL keeps the
--- base at a multiple of 128.
+-- The ring's base is a multiple of 16, and the head write-back address is a multiple of 4. TDBAL keeps the base a
+-- multiple of 128.
 pub record IsAligned (r : Ring) (tx : Tx) : Type 0 where
   pub base : r.base % 16 ≡ 0
   pub writeback : (a : ℕ) → tx.writeback ≡ Some a → a % 4 ≡ 0

@@ -1,4 +1,4 @@
--- What a data descriptor with RS writes back, and where.
+-- What is written back for a data descriptor with RS set, and where.
 use Rattle.std.specs.Prelude.{ℕ, Bool, ◌||◌, not, if◌then◌else◌, List, Option, Some, None, unwrap_or}
 use Rattle.std.specs.Int.{w32, to_le_bytes}
 use Rattle.dma_arena.specs.Memory.{Memory, is_lent, write_at}
@@ -15,7 +15,7 @@ head_address r = descriptor_address r r.head
 abbrev pub new_head : Ring → ℕ
 new_head r = next_of (slots_of r) r.head
 
--- The address of a report: the head write-back address, or without one the descriptor's address.
+-- The address of a report: the head write-back address, or, without one, the descriptor's address.
 abbrev pub report_address : Ring → Tx → ℕ
 report_address r tx = unwrap_or tx.writeback (head_address r)
 
@@ -23,7 +23,7 @@ report_address r tx = unwrap_or tx.writeback (head_address r)
 abbrev pub done_descriptor : List ℕ → List ℕ
 done_descriptor descriptor = of_halves (first_half descriptor) (with_done (second_half descriptor))
 
--- The bytes of a report: the new head as 4 bytes, or without a head write-back address the 16 bytes of the done
+-- The bytes of a report: the new head as 4 bytes, or, without a head write-back address, the 16 bytes of the done
 -- descriptor.
 abbrev pub report_bytes : Ring → Option ℕ → List ℕ → List ℕ
 report_bytes r (Some address) descriptor = to_le_bytes w32 (new_head r)

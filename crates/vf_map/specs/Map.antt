@@ -86,7 +86,7 @@ unfoldable pub located : Mode → (vfs vf offset : ℕ) → Located
 located mode vfs vf offset =
     if nat_lt vf vfs then located_in vf (queues_of mode vf) offset else located_as.Absent
 
--- What an offset is mapped to, as `located` has it, but with the register's first address.
+-- What an offset is mapped to, like `located`, but with the register's first address.
 abbrev pub at_address : Option ℕ → Mapped
 at_address None = mapped_as.Hole
 at_address (Some address) = mapped_as.Pf address

@@ -21,7 +21,7 @@ const LIBRARIES: [&str; 8] = [
     "program",
 ];
 
-/// Returns the printed result of a call of a library.
+/// Returns the printed result of a library call.
 fn answer(alloc: Global, library: &str, call: Call<'_>) -> Result<String, AllocError> {
     match library {
         "text_format" => crate::texts::answer(alloc, call),

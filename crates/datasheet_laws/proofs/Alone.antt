@@ -18,7 +18,7 @@ use Rattle.datasheet_laws.proofs.Words.{named-at}
 group_apart : (g h : Group) → h ≢ g → owner.Group g ≢ owner.Group h
 group_apart g h apart e = let same : h ≡ g = cc in apart same
 
--- A write of a group's register changes only what belongs to the group.
+-- A write to a group's register changes only what belongs to the group.
 own_by_row : (x : RowId) (i : ℕ) (g : Group) → owner_in (row_of x).bank i ≡ owner.Group g
     → is_own (row_of x).kind ≡ true
 own_by_row Pvfmailbox i g e = cc

@@ -1,4 +1,4 @@
--- Only pools with their bit of VFRE at 1 receive frames.
+-- Only pools whose bit of VFRE is 1 receive frames.
 use Rattle.std.proofs.Common.{◌≡◌, ℕ, zero, suc, ◌≢◌, ◌⊎◌, ◌+◌, ◌*◌, ◌/◌, ◌%◌, ◌<◌, ◌==◌, true, if◌then◌else◌, List, [], ◌∷◌, ◌++◌, Option, Some, None, Ok, Err, refl, ap, sym, ◌∙◌, subst, inl, inr, arith, lit<}
 use Rattle.std.specs.Prelude.{⊤, Result, IfSome}
 use Rattle.nic_device.specs.RegTable.declared.rows.RowId.TheVariants.{GcrExt, Mrqc, Vfre, VtCtl}

@@ -1,4 +1,4 @@
--- The registers after writes of EIAC and EIAM, and of PVTEIAC and PVTEIAM.
+-- The registers after writes to EIAC and EIAM, and of PVTEIAC and PVTEIAM.
 use Rattle.std.proofs.Common.{◌≡◌, ◌≢◌, ℕ, ◌-◌, ◌<◌, ◌^◌, true, ◌&&◌, if◌then◌else◌, cond, refl, ap, sym, ◌∙◌, arith, lit<, ◌==◌}
 use Rattle.std.specs.Prelude.{bit_and}
 use Rattle.std.proofs.lemmas.Nat.{and_le_l}
@@ -83,7 +83,7 @@ mask_stored r (Vf v) view word h there bit b = λ k. record {
   auto_mask = own r h v view word bit Pvteiam there (small (Vf v) bit b) (lit< tt) (own_bits 3 bit b) k;
 }
 
--- Writes of the auto-clear register.
+-- Writes to the auto-clear register.
 
 registers_clear : (s : State) (g : Group) (view word : ℕ)
     → (state_written s (auto_clear_register g) view word).registers
@@ -118,7 +118,7 @@ auto_clear_kept s h g there a word is =
     (state-written s a word (auto_clear_register g) is) (clear_alone s g a word is)
     (clear_at s g (view_among runs a) word h there)
 
--- Writes of the auto-mask register.
+-- Writes to the auto-mask register.
 
 registers_mask : (s : State) (g : Group) (view word : ℕ)
     → (state_written s (auto_mask_register g) view word).registers

@@ -1,4 +1,4 @@
--- What accesses of EICS and EICR, and of PVTEICS and PVTEICR, do to causes and masks.
+-- What accesses to EICS and EICR, and of PVTEICS and PVTEICR, do to causes and masks.
 use Rattle.std.proofs.Common.{◌≡◌, ◌≢◌, ℕ, ◌<◌, Bool, ◌&&◌, ◌||◌, refl, ap, sym, ◌∙◌, arith}
 use Rattle.std.specs.Prelude.{bit_and, not, nat_le}
 use Rattle.nic_device.specs.IntrUnit.BitSet.{BitSet, contains}
@@ -22,7 +22,7 @@ use Rattle.datasheet_laws.proofs.Changes.{bit_then, own_written, shows}
 use Rattle.datasheet_laws.proofs.Groups.{own_bit, bit_in, shows_then}
 use Rattle.datasheet_laws.proofs.Words.{acting, general_bit}
 
--- Writes of the register that sets causes.
+-- Writes to the register that sets causes.
 
 pub set_bit : (i : Interrupts) (raise : BitSet) (acts : Bool) (bit : ℕ) → bit < bits_in i.group
     → bit_in (raised i raise acts) bit ≡ cause_set acts (contains raise bit) (bit_in i bit)
@@ -68,7 +68,7 @@ cause_set_sets s h g there a word is =
     (state-written s a word (cause_set_register g) is) (set_alone s g a word is)
     (set_at s g (view_among runs a) word h there)
 
--- Writes of the causes.
+-- Writes to the causes.
 
 pub registers_cleared : (s : State) (g : Group) (view word : ℕ)
     → (state_written s (cause_register g) view word).registers

@@ -1,4 +1,4 @@
--- The device after a write of CTRL_EXT.
+-- The device after a write to CTRL_EXT.
 use Rattle.std.proofs.Common.{◌≡◌, ◌≢◌, ℕ, ◌<◌, false, cond, if◌then◌else◌, List, [], ◌∷◌, refl, ap, sym, ◌∙◌, subst, arith, lit<}
 use Rattle.std.specs.Prelude.{bit_and, fold}
 use Rattle.nic_device.specs.RegTable.declared.kind.Kind.TheVariants as kind

@@ -67,7 +67,7 @@ slot_after s queue f h small is =
     fetched_after s queue o.state f f.frame refl
     (leaves s queue f is o.state (staged_there s queue (fetched_by s queue).staged h small))
 
--- A queue of 128 or more has no step.
+-- Queues 128 and above have no steps.
 below : (s : State) (queue : ℕ) → (queue < 128 → After s queue (transmitted s queue))
     → After s queue (transmitted s queue)
 below s queue small =

@@ -18,7 +18,7 @@ use Rattle.datasheet_laws.proofs.MailEvents.{writing, silent, made}
 use Rattle.datasheet_laws.proofs.SharedMailbox.{own}
 use Rattle.datasheet_laws.specs.Holding.{SparesFunction, SparesPhysical, IsSparing, FunctionHoldsOn, PhysicalHoldsOn}
 
--- Writes of the two sides after which the mailbox is still held.
+-- Writes by the two sides after which the mailbox is still held.
 function_holds : (mail word : ℕ) → has_bit 2 word ≡ true → has_bit 2 mail ≡ true
     → has_bit 2 (function_wrote mail word) ≡ true
 function_holds mail word on held =

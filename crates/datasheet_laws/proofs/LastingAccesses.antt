@@ -150,7 +150,7 @@ read_keeps s h g there bit b m p inside spares =
       | inr f ↦ unread s h g there bit b m p f
     ]
 
--- Writes of a group's own registers.
+-- Writes to a group's own registers.
 
 own_write : (s : State) → IsSound s → (g : Group) → IsGroup g → (bit : ℕ) → bit < bits_in g
     → (bit_of s g bit).mask ≡ true → (p : Place) (view word : ℕ) → IsOne g p → SparesMask s g bit p view word

@@ -1,4 +1,4 @@
--- What a change of the link raises, and which frame a `Collect` returns.
+-- What a link change raises, and which frame a `Collect` returns.
 use Rattle.std.proofs.Common.{◌≡◌, ◌≢◌, ◌<◌, ◌==◌, ◌&&◌, ◌||◌, ◌^◌, ℕ, Bool, true, false, inl, inr, refl, ap, sym, subst, ◌∙◌, arith}
 use Rattle.std.proofs.lemmas.Bool.{cond-true, cond-false, ne_eqb, cases_eq}
 use Rattle.nic_device.specs.IntrUnit.BitSet.{contains, union, intersection}

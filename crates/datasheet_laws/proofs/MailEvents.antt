@@ -43,7 +43,7 @@ read_lacks kind.Cause p v n e other = none_pending_of (place row.Pvfmailbox v) r
 read_lacks kind.Vfmail p v n e other = other e
 read_lacks k p v n e other = refl
 
--- A write changes no bit of a mailbox, unless it is a write of the mailbox by either side or a write of CTRL_EXT.
+-- A write changes no bit of a mailbox, unless it is a write to the mailbox by either side or a write to CTRL_EXT.
 pub record IsOther (k : Kind) (p : Place) (v n : ℕ) : Type 0 where
   pub own : k ≡ kind.Vfmail → (is_place (place row.Pvfmailbox p.index) (place row.Pvfmailbox v) && n == 2) ≡ false
   pub physical :
@@ -112,7 +112,7 @@ module _ (v n : ℕ) (value : Bool) where
   read_holds s port number other is =
       bit_kept s (event.Read port number) (read_reaches (named s port number) other) is
 
-  -- A write of a register that requests no reset, and doesn't change the bit.
+  -- A write to a register that requests no reset, and doesn't change the bit.
   pub word_holds : (s : State) (p : Place) (view word : ℕ) → IsOther (row_of p.row).kind p v n → Is s
       → Is (record s { registers = word_written s.registers p view word })
   word_holds s p view word other is =

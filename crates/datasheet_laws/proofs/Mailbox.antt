@@ -45,7 +45,7 @@ module _ (around : Surroundings) (r : Registers) (h : HasShape r) (v w : ℕ) (t
   other_reads : (bit : ℕ) → bit < 32 → reads around r (other v) bit ≡ has_bit bit (bit_and (mail_of r v) 0xC)
   other_reads bit low = reads-at r row.Pfmailbox v there around bit low
 
-  -- The mailbox's word after a write of either side, and after a read.
+  -- The mailbox's word after a write by either side, and after a read.
   Asked : Registers
   Asked = with_requests (with_mail r v (function_wrote (mail_of r v) w)) v w
 

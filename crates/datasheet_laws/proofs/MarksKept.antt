@@ -30,7 +30,7 @@ use Rattle.datasheet_laws.proofs.Marks.{Keeps, same_marks, same_interrupts, rais
 use Rattle.datasheet_laws.proofs.Masks.{registers_set as masks_put, registers_cleared as masks_taken}
 use Rattle.datasheet_laws.proofs.Owned.{IsOne, causes, cause_set, masks, mask_clear, auto_clear, auto_mask, one_of_group}
 
--- A write of another owner's register can't change a mark of the group.
+-- A write to another owner's register can't change a mark of the group.
 reaching : (k : Kind) (p : Place) (g : Group) → is_own k ≡ false → (written_by k p).reported g ≡ false
 reaching kind.Vfmail p g off = refl
 reaching kind.Pfmail p g off = refl
@@ -55,7 +55,7 @@ module _ (s : State) (h : IsSound s) (g : Group) (there : IsGroup g) (bit : ℕ)
   unchanged : (new : State) → new ≡ s → Kept new
   unchanged new same = subst Kept (sym same) (λ sound. same_marks s s h sound g there bit b refl)
 
-  -- Accesses of the group's own registers.
+  -- Accesses to the group's own registers.
   read_causes : Kept (state_read s (cause_register g))
   read_causes then =
       let i = interrupts_of s.registers g in
@@ -97,7 +97,7 @@ module _ (s : State) (h : IsSound s) (g : Group) (there : IsGroup g) (bit : ℕ)
         (settled-after_mask_clear i (settled s.registers g) (bit_and word view)) (intersection-lt _ _)
         (masks_taken s g view word) refl
 
-  -- Accesses of another register.
+  -- Accesses to another register.
   unread : (p : Place) → is_owner (owner_of p) (owner.Group g) ≡ false → Kept (state_read s p)
   unread p other then =
       same_interrupts s (state_read s p) h then g there bit b

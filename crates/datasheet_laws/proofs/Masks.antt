@@ -1,4 +1,4 @@
--- What accesses of EIMS and EIMC, and of PVTEIMS and PVTEIMC, do to masks.
+-- What accesses to EIMS and EIMC, and of PVTEIMS and PVTEIMC, do to masks.
 use Rattle.std.proofs.Common.{◌≡◌, ◌≢◌, ℕ, ◌<◌, Bool, ◌&&◌, ◌||◌, refl}
 use Rattle.std.specs.Prelude.{bit_and, not}
 use Rattle.nic_device.specs.IntrUnit.Interrupts.{after_mask_set, after_mask_clear}
@@ -22,7 +22,7 @@ mask_set one b = record b { mask = b.mask || one }
 abbrev pub mask_cleared : Bool → Bit → Bit
 mask_cleared one b = record b { mask = b.mask && not one }
 
--- Writes of the masks.
+-- Writes to the masks.
 
 pub registers_set : (s : State) (g : Group) (view word : ℕ)
     → (state_written s (mask_register g) view word).registers
@@ -53,7 +53,7 @@ masks_set s h g there a word is =
     (state-written s a word (mask_register g) is) (set_alone s g a word is)
     (set_at s g (view_among runs a) word h there)
 
--- Writes of the register that clears masks.
+-- Writes to the register that clears masks.
 
 pub registers_cleared : (s : State) (g : Group) (view word : ℕ)
     → (state_written s (mask_clear_register g) view word).registers

@@ -1,4 +1,4 @@
--- A write of a plain register leaves all other registers unchanged, and EITR has no effect.
+-- A write to a plain register leaves all other registers unchanged, and EITR has no effect.
 use Rattle.std.proofs.Common.{◌≡◌, ◌≢◌, ℕ, ◌+◌, ◌-◌, ◌*◌, ◌<◌, Bool, true, false, ◌&&◌, nat_lt, cond, if◌then◌else◌, Some, refl, ap, sym, ◌∙◌, subst, arith}
 use Rattle.std.specs.Prelude.{bit_and, is_some}
 use Rattle.std.proofs.lemmas.Bool.{cond_both, ltb-true, ltb-false}
@@ -23,7 +23,7 @@ use Rattle.datasheet_laws.proofs.Addresses.{address_of, addresses}
 use Rattle.datasheet_laws.proofs.Bits.{has_bit-all, has_bit-merged, has_bit-whole}
 use Rattle.datasheet_laws.proofs.Words.{reply-read}
 
--- The state after a write of a plain register.
+-- The state after a write to a plain register.
 abbrev kept_word : State → Place → ℕ → ℕ → State
 kept_word s p view word = record s { registers = stored s.registers p view word }
 

@@ -147,7 +147,7 @@ module _ (s : State) (h : IsSound s) (v : ℕ) (there : v < 64) where
   reply_bit port number view is =
       ap (λ m. has_bit 7 (word_in (named_read s m).reply)) is ∙ has_bit-and Mail view 7
 
-  -- A write of CTRL_EXT.
+  -- A write to CTRL_EXT.
   module _ (p : Place) (e : (row_of p.row).kind ≡ kind.Ctrlext) (view word : ℕ) where
     kept_mail : mail_of (stored s.registers p view word) v ≡ Mail
     kept_mail =

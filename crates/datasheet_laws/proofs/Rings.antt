@@ -1,4 +1,4 @@
--- A ring's registers are held while its side is on.
+-- A ring's registers are held while its side is enabled.
 use Rattle.std.proofs.Common.{◌≡◌, ℕ, ◌<◌, Bool, true, false, refl, ap, sym, ◌∙◌, lit<}
 use Rattle.std.proofs.lemmas.Bool.{cond-true, cond-false}
 use Rattle.reg_table.specs.declared.kind.Kind.TheVariants as kind
@@ -19,7 +19,7 @@ is_held other = false
 never : {A : Type 0} → false ≡ true → A
 never e = cc
 
--- The side that a ring's register belongs to is on by its enable word.
+-- The enable word shows whether the side that a ring's register belongs to is enabled.
 running : (around : Surroundings) (r : Registers) (x : RowId) (q : ℕ) → (line_of x).kind ≡ kind.Held
     → q < (line_of x).count → is_running r (owner_of (place x q)) ≡ reads around r (enable_of x q) 25
 running around r row.Rdbal q is inside = sym (reads-at r row.Rxdctl q inside around 25 (lit< tt))

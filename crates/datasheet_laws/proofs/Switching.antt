@@ -1,4 +1,4 @@
--- Why a step of a side's enable gets its reply.
+-- Why an enable step gets its reply.
 use Rattle.std.proofs.Common.{◌≡◌, ◌≢◌, ◌<◌, ◌≤◌, ◌||◌, ℕ, Bool, true, false, cond, nat_lt, refl, ap, ◌∙◌}
 use Rattle.std.proofs.lemmas.Bool.{cond-true, cond-false, cond_both, both_ways, or_parts, or_from, false_from_ne_true, true_from_ne_false, ltb-true, ltb-false, lt-ltb, le-ltb}
 use Rattle.nic_device.specs.RegisterFile.Queue.{is_on, enable_row}
@@ -8,7 +8,7 @@ use Rattle.datasheet_laws.specs.FramePrelude.{is_stopped, is_wanted, step_of, wo
 use Rattle.datasheet_laws.specs.Switching.{enable_word, enable_bit, wanted_bit, IsToSwitch, SwitchingHasItsReason}
 use Rattle.datasheet_laws.proofs.FrameBits.{has-zero, one-has, zero-has}
 
--- A side is on if bit 25 of its enable word is 1.
+-- A side is enabled if bit 25 of its enable word is 1.
 
 pub enable-is : (r : Registers) (dir : Dir) (queue : ℕ) → word_of r (enable_row dir) queue ≡ enable_word r dir queue
 enable-is r Rx queue = refl

@@ -39,7 +39,7 @@ first row.Rdt i h = in_halves row.Rdt i h
 first row.Rxdctl i h = in_halves row.Rxdctl i h
 first other i h = first_address (at other i) h
 
--- An access of a first address reaches all bits of the register.
+-- An access to a first address reaches all bits of the register.
 pub met_first : (p : Place) (a : ℕ) → address_among runs p ≡ Some a → access_at a ≡ Some (access p.row p.index whole)
 met_first p a e = λ k. access_of (found_back p a e k) (first_view p a e k)
 
@@ -74,7 +74,7 @@ listed row = record {
   met = λ i h. met_first (at row i) ((line_of row).address i) (first row i h);
 }
 
--- An access of an address in a run reaches the run's register.
+-- An access to an address in a run reaches the run's register.
 pub met_run : (r : Run) (a : ℕ) (p : Place) → stands r runs ≡ true → is_sound r ≡ true → HasPlaceAt r a p
     → access_at a ≡ Some (access p.row p.index (view_in r))
 met_run r a p there sound here =

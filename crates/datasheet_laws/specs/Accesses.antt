@@ -24,7 +24,7 @@ abbrev pub cause_cleared : (acts one : Bool) → Bit → Bit
 cause_cleared acts one b =
     record b { cause = b.cause && not one; mask = b.mask && not (acts && one && b.auto_mask) }
 
--- A write of EICS or PVTEICS sets the causes of the bits that are written as 1 and that the address shows. It also sets
+-- A write to EICS or PVTEICS sets the causes of the bits that are written as 1 and that the address shows. It also sets
 -- their masks if the auto-mask contains them and acts.
 abbrev pub WriteOfCauseSetSets : Type 0
 WriteOfCauseSetSets =
@@ -32,7 +32,7 @@ WriteOfCauseSetSets =
     ShowsThen s (after_write s address word) g
     (λ bit. cause_set (masks_by_access s g) (writes_one address word bit) (bit_of s g bit))
 
--- A write of EICR or PVTEICR clears the causes of the bits written as 1, and no others.
+-- A write to EICR or PVTEICR clears the causes of the bits written as 1, and no others.
 abbrev pub WriteOfCausesClears : Type 0
 WriteOfCausesClears =
     (s : State) → IsSound s → (g : Group) → IsGroup g → (address word : ℕ) → Names address (cause_register g) →
@@ -59,14 +59,14 @@ ReadOfCausesClears =
     (s : State) → IsSound s → (g : Group) → IsGroup g → (address : ℕ) → Names address (cause_register g) →
     ShowsThen s (after s (event.Read port.Pf address)) g (λ bit. causes_read s g bit (bit_of s g bit))
 
--- A write of EIMS or PVTEIMS sets the masks of the bits written as 1.
+-- A write to EIMS or PVTEIMS sets the masks of the bits written as 1.
 abbrev pub WriteOfMasksSets : Type 0
 WriteOfMasksSets =
     (s : State) → IsSound s → (g : Group) → IsGroup g → (address word : ℕ) → Names address (mask_register g) →
     ShowsThen s (after_write s address word) g
     (λ bit. record (bit_of s g bit) { mask = (bit_of s g bit).mask || writes_one address word bit })
 
--- A write of EIMC or PVTEIMC clears the masks of the bits written as 1.
+-- A write to EIMC or PVTEIMC clears the masks of the bits written as 1.
 abbrev pub WriteOfMaskClearClears : Type 0
 WriteOfMaskClearClears =
     (s : State) → IsSound s → (g : Group) → IsGroup g → (address word : ℕ) → Names address (mask_clear_register g) →
@@ -81,7 +81,7 @@ pub record ReadsZero (s : State) (g : Group) : Type 0 where
 abbrev pub SetAndClearReadZero : Type 0
 SetAndClearReadZero = (s : State) (g : Group) → ReadsZero s g
 
--- A write of EIAC or PVTEIAC, or of EIAM or PVTEIAM, is kept in the bits that the address shows.
+-- A write to EIAC, PVTEIAC, EIAM or PVTEIAM is kept in the bits that the address shows.
 abbrev pub written_bit : (address word bit : ℕ) → Bool → Bool
 written_bit address word bit old = if shows address bit then has_bit bit word else old
 

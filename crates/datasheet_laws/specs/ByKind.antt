@@ -57,7 +57,7 @@ is_silent kind.Vfmail = false
 is_silent other = true
 
 -- A clear-on-read counter reads 0 after a read. A write changes neither such a counter nor a read-only or calculated
--- register. A register that only sets causes or only clears masks reads 0, as does PVFCTRL. A write of PVFCTRL that
+-- register. A register that only sets causes or only clears masks reads 0, as does PVFCTRL. A write to PVFCTRL that
 -- requests no reset changes nothing.
 pub record ReadsByKind (around : Surroundings) (r : Registers) (row : RowId) (i w bit : ℕ) : Type 0 where
   pub silent : is_silent (line_of row).kind ≡ true → read_at r (at row i) ≡ r

@@ -71,7 +71,7 @@ abbrev pub QueuesAreChosen : Type 0
 QueuesAreChosen =
     (r : Registers) → HasShape r → (frame : List ℕ) (t : Target) → sorted r frame ≡ Ok t → ChoosesQueues r t frame
 
--- A write of CTRL, at 0x00000 and 0x00004, with bit 3 or bit 26 set requests a reset of the device. A write of PVFCTRL
+-- A write to CTRL, at 0x00000 and 0x00004, with bit 3 or bit 26 set requests a reset of the device. A write to PVFCTRL
 -- with bit 26 set requests a reset of a pool. No other write requests a reset.
 pub record Asks (w : ℕ) : Type 0 where
   pub control : asks_reset (row_of Ctrl).kind w ≡ (has_bit 3 w || has_bit 26 w)

@@ -31,7 +31,7 @@ pub record DropsItsFrames (s : State) (v : ℕ) (new : State) : Type 0 where
   pub out : new.out ≡ s.out
   pub link : new.link ≡ s.link
 
--- A write of PVFCTRL[v] with bit 26, through either port, drops the frames that are waiting for pool v's queues and
+-- A write to PVFCTRL[v] with bit 26 set, through either port, drops the frames that are waiting for pool v's queues and
 -- what these queues have staged, and nothing else.
 abbrev pub PoolResetsDropFrames : Type 0
 PoolResetsDropFrames =

@@ -6,16 +6,16 @@ use Rattle.datasheet_laws.specs.Prelude.{State, after, has_bit, named, place}
 use Rattle.datasheet_laws.specs.SharedMailbox.{function_mail}
 use Rattle.datasheet_laws.specs.Shown.{reads_one}
 
--- A write doesn't end the function's hold of its mailbox: it is neither a write of PVFMAILBOX[v] without bit 2 nor a
--- write of PFMAILBOX[v] with bit 4, and it requests no reset of the device or of the pool.
+-- A write doesn't end the function's hold of its mailbox: it is neither a write to PVFMAILBOX[v] with bit 2 clear nor a
+-- write to PFMAILBOX[v] with bit 4 set, and it requests no reset of the device or of the pool.
 pub record SparesFunction (v : ℕ) (p : Place) (word : ℕ) : Type 0 where
   pub own : p ≡ place Pvfmailbox v → IsTrue (has_bit 2 word)
   pub physical : p ≡ place Pfmailbox v → IsFalse (has_bit 4 word)
   pub control : p ≡ place Ctrl 0 → IsFalse (has_bit 3 word || has_bit 26 word)
   pub pool : p ≡ place Pvfctrl v → IsFalse (has_bit 26 word)
 
--- A write doesn't end the physical function's hold: it isn't a write of PFMAILBOX[v] without bit 3, and it requests no
--- reset of the device.
+-- A write doesn't end the physical function's hold: it isn't a write to PFMAILBOX[v] with bit 3 clear, and it requests
+-- no reset of the device.
 pub record SparesPhysical (v : ℕ) (p : Place) (word : ℕ) : Type 0 where
   pub physical : p ≡ place Pfmailbox v → IsTrue (has_bit 3 word)
   pub control : p ≡ place Ctrl 0 → IsFalse (has_bit 3 word || has_bit 26 word)

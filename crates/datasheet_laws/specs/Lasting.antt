@@ -6,7 +6,7 @@ use Rattle.datasheet_laws.specs.Prelude.{after, has_bit, named, place}
 use Rattle.datasheet_laws.specs.Names.{IsGroup, bits_in, cause_register, mask_clear_register, general_address}
 use Rattle.datasheet_laws.specs.Shown.{bit_of, reads_one, masks_by_access}
 
--- Accesses of a bit's cause clear its mask: the auto-mask contains the bit, and acts on accesses.
+-- Accesses to a bit's cause clear its mask: the auto-mask contains the bit, and acts on accesses.
 abbrev pub masks_itself : State → Group → ℕ → Bool
 masks_itself s g bit = masks_by_access s g && (bit_of s g bit).auto_mask
 
@@ -15,7 +15,7 @@ abbrev pub IsPoolReset : Group → Place → Type 0
 IsPoolReset Pf p = ⊥
 IsPoolReset (Vf v) p = p ≡ place Pvfctrl v
 
--- A write is neither a write of EIMC with the bit nor a write of EICR with the bit if the bit masks itself, and it
+-- A write is neither a write to EIMC with the bit nor a write to EICR with the bit if the bit masks itself, and it
 -- requests no reset of the device or of the function's pool. The same holds for PVTEIMC and PVTEICR.
 pub record SparesMask (s : State) (g : Group) (bit : ℕ) (p : Place) (view word : ℕ) : Type 0 where
   pub mask_clear : p ≡ mask_clear_register g → IsFalse (has_bit bit word && has_bit bit view)

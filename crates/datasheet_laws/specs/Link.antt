@@ -1,4 +1,4 @@
--- What a change of the link raises, and which frame a `Collect` returns.
+-- What a link change raises, and which frame a `Collect` returns.
 use Rattle.std.specs.Prelude.{ℕ, ◌≡◌, ◌≢◌, ◌<◌, Bool, List, [], ◌∷◌}
 use Rattle.nic_device.specs.declared.event.Event.TheVariants as event
 use Rattle.nic_device.specs.declared.event.Reply.TheVariants.{Done, Idle, Frame}

@@ -96,7 +96,7 @@ PoolResetsLeave =
     reads around (pool_reset mode v r) (own v) bit
     ≡ (reads around r (own v) bit && not (bit == 2 || bit == 4 || bit == 5))
 
--- A write of function v's mailbox changes only bit 2 of PVFMAILBOX[v]; a write by the physical function only bits 5 to
+-- A write to function v's mailbox changes only bit 2 of PVFMAILBOX[v]; a write by the physical function only bits 5 to
 -- 2. All its other bits, and all of each other function's mailbox, read as before.
 pub record LeavesOtherBits (around : Surroundings) (r : Registers) (v u w bit : ℕ) : Type 0 where
   pub function : (v == u && bit == 2) ≡ false →

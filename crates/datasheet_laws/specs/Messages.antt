@@ -37,7 +37,7 @@ MessagesAreShared =
     has_bit bit (word_in (reply_to (after s (event.Write port number word)) (event.Read other again)))
     ≡ has_bit bit word
 
--- It reads the same at the physical function's address after every event except a write of it and a reset of the
+-- It reads the same at the physical function's address after every event except a write to it and a reset of the
 -- device.
 pub record SparesMessage (v x : ℕ) (p : Place) (word : ℕ) : Type 0 where
   pub own : p ≢ message v x

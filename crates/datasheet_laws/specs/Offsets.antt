@@ -1,4 +1,4 @@
--- What each offset of a virtual function is, by the physical function's address that an access of it reaches.
+-- What each offset of a virtual function is, by the physical function's address that an access to it reaches.
 use Rattle.std.specs.Prelude.{ℕ, ◌≡◌, ◌<◌, ◌≤◌, ◌+◌, ◌*◌, ◌/◌, ◌%◌, ◌==◌, false, List, [], ◌∷◌, ◌++◌, map, if◌then◌else◌}
 use Rattle.std.specs.List.{flat_map, list_any, range_with_len}
 use Rattle.vf_map.specs.Map.{mapped}

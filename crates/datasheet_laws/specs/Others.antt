@@ -11,7 +11,7 @@ use Rattle.datasheet_laws.specs.Table.{line_of}
 abbrev pub IsOther : (x : RowId) (i : ℕ) (y : RowId) (j : ℕ) → Type 0
 IsOther x i y j = y ≡ x → j ≢ i
 
--- A write of function v's mailbox changes only PVFMAILBOX[v], PFMBICR[v / 16] and EICR. A write by the physical
+-- A write to function v's mailbox changes only PVFMAILBOX[v], PFMBICR[v / 16] and EICR. A write by the physical
 -- function changes only PVFMAILBOX[v] and PVTEICR[v], and a read by the function only PVFMAILBOX[v].
 pub record MailLeavesOthers (r : Registers) (v w : ℕ) (y : RowId) (j : ℕ) : Type 0 where
   pub function :
@@ -25,7 +25,7 @@ abbrev pub MailboxesLeaveOthers : Type 0
 MailboxesLeaveOthers =
     (r : Registers) (v w : ℕ) → v < 64 → (y : RowId) (j : ℕ) → j < (line_of y).count → MailLeavesOthers r v w y j
 
--- A write of CTRL that requests no reset changes only CTRL, a write of EERD only EERD, and a write of PFMBICR[k] only
+-- A write to CTRL that requests no reset changes only CTRL, a write to EERD only EERD, and a write to PFMBICR[k] only
 -- that.
 pub record WriteLeavesOthers (r : Registers) (k w : ℕ) (y : RowId) (j : ℕ) : Type 0 where
   pub control : IsOther Ctrl 0 y j → word (write_at r 0x00000 w) (at y j) ≡ word r (at y j)

@@ -15,7 +15,7 @@ pub record ChangesOneRegister (p : Place) (old new : State) : Type 0 where
       (address : ℕ) (q : Place) → Names address q → q ≢ p → reply_to_read new address ≡ reply_to_read old address
   pub rest : new ≡ record old { registers = record old.registers { words = new.registers.words } }
 
--- A write of a plain read/write register doesn't change what other registers read, and changes nothing in the device
+-- A write to a plain read/write register doesn't change what other registers read, and changes nothing in the device
 -- except words of registers.
 abbrev pub PlainWriteIsAlone : Type 0
 PlainWriteIsAlone =

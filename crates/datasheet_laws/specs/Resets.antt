@@ -40,7 +40,7 @@ EndIsReportedOnce =
     (s : State) → IsSound s → (v : ℕ) → v < 64 → (es : List (Event Block)) → AreWithoutReset s es
     → times_reported s v es ≤ 1
 
--- A write of CTRL_EXT with bit 14 set reports it to each function to which the beginning of a reset was reported.
+-- A write to CTRL_EXT with bit 14 set reports it to each function to which the beginning of a reset was reported.
 pub record IsReportedOfTheEnd (s new : State) (v : ℕ) : Type 0 where
   pub begun : IsFalse (reads_one new (function_mail v) 6)
   pub done : reads_one new (function_mail v) 7

@@ -15,7 +15,7 @@ abbrev pub asks_by : (v word k bit : ℕ) → Bool
 asks_by v word k bit =
     k == v / 16 && ((has_bit 0 word && bit == v % 16) || (has_bit 1 word && bit == 16 + v % 16))
 
--- After a write of PVFMAILBOX[v], the bit of its request reads as 1 if bit 0 is written as 1, the bit of its
+-- After a write to PVFMAILBOX[v], the bit of its request reads as 1 if bit 0 is written as 1, the bit of its
 -- acknowledgement reads as 1 if bit 1 is, and all other bits read as before.
 abbrev pub RequestsAreApart : Type 0
 RequestsAreApart =

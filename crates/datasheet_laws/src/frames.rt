@@ -168,10 +168,10 @@ pub fn switched_side_is_as_wanted()
     ensures { SwitchedSideIsAsWanted }
 {}
 
-/// A write of PVFCTRL[v] with bit 26, through either port, drops the frames of the receive list for pool v's queues,
-/// whether partly written or not, and what these queues staged. With GCR_EXT bits 1 to 0 at 1, these are queues 8v to
-/// 8v + 7; with 2, 4v to 4v + 3; with 3, 2v and 2v + 1; with 0, none. The frames for all other queues stay in order,
-/// and these queues keep what they staged. Lent memory, the transmitted frames and the link are unchanged.
+/// A write to PVFCTRL[v] with bit 26 set, through either port, drops the frames of the receive list for pool v's
+/// queues, whether partly written or not, and what these queues staged. With GCR_EXT bits 1 to 0 at 1, these are queues
+/// 8v to 8v + 7; with 2, 4v to 4v + 3; with 3, 2v and 2v + 1; with 0, none. The frames for all other queues stay in
+/// order, and these queues keep what they staged. Lent memory, the transmitted frames and the link are unchanged.
 #[tactic(auto, using(crate::proofs::FramePoolResets::resets_drop))]
 pub fn pool_resets_drop_their_frames()
     ensures { PoolResetsDropFrames }

@@ -31,7 +31,7 @@ pub fn interrupt_registers_have_addresses()
     ensures view { ReadsShowTheView }
 {}
 
-/// A write of EICS or PVTEICS sets in EICR or PVTEICR the causes of the bits that are written as 1 and that its address
+/// A write to EICS or PVTEICS sets in EICR or PVTEICR the causes of the bits that are written as 1 and that its address
 /// shows. In EIMS or PVTEIMS, it sets the masks of those bits that EIAM or PVTEIAM contains; for the physical function,
 /// only while GPIE bit 30 is 0. It changes no other bit of these registers, of EIAC and of EIAM, and no other group's.
 #[tactic(auto, using(crate::proofs::Causes::cause_set_sets))]
@@ -39,7 +39,7 @@ pub fn causes_are_set()
     ensures { WriteOfCauseSetSets }
 {}
 
-/// A write of EICR or PVTEICR clears the causes of the bits written as 1, and no others. A read clears all causes; a
+/// A write to EICR or PVTEICR clears the causes of the bits written as 1, and no others. A read clears all causes; a
 /// read of EICR while GPIE bit 5 is 1 clears only bits 29 to 16. While the auto-mask acts on accesses, a write also
 /// clears the masks of the bits that are written as 1 and that EIAM or PVTEIAM contains. A read then clears the masks
 /// of all bits that EIAM or PVTEIAM contains. Neither access changes another bit or another group.
@@ -49,7 +49,7 @@ pub fn causes_are_cleared()
     ensures read { ReadOfCausesClears }
 {}
 
-/// A write of EIMS or PVTEIMS sets the masks of the bits that are written as 1 and that its address shows. A write of
+/// A write to EIMS or PVTEIMS sets the masks of the bits that are written as 1 and that its address shows. A write to
 /// EIMC or PVTEIMC clears them. Neither changes another bit, or another group.
 #[tactic(auto, using(crate::proofs::Masks::masks_set, crate::proofs::Masks::masks_clear))]
 pub fn masks_are_set_and_cleared()
@@ -89,9 +89,9 @@ pub fn messages_are_shared()
 {}
 
 /// The holder of a mailbox keeps it through every event except the writes, through either port, that end the hold. For
-/// the function, these are a write of PVFMAILBOX without bit 2, a write of PFMAILBOX with bit 4, and a reset of its
-/// pool or of the device. For the physical function, they are a write of PFMAILBOX without bit 3, and a reset of the
-/// device.
+/// the function, these are a write to PVFMAILBOX with bit 2 clear, a write to PFMAILBOX with bit 4 set, and a reset of
+/// its pool or of the device. For the physical function, they are a write to PFMAILBOX with bit 3 clear, and a reset of
+/// the device.
 #[tactic(auto, using(crate::proofs::Holding::function_holds_on, crate::proofs::Holding::physical_holds_on))]
 pub fn holders_hold_on()
     ensures function { FunctionHoldsOn }
@@ -99,15 +99,15 @@ pub fn holders_hold_on()
 {}
 
 /// From one reset of the device to the next, at most one read of PVFMAILBOX[v], through either port, returns bit 7,
-/// RSTD, which says that a reset is done. Bit 6, RSTI, says that a reset began. A write of CTRL_EXT with bit 14 sets
-/// RSTD for each function that reads 1 in RSTI or already in RSTD. It clears RSTI for all functions.
+/// RSTD, which says that a reset is done. Bit 6, RSTI, says that a reset began. A write to CTRL_EXT with bit 14 set
+/// sets RSTD for each function that reads 1 in RSTI or already in RSTD, and clears RSTI for all functions.
 pub fn ends_are_reported_once()
     ensures once { EndIsReportedOnce }
     ensures reported { EndIsReported }
 {}
 
-/// A write of PVFMAILBOX[v] with bit 0 sets bit v mod 16 of PFMBICR[v/16], the function's own request. With bit 1, it
-/// sets bit 16 + v mod 16, its acknowledgement. It changes no other bit of PFMBICR.
+/// A write to PVFMAILBOX[v] with bit 0 set sets bit v mod 16 of PFMBICR[v/16], the function's own request. With bit 1
+/// set, it sets bit 16 + v mod 16, the function's acknowledgement. It changes no other bit of PFMBICR.
 pub fn requests_are_apart()
     ensures { RequestsAreApart }
 {}
@@ -184,7 +184,7 @@ pub fn vfte_mutes_pools()
     ensures { VfteMutesPools }
 {}
 
-/// A mask that is set stays set until one of these events: a write of EIMC with the bit; an access of EICR on which the
+/// A mask that is set stays set until one of these events: a write to EIMC with the bit; an access to EICR on which the
 /// auto-mask clears the bit; a message of the group while GPIE bit 30 is 1 and the auto-mask contains the bit; or a
 /// reset of the device or of the function's pool.
 #[tactic(auto, using(crate::proofs::Lasting::masks_last))]
@@ -193,7 +193,7 @@ pub fn masks_last()
 {}
 
 /// A bit that a message reported is marked as reported. It isn't reported again until its cause or its mask reads 0, or
-/// the device or the function's pool is reset. Every other event, including a write of EIMS, leaves each mark with a
+/// the device or the function's pool is reset. Every other event, including a write to EIMS, leaves each mark with a
 /// cause and mask that read 1. A message step marks the bit that it reports, and no other; apart from these resets, no
 /// other event marks any.
 pub fn marks_last()
@@ -201,7 +201,7 @@ pub fn marks_last()
     ensures made { MessagesMark }
 {}
 
-/// A write of a plain read/write register doesn't change what other registers read, or anything else in the device.
+/// A write to a plain read/write register doesn't change what other registers read, or anything else in the device.
 /// EIAC, EIAM and the 128 EITR are plain, and so are PVTEIAC and PVTEIAM. EITR stores all 32 bits, and no reply to an
 /// interrupt step depends on it.
 #[tactic(auto, using(crate::proofs::Plain::plain_alone, crate::proofs::Plain::plain, crate::proofs::Plain::no_effect))]
@@ -212,7 +212,7 @@ pub fn plain_writes_are_alone()
 {}
 
 /// CTRL_EXT reads 0 in a new device, stores all 32 bits that are written, and a read of it changes nothing. A write of
-/// it doesn't change what other registers read, except PVFMAILBOX and PFMAILBOX. Without bit 14, these too read as
+/// it doesn't change what other registers read, except PVFMAILBOX and PFMAILBOX. With bit 14 clear, these too read as
 /// before, and the rest of the device stays unchanged.
 pub fn ctrl_ext_keeps_what_is_written()
     ensures begins { ExtendedBeginsAtZero }

@@ -55,8 +55,8 @@ pub fn other_offsets_are_holes()
     ensures { OtherOffsetsAreHoles }
 {}
 
-/// A write of PVFMAILBOX[v], at 0x04C00 + 4v, with bit 2 set takes the mailbox for the function if bit 3 reads 0. If
-/// bit 3 reads 1, it changes neither bit. With bit 2 clear, it releases the mailbox. A write of PFMAILBOX[v], at
+/// A write to PVFMAILBOX[v], at 0x04C00 + 4v, with bit 2 set takes the mailbox for the function if bit 3 reads 0. If
+/// bit 3 reads 1, it changes neither bit. With bit 2 clear, it releases the mailbox. A write to PFMAILBOX[v], at
 /// 0x04B00 + 4v, with bit 4 set frees the mailbox from the function. With bit 3 set, it takes the mailbox for the
 /// physical function if bit 2 reads 0 or is cleared by this write. With bit 3 clear, it releases the mailbox. Both
 /// sides read who holds the mailbox, and the physical function reads nothing more. Bits 0 and 1 of PFMAILBOX[v] are
@@ -65,16 +65,16 @@ pub fn mailboxes_shake()
     ensures { MailboxesShake }
 {}
 
-/// A write of PVFMAILBOX[v] changes only its bit 2, and a write of PFMAILBOX[v] only bits 5 to 2. Every other bit of
+/// A write to PVFMAILBOX[v] changes only its bit 2, and a write to PFMAILBOX[v] only bits 5 to 2. Every other bit of
 /// it, and the mailbox of every other function, reads as before. A read of one leaves the others unchanged.
 #[tactic(auto, using(crate::proofs::MailOthers::others_stay))]
 pub fn mailboxes_keep_other_bits()
     ensures { OtherBitsStay }
 {}
 
-/// Of the words that registers store, a write of PVFMAILBOX[v] changes only the words of PVFMAILBOX[v], PFMBICR[v / 16]
-/// and EICR. A write of PFMAILBOX[v] changes only the words of PVFMAILBOX[v] and PVTEICR[v], and a read of
-/// PVFMAILBOX[v] only the word of that register. A write of EERD or of PFMBICR[k], or a write of CTRL that requests no
+/// Of the words that registers store, a write to PVFMAILBOX[v] changes only the words of PVFMAILBOX[v], PFMBICR[v / 16]
+/// and EICR. A write to PFMAILBOX[v] changes only the words of PVFMAILBOX[v] and PVTEICR[v], and a read of
+/// PVFMAILBOX[v] only the word of that register. A write to EERD or PFMBICR[k], or a write to CTRL that requests no
 /// reset, changes no other register.
 #[tactic(auto, using(crate::proofs::Others::mailboxes_leave, crate::proofs::Others::writes_leave))]
 pub fn accesses_leave_other_registers()
@@ -88,10 +88,10 @@ pub fn ones_are_cleared()
     ensures { OnesAreCleared }
 {}
 
-/// A write of PVFMAILBOX[v] with bit 0 or 1 raises bit 19 of EICR, at 0x00800, if bit v mod 32 of PFMBIMR[v / 32], at
-/// 0x00720 + 4(v / 32), is 1. A write of PFMAILBOX[v] with bit 0 or 1 raises a cause in PVTEICR[v], at 0x00B00 + 4v:
-/// the cause, at most 2, that PVTIVAR_MISC[v], at 0x04E00 + 4v, names in bits 5 to 0, if its bit 7 is 1. No other cause
-/// of these registers is raised.
+/// A write to PVFMAILBOX[v] with bit 0 or 1 set raises bit 19 of EICR, at 0x00800, if bit v mod 32 of PFMBIMR[v / 32],
+/// at 0x00720 + 4(v / 32), is 1. A write to PFMAILBOX[v] with bit 0 or 1 set raises a cause in PVTEICR[v], at 0x00B00 +
+/// 4v: the cause, at most 2, that PVTIVAR_MISC[v], at 0x04E00 + 4v, names in bits 5 to 0, if its bit 7 is 1. No other
+/// cause of these registers is raised.
 #[tactic(auto, using(crate::proofs::Mailbox::function_raises_all, crate::proofs::Mailbox::physical_raises_all))]
 pub fn mailboxes_raise_causes()
     ensures physical { FunctionsRaise }
@@ -154,7 +154,7 @@ pub fn queues_are_chosen()
     ensures { QueuesAreChosen }
 {}
 
-/// A write of CTRL with bit 3 or bit 26 set requests a reset of the device. A write of PVFCTRL with bit 26 set requests
+/// A write to CTRL with bit 3 or bit 26 set requests a reset of the device. A write to PVFCTRL with bit 26 set requests
 /// a reset of its pool. No other write requests a reset.
 #[tactic(auto, using(crate::proofs::Choice::resets))]
 pub fn resets_are_asked()
@@ -177,7 +177,7 @@ pub fn rings_are_held()
 
 /// A clear-on-read counter reads 0 after a read. No write changes such a counter, nor VFGPRC, VFGPTC, STATUS, LINKS or
 /// EEC. A read of any other register except EICR, PVTEICR and PVFMAILBOX changes nothing. EICS, PVTEICS, EIMC, PVTEIMC
-/// and PVFCTRL read 0. A write of PVFCTRL that requests no reset changes nothing.
+/// and PVFCTRL read 0. A write to PVFCTRL that requests no reset changes nothing.
 #[tactic(auto, using(crate::proofs::ByKind::read_kinds))]
 pub fn kinds_are_read()
     ensures { KindsAreRead }
@@ -189,7 +189,7 @@ pub fn sides_are_asked()
     ensures { SidesAreAsked }
 {}
 
-/// A write of EERD, at 0x10014, stores bits 0 and 15 to 2, and clears all others. If bit 0 is 1, the write requests the
+/// A write to EERD, at 0x10014, stores bits 0 and 15 to 2, and clears all others. If bit 0 is 1, the write requests the
 /// word with the index in bits 15 to 2. The answer keeps these bits, clears bit 0, sets bit 1, and has the word in bits
 /// 31 to 16.
 pub fn eeprom_is_read()

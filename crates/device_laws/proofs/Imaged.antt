@@ -78,7 +78,7 @@ last_write s image offset value more writes a word p named asks =
     (with_triple-write (reset s) offset value writes
     ∙ sym (ap (λ (u : State). after_write u offset value) (asked-reset s a word p named asks)))
 
--- A write of CTRL or EERD changes nothing.
+-- A write to CTRL or EERD changes nothing.
 
 over : (q : Place) → (q.row ≡ Ctrl) ⊎ (q.row ≡ Eerd) → is_stepped_over q.row ≡ true
 over q (inl e) = ap is_stepped_over e

@@ -9,7 +9,7 @@ use Rattle.device_laws.specs.Prelude.{with_pool_reset}
 use Rattle.device_laws.specs.Pool.{KeepsFrames, VfKeepsFramesButByReset}
 use Rattle.device_laws.proofs.PoolAlone.{IsReached, reached, below_reset, only_control}
 
--- A write to another register, or without bit 26, requests no reset.
+-- A write to another register, or with bit 26 clear, requests no reset.
 asks-none : (p : Place) (word : ℕ) → (p.row ≢ row.Pvfctrl) ⊎ (word / 2 ^ 26 % 2 ≡ 0)
     → asks_pool_reset (row_of p.row).kind word ≡ false
 asks-none p word (inl other) =

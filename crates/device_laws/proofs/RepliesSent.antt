@@ -85,7 +85,7 @@ fault_tells s queue fault h small = record {
   staged = get_or-set_same s.staged queue [] [] (subst (λ n. queue < n) (sym h.staged.queues) small);
 }
 
--- A queue numbered 128 or higher has no step.
+-- Queues 128 and above have no steps.
 below : (s : State) (queue : ℕ) → (queue < 128 → Tells s queue (transmitted s queue))
     → Tells s queue (transmitted s queue)
 below s queue small =

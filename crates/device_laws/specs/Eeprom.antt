@@ -28,7 +28,7 @@ LastWriteIsMade =
     after_write (with_image s image) address word
     ≡ with_image (after_write (after_write s address word) offset value) image
 
--- A write of CTRL or EERD is skipped.
+-- A write to CTRL or EERD is skipped.
 abbrev pub SteppedOverWriteIsNotMade : Type 0
 SteppedOverWriteIsNotMade =
     (s : State) (image : List ℕ) (offset value : ℕ) → HasOneMore s.image image offset value →

@@ -111,7 +111,7 @@ pub fn asked_reset_resets()
 {}
 
 /// A reset performs the register writes of the EEPROM image one by one. If an image has one more write at its end, the
-/// reset leads to the same state as with the image without this write, followed by this write. A write of CTRL or EERD
+/// reset leads to the same state as with the image without this write, followed by this write. A write to CTRL or EERD
 /// is skipped, and doesn't end the list.
 #[tactic(auto, using(crate::proofs::Imaged::last_write, crate::proofs::Imaged::stepped_over))]
 pub fn reset_applies_the_image()

@@ -47,7 +47,7 @@ missing_once bench count ps a b x y = elim (cases_lt a b) [
       ]
 ]
 
--- If all passes are there, no tag is missing.
+-- If all passes are present, no tag is missing.
 none_missing : (bench count : ℕ) (ps : List PassValue) (tag : ℕ) → AreAll bench count ps → IsMissing bench count ps tag
     → ⊥
 none_missing bench count ps tag all missing =

@@ -60,7 +60,7 @@ rest_differs made rested all rest are none same =
     none [] (append_cancel_left (made_calls made) rest _
     (sym are ∙ same ∙ ap (λ (l : List Call). made_calls made ++ l) (sym (append-nil (rested_calls rested)))))
 
--- If these steps are there, the lists are equal if and only if no call follows.
+-- If these steps are present, the lists are equal if and only if no call follows.
 pub rest_stands : (made : List Made) (rested : IdleSteps) (all rest more : List Call) → all ≡ made_calls made ++ rest
     → rest ≡ rested_calls rested ++ more → (more ≡ []) ↔ (all ≡ calls_in made rested)
 rest_stands made rested all rest more are then = (

@@ -220,7 +220,7 @@ full_again reported (HistoryFull y) x e is back same = ap (λ z. Err (HistoryFul
 full_again reported (ForeignPass y) x e is back same = absurd cc
 full_again reported (OutOfMemory y) x e is back same = absurd cc
 
--- A refusal that `?` passes on.
+-- A refusal that `?` returns to the caller.
 pub passed_on : {T E : Type 0} (r : Result T E) (e f : E) → IsErrAnd r (λ y. y ≡ e) → r ≡ Err f
     → ◌≡◌ {A = Result T E} (Err e) (Err f)
 passed_on r e f is same =

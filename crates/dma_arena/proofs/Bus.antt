@@ -60,7 +60,7 @@ is_lent_of_each m a (suc n) each =
     rw (each a (omega arith) (omega arith))
     (is_lent_of_each m (a + 1) n (λ c low high. each c (omega arith) (omega arith)))
 
--- A lent range ends with the last block number at the latest, so no address in it wraps.
+-- A lent range doesn't extend past the last block number, so no address in it wraps.
 pub lent_end : (m : Memory) (a n : ℕ) → IsWhole m → is_lent m a n ≡ true → 0 < n → a + n ≤ 134217728
 lent_end m a n whole lent some =
     let last : has_block m ((a + n - 1) / 2048) ≡ true =

@@ -12,7 +12,7 @@ abbrev pub LentByBlocks : Type 0
 LentByBlocks =
     (m : Memory) (a n : ℕ) → (is_lent m a n ≡ true) ↔ ((c : ℕ) → a ≤ c → c < a + n → has_block m (c / 2048) ≡ true)
 
--- A nonempty lent range ends with block 65,535 at the latest, so no address in it wraps.
+-- A nonempty lent range doesn't extend past block 65,535, so no address in it wraps.
 abbrev pub LentEnds : Type 0
 LentEnds = (m : Memory) (a n : ℕ) → IsWhole m → is_lent m a n ≡ true → 0 < n → a + n ≤ 65536 * 2048
 

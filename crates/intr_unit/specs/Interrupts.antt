@@ -87,11 +87,11 @@ after_mask_set s bits = settled s s.causes (union s.enabled (intersection bits (
 abbrev pub after_mask_clear : Interrupts → BitSet → Interrupts
 after_mask_clear s bits = settled s s.causes (difference s.enabled bits) s.reported
 
--- After a write of the auto-clear register.
+-- After a write to the auto-clear register.
 abbrev pub with_auto_clear : Interrupts → BitSet → Interrupts
 with_auto_clear s word = record s { auto_clear = intersection word (group_bits s.group) }
 
--- After a write of the auto-mask register.
+-- After a write to the auto-mask register.
 abbrev pub with_auto_mask : Interrupts → BitSet → Interrupts
 with_auto_mask s word = record s { auto_mask = intersection word (group_bits s.group) }
 

@@ -10,8 +10,8 @@ use Rattle.intr_unit.specs.Interrupts.{after_mask_clear, with_auto_clear, with_a
 use Rattle.intr_unit.specs.Interrupts.{is_due, next_bit, next_vector}
 use Rattle.intr_unit.specs.Accesses.{Access, after, after_all, IsPending, StaysPending}
 
--- A set that is defined by a test contains exactly the bits 0 to 31 that pass it, and a word of 32 bits is determined
--- by its bits.
+-- A set that is defined by a test contains exactly the bits 0 to 31 that pass it, and a 32-bit word is determined by
+-- its bits.
 pub record SetsHoldTheirBits : Type 0 where
   pub member : (test : ℕ → Bool) (bit : ℕ) → bit < 32 → contains (bits_where test) bit ≡ test bit
   pub same : (left right : BitSet) → left < 2 ^ 32 → right < 2 ^ 32 →
@@ -107,7 +107,7 @@ WritesOfOnesChangeBits =
       mark = λ bit. contains s.reported bit;
     })
 
--- A write of the mask register sets the named masks that the group has.
+-- A write to the mask register sets the named masks that the group has.
 abbrev pub MaskSetsChangeBits : Type 0
 MaskSetsChangeBits =
     (s : Interrupts) (ones : BitSet) → Leaves s (after_mask_set s ones)
@@ -117,7 +117,7 @@ MaskSetsChangeBits =
       mark = λ bit. contains s.reported bit;
     })
 
--- A write of the mask clear register clears the named masks.
+-- A write to the mask clear register clears the named masks.
 abbrev pub MaskClearsChangeBits : Type 0
 MaskClearsChangeBits =
     (s : Interrupts) (ones : BitSet) → Leaves s (after_mask_clear s ones)
@@ -144,7 +144,7 @@ pub record MessagesChangeBits : Type 0 where
       Leaves s (after_message s eiame misc) (reported_bits s eiame chosen)
   pub idle : (s : Interrupts) (eiame : Bool) (misc : ℕ) → next_vector s misc ≡ None → after_message s eiame misc ≡ s
 
--- A write of the auto-clear or the auto-mask, bit by bit: that word takes the written bits that the group has, and
+-- A write to the auto-clear or the auto-mask, bit by bit: that word takes the written bits that the group has, and
 -- nothing else changes.
 pub record AutoWritesChangeBits : Type 0 where
   pub auto_clear : (s : Interrupts) (word : BitSet) (bit : ℕ) → bit < 32 →

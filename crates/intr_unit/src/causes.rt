@@ -154,7 +154,7 @@ impl Causes {
         self.reported.word()
     }
 
-    /// Raises causes, for the device (`auto` is false) or for a write of the set register (EICS, PVTEICS). For such a
+    /// Raises causes, for the device (`auto` is false) or for a write to the set register (EICS, PVTEICS). For such a
     /// write, `bits` is the written word without the bits that the address doesn't show, and `auto` comes from
     /// [`Group::auto_mask_acts`]. If `auto` is true, the masks of the raised bits that are in the auto-mask become 1.
     /// Bits that the group doesn't have are dropped.

@@ -3,8 +3,8 @@
 ghost use Rattle.intr_unit.specs.Laws.{SetsHoldTheirBits, MessagesTellDueBits, BitsAreReportedOnce, MaskingLosesNoCause};
 ghost use Rattle.intr_unit.specs.Laws.{RaisesChangeBits, ReadsChangeBits, WritesOfOnesChangeBits, MaskSetsChangeBits, MaskClearsChangeBits, MessagesChangeBits, AutoWritesChangeBits, ReportedBitsArePending};
 
-/// A set that is defined by a test contains exactly the bits 0 to 31 that pass it, and a word of 32 bits is determined
-/// by its bits.
+/// A set that is defined by a test contains exactly the bits 0 to 31 that pass it, and a 32-bit word is determined by
+/// its bits.
 pub fn sets_hold_their_bits()
     ensures { SetsHoldTheirBits }
 {}
@@ -45,7 +45,7 @@ pub fn writes_of_ones_change_bits()
     ensures { WritesOfOnesChangeBits }
 {}
 
-/// Writes of masks, bit by bit. A write of the mask register sets the named masks that the group has. A write of the
+/// Writes of masks, bit by bit. A write to the mask register sets the named masks that the group has. A write to the
 /// mask clear register clears the named masks. The other masks and all causes are unchanged. Reported bits stay if
 /// their cause and mask are 1.
 pub fn mask_writes_change_bits()
@@ -59,7 +59,7 @@ pub fn messages_change_bits()
     ensures { MessagesChangeBits }
 {}
 
-/// A write of the auto-clear or the auto-mask, bit by bit: that word takes the written bits that the group has, and
+/// A write to the auto-clear or the auto-mask, bit by bit: that word takes the written bits that the group has, and
 /// nothing else changes.
 pub fn auto_writes_change_bits()
     ensures { AutoWritesChangeBits }

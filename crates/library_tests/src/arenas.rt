@@ -132,7 +132,7 @@ struct Fetching {
 }
 
 impl Fetching {
-    /// Creates a descriptor of a 60-byte frame in slot 0.
+    /// Creates a descriptor for a 60-byte frame in slot 0.
     fn new<R: Abort>(rt: &R, alloc: Global) -> Fetching {
         let mut arena = done(rt, Arena::new(alloc, 0, 2));
         let mut memory = LentMemory::new(alloc);

@@ -1,4 +1,4 @@
-//! The setup of a device, and the calls of a driver.
+//! The setup of a device, and a driver's calls.
 
 use crate::devices::{frame, number_of};
 use crate::outcome::{done, none, put, some};
@@ -106,7 +106,7 @@ fn in_turn<R: Abort>(rt: &R, arena: Arena) -> Arena {
     arena
 }
 
-/// A call of a driver.
+/// A driver call.
 #[derive(Clone, Copy, PartialEq, Eq)]
 enum Kind {
     Start,
@@ -330,7 +330,7 @@ impl Trial for Driving {
     }
 }
 
-/// Tests a call of a driver.
+/// Tests a driver call.
 fn drives<R: Abort + Wait + Print>(rt: &R, alloc: Global, kind: Kind) {
     let subject = Driving::new(rt, alloc, kind);
     let calm = Driving::new(rt, alloc, kind);

@@ -16,7 +16,7 @@ fn device_with(rt: &impl Hand, image: Image) -> Device {
     device
 }
 
-/// A reset applies the image's write of FCTRL after its writes of CTRL and EERD. EEC reports the image's size, and EERD
+/// A reset applies the image's write to FCTRL after its writes to CTRL and EERD. EEC reports the image's size, and EERD
 /// reads word 0x0D, which points to the CSR section.
 #[test]
 fn an_image_is_applied_and_read(rt: HostRuntime) {

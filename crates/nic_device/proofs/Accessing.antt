@@ -29,7 +29,7 @@ use Rattle.nic_device.specs.declared.named.Named.{Named}
 use Rattle.nic_device.specs.declared.named.Named.TheVariants.{Nothing, Register}
 use Rattle.nic_device.specs.declared.event.Reply.TheVariants.{Stray, Done}
 
--- A read and a write of a place, or of none.
+-- A read and a write to a place, or of none.
 
 pub read_leads : (s : State) (port : Port) (n : ℕ) (m : Named)
     → ((r : Outcome) → StaysWithin (read_reach m) s r.state → StaysWithin (read_reach (named s port n)) s r.state)

@@ -41,7 +41,7 @@ pub AreWaiting-joined : (ws : List Waiting) (w : Waiting) → IsUnbegun w → Ar
 AreWaiting-joined [] w new h = (new.waits, All-nil IsUnbegun)
 AreWaiting-joined (v ∷ ws) w new h = (h.0, All-push IsUnbegun ws w h.1 new)
 
--- A frame of which nothing is written needs no enabled side.
+-- A frame with no byte written yet needs no enabled side.
 pub begun-unbegun : (r : Registers) (ws : List Waiting) → All IsUnbegun ws → All (IsBegunWhileOn r) ws
 begun-unbegun r ws h =
     All-weaker IsUnbegun (IsBegunWhileOn r) (λ w is some. let none = is.none in absurd (omega arith)) ws h

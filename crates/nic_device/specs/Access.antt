@@ -47,6 +47,6 @@ named_written s (Register p view) word = gives Done (state_written s p view word
 abbrev pub register_read : State → Port → ℕ → Outcome
 register_read s port number = named_read s (named s port number)
 
--- A write of a register by its number at a port.
+-- A write to a register by its number at a port.
 abbrev pub register_written : State → Port → ℕ → ℕ → Outcome
 register_written s port number word = named_written s (named s port number) word

@@ -5,11 +5,11 @@ use Rattle.reg_table.specs.declared.rows.RowId.{RowId}
 use Rattle.reg_table.specs.Runs.{runs}
 use Rattle.reg_table.specs.Place.{place_among, view_among}
 
--- The access of the register with this row and index, showing the bits of `view`.
+-- The access to the register with this row and index, showing the bits of `view`.
 abbrev pub access : RowId → ℕ → ℕ → Access
 access row index view = record { place = record { row = row; index = index }; view = view }
 
--- The access of a place, showing the bits of `view`; `None` without a place.
+-- The access to a place, showing the bits of `view`; `None` without a place.
 abbrev pub access_of : Option Place → ℕ → Option Access
 access_of None view = None
 access_of (Some p) view = Some (record { place = p; view = view })

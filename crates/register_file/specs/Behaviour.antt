@@ -92,9 +92,9 @@ interrupts change =
 
 -- Reading a counter resets it to 0, unless it is read-only. Reading causes clears them. Writes don't change the base,
 -- length and head of a queue's ring while its side is enabled. Bit 25 of a write to its enable register becomes the
--- enable request; the bit itself stays as it is until an enable step sets it. A write of CTRL with bit 3 or bit 26 set
--- requests a device reset, and a write of PVFCTRL with bit 26 set requests a pool reset. A write of EERD clears bit 1,
--- DONE, and the data that was read. PFMAILBOX stores no word: it shows and writes the word of PVFMAILBOX. A write of
+-- enable request; the bit itself stays as it is until an enable step sets it. A write to CTRL with bit 3 or bit 26 set
+-- requests a device reset, and a write to PVFCTRL with bit 26 set requests a pool reset. A write to EERD clears bit 1,
+-- DONE, and the data that was read. PFMAILBOX stores no word: it shows and writes the word of PVFMAILBOX. A write to
 -- CTRL_EXT with bit 14 set reports to all functions that a reset is done.
 abbrev pub behaviour_of : Kind → Behaviour
 behaviour_of kind.Rw = plain

@@ -170,7 +170,7 @@ requests_keep v word =
     (out-set_if has (has_bit 0 word) (v % 16) acknowledged
     (or_left _ (v % 16 == 16 + v % 16) (eq-eqb (v % 16) (v % 16) refl)))
 
--- Words of 32 bits.
+-- 32-bit words.
 set-lt : (n word : ℕ) → n < 32 → word < 2 ^ 32 → bit_set n word < 2 ^ 32
 set-lt n word low small = subst (λ w. w < 2 ^ 32) (or_pow word n) (or_lt 32 word (2 ^ n) small (pow-lt low))
 

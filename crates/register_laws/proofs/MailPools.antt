@@ -34,7 +34,7 @@ causes_are_the_devices row.Pfmbicr mode v i e = refl
 causes_are_the_devices row.Ctrl mode v i e = cc
 causes_are_the_devices other mode v i e = cc
 
--- What a function's write of its mailbox may change belongs to its pool, or is what it sends.
+-- What a function's write to its mailbox may change belongs to its pool, or is what it sends.
 mail_is_the_pools : (mode : Mode) (v : ℕ) (has : ℕ → Bool)
     → Covers (pool_has mode v) (the_bits (place row.Pvfmailbox v) has)
 mail_is_the_pools mode v has = record {

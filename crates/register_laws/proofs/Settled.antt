@@ -1,4 +1,4 @@
--- Accesses to a group leave interrupts that are consistent words of 32 bits.
+-- Accesses to a group leave interrupts that are consistent 32-bit words.
 use Rattle.std.proofs.Common.{ℕ, ◌<◌, ◌^◌, Bool, Option, Some, None}
 use Rattle.register_file.specs.IntrUnit.BitSet.{BitSet, union, intersection, difference, only, IsSubset}
 use Rattle.register_file.specs.IntrUnit.Interrupts.{Interrupts, IsConsistent, of_words, settled, auto_masked, raised, after_read, after_write_one, after_mask_set, after_mask_clear, after_message_of}

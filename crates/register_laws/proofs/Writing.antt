@@ -1,4 +1,4 @@
--- What a write of a register keeps, from what it leaves and what it may change, if it requests no reset.
+-- What a write to a register keeps, from what it leaves and what it may change, if it requests no reset.
 use Rattle.std.proofs.Common.{◌≡◌, ℕ, true, false, refl}
 use Rattle.std.specs.Prelude.{bit_and, if◌then◌else◌}
 use Rattle.register_file.specs.Access.{group_in, in_group, is_running, asked, stored}
@@ -71,7 +71,7 @@ held_write k steady other has = record {
       (agree-stored mode v a b same ha hb p view word is);
 }
 
--- A write of an enable word requests a state of its side.
+-- A write to an enable word requests a state of its side.
 pub enable_write : (k : Kind) → is_pending k ≡ false → is_mail k ≡ false → HasMask k
     → KeepsWriting k (λ r p view word. asked (stored r p view word) (owner_of p) (has_bit 25 word)) the_enable
 enable_write k steady other has = record {

@@ -118,7 +118,7 @@ RingIsHeldWhileOn =
     (r : Registers) (dir : Dir) (queue view word : ℕ) → IsTrue (is_on r dir queue) →
     All (λ row. after_write r (place row queue) view word ≡ r) (held_rows dir)
 
--- A write of a side's enable word changes only the side's enable request, which becomes bit 25 of the written word: the
+-- A write to a side's enable word changes only the side's enable request, which becomes bit 25 of the written word: the
 -- side stays enabled or disabled, and its ring is unchanged.
 abbrev pub EnableWriteAsksReceive : Type 0
 EnableWriteAsksReceive =
@@ -201,7 +201,7 @@ EepromAnswerIsRead =
     IsAnswered (eeprom_answered r word) (eeprom_index r) word
 
 -- Causes, masks and reported bits that are stored in a group's registers are read back, with the auto-clear and the
--- auto-mask unchanged. The group is below 64 and its interrupts are consistent words of 32 bits.
+-- auto-mask unchanged. The group is below 64 and its interrupts are consistent 32-bit words.
 abbrev pub InterruptsStand : Type 0
 InterruptsStand =
     (r : Registers) → HasShape r → (s : Interrupts) → IsConsistent s → index_of s.group < 64 →
@@ -261,7 +261,7 @@ ShutStaysWithin =
 abbrev pub ReadStaysWithOwner : Type 0
 ReadStaysWithOwner = (p : Place) → Covers (of_owner (owner_of p)) (of_read p)
 
--- What a write of a place may change belongs to the place's owner, for a register that affects only its owner.
+-- What a write to a place may change belongs to the place's owner, for a register that affects only its owner.
 abbrev pub WriteStaysWithOwner : Type 0
 WriteStaysWithOwner =
     (p : Place) → IsTrue (is_own (row_of p.row).kind) → Covers (of_owner (owner_of p)) (of_write p)

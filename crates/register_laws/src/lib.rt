@@ -105,7 +105,7 @@ pub fn changes_stay_in_their_footprint()
 {}
 
 /// Every place has an owner. A read changes nothing that belongs to another owner. The same holds for a write that
-/// requests no reset, unless it is a write of PVFMAILBOX, PFMAILBOX or CTRL_EXT. Raised causes and messages change only
+/// requests no reset, unless it is a write to PVFMAILBOX, PFMAILBOX or CTRL_EXT. Raised causes and messages change only
 /// causes, masks and reported bits.
 pub fn accesses_stay_with_their_owner()
     ensures read { ReadStaysWithOwner }
@@ -148,12 +148,12 @@ pub fn shut_side_is_off()
     ensures transmit { ShutIsOffTransmit }
 {}
 
-/// While a side of a queue is enabled, a write of its ring's base, length or head changes nothing.
+/// While a side of a queue is enabled, a write to its ring's base, length or head changes nothing.
 pub fn ring_is_held_while_on()
     ensures { RingIsHeldWhileOn }
 {}
 
-/// After a write of a side's tail, control word or write-back address, the side has the written value. The same holds
+/// After a write to a side's tail, control word or write-back address, the side has the written value. The same holds
 /// for a base, length or head while the side is disabled. Only the bits that the register's mask has and the address
 /// shows are written. The rest of the side is unchanged.
 pub fn written_word_is_the_sides()
@@ -161,7 +161,7 @@ pub fn written_word_is_the_sides()
     ensures transmit { WrittenTransmitIsTheSides }
 {}
 
-/// A write of a side's enable word changes only the side's enable request, which becomes bit 25 of the written word:
+/// A write to a side's enable word changes only the side's enable request, which becomes bit 25 of the written word:
 /// the side stays enabled or disabled, and its ring is unchanged. Bit 25 of a side's enable word, as read, shows
 /// whether the side is enabled.
 pub fn enable_write_only_asks()

@@ -7,7 +7,7 @@ ghost use Rattle.rss_hash.specs.Tables.{joined, high_share, low_share, AreItsWin
 use crate::key::Key;
 
 /// Refills the tables of the half bytes that use a bit of the key's written word. Row `n` has, for each value of half
-/// byte `n`, the exclusive or of its windows. It isn't inlined, to keep its code out of the writes of other registers.
+/// byte `n`, the exclusive or of its windows. It isn't inlined, to keep its code out of the writes to other registers.
 #[inline(never)]
 pub(crate) fn refill_tables(tables: &mut [[u32; 16]; 72], words: &[u32; 10], index: usize)
     requires index { index < 10 }

@@ -31,8 +31,8 @@ const RUNS: [(&str, &str, &str, u8); 15] = [
     ("hash", "nicbench hash", "txt", 0),
 ];
 
-/// The command line that creates bytes from a text, the command line that prints the bytes, and the kinds of the three
-/// files.
+/// The command line that creates bytes from a source, the command line that prints the bytes, and the kinds of the
+/// three files.
 type Forms = (
     &'static str,
     &'static str,
@@ -51,7 +51,7 @@ const IMAGE: Forms = (
 
 const OBJECT: Forms = ("nicbench asm", "nic", "object", "nicbench dis", "dis");
 
-/// The EEPROM texts, and the scripts with objects.
+/// The EEPROM sources, and the scripts with objects.
 const TEXTS: [(&str, Forms); 5] = [
     ("image", IMAGE),
     ("blank", IMAGE),

@@ -1,4 +1,4 @@
-//! `eeprom_image`: assembling texts and loading files.
+//! `eeprom_image`: assembling sources and loading files.
 //!
 //! `assemble TEXT` and `load BYTES` print an image as its number of words, the words other than 0xFFFF, and its
 //! register writes, or print the fault. The file of an assembled image is loaded again, and `other` is printed if the

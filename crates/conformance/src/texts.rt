@@ -1,7 +1,7 @@
 //! `text_format`: lines, words, numbers, names and hex data.
 //!
-//! In a text, `\n`, `\r` and `\t` stand for a line feed, a carriage return and a tab. `lines` prints a bar, then each
-//! line's number, its text and a bar. `words` prints the words between bars.
+//! In a string, `\n`, `\r` and `\t` stand for a line feed, a carriage return and a tab. `lines` prints a bar, then each
+//! line's number, its contents and a bar. `words` prints the words between bars.
 
 use crate::call::Call;
 use std::alloc::{AllocError, Global};
@@ -27,7 +27,8 @@ pub fn answer(alloc: Global, call: Call<'_>) -> Result<String, AllocError> {
     }
 }
 
-/// Returns the bytes that a text spells in hex, or none if it isn't hex. The text may contain blanks and line feeds.
+/// Returns the bytes that a string spells in hex, or no bytes if it isn't hex. The string may contain blanks and line
+/// feeds.
 pub fn hex_in(alloc: Global, text: &str) -> Result<Vec<u8>, AllocError> {
     let digits = text.replace(alloc, "\n", "")?.replace(alloc, " ", "")?;
     Ok(hex_bytes(alloc, digits.as_str()).unwrap_or(Vec::new(alloc)))

@@ -155,7 +155,7 @@ in_flat (t ∷ triples) (suc k) offset word h =
     let third : 3 * suc k + 2 ≡ suc (suc (suc (3 * k + 2))) = omega arith in
     (ap (nth all) first ∙ rest.0, ap (nth all) second ∙ rest.1, ap (nth all) third ∙ rest.2)
 
--- A word of the section of a text is the next of its register writes.
+-- A word of the section of a source is the next word of its register writes.
 in_section : (content : Content) (t : ℕ × ℕ) (triples : List (ℕ × ℕ)) → content.triples ≡ t ∷ triples → (i j : ℕ) →
     i < 3 * length content.triples → 65 + i ≡ j → plain_word content j ≡ nth (flat_map triple_words content.triples) i
 in_section content t triples some i j below is =

@@ -58,7 +58,8 @@ abbrev pub MailboxesShake : Type 0
 MailboxesShake =
     (around : Surroundings) (r : Registers) → HasShape r → (v w : ℕ) → v < 64 → Shakes around r v w
 
--- A bit written as 1 to PFMBICR[k] is cleared. No other bit of it is cleared, nor a bit of another PFMBICR.
+-- A bit written as 1 to PFMBICR[k] is cleared. No other bit of this register is cleared, nor any bit of another
+-- PFMBICR.
 abbrev pub OnesAreCleared : Type 0
 OnesAreCleared =
     (around : Surroundings) (r : Registers) → HasShape r → (k j w bit : ℕ) → k < 4 → j < 4 → bit < 32 →

@@ -15,7 +15,7 @@ pool_has Pools32 v q = q / 4 == v
 pool_has Pools64 v q = q / 2 == v
 
 -- Whether the reset affects register j of a row. Of the interrupts, the packet types, the counters and the mailbox's
--- vector, it resets the function's. Of the rings, it resets those of the pool's queues, and the words with their
+-- vector, it resets the function's. Of the rings, it resets the rings of the pool's queues, and the words with their
 -- vectors, two queues in each.
 abbrev pub takes : Mode → (v : ℕ) → RowId → (j : ℕ) → Bool
 takes mode v row.Pvfctrl j = j == v

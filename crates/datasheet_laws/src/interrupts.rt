@@ -90,7 +90,7 @@ pub fn messages_are_shared()
 
 /// The holder of a mailbox keeps it through every event except the writes, through either port, that end the hold. For
 /// the function, these are a write to PVFMAILBOX with bit 2 clear, a write to PFMAILBOX with bit 4 set, and a reset of
-/// its pool or of the device. For the physical function, they are a write to PFMAILBOX with bit 3 clear, and a reset of
+/// its pool or the device. For the physical function, they are a write to PFMAILBOX with bit 3 clear, and a reset of
 /// the device.
 #[tactic(auto, using(crate::proofs::Holding::function_holds_on, crate::proofs::Holding::physical_holds_on))]
 pub fn holders_hold_on()
@@ -99,8 +99,8 @@ pub fn holders_hold_on()
 {}
 
 /// From one reset of the device to the next, at most one read of PVFMAILBOX[v], through either port, returns bit 7,
-/// RSTD, which says that a reset is done. Bit 6, RSTI, says that a reset began. A write to CTRL_EXT with bit 14 set
-/// sets RSTD for each function that reads 1 in RSTI or already in RSTD, and clears RSTI for all functions.
+/// RSTD, which reports that a reset is done. Bit 6, RSTI, reports that a reset began. A write to CTRL_EXT with bit 14
+/// set sets RSTD for each function that reads 1 in RSTI or already in RSTD, and clears RSTI for all functions.
 pub fn ends_are_reported_once()
     ensures once { EndIsReportedOnce }
     ensures reported { EndIsReported }
@@ -113,21 +113,21 @@ pub fn requests_are_apart()
 {}
 
 /// An interrupt step gets the reply `NoGroup` if and only if it names a virtual function v that the device doesn't have
-/// or that has no pool. The device doesn't have it if v is `vfs` or more. It has no pool if v is 16 or more and GCR_EXT
-/// bits 1 to 0 are 1, if v is 32 or more and they are 2, if v is 64 or more and they are 3, or if they are 0. Otherwise
-/// the step is idle if and only if CTRL bit 2 is 1 or no bit is due. A bit is due if its cause and mask are 1, it isn't
-/// reported, and it has a vector. A step that gets `NoGroup` or is idle changes nothing. In every other case, the step
-/// reports the lowest due bit, and no other. The vector of bits 0 to 15 of EICR and of the bits of PVTEICR is their own
-/// number. For bits 16 to 29, it is IVAR_MISC bits 13 to 8 if bit 15 is 1, and for bit 30 its bits 5 to 0 if bit 7 is
-/// 1, each below 16. The bit's cause is cleared if EIAC contains it, and its mask if GPIE bit 30 is 1 and EIAM contains
-/// it.
+/// or that has no pool. The device doesn't have it if v is `vfs` or more. It has no pool if v is at least the number of
+/// pools: 16 while GCR_EXT bits 1 to 0 are 1, 32 while they are 2, 64 while they are 3, and 0 while they are 0.
+/// Otherwise the step is idle if and only if CTRL bit 2 is 1 or no bit is due. A bit is due if its cause and mask are
+/// 1, it isn't reported, and it has a vector. A step that gets `NoGroup` or is idle changes nothing. In every other
+/// case, the step reports the lowest due bit, and no other. The vector of bits 0 to 15 of EICR and of the bits of
+/// PVTEICR is their own number. For bits 16 to 29, it is IVAR_MISC bits 13 to 8 if bit 15 is 1, and for bit 30 its bits
+/// 5 to 0 if bit 7 is 1, each below 16. The bit's cause is cleared if EIAC contains it, and its mask if GPIE bit 30 is
+/// 1 and EIAM contains it.
 #[tactic(auto, using(crate::proofs::Telling::steps))]
 pub fn message_steps_tell_what_is_due()
     ensures { MessageStepsTellWhatIsDue }
 {}
 
 /// A read of a register gets the reply `Word`, and a write `Done`, through either port and at each of its addresses and
-/// offsets. This includes a write that changes nothing, for example of a register that is read-only or held.
+/// offsets. This includes a write that changes nothing, for example a write to a register that is read-only or held.
 #[tactic(auto, using(crate::proofs::Answered::answered))]
 pub fn accesses_are_answered()
     ensures { AccessesAreAnswered }
@@ -152,7 +152,7 @@ pub fn heads_move_on()
 
 /// The end of a frame on queue q, which belongs to no virtual function, raises the cause in EICR that byte 2(q mod 2)
 /// of IVAR[q/2] names. A report of the queue raises the cause that the next byte names. For queue x of virtual function
-/// v with k queues, the same holds of byte 2(x mod 2) of PVTIVAR[v*k/2 + x/2] and the next byte. The cause is then in
+/// v with k queues, the same holds for byte 2(x mod 2) of PVTIVAR[v*k/2 + x/2] and the next byte. The cause is then in
 /// PVTEICR[v]. If bit 7 of a byte is 1, its bits 5 to 0 name the cause: at most 15 in EICR, at most 2 in PVTEICR[v]. No
 /// other bit of EICR, EIMS, EIAC and EIAM changes, in any group.
 #[tactic(auto, using(crate::proofs::Raising::ivar_names, crate::proofs::Raising::pvtivar_names))]

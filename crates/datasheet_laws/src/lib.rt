@@ -66,7 +66,7 @@ pub fn mailboxes_shake()
 {}
 
 /// A write to PVFMAILBOX[v] changes only its bit 2, and a write to PFMAILBOX[v] only bits 5 to 2. Every other bit of
-/// it, and the mailbox of every other function, reads as before. A read of one leaves the others unchanged.
+/// the mailbox, and the mailbox of every other function, reads as before. A read of one leaves the others unchanged.
 #[tactic(auto, using(crate::proofs::MailOthers::others_stay))]
 pub fn mailboxes_keep_other_bits()
     ensures { OtherBitsStay }
@@ -98,7 +98,7 @@ pub fn mailboxes_raise_causes()
     ensures function { PhysicalRaises }
 {}
 
-/// The reset of function v's pool clears bits 2, 4 and 5 of PVFMAILBOX[v], and no other bit of it.
+/// The reset of function v's pool clears bits 2, 4 and 5 of PVFMAILBOX[v], and no other bit of that register.
 #[tactic(auto, using(crate::proofs::MailReset::left))]
 pub fn pool_resets_leave_mailboxes()
     ensures { PoolResetsLeave }
@@ -206,10 +206,10 @@ pub fn hash_is_of_the_key()
 
 /// CTRL bit 2, at 0x00000, stops the device's steps. RXCTRL bit 0, at 0x03000, enables reception, and DMATXCTL bit 0,
 /// at 0x04A80, transmission. Bit 10 of HLREG0, at 0x04240, pads frames. The frame limit is 1,514 bytes, or, if HLREG0
-/// bit 2 is 1, MAXFRS bits 31 to 16, at 0x04268, minus 4. Bit 5 of GPIE, at 0x00898, says whether a read of EICR clears
-/// only bits 29 to 16, and bit 30 whether the auto-mask is only for messages. SRRCTL[q] bit 28 drops frames for which
-/// there is no descriptor. If TDWBAL[q] bit 0 is 1, the head is written to the address in TDWBAH[q] and TDWBAL[q] bits
-/// 31 to 2. A clear-on-read counter is incremented by one each time, and saturates at 0xFFFFFFFF.
+/// bit 2 is 1, MAXFRS bits 31 to 16, at 0x04268, minus 4. Bit 5 of GPIE, at 0x00898, determines whether a read of EICR
+/// clears only bits 29 to 16, and bit 30 whether the auto-mask is only for messages. SRRCTL[q] bit 28 drops frames for
+/// which there is no descriptor. If TDWBAL[q] bit 0 is 1, the head is written to the address in TDWBAH[q] and TDWBAL[q]
+/// bits 31 to 2. A clear-on-read counter is incremented by one each time, and saturates at 0xFFFFFFFF.
 pub fn settings_are_bits()
     ensures device { DevicesAreSet }
     ensures queue { QueuesAreSet }

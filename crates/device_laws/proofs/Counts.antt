@@ -1,4 +1,4 @@
--- Each event counts exactly where its reply says.
+-- Each event counts exactly in the counters that its reply implies.
 use Rattle.std.proofs.Common.{◌≡◌, ℕ, List, [], ◌∷◌, length, refl, arith, Ok, Err, nat_lt}
 use Rattle.std.specs.Prelude.{Result, ◌&&◌, ◌==◌}
 use Rattle.nic_device.specs.RegTable.declared.kind.Kind.TheVariants as kind

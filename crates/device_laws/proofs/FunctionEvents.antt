@@ -1,4 +1,4 @@
--- Each event counts for virtual functions exactly where its reply says.
+-- Each event counts for virtual functions exactly in the counters that its reply implies.
 use Rattle.std.proofs.Common.{◌≡◌, ◌≢◌, ℕ, false, refl, ap, sym, ◌∙◌}
 use Rattle.std.specs.Prelude.{cond, ◌==◌, ◌&&◌, IsFalse}
 use Rattle.std.proofs.lemmas.Bool.{cond_both, or_parts}

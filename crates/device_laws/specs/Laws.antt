@@ -127,7 +127,8 @@ ResetGivesResetValues =
     (s : State) (address word : ℕ) (p : Place) → Names address p → IsTrue (asks_reset (row_of p.row).kind word) →
     triples_of s.image ≡ [] → HasResetValues (after_write s address word)
 
--- An event that writes none of the registers that set the frame limit and the mode, nor the one that requests a reset.
+-- An event that writes none of the registers that set the frame limit and the mode, nor the register that requests a
+-- reset.
 pub record IsOfNoSetting (p : Place) : Type 0 where
   pub control : p.row ≢ Ctrl
   pub jumbo : p.row ≢ Hlreg0

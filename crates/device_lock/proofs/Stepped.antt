@@ -46,7 +46,7 @@ after_device : (h : Held) (tag : ℕ) (es : List (Event Block)) → (after_calls
 after_device h tag [] = refl
 after_device h tag (e ∷ es) = after_device (after_call h tag e) tag es
 
--- The history held stays legal.
+-- The history under the lock stays legal.
 legal_after : (s : State) (h : Held) (tag : ℕ) (es : List (Event Block))
     → IsLegal s h.history → leads_to s h.history ≡ h.device → IsLegal s (after_calls h tag es).history
 legal_after s h tag [] legal leads = legal

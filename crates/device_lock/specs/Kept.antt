@@ -17,9 +17,9 @@ pub record Held : Type 0 where
 abbrev pub entries_of : ℕ → List Entry → ℕ
 entries_of tag h = count_by (λ (e : Entry). e.pass == tag) h
 
--- The history is legal from a new device and leads to the one held. Its events are ones that a driver can cause, and
--- its tags are below 64. It is no longer than the limit, which is at most 1,000,000. The count of each tag below 64 is
--- its number of entries.
+-- The history is legal from a new device and leads to the state of the device under the lock. Its events are ones that
+-- a driver can cause, and its tags are below 64. It is no longer than the limit, which is at most 1,000,000. The count
+-- of each tag below 64 is its number of entries.
 pub record IsKept (vfs fifo : ℕ) (h : Held) (counts : List ℕ) : Type 0 where
   pub legal : IsLegal (new_state vfs fifo) h.history
   pub leads : leads_to (new_state vfs fifo) h.history ≡ h.device
@@ -29,7 +29,7 @@ pub record IsKept (vfs fifo : ℕ) (h : Held) (counts : List ℕ) : Type 0 where
   pub small : h.limit ≤ 1000000
   pub counted : (tag : ℕ) → tag < 64 → slice_index counts tag ≡ entries_of tag h.history
 
--- The history is legal from a new device and leads to the one held.
+-- The history is legal from a new device and leads to the state of the device under the lock.
 pub record IsLed (vfs fifo : ℕ) (h : Held) : Type 0 where
   pub legal : IsLegal (new_state vfs fifo) h.history
   pub leads : leads_to (new_state vfs fifo) h.history ≡ h.device

@@ -45,8 +45,8 @@ abbrev pub calls_made : State → List (Event Block) → List Call
 calls_made s [] = []
 calls_made s (event ∷ events) = call_of event (step_of s event).reply ∷ calls_made (step_of s event).state events
 
--- These events ran on the device held, as calls of the pass. Only they advance the data held, and the pass gained
--- exactly their calls, each with the device's reply.
+-- These events ran on the device under the lock, as calls of the pass. Only they change the data under the lock, and
+-- the pass gained exactly their calls, each with the device's reply.
 pub record AreMade (held : Held) (old : PassValue) (events : List (Event Block)) (then : Held) (new : PassValue)
     : Type 0 where
   pub under : then ≡ after_calls held old.tag events

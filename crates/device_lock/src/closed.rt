@@ -42,8 +42,8 @@ impl<const VFS: u8, const FIFO: u16> Model for Closed<VFS, FIFO> {
 }
 
 impl<const VFS: u8, const FIFO: u16> Closed<VFS, FIFO> {
-    /// Returns all calls, oldest first. They are legal from a new device and lead to the device held. Each belongs to a
-    /// pass. Their events are ones that a driver can cause.
+    /// Returns all calls, oldest first. They are legal from a new device and lead to the state of the device stored
+    /// here. Each belongs to a pass. Their events are ones that a driver can cause.
     pub fn history(&self) -> &[Entry]
         ensures entries { result.now ≡ self.now.history }
         ensures legal { IsLegal (new_state VFS FIFO) self.now.history }

@@ -37,7 +37,8 @@ impl<const VFS: u8, const FIFO: u16> Model for Unlocked<VFS, FIFO> {
 
 impl<const VFS: u8, const FIFO: u16> Unlocked<VFS, FIFO> {
     /// Returns the calls so far, oldest first, at most as many as the limit. They are legal from a new device and lead
-    /// to the device held. Their events are ones that a driver can cause, and their tags are below 64.
+    /// to the state of the device stored here. Their events are ones that a driver can cause, and their tags are below
+    /// 64.
     pub fn history(&self) -> &[Entry]
         ensures entries { result.now ≡ self.now.history }
         ensures legal { IsLegal (new_state VFS FIFO) self.now.history }

@@ -10,6 +10,6 @@ use Rattle.dma_arena.specs.contracts.raw.Raw.{the_row}
 abbrev pub with_value : {X Z : Type 0} → Raw X Z → X → Raw X Z
 with_value r w = record { at = r.at; alloc = r.alloc; value = w }
 
--- The memory ends with the value last written through the result.
+-- The memory finally contains the value last written through the result.
 abbrev pub Follows : (R Z : RattleType) (g : Ghosts Z.Denot) → MutBor (Raw R.Denot Z.Denot) → MutBor R.Denot → Fml
 Follows R Z g raw value = follows (the_row R Z g) R raw.ghost_name value.ghost_name (with_value raw.now)

@@ -138,7 +138,7 @@ held-same h g all =
     ∙ ap (λ (l : List ℕ). record { number = g.number; zeros = h.zeros; kept = l }) all.1
     ∙ ap (λ (z : ℕ). record { number = g.number; zeros = z; kept = g.kept }) all.2
 
--- What a note holds of a block: its number, its kept bytes, and the number of zeros that follow.
+-- What a note stores of a block: its number, its kept bytes, and the number of zeros that follow.
 module _ (buf : Block) (bytes : List ℕ) (kept n z : ℕ) (h : Held)
     (is : h ≡ record { number = n; zeros = z; kept = bytes })
     (all : kept ≡ kept_len buf.bytes) (front : bytes ≡ take kept buf.bytes) where

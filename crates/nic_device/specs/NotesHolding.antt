@@ -1,4 +1,4 @@
--- What a note holds of a block.
+-- What a note stores of a block.
 use Rattle.std.specs.Prelude.{ℕ, List}
 use Rattle.nic_device.specs.declared.notes_holding.Parts.{Parts}
 use Rattle.nic_device.specs.declared.notes_holding.Parts.TheVariants.{Own, Common}

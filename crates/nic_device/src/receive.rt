@@ -106,7 +106,8 @@ fn wrote(queue: u16, filled: &Filled) -> Reply
     }
 }
 
-/// Puts a frame, after one more piece of it was written, back at the front of the receive list unless it has ended.
+/// After one more piece of a frame is written, puts the frame back at the front of the receive list, unless the frame
+/// has ended.
 fn put_back(waiting: &mut VecDeque<Waiting>, first: Waiting, filled: &Filled)
     requires piece { first.offset + filled.now.len ≤ length first.frame }
     requires room { deque_len waiting.old < deque_capacity waiting.old }

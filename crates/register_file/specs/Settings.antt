@@ -1,4 +1,4 @@
--- Settings held in single bits and fields of registers.
+-- Settings in single bits and fields of registers.
 use Rattle.std.specs.Prelude.{ℕ, ◌+◌, ◌-◌, ◌*◌, ◌/◌, ◌^◌, Bool, Option, Some, None, if◌then◌else◌}
 use Rattle.reg_table.specs.declared.rows.RowId.TheVariants.{Ctrl, Srrctl, Rxctrl, Hlreg0, Maxfrs, Dmatxctl, Tdwbal, Tdwbah}
 use Rattle.register_file.specs.Bits.{has_bit}

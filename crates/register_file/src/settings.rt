@@ -1,4 +1,4 @@
-//! Device settings held in single bits and fields of registers.
+//! Device settings in single bits and fields of registers.
 
 ghost use Rattle.std.specs.Prelude.{◌≡◌, ◌≤◌, ◌<◌};
 ghost use Rattle.reg_table.specs.declared.rows.RowId.TheVariants.{Srrctl};

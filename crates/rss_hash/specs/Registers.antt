@@ -11,7 +11,8 @@ bytes_of_registers words = flat_map (to_le_bytes w32) words
 unfoldable pub entry_of : List ℕ → ℕ → ℕ
 entry_of table hash = slice_index (bytes_of_registers table) (hash % 128) % 16
 
--- The entry is the one that the hash selects in every table of 32 words that has this word at the entry's position.
+-- The entry equals the entry that the hash selects in every table of 32 words that has this word at the entry's
+-- position.
 abbrev pub IsEntryIn : (word hash entry : ℕ) → Type 0
 IsEntryIn word hash entry =
     (table : List ℕ) → length table ≡ 32 → slice_index table (hash % 128 / 4) ≡ word → entry ≡ entry_of table hash

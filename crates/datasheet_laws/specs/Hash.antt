@@ -14,7 +14,7 @@ key_bit r k = holds r (0x0EB80 + 4 * (k / 32)) (8 * (k / 8 % 4) + (7 - k % 8))
 abbrev pub input_bit : List ℕ → (k : ℕ) → Bool
 input_bit input k = has_bit (7 - k % 8) (slice_index input (k / 8))
 
--- Bit 31 - j of a hash is 1 if an odd number of input bits k are 1 with bit k + j of the key also 1.
+-- Bit 31 - j of a hash is 1 if, for an odd number of k, bit k of the input and bit k + j of the key are both 1.
 abbrev pub HashIsOfTheKey : Type 0
 HashIsOfTheKey =
     (r : Registers) → HasShape r → (frame input : List ℕ) →

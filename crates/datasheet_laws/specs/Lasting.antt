@@ -15,8 +15,8 @@ abbrev pub IsPoolReset : Group → Place → Type 0
 IsPoolReset Pf p = ⊥
 IsPoolReset (Vf v) p = p ≡ place Pvfctrl v
 
--- A write is neither a write to EIMC with the bit nor a write to EICR with the bit if the bit masks itself, and it
--- requests no reset of the device or of the function's pool. The same holds for PVTEIMC and PVTEICR.
+-- A write is neither a write to EIMC with the bit set nor a write to EICR with the bit set if the bit masks itself, and
+-- it requests no reset of the device or of the function's pool. The same holds for PVTEIMC and PVTEICR.
 pub record SparesMask (s : State) (g : Group) (bit : ℕ) (p : Place) (view word : ℕ) : Type 0 where
   pub mask_clear : p ≡ mask_clear_register g → IsFalse (has_bit bit word && has_bit bit view)
   pub cause : p ≡ cause_register g → IsFalse (has_bit bit word && has_bit bit view && masks_itself s g bit)

@@ -87,7 +87,7 @@ pub record HasAddresses (g : Group) : Type 0 where
   pub auto_mask : IsAddressOf (auto_mask_register g) (auto_mask_address g) 0xFFFFFFFF
   pub general : IsAddressOf (place Gpie 0) general_address 0xFFFFFFFF
 
--- The low views, which show only bits 15 to 0.
+-- The low views show only bits 15 to 0.
 pub record HasLowViews : Type 0 where
   pub cause_set : IsAddressOf (place Eics 0) 0x00A90 0xFFFF
   pub mask : IsAddressOf (place Eims 0) 0x00AA0 0xFFFF

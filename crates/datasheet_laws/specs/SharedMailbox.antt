@@ -18,7 +18,7 @@ pub record IsMailbox (s : State) (v : ℕ) : Type 0 where
   pub holder : IsFalse (reads_one s (function_mail v) 2 && reads_one s (function_mail v) 3)
   pub end : IsFalse (reads_one s (function_mail v) 6 && reads_one s (function_mail v) 7)
 
--- In every device that was new and to which any resets, EEPROM words and accesses then happened, both sides read the
--- same holder of a mailbox.
+-- In every device, whatever resets, EEPROM words and accesses have happened since it was new, both sides read the same
+-- holder of a mailbox.
 abbrev pub MailboxesAreShared : Type 0
 MailboxesAreShared = (s : State) → IsSound s → (v : ℕ) → v < 64 → IsMailbox s v

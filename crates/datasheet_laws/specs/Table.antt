@@ -126,7 +126,7 @@ pub record IsListed (row : RowId) : Type 0 where
 abbrev pub RegistersAreListed : Type 0
 RegistersAreListed = (row : RowId) → IsListed row
 
--- The further addresses of registers that show all bits.
+-- These further addresses show all bits of their registers.
 pub record HasAliases : Type 0 where
   pub control : access_at 0x00004 ≡ Some (access Ctrl 0 whole)
   pub receive_control : (i : ℕ) → i < 16 → access_at (0x02100 + 4 * i) ≡ Some (access Srrctl i whole)
@@ -137,7 +137,7 @@ pub record HasAliases : Type 0 where
   pub key : (i : ℕ) → i < 10 → access_at (0x0EB80 + 4 * i) ≡ Some (access Rssrk i whole)
   pub packet_types : (v : ℕ) → v < 16 → access_at (0x05480 + 4 * v) ≡ Some (access Psrtype v whole)
 
--- The further addresses that show only bits 15 to 0.
+-- These further addresses show only bits 15 to 0 of their registers.
 pub record HasLowViews : Type 0 where
   pub causes_set : access_at 0x00A90 ≡ Some (access Eics 0 0xFFFF)
   pub masks : access_at 0x00AA0 ≡ Some (access Eims 0 0xFFFF)

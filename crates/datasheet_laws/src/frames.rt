@@ -56,8 +56,8 @@ pub fn queues_go_by_mrqc()
 /// IPv4 has 0x0800 in bytes 12 and 13, version 4 in byte 14, and a complete header of at least 20 bytes. IPv6 has
 /// 0x86DD, version 6 and a complete 40-byte header. TCP is protocol 6 and UDP 17, in byte 23 of an IPv4 packet that
 /// isn't a fragment, or byte 20 of an IPv6 packet; the four bytes of its ports are present. While RXCSUM bit 13 is 1,
-/// the hash, with the key in RSSRK, covers source and destination address, and also the ports for types 1, 7, 3 and 8;
-/// for type 0 it covers no bytes. While the bit is 0, the hash is 0.
+/// the hash, with the key in RSSRK, covers the source and destination addresses. For types 1, 7, 3 and 8 it also covers
+/// the ports; for type 0 it covers no bytes. While the bit is 0, the hash is 0.
 #[tactic(auto, using(crate::proofs::Types::have_types))]
 pub fn frames_have_types()
     ensures { FramesHaveTypes }
@@ -73,9 +73,9 @@ pub fn receiving_has_its_reasons()
     ensures met { EachReasonIsMet }
 {}
 
-/// A receive step removes the oldest frame from the receive list if and only if the step writes its last byte, drops
-/// it, or has a fault; the other frames are unchanged. If the step writes a piece that isn't the last, the frame stays
-/// at the front. Its offset advances by the number of written bytes, at least one, and some bytes remain.
+/// A receive step removes the oldest frame from the receive list if and only if the step writes the frame's last byte,
+/// drops the frame, or has a fault; the other frames are unchanged. If the step writes a piece that isn't the last, the
+/// frame stays at the front. Its offset advances by the number of written bytes, at least one, and some bytes remain.
 #[tactic(auto, using(crate::proofs::Leaving::leaves_at_end))]
 pub fn frames_leave_at_their_end()
     ensures { FramesLeaveAtTheirEnd }
@@ -144,10 +144,10 @@ pub fn reports_are_written_back()
 {}
 
 /// A transmitted frame consists of the bytes that its queue staged, followed by the bytes of the descriptor at the
-/// head, which is of type 3 with EOP. While HLREG0 bit 10 is 1, it is padded with zero bytes to 60. It has the reported
-/// length, is appended to the transmitted frames, and nothing is staged afterwards. The bytes of a descriptor of type 3
-/// without EOP are staged after the others. A descriptor of type 2 stages nothing, and a fault drops what is staged.
-/// None of these changes the transmitted frames.
+/// head, which is of type 3 with EOP. While HLREG0 bit 10 is 1, the frame is padded with zero bytes to 60 bytes. The
+/// frame has the reported length and is appended to the transmitted frames. Nothing is staged afterwards. The bytes of
+/// a descriptor of type 3 without EOP are staged after the others. A descriptor of type 2 stages nothing, and a fault
+/// drops what is staged. None of these changes the transmitted frames.
 #[tactic(auto, using(crate::proofs::Fetched::goes_out_whole))]
 pub fn frames_go_out_whole()
     ensures { FramesGoOutWhole }
@@ -169,9 +169,9 @@ pub fn switched_side_is_as_wanted()
 {}
 
 /// A write to PVFCTRL[v] with bit 26 set, through either port, drops the frames of the receive list for pool v's
-/// queues, whether partly written or not, and what these queues staged. With GCR_EXT bits 1 to 0 at 1, these are queues
-/// 8v to 8v + 7; with 2, 4v to 4v + 3; with 3, 2v and 2v + 1; with 0, none. The frames for all other queues stay in
-/// order, and these queues keep what they staged. Lent memory, the transmitted frames and the link are unchanged.
+/// queues, whether partly written or not, and what these queues staged. If GCR_EXT bits 1 to 0 are 1, these are queues
+/// 8v to 8v + 7; if 2, 4v to 4v + 3; if 3, 2v and 2v + 1; if 0, none. The frames for all other queues stay in order,
+/// and these queues keep what they staged. Lent memory, the transmitted frames and the link are unchanged.
 #[tactic(auto, using(crate::proofs::FramePoolResets::resets_drop))]
 pub fn pool_resets_drop_their_frames()
     ensures { PoolResetsDropFrames }
@@ -192,9 +192,9 @@ pub fn oldest_is_collected()
 {}
 
 /// Lending a block succeeds if and only if no block with its number is lent; otherwise the block is handed back. A
-/// `Take` gets the reply `NotLent` and changes nothing if and only if the block isn't lent. So does a `Peek16` or a
-/// `Poke16` at a multiple of 16. A lent block is taken back once, with the bytes that it then contains. A `Peek16` at a
-/// multiple of 16 returns 16 bytes of a lent block and changes nothing.
+/// `Take` gets the reply `NotLent` and changes nothing if and only if the block isn't lent. The same holds for a
+/// `Peek16` or a `Poke16` at a multiple of 16. A lent block is taken back once, with the bytes that it then contains. A
+/// `Peek16` at a multiple of 16 returns 16 bytes of a lent block and changes nothing.
 #[tactic(auto, using(crate::proofs::Memory::calls_answer))]
 pub fn memory_calls_answer()
     ensures { MemoryCallsAnswer }

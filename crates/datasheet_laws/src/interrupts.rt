@@ -71,10 +71,10 @@ pub fn auto_words_are_kept()
     ensures mask { WriteOfAutoMaskIsKept }
 {}
 
-/// In every device that was new and to which any events then happened, PFMAILBOX[v] reads in bits 2 and 3 as
-/// PVFMAILBOX[v] does: both sides read the same holder of a function's mailbox, either the function (VFU, bit 2) or the
-/// physical function (PFU, bit 3), and at most one of them. The function reads that a reset began (RSTI, bit 6) or that
-/// it is done (RSTD, bit 7), but never both.
+/// In every device, whatever events have happened since it was new, PFMAILBOX[v] reads in bits 2 and 3 as PVFMAILBOX[v]
+/// does: both sides read the same holder of a function's mailbox, either the function (VFU, bit 2) or the physical
+/// function (PFU, bit 3), and at most one of them. The function reads that a reset began (RSTI, bit 6) or that it is
+/// done (RSTD, bit 7), but never both.
 pub fn mailboxes_are_shared()
     ensures { MailboxesAreShared }
 {}
@@ -162,8 +162,8 @@ pub fn vectors_name_causes()
 {}
 
 /// An arriving frame that finds the list full raises cause 17 of EICR, at 0x00800. A fault of a receive or transmit
-/// step raises cause 18, and a change of the link cause 20. No other cause or mask changes, and no other arrival or
-/// `Link` event raises any.
+/// step raises cause 18, and a link change cause 20. No other cause or mask changes, and no other arrival or `Link`
+/// event raises any.
 #[tactic(auto, using(crate::proofs::Raised::by_number))]
 pub fn device_raises_by_number()
     ensures { DeviceRaisesByNumber }
@@ -184,8 +184,8 @@ pub fn vfte_mutes_pools()
     ensures { VfteMutesPools }
 {}
 
-/// A mask that is set stays set until one of these events: a write to EIMC with the bit; an access to EICR on which the
-/// auto-mask clears the bit; a message of the group while GPIE bit 30 is 1 and the auto-mask contains the bit; or a
+/// A mask that is set stays set until one of these events: a write to EIMC with the bit set; an access to EICR on which
+/// the auto-mask clears the bit; a message of the group while GPIE bit 30 is 1 and the auto-mask contains the bit; or a
 /// reset of the device or of the function's pool.
 #[tactic(auto, using(crate::proofs::Lasting::masks_last))]
 pub fn masks_last()
@@ -211,7 +211,7 @@ pub fn plain_writes_are_alone()
     ensures timers { TimersHaveNoEffect }
 {}
 
-/// CTRL_EXT reads 0 in a new device, stores all 32 bits that are written, and a read of it changes nothing. A write of
+/// CTRL_EXT reads 0 in a new device, stores all 32 bits that are written, and a read of it changes nothing. A write to
 /// it doesn't change what other registers read, except PVFMAILBOX and PFMAILBOX. With bit 14 clear, these too read as
 /// before, and the rest of the device stays unchanged.
 pub fn ctrl_ext_keeps_what_is_written()

@@ -66,7 +66,8 @@ pub fn mailboxes_shake()
 {}
 
 /// A write to PVFMAILBOX[v] changes only its bit 2, and a write to PFMAILBOX[v] only bits 5 to 2. Every other bit of
-/// the mailbox, and the mailbox of every other function, reads as before. A read of one leaves the others unchanged.
+/// the mailbox, and the mailbox of every other function, reads as before. A read of one mailbox leaves the others
+/// unchanged.
 #[tactic(auto, using(crate::proofs::MailOthers::others_stay))]
 pub fn mailboxes_keep_other_bits()
     ensures { OtherBitsStay }
@@ -196,8 +197,8 @@ pub fn eeprom_is_read()
     ensures { EepromIsRead }
 {}
 
-/// Bit 31 - j of a frame's hash is 1 if an odd number of bits k of the hash's input are 1 with bit k + j of the key
-/// also 1. Bit k of the input is bit 7 - k mod 8 of byte k / 8. Bit k of the key is bit 8((k / 8) mod 4) + 7 - k mod 8
+/// Bit 31 - j of a frame's hash is 1 if, for an odd number of k, bit k of the hash's input and bit k + j of the key are
+/// both 1. Bit k of the input is bit 7 - k mod 8 of byte k / 8. Bit k of the key is bit 8((k / 8) mod 4) + 7 - k mod 8
 /// of RSSRK[k / 32], at 0x0EB80 + 4(k / 32).
 #[tactic(auto, using(crate::proofs::Hash::of_the_key))]
 pub fn hash_is_of_the_key()
@@ -216,10 +217,10 @@ pub fn settings_are_bits()
     ensures counter { CountersStay }
 {}
 
-/// An EEPROM image has 64, 128, 256 and so on up to 16,384 words of 16 bits. Words 0x03 to 0x0E, and no others, point
-/// to a word of the image, which says how many words follow it, all of them in the image. 0 and 0xFFFF point to no
-/// word, and say that no words follow. Words 0x00 to 0x3F, with the words that follow each word pointed to, add up to
-/// 0xBABA, modulo 2^16. Word 0x0D points to the register writes, of three words each: a quarter of the register's
+/// An EEPROM image has 64, 128, 256 and so on up to 16,384 16-bit words. Words 0x03 to 0x0E, and no others, point to a
+/// word of the image, which says how many words follow it, all of them in the image. 0 and 0xFFFF point to no word, and
+/// say that no words follow. Words 0x00 to 0x3F, with the words that follow each word pointed to, add up to 0xBABA,
+/// modulo 2^16. Word 0x0D points to the register writes, which are three words each: a quarter of the register's
 /// offset, then the low and the high half of the data. In a file, the low byte of each word is first. Of a file's
 /// faults, the first in this order is reported: an odd number of bytes, the size, what a word points to, the sum, the
 /// number of words of the register writes.

@@ -76,8 +76,8 @@ pub fn let_in_frame_is_counted()
 /// MPC counts frames that find the receive list full, RUC frames that are too short, ROC frames that are too long, GPRC
 /// accepted frames, and GPTC transmitted frames. QPRC, QPRDC and QPTC count the frames of queues in the counters that
 /// RQSMR and TQSM assign: QPRC counts completely written frames, QPRDC frames dropped because no descriptor was free,
-/// and QPTC transmitted frames. All these counters saturate at 0xFFFFFFFF. Otherwise only a read of the counter or a
-/// reset changes them.
+/// and QPTC transmitted frames. All these counters saturate at 0xFFFFFFFF. Apart from counting, only a read of the
+/// counter or a reset changes a counter.
 #[tactic(auto, using(crate::proofs::Counts::events_count))]
 pub fn events_count()
     ensures { EventsCount }
@@ -85,7 +85,7 @@ pub fn events_count()
 
 /// For each virtual function that the device has, VFGPRC counts the frames completely written on queues of the
 /// function's pool, and VFGPTC the frames transmitted from these queues. These counters wrap from 0xFFFFFFFF to 0.
-/// Otherwise only a reset of the device or of the function's pool changes them; a read doesn't.
+/// Apart from counting, only a reset of the device or of the function's pool changes a counter; a read doesn't.
 #[tactic(auto, using(crate::proofs::FunctionEvents::events_count_for_functions))]
 pub fn events_count_for_functions()
     ensures { EventsCountForFunctions }
@@ -127,7 +127,7 @@ pub fn image_is_reported_by_its_size()
 
 /// While CTRL bit 2 is 0, an EEPROM step provides the word that EERD requests: EERD then reads as the index, DONE set,
 /// START clear, and the image's word at that index, or 0xFFFF outside the image. If no word is requested, the step is
-/// idle and changes nothing. It changes no queue, no group, no memory and no frame.
+/// idle and changes nothing. An EEPROM step never changes a queue, a group, memory or a frame.
 pub fn eeprom_step_gives_the_word()
     ensures word { StepGivesWord }
     ensures idle { StepWithoutStartIsIdle }
@@ -244,10 +244,10 @@ pub fn muted_queue_is_idle()
     ensures { MutedQueueIsIdle }
 {}
 
-/// Suppose that CTRL bit 2 is 0 and that a bit of a group that the device has is due: its cause and its mask are 1, it
-/// isn't reported, and it has a vector. Then an interrupt step of the group sends the vector of the lowest due bit and
-/// marks that bit as reported. It clears the bit's cause if EIAC has the bit, and its mask if GPIE bit 30 is 1 and EIAM
-/// has the bit. The group's other bits are unchanged.
+/// Suppose that CTRL bit 2 is 0, that the device has a group, and that a bit of this group is due: its cause and its
+/// mask are 1, it isn't reported, and it has a vector. Then an interrupt step of the group sends the vector of the
+/// lowest due bit and marks that bit as reported. It clears the bit's cause if EIAC has the bit, and its mask if GPIE
+/// bit 30 is 1 and EIAM has the bit. The group's other bits are unchanged.
 #[tactic(auto, using(crate::proofs::Messages::due_reported))]
 pub fn due_bit_is_reported()
     ensures { DueBitIsReported }
@@ -292,11 +292,11 @@ pub fn vf_access_is_the_physical_functions()
 {}
 
 /// A virtual function's access changes only what belongs to its pool, and the bits that signal the physical function:
-/// two bits of PFMBICR, and EICR bit 19. What belongs to the pool are its registers, including its mailbox and the
-/// mailbox's memory, enable requests, reported bits, staged bytes, and the frames in the receive list for its queues.
-/// The frames of other pools keep their order. Memory, transmitted frames, the link, the image and the configuration
-/// are unchanged. The access changes staged bytes and frames, even of its own pool, only if it requests a pool reset
-/// with PVFCTRL bit 26.
+/// two bits of PFMBICR, and EICR bit 19. The pool consists of its registers, including its mailbox and the mailbox's
+/// memory, its enable requests, reported bits and staged bytes, and the frames in the receive list for its queues. The
+/// frames of other pools keep their order. Memory, transmitted frames, the link, the image and the configuration are
+/// unchanged. The access changes staged bytes and frames, even of its own pool, only if it requests a pool reset with
+/// PVFCTRL bit 26.
 ///
 /// Suppose that two devices agree on what belongs to the pool, on the number of functions, on GCR_EXT, on CTRL bit 2
 /// and on the link. Then they reply to the access in the same way, and still agree afterwards.

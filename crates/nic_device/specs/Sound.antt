@@ -77,11 +77,11 @@ pub record IsOut (sent : ℕ × List ℕ) : Type 0 where
   pub bytes : AreBytes sent.1
   pub short : length sent.1 ≤ 65535
 
--- What every event preserves. The registers are sound and the lent blocks whole. Only the first frame of the receive
--- list may be partly written, on an enabled receive side, and the list isn't longer than its capacity. Each queue
--- stages at most a frame, and nothing while its transmit side is disabled. Each transmitted frame is from a queue below
--- 128 and no longer than the maximum frame limit. The image is valid, there are at most 63 virtual functions, and the
--- capacity of the list is 1 to 4,096.
+-- Every event preserves the following. The registers are sound and the lent blocks whole. Only the first frame of the
+-- receive list may be partly written, on an enabled receive side, and the list isn't longer than its capacity. Each
+-- queue stages at most a frame, and nothing while its transmit side is disabled. Each transmitted frame is from a queue
+-- below 128 and no longer than the maximum frame limit. The image is valid, there are at most 63 virtual functions, and
+-- the capacity of the list is 1 to 4,096.
 pub record IsSound (s : State) : Type 0 where
   pub registers : AreSound s.registers
   pub blocks : AreBlocks s.memory

@@ -29,8 +29,8 @@ owner_in bank.Messages index = owner.Pool (index / 16)
 abbrev pub owner_of : Place → Owner
 owner_of p = owner_in (row_of p.row).bank p.index
 
--- An owner that the device has. There are 128 queues, 64 pools with their counters, and 64 words of vectors. There are
--- 65 groups: one for the physical function, and one for each of the 64 virtual functions.
+-- The device has this owner. There are 128 queues, 64 pools with their counters, and 64 words of vectors. There are 65
+-- groups: one for the physical function, and one for each of the 64 virtual functions.
 abbrev pub IsThere : Owner → Type 0
 IsThere owner.Device = ⊤
 IsThere owner.Counters = ⊤

@@ -49,17 +49,17 @@ parts.md
     EEPROM images: eeprom_image
 nic.md
     The register file: register_file
-    What accesses of registers change: register_laws
+    What register accesses change: register_laws
     Where a received frame goes: rx_filter
     The device: nic_device
     Notes of events and replies: nic_device/event nic_device/notes nic_device/notes_shared
 share.md
-    Making and closing: device_lock
+    Creating and closing: device_lock
     Calls under the lock: device_lock/shared device_lock/stepping device_lock/locked device_lock/fault
-    Calls that are kept: device_lock/calls
+    Stored calls: device_lock/calls
     Leaving alone, closing and positions, a second time: ring_laws/locks
     Workers on threads: pmd
-    Asking a history: pmd/beginning pmd/fitting pmd/lending pmd/quiet pmd/verdict pmd/laws
+    Checking a history: pmd/beginning pmd/fitting pmd/lending pmd/quiet pmd/verdict pmd/laws
 driver.md
     A driver, running or not: pmd_driver/driver
     Start: pmd_driver/start
@@ -72,7 +72,7 @@ pmd_access/home
     The receive half: pmd_rx
     The transmit half: pmd_tx
 laws.md
-    What stays so: device_laws
+    What always holds: device_laws
     Registers: device_laws@new_device_reads_reset_values
     Counters and causes: device_laws@events_count
     Resets and the EEPROM: device_laws@asked_reset_resets

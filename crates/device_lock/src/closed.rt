@@ -150,10 +150,10 @@ impl<const VFS: u8, const FIFO: u16> Locked<VFS, FIFO> {
 impl<const VFS: u8, const FIFO: u16> Shared<VFS, FIFO> {
     /// Closes a shared device with its passes. It never blocks.
     ///
-    /// Fails with `MissingPass`, with the lowest such tag, if and only if no pass of this bench has some tag. Fails
-    /// with `ForeignPass` if and only if no tag is missing and a pass belongs to another bench, has no tag of this one,
-    /// or shares its tag. Any other error is `Mismatch`, with the lowest tag for which the entries in some legal
-    /// history aren't the calls of its pass. Each error returns the shared device and the passes.
+    /// Fails with `MissingPass` if and only if no pass of this bench has some tag; the error then contains the lowest
+    /// such tag. If no tag is missing, fails with `ForeignPass` if and only if a pass belongs to another bench, has no
+    /// tag of this one, or shares another pass's tag. Any other error is `Mismatch`, with the lowest tag for which the
+    /// entries in some legal history aren't the calls of its pass. Each error returns the shared device and the passes.
     pub fn close(self, passes: Vec<Pass>) -> Result<Closed<VFS, FIFO>, CloseRefused<VFS, FIFO>>
         ensures closed { IfOk result
             (λ closed. Closes self.entry.bench self.entry.passes closed.history passes.items) }

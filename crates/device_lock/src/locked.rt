@@ -31,8 +31,8 @@ pub(crate) type Counts = [u32; MAX_PASSES as usize];
 /// The data under the lock: the device, and the history of its calls.
 ///
 /// Whenever the lock is free, the following holds. The history is legal from a new device with `VFS` virtual functions
-/// and a receive list of `FIFO` frames. It leads to the state of the device under the lock. Its tags are below 64. It
-/// can't be dropped, because the device can't.
+/// and a receive list of `FIFO` frames. It leads to the state of the device under the lock. Its tags are below 64. A
+/// `Locked` can't be dropped, because the device can't.
 ///
 /// Entries of idle device steps take no extra room in this form. When the device is no longer shared, it becomes an
 /// `Unlocked`, with every entry separate.

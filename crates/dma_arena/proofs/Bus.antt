@@ -109,7 +109,7 @@ read_at-same m n a (suc k) same =
     rw (same a (omega arith) (omega arith), read_at-same m n (a + 1) k (λ c h l. same c (omega arith) (omega arith)))
     refl
 
--- A write changes no read of a range that shares no byte with it.
+-- A write doesn't change what is read from a range that shares no byte with it.
 pub read_at-write_at_apart : (m : Memory) (a : ℕ) (bs : List ℕ) (c k : ℕ) → AreApart c k a (length bs)
     → read_at (write_at m a bs) c k ≡ read_at m c k
 read_at-write_at_apart m a bs c k (inl h) =

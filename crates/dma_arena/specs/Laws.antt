@@ -26,7 +26,7 @@ ReadsBack =
     (m : Memory) (a : ℕ) (bytes : List ℕ) → IsWhole m → is_lent m a (length bytes) ≡ true
     → read_at (write_at m a bytes) a (length bytes) ≡ bytes
 
--- A write changes no read of a range that shares no byte with it.
+-- A write doesn't change what is read from a range that shares no byte with it.
 abbrev pub ReadsApart : Type 0
 ReadsApart =
     (m : Memory) (a : ℕ) (bytes : List ℕ) (c n : ℕ) → AreApart c n a (length bytes)
@@ -106,7 +106,7 @@ pub record ChangesOne (a : Numbers) (number : ℕ) (free : Bool) : Type 0 where
 abbrev pub ChangeLaw : Type 0
 ChangeLaw = (a : Numbers) (number : ℕ) (free : Bool) → is_own a number ≡ true → ChangesOne a number free
 
--- A block that is taken and given back leaves the arena as it was.
+-- Taking a block and giving it back leaves the arena as it was.
 abbrev pub GivenBack : Type 0
 GivenBack = (a : Numbers) (number : ℕ) → is_free a number ≡ true → with_free (with_free a number false) number true ≡ a
 

@@ -17,7 +17,7 @@ places_of a hand m number =
 abbrev pub EachOnce : Numbers → List ℕ → Memory → Type 0
 EachOnce a hand m = (number : ℕ) → is_own a number ≡ true → places_of a hand m number ≡ 1
 
--- The moves of a block between places. Each of them keeps each block of the arena in exactly one place.
+-- Each of these moves of a block between places keeps each block of the arena in exactly one place.
 pub record MovesKeepEachOnce : Type 0 where
   -- An arena is created, and none of its numbers is owned or lent.
   pub made : (first count : ℕ) → EachOnce (all_free first count) [] map.empty
@@ -52,7 +52,7 @@ pub record IsEachNumber (first count : ℕ) : Type 0 where
   pub outside : (number : ℕ) → (number < first) ⊎ (first + count ≤ number)
       → times_in_hand (run_numbers first count) number ≡ 0
 
--- The moves of a run. Each of them keeps each block of the arena in exactly one place.
+-- Each of these moves of a run keeps each block of the arena in exactly one place.
 pub record RunsKeepEachOnce : Type 0 where
   pub numbers : (first count : ℕ) → IsEachNumber first count
   pub taken : (a : Numbers) (hand : List ℕ) (m : Memory) (first count : ℕ) → IsFreeRun a first count

@@ -147,8 +147,8 @@ impl Buf {
         bytes
     }
 
-    /// Borrows the block's bytes for writing. The block keeps its number. When the borrow ends, it contains the bytes
-    /// last written through it.
+    /// Borrows the block's bytes for writing. The block keeps its number. When the borrow ends, the block contains the
+    /// bytes last written through the borrow.
     pub fn bytes_mut(&mut self) -> &mut [u8; BLOCK_BYTES]
         ensures* written { sem 𝓛 (LendsBytes self.entry result) }
         ensures value { result.now ≡ self.old.bytes }

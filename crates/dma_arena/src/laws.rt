@@ -21,7 +21,7 @@ pub fn read_after_write()
     ensures { ReadsBack }
 {}
 
-/// A write changes no read of a range that shares no byte with it.
+/// A write doesn't change what is read from a range that shares no byte with it.
 pub fn read_apart()
     ensures { ReadsApart }
 {}
@@ -68,8 +68,8 @@ pub fn numbers()
     ensures count { CountLaw }
 {}
 
-/// A block that is taken and given back leaves the arena as it was. A split partitions the numbers: each is in exactly
-/// one half.
+/// Taking a block and giving it back leaves the arena as it was. A split partitions the numbers: each is in exactly one
+/// half.
 pub fn numbers_stay()
     ensures given_back { GivenBack }
     ensures parted { CutLaw }

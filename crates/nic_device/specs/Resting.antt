@@ -31,7 +31,7 @@ is_at_rest s queue =
     nat_lt queue 128 && (is_settled s Rx queue && (is_settled s Tx queue
     && (is_silent s queue (transmit_queue_of s.registers queue) && none_waits s.waiting)))
 
--- An event is answered with `Idle` and changes nothing.
+-- The event is answered with `Idle` and changes nothing.
 abbrev pub IsIdle : State → Event Block → Type 0
 IsIdle s e = step_of s e ≡ gives Idle s
 

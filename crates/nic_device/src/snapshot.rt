@@ -78,7 +78,8 @@ impl Device {
         requires away { AreAway arena.old self.old.memory }
         requires lent { AreAmong self.old.memory snapshot.now.memory }
         ensures restored { OnOk result (self.new ≡ snapshot.now) }
-        // If the arena was an arena A without the blocks lent before, it is now A without the snapshot's blocks.
+        // If the arena before the call was some arena A without the blocks then lent, it is now A without the
+        // snapshot's blocks.
         ensures left { OnOk result (StillLeft arena.old self.old.memory arena.new snapshot.now.memory) }
         ensures unchanged { OnErr result (self.new ≡ self.old) }
         ensures kept { OnErr result (arena.new ≡ arena.old) }

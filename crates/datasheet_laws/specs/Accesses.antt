@@ -39,8 +39,8 @@ WriteOfCausesClears =
     ShowsThen s (after_write s address word) g
     (λ bit. cause_cleared (masks_by_access s g) (writes_one address word bit) (bit_of s g bit))
 
--- Whether a read keeps a cause: a read of EICR while GPIE bit 5 is 1 keeps those outside bits 29 to 16; other reads
--- keep none.
+-- Whether a read keeps a cause: a read of EICR while GPIE bit 5 is 1 keeps the causes outside bits 29 to 16; other
+-- reads keep none.
 abbrev pub read_keeps : State → Group → ℕ → Bool
 read_keeps s Pf bit = reads_one s general_address 5 && not (nat_le 16 bit && nat_le bit 29)
 read_keeps s (Vf v) bit = false

@@ -17,7 +17,7 @@ use Rattle.device_laws.proofs.Prelude.{shared-read, shared_rows, word_stands}
 use Rattle.device_laws.specs.Pool.{ChangesPoolAlone, AgreeOnPool, waiting_of}
 use Rattle.device_laws.proofs.PoolAlone.{IsReached, own, shared, reached}
 
--- They still agree after both changed no more than the pool.
+-- They still agree after each has changed only the pool.
 
 pub record PartsAgree (mode : Mode) (v : ℕ) (a b : State) : Type 0 where
   pub registers : AgreeWithin (pool_agrees mode v) a.registers b.registers

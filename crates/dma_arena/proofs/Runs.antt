@@ -36,7 +36,7 @@ unfolding run_from
 run_from-next a count number zero rest next taken = absurd (omega arith)
 run_from-next a count number (suc left) rest next taken = let e : left ≡ rest = omega arith in rw (taken, e) refl
 
--- A number, not below the first, that doesn't belong to the arena is past the arena's end.
+-- If a number isn't below the first and doesn't belong to the arena, it is past the arena's end.
 pub past_end : (a : Numbers) (number : ℕ) → a.first ≤ number → is_own a number ≡ false
     → a.first + count_of a - number ≡ 0
 past_end a number low foreign = elim (cases_lt number (a.first + count_of a)) [

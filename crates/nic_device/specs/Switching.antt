@@ -10,7 +10,8 @@ use Rattle.nic_device.specs.State.{State, Waiting}
 use Rattle.nic_device.specs.Outcome.{Outcome, gives}
 use Rattle.nic_device.specs.declared.event.Reply.TheVariants.{Done, Idle, NoQueue}
 
--- The receive list without its first frame if that frame is partly written on this queue. Only the first frame can be.
+-- The receive list without its first frame if that frame is partly written on this queue. Only the first frame can be
+-- partly written.
 abbrev pub without_part : ℕ → List Waiting → List Waiting
 without_part queue [] = []
 without_part queue (w ∷ others) = if w.queue == queue && not (w.offset == 0) then others else w ∷ others

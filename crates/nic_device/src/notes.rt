@@ -142,8 +142,8 @@ impl Reply {
         Ok(self.note_in(room))
     }
 
-    /// Returns the note of a reply. The copied bytes go into the vector, which must be empty and have room for them.
-    /// This allocates nothing, but no clause states this.
+    /// Returns the note of a reply. The copied bytes go into the vector, which must be empty and have room for them. It
+    /// allocates nothing, but no clause states this.
     pub fn note_in(&self, room: Vec<u8>) -> ReplyNote
         requires empty { room.items ≡ [] }
         requires room { note_length self.now ≤ vec_capacity room }
@@ -211,7 +211,7 @@ impl Reply {
         }
     }
 
-    /// Turns a reply without a block into its note. If it contains a block, the block is returned in the error. This
+    /// Turns a reply without a block into its note. If it contains a block, the block is returned in the error. It
     /// copies nothing, but no clause states this.
     pub fn into_note(self) -> Result<ReplyNote, Buf>
         ensures note { IfOk result (λ note. note ≡ self) }

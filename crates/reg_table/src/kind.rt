@@ -8,7 +8,7 @@ pub enum Kind {
     /// Calculated. A read returns a value computed from other registers, the link and the EEPROM. A write changes
     /// nothing.
     Calc,
-    /// A counter that a read clears. A read returns the word and sets it to 0. A write changes nothing.
+    /// A clear-on-read counter. A read returns the word and sets it to 0. A write changes nothing.
     Rc,
     /// The interrupt causes of a group. A read returns the word and clears causes. A write clears each cause that has a
     /// 1 in the written word.

@@ -8,9 +8,9 @@
 //! return, without its side effects; `word` returns the stored value.
 //!
 //! The remaining calls serve the device core. They query a queue (its ring, whether it is enabled, its counter), a pool
-//! (its queues, whether it is enabled) or single bits. They also move a head, enable a side of a queue, count, answer
-//! an EEPROM read, and reset a pool. The state of the link and the size of the EEPROM, which calculated registers
-//! report, are passed in as `Surroundings`. The definitions are in `specs/`.
+//! (its queues, whether it is enabled) or single bits. They also move a head, enable a side of a queue, increment a
+//! counter, answer an EEPROM read, and reset a pool. The state of the link and the size of the EEPROM, which calculated
+//! registers report, are passed in as `Surroundings`. The definitions are in `specs/`.
 //!
 //! `Cells` stores the registers that reset to 0: a single register in a field, a row in an array. The sides of the
 //! queues, the interrupt groups, the hash key, and registers that a pool reset or a full reset treats specially have

@@ -3,26 +3,26 @@ ghost use Rattle.pmd.specs.TaskCells.{waits};
 
 use std::mem;
 
-/// A task to run on its own thread; it has an end.
+/// A task to run on its own thread; it has an outcome.
 pub trait Task<E> {
-    /// The ends that the task may have.
+    /// The outcomes that the task may have.
     ghost ends: { Self → E → Type 0 };
 
-    /// Runs the task and returns its end.
+    /// Runs the task and returns its outcome.
     fn run(self) -> E
         ensures { ends self result };
 
-    /// Ends the task if no thread was created for it.
+    /// Gives the task up if no thread was created for it. Returns its outcome.
     fn give_up(self) -> E
         ensures { ends self result };
 }
 
-/// A place for a task, then for its end.
+/// A place for a task, then for its outcome.
 #[derive(Drop)]
 pub enum TaskCell<T, E> {
     /// The task hasn't run yet.
     Waits(T),
-    /// The task has run; this is its end.
+    /// The task has ended; this is its outcome.
     Ended(E),
     /// Empty: the task is running.
     Empty,
@@ -41,7 +41,7 @@ pub(crate) fn take<T, E>(cell: &mut TaskCell<T, E>) -> T
     }
 }
 
-/// Puts an end into an empty cell.
+/// Stores a task's outcome in its empty cell.
 pub(crate) fn put<T, E>(cell: &mut TaskCell<T, E>, end: E)
     requires { cell.old ≡ TaskCell.Empty }
     ensures { cell.new ≡ TaskCell.Ended end }

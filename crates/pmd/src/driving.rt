@@ -23,7 +23,7 @@ use pmd_driver::{Arena, Nic, Pmd, PmdFault, Port, Rest, StartRefused, StopRefuse
 use rtrb::Producer;
 use std::alloc::Global;
 
-/// A worker's orders.
+/// What a worker is to do.
 #[derive(Clone, Copy)]
 pub struct Order {
     /// Its number at the gate.
@@ -164,10 +164,10 @@ fn drive<G: Gate, N: Nic>(
 /// looks for a packet `rounds` times. It reports each packet that it receives and sends it again. Then it reaps the
 /// packets it sent, passes point 2, and stops the driver.
 ///
-/// If a call of the driver fails or the gate is shut, it leaves the gate, stops the driver once, and returns the
+/// If a driver call fails or the gate is shut, it leaves the gate, tries once to stop the driver, and returns the
 /// reason. There is one report for each packet that its driver handed out, in order, numbered from 0. The calls made
-/// are the life of this one driver, apart from what its `Nic` adds. No clause says how often it looks, what it sends,
-/// or that it passes and leaves the gate; tests check that.
+/// are the life of this one driver, apart from what its `Nic` adds. How often it looks, what it sends, and that it
+/// passes and leaves the gate isn't promised; tests check that.
 pub fn run_worker<G: Gate, N: Nic>(
     alloc: Global,
     nic: &mut N,

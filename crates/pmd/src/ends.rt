@@ -24,9 +24,9 @@ pub struct WorkerEnd {
 
 /// The result of a run. It can't be dropped.
 pub struct Ran {
-    /// The end of each job, in the order of the jobs.
+    /// The outcome of each job, in the order of the jobs.
     pub ends: Vec<WorkerEnd>,
-    /// How many frames the device accepted.
+    /// The number of frames that the device accepted.
     pub fed: usize,
 }
 
@@ -35,7 +35,8 @@ pub struct Ran {
 pub enum RunFault {
     /// There are no jobs, or more than 16.
     NoJobs,
-    /// The arena of this job shares a block number with an earlier job's arena. It is the first job with that fault.
+    /// The arena of this job shares a block number with an earlier job's arena. It is the first job for which this is
+    /// true.
     Overlap(usize),
     /// Memory ran out.
     OutOfMemory,
@@ -51,7 +52,7 @@ pub struct RunRefused {
     pub frames: Vec<Vec<u8>>,
 }
 
-/// The end of a worker after its thread was joined, with all its reports.
+/// The outcome of a worker after its thread was joined, with all its reports.
 fn end_of<T>(cell: TaskCell<T, Back>, collector: Collector) -> WorkerEnd
     requires { HasCome cell collector }
     ensures { IsMade cell result }
@@ -76,7 +77,7 @@ fn end_of<T>(cell: TaskCell<T, Back>, collector: Collector) -> WorkerEnd
     }
 }
 
-/// Collects the ends of all workers, in order. There is room for them.
+/// Collects the outcomes of all workers, in order. There is room for them.
 pub(crate) fn gather<T>(
     cells: Vec<TaskCell<T, Back>>,
     collectors: Vec<Collector>,

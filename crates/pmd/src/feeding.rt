@@ -9,17 +9,17 @@ use pmd_driver::{CallFault, Event, Octets, Pass, Reply, Shared};
 use std::alloc::Global;
 use std::sync::Wait;
 
-/// The outcome for frames that were to arrive.
+/// The outcome of delivering frames.
 #[derive(Debug, Drop)]
 pub struct Fed {
-    /// How many frames the device accepted.
+    /// The number of frames that the device accepted.
     pub done: usize,
-    /// Why the call for a frame was refused, which ended the feeding. `None` if all frames arrived.
+    /// Why the call for a frame was refused; no later frame was delivered. `None` if all frames arrived.
     pub refused: Option<CallFault<()>>,
 }
 
-/// Lets frames arrive through a pass, in order, up to the first refused call. If the pass is foreign to the shared
-/// device, the first call is refused and no frame arrives.
+/// Delivers frames through a pass, in order, up to the first refused call. If the pass is foreign to the shared device,
+/// the first call is refused and no frame arrives.
 pub fn feed<R: Wait, const VFS: u8, const FIFO: u16>(
     rt: &R,
     alloc: Global,
@@ -51,7 +51,7 @@ pub fn feed<R: Wait, const VFS: u8, const FIFO: u16>(
     }
 }
 
-/// Lets one frame arrive. Returns how many frames were accepted: 1 or 0.
+/// Delivers one frame from the link. Returns the number of frames accepted: 1 or 0.
 fn arrive<R: Wait, const VFS: u8, const FIFO: u16>(
     rt: &R,
     alloc: Global,
@@ -78,7 +78,7 @@ fn arrive<R: Wait, const VFS: u8, const FIFO: u16>(
     }
 }
 
-/// How many frames were accepted in one call, given its reply. The reply holds no buffer and is dropped.
+/// The number of frames accepted in one call, given its reply. The reply contains no buffer and is dropped.
 fn count_let_in(reply: Reply) -> usize
     requires { may_arrive reply ≡ true }
     ensures { result ≡ (if is_done reply then 1 else 0) }

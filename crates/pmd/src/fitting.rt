@@ -36,8 +36,8 @@ fn longest_before(watched: Watched, from: usize, history: &[Entry]) -> Option<us
     None
 }
 
-/// The maximum capacity in bytes of a driver's packet, in blocks of 2,048 bytes, if a frame has at most `frame` bytes
-/// with its check sequence.
+/// The maximum capacity in bytes of a driver's packet, in 2,048-byte blocks, for frames of at most `frame` bytes with
+/// their check sequence.
 fn room_of(frame: u16) -> usize
     ensures { result ≡ 2048 * most_blocks frame }
 {

@@ -2,11 +2,11 @@ ghost use Rattle.std.specs.Prelude.{◌≡◌, ℕ, false, ⊤};
 
 /// A place where workers, identified by number, meet at points numbered in order.
 pub trait Gate {
-    /// What holds when a point is shut to the worker with this number: nothing, unless a gate says more. A gate may
-    /// therefore wait for a limited time, or open only some of its points.
+    /// What is true if a point is shut to the worker with this number: nothing in particular, unless a gate specifies
+    /// more. A gate may therefore wait for a limited time, or open only some of its points.
     ghost shuts: { Self → ℕ → Type 0 } = { λ _ _. ⊤ };
 
-    /// Arrives at a point and waits until the gate lets the worker on. Returns false if it doesn't.
+    /// Arrives at a point and waits until the gate lets the worker pass. Returns false if the gate is shut to it.
     fn pass(&self, worker: usize, point: u8) -> bool
         ensures shut { result ≡ false → shuts self.now worker };
 

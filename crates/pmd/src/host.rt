@@ -1,4 +1,4 @@
-//! The calling thread's work: it lets frames arrive for the workers and collects their reports.
+//! The calling thread's work: it delivers frames for the workers and collects their reports.
 
 ghost use Rattle.std.specs.Prelude.{◌≡◌, map};
 ghost use Rattle.pmd.specs.Feeding.{AreFed, done_in, gained};
@@ -20,7 +20,7 @@ fn drain_all(collectors: &mut [Collector])
     }
 }
 
-/// Lets the frames arrive if the gate lets the calling thread on. Returns how many were accepted.
+/// Delivers the frames if the gate lets the calling thread pass. Returns the number of frames accepted.
 fn feed_at<R: Wait, G: Gate, const VFS: u8, const FIFO: u16>(
     rt: &R,
     alloc: Global,
@@ -41,8 +41,8 @@ fn feed_at<R: Wait, G: Gate, const VFS: u8, const FIFO: u16>(
 }
 
 /// The calling thread's work while the workers run. Its number at the gate follows the workers' numbers. It passes
-/// point 0, lets the frames arrive, passes point 1, and leaves; then it takes the workers' reports so far. Returns how
-/// many frames were accepted.
+/// point 0, delivers the frames, passes point 1, and leaves; then it takes the workers' reports so far. Returns the
+/// number of frames accepted.
 pub(crate) fn host<R: Wait, G: Gate, const VFS: u8, const FIFO: u16>(
     rt: &R,
     alloc: Global,

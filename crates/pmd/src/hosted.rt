@@ -12,7 +12,7 @@ use std::sync::Wait;
 use std::thread;
 use std::thread::{Promise, PromisedHandle, Scope, Threads};
 
-/// States that a thread returns an end of this task.
+/// States that a thread returns an outcome of this task.
 #[derive(Drop)]
 struct EndOf<T>(Snapshot<T>);
 
@@ -22,10 +22,10 @@ impl<E, T: Task<E>> Promise<ManuallyDrop<E>> for EndOf<T> {
     ghost kept_by = { λ promise end. T.ends promise.0.value (manually_drop_value end) };
 }
 
-/// A thread that runs a task, or the task's end if no thread could be created.
+/// A thread that runs a task, or the task's outcome if no thread could be created.
 type Seat<E, T> = Result<PromisedHandle<ManuallyDrop<E>, EndOf<T>>, ManuallyDrop<E>>;
 
-/// A value on its way to a thread or back. It must be droppable there, but a task and its end may not be.
+/// A value on its way to a thread or back. It must be droppable there, but a task and its outcome may not be.
 /// `ManuallyDrop::into_inner` unwraps it.
 fn on_its_way<T>(value: T) -> ManuallyDrop<T>
     ensures { manually_drop_value result ≡ value }
@@ -72,7 +72,7 @@ fn begin<'s, V: 's, E: Send + 's, T: Task<E> + Send + 's>(
     }
 }
 
-/// The end of a task, after its thread has returned it.
+/// The outcome of a task, after its thread has returned it.
 fn finish<R: Threads, E, T: Task<E>>(rt: &R, seat: Seat<E, T>) -> E
     ensures made { IfOk seat (λ thread. T.ends thread.promise.0.value result) }
     ensures refused { IfErr seat (λ end. manually_drop_value end ≡ result) }
@@ -116,8 +116,8 @@ fn end_loan<L>(lent: &mut L)
 /// Runs the task of each cell on its own thread, and calls the host on this thread in the meantime.
 ///
 /// A thread that was created is waited for, however long it takes to begin. If none can be created, the task is given
-/// up before the host is called, and its `Start` says so from then on. The clauses say that each task has an end of its
-/// kind and that the host was called, but nothing about threads.
+/// up before the host is called, and its `Start` says so from then on. Its clauses promise that each task has an
+/// outcome of its kind and that the host was called, but nothing about threads.
 pub fn run<R: Threads + Wait, E: Send, T: Task<E> + Send, H: FnMut()>(
     rt: &R,
     starts: &[Start],

@@ -8,15 +8,15 @@
 ghost use Rattle.pmd.specs.AtFirst.{BegunHasGround, FramesFitIsShort, NeverAskedIsQuiet, OthersLendNoneIsAlone};
 ghost use Rattle.pmd.specs.Order.{EndsAreInOrder};
 
-/// A worker's end is in order over every history of a new device that leaves the job's queue alone and in which the
+/// A worker's outcome is in order over every history of a new device that leaves the job's queue alone and in which the
 /// job's driver begins well. To begin well, port and queue must name the job's queue just before the driver's first
-/// event, and the device's frame limit must be the limit of the job's frames. If the end has a fault, both sides must
-/// also be off at that point, with no enable request pending.
+/// event, and the device's frame limit must be the limit of the job's frames. If the outcome has a fault, both sides
+/// must also be off at that point, with no enable request pending.
 ///
-/// Over such a history, the packets that the end reports as handed out are a prefix of those delivered on the queue.
-/// The frames sent there are a prefix of those that the driver accepted, up to the last note of the end's pass. Both
-/// are counted from that event on, since the sides were switched on. If the driver has no event there, it handed out
-/// and accepted nothing.
+/// Over such a history, the packets that the outcome reports as handed out are a prefix of those delivered on the
+/// queue. The frames sent there are a prefix of those that the driver accepted, up to the last note of the worker's
+/// pass. Both are counted since the sides were enabled, starting at that event. If the driver has no event there, it
+/// handed out and accepted nothing.
 pub fn ends_are_in_order()
     ensures { EndsAreInOrder }
 {}
@@ -31,7 +31,7 @@ pub fn worker_begins_well()
 
 /// Take a history of a new device in which `begins_well` is true of a driver and `never_asked_on` of its queue. Just
 /// before the driver's first event, both sides of the queue are off with no enable request pending. `run_workers`
-/// requires this if a worker's end has a fault.
+/// requires this if a worker's outcome has a fault.
 pub fn worker_starts_quiet()
     ensures { NeverAskedIsQuiet }
 {}

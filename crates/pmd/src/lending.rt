@@ -12,7 +12,7 @@ use pmd_driver::{BLOCK_NUMBERS, Entry, Event, EventNote, Reply, Watched};
 /// For each block number, whether that block is lent.
 type Lent = [bool; BLOCK_NUMBERS as usize];
 
-/// Returns whether a number is one of the `count` blocks from `first` on.
+/// Returns whether a number is one of the `count` blocks starting at `first`.
 fn is_from(first: u32, count: u32, number: u32) -> bool
     ensures { result ≡ are_from first count number }
 {
@@ -105,10 +105,10 @@ fn none_lent_before(
     true
 }
 
-/// Returns whether nobody else lends a driver's blocks in a history of a new device. The blocks are the `count` from
-/// `first` on, as in its arena. No entry of another pass may try to lend any of them, whatever the reply, and none may
-/// be lent just before the driver's first event. That event comes after `from` calls of its pass and isn't a device
-/// step. A block is lent if an earlier entry lends it and none after that takes it back. It allocates nothing.
+/// Returns whether nobody else lends a driver's blocks in a history of a new device. The blocks are the `count` blocks
+/// starting at `first`, as in its arena. No entry of another pass may try to lend any of them, whatever the reply, and
+/// none may be lent just before the driver's first event. That event comes after `from` calls of its pass and isn't a
+/// device step. A block is lent if an earlier entry lends it and none after that takes it back. It allocates nothing.
 pub fn others_lend_none(
     watched: Watched,
     from: usize,

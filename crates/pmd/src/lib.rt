@@ -8,9 +8,9 @@
 //! `run_workers` runs the jobs while the calling thread feeds the workers and collects their reports. `run_worker` runs
 //! one of them, through any `Nic`.
 //!
-//! Tasks on threads: a `TaskCell` holds a task, then its end. If no thread can be created for a task, the task gives up
-//! so that nobody waits for it, and its `Start` says so. Meeting points: the trait `Gate` is what a worker requires of
-//! a meeting point; `Lockstep` is a gate at which all members that haven't left wait for one another.
+//! Tasks on threads: a `TaskCell` holds a task, then its outcome. If no thread can be created for a task, the task
+//! gives up so that nobody waits for it, and its `Start` says so. Meeting points: the trait `Gate` is what a worker
+//! requires of a meeting point; `Lockstep` is a gate at which all members that haven't left wait for one another.
 //!
 //! A worker: `job.rt` describes its work, `reports.rt` the ring of its reports, and `feeding.rt` the frames that arrive
 //! in the meantime. `turns.rt` receives one packet, reports it and sends it again; `driving.rt` is a whole run with the

@@ -12,8 +12,8 @@ pub const MAX_MEMBERS: usize = 17;
 
 /// A gate with at most 17 members; their workers are numbered from 0. Contracts see the number of members.
 ///
-/// A member that reaches a point waits until every member that hasn't left has reached that point or a later one. No
-/// clause says so; tests check it.
+/// A member that reaches a point waits until every member that hasn't left has reached that point or a later one. This
+/// isn't promised; tests check it.
 #[derive(Drop)]
 pub struct Lockstep<'a, R> {
     rt: &'a R,
@@ -56,8 +56,8 @@ impl<'a, R: Wait> Lockstep<'a, R> {
         self.moved.notify_all();
     }
 
-    /// Waits until each member has reached a point or a later one, or has left. Returns with the lock held; its
-    /// contents show this.
+    /// Waits until each member has reached a point or a later one, or has left. Returns with the lock held; the
+    /// contents of the lock show that this is so.
     fn wait(&self, point: u8) -> MutexGuard<'_, Standings>
         ensures { HaveAllCome point self.now (mutex_guard_value result).of }
     {
@@ -75,7 +75,7 @@ impl<'a, R: Wait> Gate for Lockstep<'a, R> {
     /// Returns false exactly if the worker isn't a member. Nobody waits for it then, and it doesn't wait for anybody.
     fn pass(&self, worker: usize, point: u8) -> bool
         ensures shut { result ≡ false → self.now ≤ worker }
-        // A member is let on at each point; nobody else is.
+        // The gate lets a member pass at each point, and nobody else.
         ensures lets_on { result ≡ nat_lt worker self.now }
     {
         if worker >= self.members {

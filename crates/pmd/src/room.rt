@@ -16,7 +16,7 @@ use rtrb::Producer;
 use std::alloc::{AllocError, Global};
 use std::sync::Wait;
 
-/// The droppable part of what jobs need: a start for each thread, and both ends of each ring for reports.
+/// What the jobs need and can be dropped: a start for each thread, and both ends of each ring for reports.
 #[derive(Drop)]
 pub(crate) struct Room {
     pub(crate) starts: Vec<Start>,
@@ -45,7 +45,7 @@ fn make_room(alloc: Global, jobs: &[Job]) -> Result<Room, AllocError>
     })
 }
 
-/// Allocates room for a whole run: all reports of the jobs' workers, a task for each job, and their ends. Returns
+/// Allocates room for a whole run: all reports of the jobs' workers, a task for each job, and their outcomes. Returns
 /// `None` if there is no memory.
 pub(crate) fn make_all_room<T>(
     alloc: Global,

@@ -10,7 +10,7 @@ pub enum Standing {
     Outside,
     /// It waits at this point or has passed it.
     At(u8),
-    /// It has left the gate for good.
+    /// It has left the gate and doesn't return.
     Left,
 }
 
@@ -26,8 +26,8 @@ impl Standing {
         }
     }
 
-    /// Where the member is after it reaches a point. It never returns to an earlier point, and stays away after it has
-    /// left.
+    /// Where the member is after it reaches a point. It never returns to an earlier point, and doesn't return after it
+    /// has left.
     pub fn moved_to(self, point: u8) -> Standing
         ensures { result ≡ moved_to point self }
     {

@@ -2,7 +2,7 @@
 
 use std::sync::atomic::{AtomicU64, Ordering};
 
-/// No thread was refused.
+/// No attempt to create a thread has failed.
 const OPEN: u64 = 0;
 /// No thread could be created.
 const REFUSED: u64 = 1;
@@ -14,7 +14,7 @@ pub struct Start {
 }
 
 impl Start {
-    /// No thread has been refused yet.
+    /// Creates a start for which no attempt to create a thread has failed.
     pub fn new() -> Start {
         Start {
             word: AtomicU64::new(OPEN),

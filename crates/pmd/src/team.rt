@@ -50,8 +50,8 @@ fn refusal(jobs: &[Job]) -> Option<RunFault>
     }
 }
 
-/// Runs the tasks in their cells, each on its own thread, and the calling thread's part in the meantime. Returns how
-/// many frames were accepted.
+/// Runs the tasks in their cells, each on its own thread, and does the calling thread's work in the meantime. Returns
+/// the number of frames accepted.
 fn run_cells<R: Threads + Wait + Sync, G: Gate + Sync, const VFS: u8, const FIFO: u16>(
     rt: &R,
     alloc: Global,
@@ -147,30 +147,30 @@ fn run_in<R: Threads + Wait + Sync, G: Gate + Sync, const VFS: u8, const FIFO: u
 /// Each worker starts a driver of its queue, passes points 0 and 1 of the gate, and looks for a packet `rounds` times.
 /// It reports each packet that it receives and sends it again. Then it reaps, passes point 2, and stops the driver.
 ///
-/// The calling thread's number at the gate is the number of jobs. It passes point 0, lets the frames arrive up to the
-/// first that is refused (none if the gate doesn't let it on), passes point 1, and leaves. Then it takes the workers'
-/// reports and joins them. A worker that ends early leaves the gate. A worker for which no thread can be created leaves
-/// before another waits for it, and ends with `NoThread`. A thread that was created is waited for, however long it
-/// takes to begin.
+/// The calling thread's number at the gate is the number of jobs. It passes point 0, delivers the frames up to the
+/// first that is refused, passes point 1, and leaves. If the gate doesn't let it pass, it delivers none. Then it takes
+/// the workers' reports and joins them. A worker that ends early leaves the gate. A worker for which no thread can be
+/// created leaves before another waits for it, and ends with `NoThread`. A thread that was created is waited for,
+/// however long it takes to begin.
 ///
-/// Each end's reports are in order over every history of the device, up to the last call of the end's pass, that leaves
-/// its job's queue alone and in which its driver begins well. The end must also have no fault, or both sides of the
-/// queue must be off with no enable request pending just before the driver's first event.
+/// The reports of each outcome are in order over every history of the device, up to the last call of the outcome's
+/// pass, that leaves the job's queue alone and in which the job's driver begins well. If the outcome has a fault, both
+/// sides of the queue must also be off with no enable request pending just before the driver's first event.
 ///
 /// In order means two things. The packets that its driver handed out are a prefix of those delivered on the queue. The
-/// frames sent there are a prefix of those that it accepted. Both are counted since the sides were switched on after
-/// that event.
+/// frames sent there are a prefix of those that it accepted. Both are counted since the sides were enabled after that
+/// event.
 ///
 /// This also holds over the history returned when the passes are closed, if `left_alone` and `begins_well` are true of
-/// the end's pass and the job. Again, the end must have no fault, or `never_asked_on` must be true too.
+/// the outcome's pass and the job. If the outcome has a fault, `never_asked_on` must be true too.
 ///
 /// A job isn't refused just because its `pf_queue` isn't the queue that its port and queue name. Which queue they name
-/// depends on the device's mode when its worker starts, and others may step that queue. If they don't, the worker ends
-/// with `StartTimeout` after 1,000 polls that show a side off. If port and queue name no queue, it ends with
+/// depends on the device's mode when its worker starts, and others may step that queue. If nobody steps it, the worker
+/// ends with `StartTimeout` after 1,000 polls that show a side off. If port and queue name no queue, it ends with
 /// `DeviceFault`. `Job::steps_its_queue` checks this in advance.
 ///
-/// No clause says how often a worker looks, what it sends, which points it passes, or why the last frames don't arrive;
-/// tests check that.
+/// How often a worker looks, what it sends, which points it passes, and why the last frames don't arrive isn't
+/// promised; tests check that.
 ///
 /// Errors, in this order: `NoJobs` if there are no jobs or more than 16, `Overlap` if two arenas share a number, and
 /// `OutOfMemory`. Each returns the jobs and frames, and nothing is done.

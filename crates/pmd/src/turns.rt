@@ -51,7 +51,7 @@ fn tell(queue: u16, number: u32, packet: &Packet, producer: &mut Producer<Report
     });
 }
 
-/// Sends a packet with blocks that can go home. Returns the packet if it isn't accepted.
+/// Sends a packet with blocks that can be returned to the arena. Returns the packet if it isn't accepted.
 fn send<N: Nic>(
     alloc: Global,
     nic: &mut N,
@@ -73,7 +73,7 @@ fn send<N: Nic>(
     }
 }
 
-/// Returns the blocks of a packet to the arena. They must be able to go home.
+/// Returns a packet's blocks to the arena, which must be possible.
 fn release(pmd: &mut Pmd, packet: Packet)
     requires { goes_back_to pmd.old.rings packet ≡ true }
     ensures handed { handed_of pmd.new.rings ≡ handed_of pmd.old.rings }
@@ -87,7 +87,7 @@ fn release(pmd: &mut Pmd, packet: Packet)
     }
 }
 
-/// Sends a packet with blocks that can go home; releases it if it isn't accepted.
+/// Sends a packet with blocks that can be returned to the arena; releases it if it isn't accepted.
 fn forward<N: Nic>(
     alloc: Global,
     nic: &mut N,

@@ -10,7 +10,7 @@ use crate::lending::others_lend_none;
 use crate::quiet::never_asked_on;
 use pmd_driver::{Entry, Watched, left_alone};
 
-/// A driver to judge against a history.
+/// A driver to be judged by a history.
 #[derive(Clone, Copy)]
 pub struct Driven {
     /// The number of virtual functions, the driver's pass, and its queue.
@@ -28,7 +28,7 @@ pub struct Driven {
 /// The first check that a history fails for a driver, in the order of the checks.
 #[derive(Clone, Copy, PartialEq, Eq, Debug)]
 pub enum Doubt {
-    /// Somebody else touched its queue or the blocks that it lent; `left_alone` is false.
+    /// Something other than the driver touched its queue or the blocks that it lent; `left_alone` is false.
     Disturbed,
     /// When it started, its port and queue named another queue, or the frame limit was different; `begins_well` is
     /// false.
@@ -41,8 +41,8 @@ pub enum Doubt {
     TooLong,
 }
 
-/// Judges a driver against a history of a new device: first with `left_alone`, then with `begins_well`,
-/// `never_asked_on`, `others_lend_none` and `frames_fit`. Returns the first doubt. It allocates nothing.
+/// Judges a driver by a history of a new device: first with `left_alone`, then with `begins_well`, `never_asked_on`,
+/// `others_lend_none` and `frames_fit`. Returns the first doubt. It allocates nothing.
 pub fn judge(driven: &Driven, history: &[Entry]) -> Result<(), Doubt>
     ensures clear { IsOk result ↔ IsClear driven.now history.now }
     ensures first { IfErr result (λ doubt. IsFirst driven.now history.now doubt) }

@@ -1,4 +1,4 @@
-//! Both sides of a queue, made ready, enabled and disabled.
+//! Prepares, enables and disables both sides of a queue.
 
 ghost use Rattle.std.specs.Prelude.{◌≡◌, All, IfErr, OnOk};
 ghost use Rattle.pmd_access.specs.Begun.{BeganAs};

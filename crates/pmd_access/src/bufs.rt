@@ -188,7 +188,7 @@ fn empty(place: Option<Buf>)
 /// The total number of bytes in these Bufs.
 pub fn bytes_in(bufs: &Bufs) -> usize
     ensures sum { result ≡ 2048 * length bufs.now }
-    // Every Buf is a block of 2,048 bytes.
+    // Every Buf is a 2,048-byte block.
     ensures whole { All (λ b. IsBlock b) bufs.now }
 {
     let mut sum = 0;

@@ -124,10 +124,10 @@ impl Direct {
 
 impl Direct {
     /// Runs the device steps of its queue, then applies the event. The steps switch both sides, then send, then
-    /// receive. `Nic::call` calls this, but ensures only what `Nic` does.
+    /// receive. `Nic::call` calls this function, but its clauses ensure only what those of `Nic` do.
     ///
-    /// `OutOfMemory` if there is no memory to apply or record one of them. The earlier steps have run; the event hasn't
-    /// been applied.
+    /// `OutOfMemory` if there is no memory to apply or record a step or the event. Then the earlier steps have run, and
+    /// the event hasn't been applied.
     pub fn step_and_make(&mut self, alloc: Global, event: Event) -> Result<Reply, CallFault>
         ensures exact { OnOk result
             (self.new ≡ after_event (after_events self.old (steps_of_queue self.old.queue)) event) }

@@ -1,4 +1,4 @@
-//! Why a call of the driver failed.
+//! Why a driver call failed.
 
 ghost use Rattle.std.specs.Prelude.{◌≡◌, true, None, Some, is_some};
 ghost use Rattle.device_lock.specs.Fault.{event_of, fault_with};
@@ -7,7 +7,7 @@ ghost use Rattle.pmd_access.specs.Refusals.{Refusals, CanRefuse};
 
 use device_lock::{Buf, CallFault};
 
-/// Why a call of the driver failed.
+/// Why a driver call failed.
 #[derive(Debug, Drop)]
 pub enum PmdFault {
     /// A ring's size isn't a multiple of 8 from 8 to 1,024; the limit on a frame's length isn't from 1,518 to 9,728; or
@@ -25,8 +25,8 @@ pub enum PmdFault {
     Call(CallFault<()>),
 }
 
-/// Removes the event from a refusal if the event holds no block. A `Nic` that may refuse with the event may also refuse
-/// without it.
+/// Removes the event from a refusal if the event contains no block. A `Nic` that may refuse with the event may also
+/// refuse without it.
 pub fn without_event(fault: CallFault) -> CallFault<()>
     requires { lent_block (event_of fault) ≡ None }
     ensures fault { result ≡ fault_with fault tt }

@@ -1,4 +1,4 @@
-//! Blocks on their way back to the arena that they were taken from.
+//! Blocks that are being returned to the arena that they were taken from.
 
 ghost use Rattle.std.specs.Prelude.{◌≡◌, ◌<◌, ◌+◌, ◌++◌, ◌∷◌, [], length, ◌↔◌, true, OnOk, OnErr, IfErr};
 ghost use Rattle.device_lock.specs.NicDevice.DmaArena.Whereabouts.{times_in_hand};
@@ -14,7 +14,8 @@ use std::alloc::{AllocError, Global};
 use std::collections::VecDeque;
 use std::marker::Model;
 
-/// Blocks on their way home: the numbers of those still lent, and how many the device no longer had.
+/// Blocks that are being returned to their arena: the numbers of those still lent, and the number of blocks that the
+/// device no longer had.
 #[derive(Debug, Drop)]
 pub struct Reclaim {
     lent: VecDeque<u32>,
@@ -33,7 +34,7 @@ impl Model for Reclaim {
 }
 
 impl Reclaim {
-    /// Creates a `Reclaim` with no blocks on their way and none lost.
+    /// Creates a `Reclaim` with no blocks to return and none lost.
     pub fn new(alloc: Global) -> Reclaim
         ensures { result ≡ record { lent = []; lost = 0 } }
     {
@@ -62,14 +63,14 @@ impl Reclaim {
         Ok(())
     }
 
-    /// Returns whether the block with this number is on its way.
+    /// Returns whether the block with this number is still to be returned.
     pub fn has(&self, block: u32) -> bool
         ensures { (result ≡ true) ↔ (0 < times_in_hand self.now.lent block) }
     {
         self.lent.iter().filter(|lent| **lent == block).count() > 0
     }
 
-    /// The number of blocks that the device no longer had when the driver tried to take them.
+    /// The number of blocks that the device no longer had when the driver tried to take them back.
     pub fn lost(&self) -> u32
         ensures { result ≡ self.now.lost }
     {
@@ -79,7 +80,7 @@ impl Reclaim {
     /// Takes the blocks back in order and returns them to the arena. A block that the device no longer has counts as
     /// lost.
     ///
-    /// If a call is refused, the remaining blocks stay on their way, so you can try again.
+    /// If a call is refused, the remaining blocks are kept, so you can try again.
     pub fn bring<N: Nic>(
         &mut self,
         alloc: Global,
@@ -104,7 +105,7 @@ impl Reclaim {
         Ok(())
     }
 
-    /// The number of blocks on their way.
+    /// The number of blocks still to be returned.
     fn waiting(&self) -> usize
         ensures { result ≡ length self.now.lent }
     {

@@ -19,7 +19,7 @@ use std::collections::VecDeque;
 use std::marker::Model;
 
 /// A device in hand with lists of foreign events. Before each call, the events of the next list are applied, if any
-/// list is left. It can't be dropped, because the device can't.
+/// list remains. It can't be dropped, because the device can't.
 pub struct Interleaved {
     handled: Handled,
     schedule: VecDeque<Vec<Event>>,
@@ -38,15 +38,15 @@ impl Model for Interleaved {
     ghost view = { λ i. record { handled = i.handled; lists = map (λ list. list.items) i.schedule.items } };
 }
 
-/// The contents of an `Interleaved` when it ends.
+/// The contents of a finished `Interleaved`.
 pub struct Finished {
     /// The device, as the calls left it.
     pub device: Device,
     /// All calls made, foreign and own, with their replies, oldest first.
     pub calls: Calls,
-    /// For each of these calls, in order, whether it is own. `marked_history` takes these marks.
+    /// For each of these calls, in order, whether it is own. `marked_history` expects these marks.
     pub own: Vec<bool>,
-    /// The replies to the foreign events, oldest first. They may hold blocks.
+    /// The replies to the foreign events, oldest first. They may contain blocks.
     pub foreign: Vec<Reply>,
     /// The lists of foreign events not yet applied, next first.
     pub schedule: Vec<Vec<Event>>,
@@ -154,9 +154,9 @@ impl Nic for Interleaved {
 
     /// Applies the next list of foreign events, then the event.
     ///
-    /// `OutOfMemory` if there is no memory to apply or record one of them. The earlier ones have been applied; the
-    /// event hasn't. A refused foreign event stays first in its list, with those after it, and the next call applies
-    /// them. A list is removed when all its events have been applied.
+    /// `OutOfMemory` if there is no memory to apply or record one of these events. Then the earlier ones have been
+    /// applied, and the call's own event hasn't. A refused foreign event stays first in its list, followed by the rest
+    /// of the list, and the next call applies them. A list is removed when all its events have been applied.
     fn call(&mut self, alloc: Global, event: Event) -> Result<Reply, CallFault>
         ensures made { IfOk result (λ reply. Adds (made_of self.old.handled) (made_of self.new.handled) event reply) }
         ensures fits { IfOk result (λ reply. may_answer event reply ≡ true) }

@@ -2,12 +2,12 @@
 //!
 //! `Nic` is a way to access the device: each call first applies some events, then its own. There are three ways.
 //! `Direct` drives an owned device, and `ThroughLock` uses a pass to a shared one; both step the driver's queue before
-//! a call. `Interleaved` applies given lists of foreign events instead. In contracts, the applied events are the list
-//! of its calls.
+//! a call. `Interleaved` applies given lists of foreign events instead. Contracts see the applied events as the list of
+//! its calls.
 //!
 //! The rest builds on it: the accesses that a driver makes, each with the replies that it can get (`accesses.rt`), the
-//! set-up of the whole device (`pf_setup`), a queue with the numbers of its registers at a port, whose sides are made
-//! ready, enabled and disabled (`Queue`), the slots of a ring (`slots.rt`), the Bufs of a packet (`Bufs`), and the
+//! setup of the whole device (`pf_setup`), a queue with the numbers of its registers at a port, whose sides are
+//! prepared, enabled and disabled (`Queue`), the slots of a ring (`slots.rt`), the Bufs of a packet (`Bufs`), and the
 //! return of blocks to their arena (`Reclaim`).
 #![tactic(auto)]
 

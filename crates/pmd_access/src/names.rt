@@ -35,9 +35,9 @@ impl Model for Queue {
 }
 
 impl Queue {
-    /// The queue with this number at a port: one of the device's 128 through the physical function, one of its own
-    /// through a virtual function. Returns `None` if the port can't address it: from 128 on at the physical function,
-    /// from 64 on at a virtual one.
+    /// The queue with this number at a port: one of the device's 128 queues through the physical function, or one of
+    /// the function's own through a virtual function. Returns `None` if the port can't address it: 128 or more at the
+    /// physical function, 64 or more at a virtual one.
     pub fn new(port: Port, queue: u16) -> Option<Queue>
         ensures some { IfSome result (λ q. q ≡ record { port = port; queue = queue }) }
         ensures none { IsNone result ↔ ¬ CanName (record { port = port; queue = queue }) }

@@ -9,15 +9,15 @@ ghost use Rattle.pmd_access.specs.Refusals.{Refusals, CanRefuse};
 use device_lock::{CallFault, Event, Reply};
 use std::alloc::Global;
 
-/// How a driver reaches a device. A call runs some device steps, then applies this event. Others may apply events in
-/// between; those aren't calls of this `Nic`.
+/// How a driver reaches a device. A call runs some device steps, then applies one event. Others may apply events in
+/// between; these aren't calls made through this `Nic`.
 pub trait Nic {
     /// The calls made through it, with their replies, oldest first.
     ghost made: { Self → List Call };
 
     /// Where its calls began, as far as this is known. For a pass: the pass that the calls belong to. For a device in
-    /// hand: its state before the first call; from this state, everything done is a legal history that leads to the
-    /// device.
+    /// hand: its state before the first call; everything done since is a legal history that leads from this state to
+    /// the device.
     ghost began: { Self → Origin → Type 0 };
 
     /// The reasons for which it may refuse calls, other than lack of memory.

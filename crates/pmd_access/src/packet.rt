@@ -26,7 +26,7 @@ pub struct Packet {
     pub hash: u32,
 }
 
-/// How many Bufs a packet of `len` bytes needs: at least one.
+/// The number of Bufs that a packet of `len` bytes needs: at least one.
 fn bufs_for(len: u16) -> u32
     ensures { result ≡ bufs_for len }
 {
@@ -119,7 +119,7 @@ impl Model for Record {
 }
 
 impl Packet {
-    /// How many bytes a record of the packet keeps: the packet's length, at most the capacity of its Bufs.
+    /// The number of bytes that a record of the packet keeps: the packet's length, at most the capacity of its Bufs.
     pub fn record_room(&self) -> usize
         ensures { result ≡ min self.now.len (2048 * length self.now.bufs) }
     {
@@ -151,7 +151,7 @@ impl Packet {
         at.saturating_add(to.len()) <= usize::from(self.len) && self.bufs.read_at(at, to)
     }
 
-    /// The packet's byte at an index, from 0. Returns `None` where `read_at` can't read a byte.
+    /// The packet's byte at an index, from 0. Returns `None` if `read_at` can't read a byte there.
     #[tactic(auto, using(crate::proofs::Reading::reading, std::proofs::lemmas::Option::slice_get_past))]
     pub fn byte(&self, at: usize) -> Option<u8>
         ensures { result ≡ slice_get (kept_of self.now).bytes at }

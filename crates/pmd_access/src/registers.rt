@@ -17,7 +17,7 @@ use std::alloc::Global;
 /// An access to one of a queue's registers.
 #[derive(Clone, Copy)]
 pub enum Access {
-    /// Reads the register, which must show ENABLE (bit 25) in this state.
+    /// Reads the register, in which ENABLE (bit 25) must have this value.
     Sees(RowId, bool),
     /// Writes this value.
     Sets(RowId, u32),
@@ -71,7 +71,7 @@ impl Queue {
         }
     }
 
-    /// Returns whether a register of the queue shows ENABLE on.
+    /// Returns whether ENABLE is set in a register of the queue.
     ///
     /// `DeviceFault` if the port has no such register.
     pub(crate) fn shows<N: Nic>(
@@ -94,7 +94,7 @@ impl Queue {
     }
 }
 
-/// Returns whether a value of RXDCTL or TXDCTL contains ENABLE, which is the same bit in both.
+/// Returns whether ENABLE is set in a value of RXDCTL or TXDCTL; it is the same bit in both.
 fn is_enabled(word: u32) -> bool
     ensures { result ≡ has_bit 25 word }
 {

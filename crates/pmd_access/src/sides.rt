@@ -1,4 +1,4 @@
-//! The sides of a queue, made ready, enabled and disabled.
+//! Prepares, enables and disables the sides of a queue.
 
 ghost use Rattle.std.specs.Prelude.{◌≡◌, ◌<◌, ◌≤◌, ◌-◌, All, IfOk, IfErr, OnOk};
 ghost use Rattle.device_lock.specs.NicDevice.RegisterFile.Queue.{enable_row};
@@ -95,9 +95,9 @@ impl Queue {
     }
 
     /// Polls until a side of the queue is on or off as wanted, at most `polls` times. Only polls that show the other
-    /// state count. Returns the number of polls left.
+    /// state count. Returns the number of polls remaining.
     ///
-    /// `StartTimeout` if all show the other state, `DeviceFault` if the port has no such register.
+    /// `StartTimeout` if all of them show the other state, `DeviceFault` if the port has no such register.
     pub fn poll<N: Nic>(
         &self,
         alloc: Global,

@@ -66,12 +66,12 @@ impl<'a, R: Wait, const VFS: u8, const FIFO: u16> ThroughLock<'a, R, VFS, FIFO> 
         pass
     }
 
-    /// Runs the device steps, then applies the event, under the lock, which it acquires once. `Nic::call` calls this,
-    /// but no clause of `Nic::call` says that a foreign pass is refused.
+    /// Runs the device steps, then applies the event, under the lock, which it acquires once. `Nic::call` calls this
+    /// function, but doesn't promise that a foreign pass is refused.
     ///
-    /// `ForeignPass` exactly if the pass belongs to another bench or its tag isn't one of this device's; nothing is
-    /// done. Otherwise it fails for any reason for which `Shared::call` refuses one of them. The earlier steps have
-    /// run; the event hasn't been applied.
+    /// `ForeignPass` exactly if the pass belongs to another bench or its tag isn't one of this device's; then nothing
+    /// is done. Otherwise, it fails for any reason for which `Shared::call` refuses a step or the event. Then the
+    /// earlier steps have run, and the event hasn't been applied.
     pub fn step_and_make(&mut self, alloc: Global, event: Event) -> Result<Reply, CallFault>
         ensures exact { IfOk result (λ reply. StepsAndMakes self.old self.new event reply) }
         ensures fits { IfOk result (λ reply. may_answer event reply ≡ true) }

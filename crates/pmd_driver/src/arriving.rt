@@ -1,4 +1,4 @@
-//! Lets a frame arrive from the link.
+//! Delivers a frame from the link to the device.
 
 ghost use Rattle.std.specs.Prelude.{◌≡◌, IfOk, IfErr, OnErr};
 ghost use Rattle.pmd_access.specs.Begun.{BeganAs};
@@ -19,9 +19,9 @@ pub enum Arrived {
     Dropped(Why),
 }
 
-/// Lets a frame of these bytes, without its frame check sequence, arrive from the link.
+/// Delivers a frame from the link to the device: these bytes, without its frame check sequence.
 ///
-/// `Call` if the call was refused, or if there was no memory for a copy of the bytes; no frame arrived.
+/// `Call` if the call was refused, or if there was no memory for a copy of the bytes; then no frame arrived.
 pub fn arrive<N: Nic>(alloc: Global, nic: &mut N, frame: &[u8]) -> Result<Arrived, PmdFault>
     ensures arrives { IfOk result (λ arrived. Arrives (N.made nic.old) (N.made nic.new) frame.now arrived) }
     ensures refused { OnErr result (AddsSome (N.made nic.old) (N.made nic.new)) }
@@ -36,7 +36,7 @@ pub fn arrive<N: Nic>(alloc: Global, nic: &mut N, frame: &[u8]) -> Result<Arrive
     }
 }
 
-/// Lets a frame arrive.
+/// Delivers a frame.
 fn bring<N: Nic>(alloc: Global, nic: &mut N, frame: Octets) -> Result<Arrived, PmdFault>
     ensures asks { Asks N.began N.refuses (fault_in result) nic.old nic.new }
     ensures arrives { IfOk result (λ arrived. Arrives (N.made nic.old) (N.made nic.new) frame arrived) }

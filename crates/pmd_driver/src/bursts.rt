@@ -16,8 +16,8 @@ use pmd_tx::{TxAnswer, TxFault};
 use std::alloc::Global;
 use std::collections::VecDeque;
 
-/// How many packets were queued, and the fault that stopped the burst, if any: the next packet's fault or the last
-/// one's.
+/// The number of packets queued, and the fault that stopped the burst, if any: that of the next packet, or that of the
+/// last packet queued.
 pub(crate) struct Queued {
     pub(crate) sent: u16,
     pub(crate) met: Option<PmdFault>,
@@ -25,13 +25,14 @@ pub(crate) struct Queued {
 
 impl Running {
     /// Sends packets from the front of the list, as many as fit, with one tail write after the last. If fewer than
-    /// `vacant` slots of the ring are vacant, it first frees the blocks of sent packets, as `reap` does; with 0 it
-    /// never does, above 1,023 it always does. It stops at the first packet that doesn't fit, is refused, or meets a
-    /// fault. Returns the number of packets accepted; these are removed from the list, and the others stay in order.
+    /// `vacant` slots of the ring are vacant, it first frees the blocks of sent packets, as `reap` does. It never does
+    /// this if `vacant` is 0, and always if `vacant` is above 1,023. It stops at the first packet that doesn't fit, is
+    /// refused, or meets a fault. Returns the number of packets accepted; these are removed from the list, and the
+    /// others stay in order.
     ///
-    /// If no packet was accepted, it returns the fault, from `reap` or from the first packet as `tx` would. It also
-    /// returns a fault if the tail couldn't be written after the packets it accepted, which are no longer in the list;
-    /// the next call continues with them.
+    /// If no packet was accepted, it returns the fault, if there is one: the fault of reaping, or the one that `tx`
+    /// would return for the first packet. It also returns a fault if it accepted packets but couldn't write the tail
+    /// after them. These packets are no longer in the list; the next call continues with them.
     pub fn tx_burst<N: Nic>(
         &mut self,
         alloc: Global,
@@ -40,12 +41,12 @@ impl Running {
         packets: &mut VecDeque<Packet>,
     ) -> Result<u16, PmdFault>
         ensures drives { DrivesRings (N.made nic.old) self.old (N.made nic.new) self.new }
-        // The first packets of the list were accepted in order, as many as reported, and removed. The others are
-        // unchanged, except that after a wrong reply to lending the first one, it may be in other blocks with the same
-        // numbers. The tail isn't moved until all are queued; then it is. Without a fault, the tail has passed
-        // everything outstanding. The burst stops only if no packet is left, the ring has no room for the next, the
-        // next is refused before any event, or a call met a fault during its events. If the first packet is refused, no
-        // event occurs.
+        // The first packets of the list, as many as reported, were accepted in order and removed. The others are
+        // unchanged, with one exception: if lending the first of them got a wrong reply, it may be in other blocks with
+        // the same numbers. The tail is advanced only after all accepted packets are queued. Without a fault, the tail
+        // has passed everything outstanding. The burst stops only if no packet is left, the ring has no room for the
+        // next packet, that packet is refused before any event, or a call met a fault during its events. If the first
+        // packet is refused, no event occurs.
         ensures sent { IsSendBurst vacant packets.old.items packets.new.items result (N.made nic.old) self.old
             (N.made nic.new) self.new }
         ensures blocks { KeepsUp self.old (numbers_of_all packets.old.items) self.new

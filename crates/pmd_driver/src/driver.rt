@@ -124,10 +124,10 @@ impl Pmd {
 impl Pmd {
     /// Receives the next packet, in order. Returns `None` while a slot of that packet isn't done.
     ///
-    /// `NoBuffer` if a packet waits and too few blocks are free for it; `DeviceFault` if a reply is one that a healthy
-    /// queue never sends; `Call` if a call was refused, or if there was no memory for the packet's record. The driver
-    /// keeps its place, and the next call continues. If the driver isn't running, it returns `DeviceFault` without any
-    /// event.
+    /// `NoBuffer` if a packet is waiting and too few blocks are free for it; `DeviceFault` if a reply is one that a
+    /// healthy queue never sends; `Call` if a call was refused, or if there was no memory for the packet's record. The
+    /// driver keeps its place, and the next call continues. If the driver isn't running, it returns `DeviceFault`
+    /// without any event.
     pub fn rx<N: Nic>(&mut self, alloc: Global, nic: &mut N) -> Result<Option<Packet>, PmdFault>
         ensures drives { RunsOn (N.made nic.old) self.old.rings (N.made nic.new) self.new.rings }
         ensures received { WhereUp self.old.rings self.new.rings (λ r s.
@@ -150,12 +150,12 @@ impl Pmd {
         }
     }
 
-    /// Sends a packet, zero-padded to 60 bytes if it is shorter, with one descriptor for each Buf that holds bytes of
-    /// it.
+    /// Sends a packet, zero-padded to 60 bytes if it is shorter, with one descriptor for each Buf that contains bytes
+    /// of it.
     ///
-    /// Before any event it checks the packet. `BadSize` if its length is 0, above the frame limit less 4, or above the
+    /// It checks the packet before any event. `BadSize` if its length is 0, above the frame limit less 4, or above the
     /// capacity of its Bufs; `ForeignBlock` if `release` would return it; `RingFull` if the outstanding descriptors and
-    /// the packet's exceed all slots of the ring but one.
+    /// the packet's together would take more than all but one of the ring's slots.
     ///
     /// After that, `DeviceFault` if the device sends a reply that a healthy queue can't send; `Call` if a call was
     /// refused, or if there was no memory for the record. If none of its blocks was lent yet, the packet is returned;
@@ -191,8 +191,8 @@ impl Pmd {
     }
 
     /// Frees the blocks of sent packets, oldest first. It first continues with a packet that has waited since an
-    /// earlier call. By its clauses, if it ends without a fault, the tail has passed both the freed packets and the
-    /// oldest remaining one.
+    /// earlier call. Its clauses promise that, if it returns without a fault, the tail has passed both the freed
+    /// packets and the oldest remaining one.
     ///
     /// `DeviceFault` if the device sends a reply that a healthy queue can't send, `Call` if a call was refused. Blocks
     /// already freed stay free. If the driver isn't running, it returns `DeviceFault` without any event.
@@ -217,13 +217,13 @@ impl Pmd {
 }
 
 impl Pmd {
-    /// Receives the next packets, in order, at most `most`. They are appended to `packets` after the tail has passed
-    /// the blocks that replace theirs. Returns their number: 0 only if `most` is 0 or the slot after those already seen
-    /// isn't done. No clause says how many packets it returns, from 1 to `most`.
+    /// Receives up to `most` packets, the next ones in order. Appends them to `packets` after the tail has passed the
+    /// blocks that replace theirs. Returns the number of packets received; it is 0 only if `most` is 0 or the slot
+    /// after those already seen isn't done. How many packets from 1 to `most` it returns isn't promised.
     ///
-    /// It fails as `rx` does, and only if it returns no packet; the next call continues from there. It also returns
-    /// `Call` if there is no memory for the packets. If the driver isn't running, it returns `DeviceFault` without any
-    /// event.
+    /// It fails for the same reasons as `rx`, and only if it returns no packet; the next call continues from there. It
+    /// also returns `Call` if there is no memory for the packets. If the driver isn't running, it returns `DeviceFault`
+    /// without any event.
     pub fn rx_burst<N: Nic>(
         &mut self,
         alloc: Global,
@@ -254,14 +254,15 @@ impl Pmd {
     }
 
     /// Sends packets from the front of the list, as many as fit, with one tail write after the last. If fewer than
-    /// `vacant` slots of the ring are vacant, it first frees the blocks of sent packets, as `reap` does; with 0 it
-    /// never does, above 1,023 it always does. It stops at the first packet that doesn't fit, is refused, or meets a
-    /// fault. Returns the number of packets accepted; these are removed from the list, and the others stay in order.
+    /// `vacant` slots of the ring are vacant, it first frees the blocks of sent packets, as `reap` does. It never does
+    /// this if `vacant` is 0, and always if `vacant` is above 1,023. It stops at the first packet that doesn't fit, is
+    /// refused, or meets a fault. Returns the number of packets accepted; these are removed from the list, and the
+    /// others stay in order.
     ///
-    /// If no packet was accepted, it returns the fault, from `reap` or from the first packet as `tx` would. It also
-    /// returns a fault if the tail couldn't be written after the packets it accepted, which are no longer in the list;
-    /// the next call continues with them. If the driver isn't running, it returns `DeviceFault` without any event, and
-    /// all packets stay.
+    /// If no packet was accepted, it returns the fault, if there is one: the fault of reaping, or the one that `tx`
+    /// would return for the first packet. It also returns a fault if it accepted packets but couldn't write the tail
+    /// after them. These packets are no longer in the list; the next call continues with them. If the driver isn't
+    /// running, it returns `DeviceFault` without any event, and all packets stay.
     pub fn tx_burst<N: Nic>(
         &mut self,
         alloc: Global,
@@ -330,8 +331,9 @@ impl Pmd {
         }
     }
 
-    /// Returns a packet's blocks to the arena. The packet itself is returned if one of its blocks can't go home: the
-    /// arena doesn't own its number, it is free there, it occurs twice, or this driver has it out.
+    /// Returns a packet's blocks to the arena. The packet itself is returned if one of its blocks can't be returned:
+    /// the arena doesn't own the block's number, the block is free there, it occurs twice in the packet, or this driver
+    /// has it out.
     pub fn release(&mut self, packet: Packet) -> Result<(), Packet>
         ensures ok { IsOk result ↔ (goes_back_to self.old.rings packet ≡ true) }
         // The packet's blocks are free in the arena.
@@ -351,9 +353,9 @@ impl Pmd {
         }
     }
 
-    /// Ends the driver: switches both sides of the queue off and takes back all blocks that it has lent.
+    /// Ends the driver: disables both sides of the queue and takes back all blocks that the driver has lent.
     ///
-    /// It fails as `Halted::stop` does; the error then returns the driver, which is no longer running.
+    /// It fails for the same reasons as `Halted::stop`; the error then contains the driver, which is no longer running.
     pub fn stop<N: Nic>(self, alloc: Global, nic: &mut N) -> Result<Home, StopRefused>
         ensures home { IfOk result (λ home.
             Stops self.queue (N.made nic.old) (halted_of self.rings) (N.made nic.new) home) }

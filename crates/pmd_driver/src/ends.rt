@@ -11,13 +11,13 @@ use pmd_rx::ReceiveRing;
 use pmd_tx::TransmitRing;
 use std::alloc::Global;
 
-/// The receive half: its ring, or its blocks on their way home with the packets handed out.
+/// The receive half: its ring, or its blocks that are being returned, with the packets handed out.
 pub(crate) enum Receiving {
     Ring(ReceiveRing),
     Leaves(Reclaim, Vec<Record>),
 }
 
-/// The transmit half: its ring, or its blocks on their way home with the packets accepted.
+/// The transmit half: its ring, or its blocks that are being returned, with the packets accepted.
 pub(crate) enum Sending {
     Ring(TransmitRing),
     Leaves(Reclaim, Vec<Record>),
@@ -86,7 +86,7 @@ impl Sending {
         }
     }
 
-    /// Closes the ring, if it isn't closed yet. The blocks that wait return to the arena.
+    /// Closes the ring, if it isn't closed yet. The waiting segments' blocks return to the arena.
     pub(crate) fn close(
         self,
         alloc: Global,

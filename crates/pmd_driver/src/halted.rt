@@ -153,8 +153,9 @@ impl Halted {
         are_out(&self.arena, &packet.bufs) && !self.has_one(&packet.bufs)
     }
 
-    /// Returns a packet's blocks to the arena. The packet itself is returned if one of its blocks can't go home: the
-    /// arena doesn't own its number, it is free there, it occurs twice, or this driver has it out.
+    /// Returns a packet's blocks to the arena. The packet itself is returned if one of its blocks can't be returned:
+    /// the arena doesn't own the block's number, the block is free there, it occurs twice in the packet, or this driver
+    /// has it out.
     pub fn release(&mut self, packet: Packet) -> Result<(), Packet>
         ensures ok { IsOk result ↔ (goes_back self.old packet ≡ true) }
         ensures released { OnOk result
@@ -174,21 +175,22 @@ impl Halted {
 }
 
 impl Halted {
-    /// Stops the driver: closes the rings, switches both sides of the queue off, and takes all blocks home.
+    /// Stops the driver: closes the rings, disables both sides of the queue, and returns all blocks to the arena.
     ///
     /// `Call(OutOfMemory)` before any event if there is no memory to close a ring. After that, `StartTimeout` if a side
-    /// doesn't switch off within the permitted polls, `DeviceFault` if the port has no such register, and `Call` if a
-    /// call was refused. The error returns the driver in its current state, and you can try again: it writes "off" and
-    /// polls again, and continues with the blocks that are still out. A block that the device no longer has is lost.
+    /// isn't disabled within the permitted polls, `DeviceFault` if the port has no such register, and `Call` if a call
+    /// was refused. The error contains the driver in its current state, and you can try again: the next call writes
+    /// "off", polls again, and continues with the blocks that are still out. A block that the device no longer has is
+    /// lost.
     pub fn stop<N: Nic>(self, alloc: Global, nic: &mut N, queue: &Queue) -> Result<Home, StopFailed>
-        // Apart from device steps in between, it makes just these calls: it requests that both sides be off, polls
-        // both, with fewer than 1,000 polls that show one on, and takes each block back.
+        // Apart from device steps in between, it makes only these calls: it requests that both sides be disabled, polls
+        // both, with fewer than 1,000 polls that show a side on, and takes each block back.
         ensures home { IfOk result (λ home. Stops queue.now (N.made nic.old) self (N.made nic.new) home) }
         // The arena owns the same numbers as before.
         ensures owns { IfOk result (λ home. (n : ℕ) → is_own home.arena n ≡ is_own self.arena n) }
-        // If no block is lost, the free numbers are those that were free before and those that the driver had out. If
-        // one is lost, clause `home` defines them: each number is unchanged, except that the numbers in hand and the
-        // numbers of blocks that the device returned are free.
+        // If no block is lost, the free numbers are those that were free before and those that the driver had out. If a
+        // block is lost, clause `home` determines them: each number is unchanged, except that the numbers in hand and
+        // the numbers of blocks that the device returned are free.
         ensures free { IfOk result (λ home. home.lost ≡ 0
             → (n : ℕ) → is_free home.arena n ≡ is_free_or_out self.arena (all_out self) n) }
         ensures failed { IfErr result (λ failed.

@@ -1,9 +1,9 @@
 //! The poll-mode driver of one queue, built from its two halves.
 //!
 //! `running.rt` contains a driver whose two rings are up: what it receives and sends, and where each block is.
-//! `bursts.rt` sends several packets at once, `bytes.rt` puts bytes into a packet, and `arriving.rt` lets a frame
-//! arrive. `rings.rt` contains the steps that bring the rings up; `start.rt` finds the blocks for them and runs these
-//! steps in order. `driver.rt` is the driver as a whole, `Pmd`: started, running, and stopped.
+//! `bursts.rt` sends several packets in one call, `bytes.rt` creates packets from given bytes, and `arriving.rt`
+//! delivers a frame from the link. `rings.rt` contains the steps that bring the rings up; `start.rt` finds the blocks
+//! for them and runs these steps in order. `driver.rt` is the driver as a whole, `Pmd`: started, running, and stopped.
 //!
 //! `Halted` is a driver whose start failed with a block lent, or whose stop has begun. `Halted::stop` disables both
 //! sides of its queue and takes its blocks back; you can call it again. `ends.rt` contains its two halves, each of them

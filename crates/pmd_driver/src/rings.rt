@@ -52,7 +52,7 @@ fn lend_one<N: Nic>(
     }
 }
 
-/// Lends the `count` blocks from `first` on, which are free in the arena, in order. It records the numbers of those
+/// Lends the `count` blocks starting at `first`, which are free in the arena, in order. It records the numbers of those
 /// lent, for which there is room.
 fn lend_run<N: Nic>(
     alloc: Global,
@@ -79,8 +79,8 @@ fn lend_run<N: Nic>(
     Ok(())
 }
 
-/// Writes the registers of an empty ring of 8 to 1,024 descriptors, then lends the ring's blocks, which are free in the
-/// arena, from block `ring` on.
+/// Writes the registers of an empty ring with 8 to 1,024 descriptors, then lends the ring's blocks, which are free in
+/// the arena and start at block `ring`.
 fn prepare<N: Nic>(
     alloc: Global,
     nic: &mut N,
@@ -112,8 +112,8 @@ fn prepare<N: Nic>(
     }
 }
 
-/// Ensures that both sides of the queue are off, then prepares an empty receive ring of 8 to 1,024 descriptors. The
-/// ring's blocks are free in the arena, from block `ring` on.
+/// Ensures that both sides of the queue are off, then prepares an empty receive ring with 8 to 1,024 descriptors. The
+/// ring's blocks are free in the arena and start at block `ring`.
 pub(crate) fn receive_ring<N: Nic>(
     alloc: Global,
     nic: &mut N,
@@ -145,8 +145,8 @@ pub(crate) fn receive_ring<N: Nic>(
     }
 }
 
-/// Prepares an empty transmit ring of 8 to 1,024 descriptors. The ring's blocks are free in the arena, from block
-/// `ring` on.
+/// Prepares an empty transmit ring with 8 to 1,024 descriptors. The ring's blocks are free in the arena and start at
+/// block `ring`.
 pub(crate) fn transmit_ring<N: Nic>(
     alloc: Global,
     nic: &mut N,
@@ -171,7 +171,7 @@ pub(crate) fn transmit_ring<N: Nic>(
     }
 }
 
-/// Switches both sides on and fills the receive ring. Enough blocks must be free.
+/// Enables both sides and fills the receive ring. Enough blocks must be free.
 pub(crate) fn go_on<N: Nic>(
     alloc: Global,
     nic: &mut N,

@@ -28,9 +28,9 @@ use std::alloc::Global;
 use std::collections::VecDeque;
 use std::marker::Model;
 
-/// A driver with both rings up: the arena of its blocks, and the rings. After any call, no block is in two places, free
-/// in the arena or with a ring. All slots of the receive ring but one are posted, except those of held or complete
-/// packets.
+/// A driver with both rings up: the arena of its blocks, and the rings. After any call, each block is in at most one
+/// place: free in the arena, or with a ring. In the receive ring, one slot is vacant, and the slots of held and
+/// complete packets aren't posted; all other slots are.
 pub struct Running {
     arena: Arena,
     receive: ReceiveRing,
@@ -48,8 +48,9 @@ impl Model for Running {
 }
 
 impl Running {
-    /// Creates a driver from two rings that are up and have their blocks out of the arena. All slots of the receive
-    /// ring but one are posted, except those of packets that it holds. The transmit ring has at least one slot.
+    /// Creates a driver from two rings that are up and have their blocks out of the arena. In the receive ring, one
+    /// slot is vacant, and the slots of held and complete packets aren't posted; all other slots are. The transmit ring
+    /// has at least one slot.
     pub fn new(arena: Arena, receive: ReceiveRing, transmit: TransmitRing) -> Running
         requires { IsUp (record { arena = arena; receive = receive; transmit = transmit }) }
         ensures { result ≡ record { arena = arena; receive = receive; transmit = transmit } }
@@ -119,9 +120,9 @@ impl Running {
 impl Running {
     /// Receives the next packet, in order. Returns `None` while a slot of that packet isn't done.
     ///
-    /// `NoBuffer` if a packet waits and too few blocks are free for it; `DeviceFault` if a reply is one that a healthy
-    /// queue never sends; `Call` if a call was refused, or if there was no memory for the packet's record. The driver
-    /// keeps its place, and the next call continues.
+    /// `NoBuffer` if a packet is waiting and too few blocks are free for it; `DeviceFault` if a reply is one that a
+    /// healthy queue never sends; `Call` if a call was refused, or if there was no memory for the packet's record. The
+    /// driver keeps its place, and the next call continues.
     pub fn rx<N: Nic>(&mut self, alloc: Global, nic: &mut N) -> Result<Option<Packet>, PmdFault>
         ensures drives { DrivesRings (N.made nic.old) self.old (N.made nic.new) self.new }
         ensures received { IsReceiveCall result (N.made nic.old) self.old (N.made nic.new) self.new }
@@ -134,12 +135,12 @@ impl Running {
         self.receive.receive(alloc, nic, &mut self.arena)
     }
 
-    /// Receives the next packets, in order, at most `most`. They are appended to `packets` after the tail has passed
-    /// the blocks that replace theirs. Returns their number: 0 only if `most` is 0 or the slot after those already seen
-    /// isn't done. No clause says how many packets it returns, from 1 to `most`.
+    /// Receives up to `most` packets, the next ones in order. Appends them to `packets` after the tail has passed the
+    /// blocks that replace theirs. Returns the number of packets received; it is 0 only if `most` is 0 or the slot
+    /// after those already seen isn't done. How many packets from 1 to `most` it returns isn't promised.
     ///
-    /// It fails as `rx` does, and only if it returns no packet; the next call continues from there. It also returns
-    /// `Call` if there is no memory for the packets.
+    /// It fails for the same reasons as `rx`, and only if it returns no packet; the next call continues from there. It
+    /// also returns `Call` if there is no memory for the packets.
     pub fn rx_burst<N: Nic>(
         &mut self,
         alloc: Global,
@@ -162,12 +163,12 @@ impl Running {
             .receive_burst(alloc, nic, &mut self.arena, most, packets)
     }
 
-    /// Sends a packet, zero-padded to 60 bytes if it is shorter, with one descriptor for each Buf that holds bytes of
-    /// it.
+    /// Sends a packet, zero-padded to 60 bytes if it is shorter, with one descriptor for each Buf that contains bytes
+    /// of it.
     ///
-    /// Before any event it checks the packet. `BadSize` if its length is 0, above the frame limit less 4, or above the
+    /// It checks the packet before any event. `BadSize` if its length is 0, above the frame limit less 4, or above the
     /// capacity of its Bufs; `ForeignBlock` if `release` would return it; `RingFull` if the outstanding descriptors and
-    /// the packet's exceed all slots of the ring but one.
+    /// the packet's together would take more than all but one of the ring's slots.
     ///
     /// After that, `DeviceFault` if the device sends a reply that a healthy queue can't send; `Call` if a call was
     /// refused, or if there was no memory for the record. If none of its blocks was lent yet, the packet is returned;
@@ -193,8 +194,8 @@ impl Running {
     }
 
     /// Frees the blocks of sent packets, oldest first. It first continues with a packet that has waited since an
-    /// earlier call. By its clauses, if it ends without a fault, the tail has passed both the freed packets and the
-    /// oldest remaining one.
+    /// earlier call. Its clauses promise that, if it returns without a fault, the tail has passed both the freed
+    /// packets and the oldest remaining one.
     ///
     /// `DeviceFault` if the device sends a reply that a healthy queue can't send, `Call` if a call was refused. Blocks
     /// already freed stay free.
@@ -211,7 +212,7 @@ impl Running {
 }
 
 impl Running {
-    /// Does the work of `tx` but leaves the tail, so that `flush` can advance it after several packets.
+    /// Does the work of `tx` but doesn't advance the tail, so that `flush` can advance it after several packets.
     pub(crate) fn queue_packet<N: Nic>(
         &mut self,
         alloc: Global,
@@ -228,7 +229,7 @@ impl Running {
     }
 
     /// Advances the tail past all accepted packets, unless it is already there. Before that, it finishes the last
-    /// packet if a part of it waits.
+    /// packet if a part of it is waiting.
     ///
     /// `DeviceFault` if the device sends a reply that a healthy queue can't send, `Call` if a call was refused; the
     /// next call continues.
@@ -274,8 +275,9 @@ impl Running {
         self.transmit.goes_home(&self.arena, packet) && !self.receives(&packet.bufs)
     }
 
-    /// Returns a packet's blocks to the arena. The packet itself is returned if one of its blocks can't go home: the
-    /// arena doesn't own its number, it is free there, it occurs twice, or this driver has it out.
+    /// Returns a packet's blocks to the arena. The packet itself is returned if one of its blocks can't be returned:
+    /// the arena doesn't own the block's number, the block is free there, it occurs twice in the packet, or this driver
+    /// has it out.
     pub fn release(&mut self, packet: Packet) -> Result<(), Packet>
         ensures ok { IsOk result ↔ (goes_back self.old packet ≡ true) }
         ensures released { OnOk result (IsReleased self.old packet self.new) }

@@ -32,7 +32,7 @@ use std::alloc::Global;
 pub enum Rest {
     /// The arena, with none of its blocks lent.
     Home(Home),
-    /// A driver that isn't running, with the blocks it lent. `stop` takes them home.
+    /// A driver that isn't running, with the blocks it lent. `stop` returns them to the arena.
     Running(Pmd),
 }
 
@@ -40,7 +40,7 @@ pub enum Rest {
 pub struct StartRefused {
     /// Why it was refused.
     pub fault: PmdFault,
-    /// What you must end: an arena, or a driver that isn't running.
+    /// What you must close or stop: an arena, or a driver that isn't running.
     pub rest: Rest,
 }
 
@@ -51,7 +51,7 @@ fn is_size(size: u16) -> bool
     8 <= size && size <= 1024 && size % 8 == 0
 }
 
-/// Where a start puts its rings: the first block of each.
+/// Where a start places its rings: the first block of each.
 #[derive(Clone, Copy)]
 struct Places {
     receive: u32,
@@ -230,11 +230,11 @@ impl Pmd {
     /// 1,024. Each ring takes a run of blocks of the arena, one for every 128 descriptors, and `size` - 1 blocks are
     /// posted for incoming frames. A frame has at most `frame` bytes with its frame check sequence: 1,518 to 9,728.
     ///
-    /// Before any event, in this order: `BadSize` if the size or the frame length is out of range; `NoBuffer` if too
-    /// few blocks are free, or no two such runs are free; `DeviceFault` if the port can't address the queue. After
-    /// that, `DeviceFault` if a side of the queue is on, or if the device sends a reply that a healthy queue can't
-    /// send; `StartTimeout` if 1,000 polls show a side off; `Call` if a call was refused. If a block was already lent,
-    /// the error returns the half-started driver.
+    /// It fails before any event, in this order: `BadSize` if the size or the frame length is out of range; `NoBuffer`
+    /// if too few blocks are free, or no two such runs are free; `DeviceFault` if the port can't address the queue.
+    /// After that, `DeviceFault` if a side of the queue is on, or if the device sends a reply that a healthy queue
+    /// can't send; `StartTimeout` if 1,000 polls show a side off; `Call` if a call was refused. If a block was already
+    /// lent, the error contains the half-started driver.
     pub fn start<N: Nic>(
         alloc: Global,
         nic: &mut N,
@@ -246,10 +246,10 @@ impl Pmd {
     ) -> Result<Pmd, StartRefused>
         ensures shut { IsShut (start_gate arena (record { port = port; queue = queue }) size frame) arena
             (N.made nic.old) (N.made nic.new) result }
-        // The driver read that both sides are off, wrote "off", and read it again before it lent any block. It wrote
+        // Before it lent any block, the driver read that both sides are off, wrote "off", and read this again. It wrote
         // the registers of one ring and lent the ring's free, consecutive blocks in order; then it did the same for the
-        // other ring. It requested that both sides be on, polled both, with fewer than 1,000 polls that showed one off,
-        // and filled the receive ring. Apart from device steps in between, it made no other calls.
+        // other ring. It requested that both sides be enabled, polled both, with fewer than 1,000 polls that showed a
+        // side off, and filled the receive ring. Apart from device steps in between, it made no other calls.
         ensures started { IfOk result (λ p. HasStarted (record { port = port; queue = queue }) size frame
             (N.made nic.old) arena (N.made nic.new) p) }
         ensures stops { IfErr result (λ e. start_gate arena (record { port = port; queue = queue }) size frame ≡ None

@@ -13,7 +13,7 @@ use crate::home::{Home, StopFailed};
 use pmd_access::{Arena, CallFault, Nic, PmdFault, Queue, Reclaim, Record};
 use std::alloc::Global;
 
-/// A driver with closed rings; their blocks are on their way home.
+/// A driver with closed rings, whose blocks are being returned to the arena.
 pub(crate) struct Leaving {
     pub(crate) arena: Arena,
     pub(crate) receive: Reclaim,
@@ -23,7 +23,7 @@ pub(crate) struct Leaving {
 }
 
 impl Leaving {
-    /// Switches both sides of the queue off and takes the blocks home.
+    /// Disables both sides of the queue and returns the blocks to the arena.
     pub(crate) fn go_home<N: Nic>(
         self,
         alloc: Global,
@@ -46,7 +46,7 @@ impl Leaving {
         }
     }
 
-    /// Takes the blocks home.
+    /// Returns the blocks to the arena.
     fn bring<N: Nic>(self, alloc: Global, nic: &mut N) -> Result<Home, StopFailed>
         requires { IsHalted (leaving_as self) }
         ensures asks { Asks N.began N.refuses (stopped_in result) nic.old nic.new }
@@ -85,7 +85,7 @@ impl Leaving {
     }
 }
 
-/// Takes the blocks of both rings home, starting with the first ring's.
+/// Returns the blocks of both rings to the arena, starting with the first ring's.
 fn bring_both<N: Nic>(
     alloc: Global,
     nic: &mut N,

@@ -1,4 +1,4 @@
-//! Received packets: one by one, or several with one move of the tail.
+//! Receives packets one by one, or several with one tail write.
 
 ghost use Rattle.std.specs.Prelude.{ℕ, ◌≡◌, ◌≢◌, ◌<◌, ◌≤◌, ◌+◌, ◌++◌, ◌∷◌, [], length, true, false, Ok, Err, IfOk, IfErr, IfSome, IfNone, OnErr, None};
 ghost use Rattle.pmd_access.specs.NicDevice.DmaArena.Numbers.{Numbers};
@@ -20,7 +20,7 @@ use std::alloc::Global;
 use std::collections::VecDeque;
 
 impl ReceiveRing {
-    /// Takes the next received packet, which becomes complete. Returns whether there is one in the posted slots.
+    /// Takes the next received packet, which becomes complete. Returns whether the posted slots contain one.
     fn take_next<N: Nic>(
         &mut self,
         alloc: Global,
@@ -47,8 +47,8 @@ impl ReceiveRing {
         }
     }
 
-    /// Takes at most `most` further packets. It stops early if none is left or a call fails; the next call meets that
-    /// fault again.
+    /// Takes at most `most` further packets. It stops early if no packet is left or a call fails; the next call meets
+    /// that fault again.
     fn take_more<N: Nic>(&mut self, alloc: Global, nic: &mut N, arena: &mut Arena, most: u16)
         requires running { IsRunning self.old }
         requires home { AreOut arena.old (blocks_out self.old) }
@@ -64,7 +64,8 @@ impl ReceiveRing {
         }
     }
 
-    /// Takes at most `most` packets, at least one, unless a complete one already waits. Returns whether one waits now.
+    /// Takes at least one and at most `most` packets, unless a complete one is already waiting. Returns whether a
+    /// complete packet is then waiting.
     fn gather<N: Nic>(
         &mut self,
         alloc: Global,
@@ -110,11 +111,12 @@ impl ReceiveRing {
     ///
     /// If some parts of a packet are already taken, because a later call was refused, it finishes only this packet and
     /// looks at no slot. If packets are complete, because a tail write was refused, it returns the oldest and only
-    /// writes the tail. No clause says that it looks at no slot then, or that it causes no other event.
+    /// writes the tail. It isn't promised that it then looks at no slot, or that it causes no other event.
     ///
-    /// `NoBuffer` only if a packet waits and too few blocks are free; the driver is unchanged except for what it has
-    /// seen. `DeviceFault` if a healthy queue would never reply this way. `Call` if a call was refused, or if there was
-    /// no memory for what it saw or for the packet's record; the driver keeps its place, and the next call continues.
+    /// `NoBuffer` only if a packet is waiting and too few blocks are free; the driver is unchanged except for what it
+    /// has seen. `DeviceFault` if a healthy queue would never reply this way. `Call` if a call was refused, or if there
+    /// was no memory for what it saw or for the packet's record; the driver keeps its place, and the next call
+    /// continues.
     pub fn receive<N: Nic>(
         &mut self,
         alloc: Global,
@@ -147,18 +149,18 @@ impl ReceiveRing {
         }
     }
 
-    /// Receives the next packets, in order, at most `most`. Fresh blocks of the arena replace their blocks and are
-    /// posted with one tail write. The packets are appended to `out`. Returns their number: 0 only if `most` is 0 or
-    /// the slot after those already seen isn't done. No clause says how many packets it returns, from 1 to `most`, that
-    /// one tail write posts all of them, or when it looks at no slot.
+    /// Receives up to `most` packets, the next ones in order. Fresh blocks of the arena replace their blocks and are
+    /// posted with one tail write. Appends the packets to `out` and returns their number; it is 0 only if `most` is 0
+    /// or the slot after those already seen isn't done. Three facts aren't promised: how many packets from 1 to `most`
+    /// it returns, that one tail write posts all of the blocks, and when it looks at no slot.
     ///
     /// It stops early, with the packets received so far, if a slot isn't done, no posted slot is left, or a call fails;
     /// the next call continues from there. If packets are complete, because a tail write was refused, it looks at no
-    /// slot and returns them. It returns the oldest alone if there are more than `most` or parts of another packet are
-    /// already taken.
+    /// slot and returns them. It returns only the oldest if there are more than `most`, or if parts of another packet
+    /// are already taken.
     ///
-    /// It fails as `receive` does, and only if it returns no packet; `out` is then unchanged. It also returns `Call` if
-    /// `out` can't grow for the packets; they stay complete, and the next call returns them.
+    /// It fails for the same reasons as `receive`, and only if it returns no packet; `out` is then unchanged. It also
+    /// returns `Call` if `out` can't grow for the packets; they stay complete, and the next call returns them.
     pub fn receive_burst<N: Nic>(
         &mut self,
         alloc: Global,
@@ -192,7 +194,7 @@ impl ReceiveRing {
     /// Hands out all complete packets with one tail write, appending them to `out`, if there are at most `most` and no
     /// part of another packet is taken. Otherwise it hands out the oldest. Returns their number.
     ///
-    /// `DeviceFault` if the port has no such register. It also returns `Call` if `out` can't grow for them.
+    /// `DeviceFault` if the port has no such register. It also returns `Call` if `out` can't grow for the packets.
     fn post_most<N: Nic>(
         &mut self,
         alloc: Global,

@@ -49,7 +49,7 @@ impl ReceiveRing {
 }
 
 impl ReceiveRing {
-    /// Looks at the posted slots of a packet until its last part is seen. Returns whether it was.
+    /// Looks at the posted slots of a packet until it sees the packet's last part. Returns whether it saw it.
     ///
     /// `DeviceFault` if a slot shows something that a healthy queue never writes.
     pub(crate) fn look_whole<N: Nic>(
@@ -89,7 +89,7 @@ impl ReceiveRing {
         self.most
     }
 
-    /// Returns whether a packet waits.
+    /// Returns whether a packet is waiting.
     fn waits(&self) -> bool
         ensures yes { result ≡ true → PacketWaits self.now.stage }
         ensures no { result ≡ false → self.now.stage ≡ stage.Looks }
@@ -239,10 +239,10 @@ impl ReceiveRing {
         answer
     }
 
-    /// Posts fresh blocks of the arena in all slots but one. No slot may be posted yet.
+    /// Posts fresh blocks of the arena in all slots except one. No slot may be posted yet.
     ///
-    /// It fails as `post` does; `NoBuffer` only if fewer blocks are free than it must post. Blocks already posted stay
-    /// posted.
+    /// It fails for the same reasons as `post`, but with `NoBuffer` only if fewer blocks are free than it must post.
+    /// Blocks already posted stay posted.
     pub fn fill<N: Nic>(
         &mut self,
         alloc: Global,
@@ -275,7 +275,7 @@ impl ReceiveRing {
         Ok(())
     }
 
-    /// The number of slots that can be posted: all but one.
+    /// The number of slots that can be posted: all except one.
     fn spare_slots(&self) -> u16
         ensures all { result + 1 ≡ self.now.layout.size }
         ensures some { (0 < self.now.layout.most) × (self.now.layout.most < self.now.layout.size) }

@@ -30,8 +30,8 @@ pub enum Look {
     Nothing,
     /// The slot contains a part of a packet.
     Part,
-    /// Something that a healthy queue never shows: a part that is too long or too short, one part too many, or a ring
-    /// that isn't lent.
+    /// A state that is impossible in a healthy queue: a part that is too long or too short, one part too many, or a
+    /// ring that isn't lent.
     Wrong,
 }
 
@@ -257,7 +257,7 @@ impl ReceiveRing {
         descriptor_address(self.ring, self.slot(self.slots.len() as u16))
     }
 
-    /// How many bytes the record of the held packet needs, if no part of the packet is left to take.
+    /// The number of bytes that the record of the held packet needs, if no part of the packet is left to take.
     fn record_room(&self) -> usize
         ensures { length self.now.seen ≡ 0 → min self.now.held.len (2048 * length self.now.held.bufs) ≤ result }
     {

@@ -41,9 +41,9 @@ pub struct Reported {
 
 /// A driver's receive ring and the packets it handed out.
 ///
-/// From the next slot on, the first blocks of `slots` are posted. The blocks after them are named in descriptors and
-/// get posted when the tail advances, which hands out the complete packets they replace. `records` lists the packets
-/// handed out, followed by the complete packets.
+/// The first blocks of `slots` are posted, starting at the next slot. The blocks after them are named in descriptors.
+/// They are posted when the tail advances, and the complete packets that they replace are then handed out. `records`
+/// lists the packets handed out, followed by the complete packets.
 pub struct ReceiveRing {
     pub(crate) port: Port,
     pub(crate) tail: u32,
@@ -99,8 +99,8 @@ impl Model for ReceiveRing {
 
 impl ReceiveRing {
     /// Creates a ring of 8 to 1,024 slots for a queue that is being enabled; nothing is posted. The ring occupies lent
-    /// blocks from block `ring` on. `tail` is the number of the tail register at the port; `most` is the maximum number
-    /// of slots that a packet takes.
+    /// blocks, starting at block `ring`. `tail` is the number of the tail register at the port; `most` is the maximum
+    /// number of slots that a packet takes.
     pub fn new(alloc: Global, port: Port, tail: u32, ring: u32, size: u16, most: u16) -> ReceiveRing
         requires some { 8 ≤ size }
         requires few { size ≤ 1024 }
@@ -206,8 +206,8 @@ impl ReceiveRing {
 }
 
 impl ReceiveRing {
-    /// Closes the ring. Its lent blocks are on their way home; the blocks of complete packets and of the held one
-    /// return to the arena. Also returns the records of the packets handed out. If there is no memory, returns the
+    /// Closes the ring. Returns its lent blocks, which must still be taken back, and the records of the packets handed
+    /// out. The blocks of complete packets and of the held one return to the arena. If there is no memory, returns the
     /// unchanged ring.
     pub fn close(self, arena: &mut Arena) -> Result<(Reclaim, Vec<Record>), ReceiveRing>
         requires { AreOut arena.old (blocks_out self) }
@@ -274,8 +274,8 @@ fn give_packets(arena: &mut Arena, packets: VecDeque<Packet>)
     left.destroy_empty()
 }
 
-/// Collects the blocks in a ring's slots, a fresh one, and the `many` blocks that the ring occupies, from `ring` on.
-/// The queue already has room for them.
+/// Collects the blocks in a ring's slots, a fresh one, and the `many` blocks that the ring occupies, starting at
+/// `ring`. The queue already has room for them.
 fn with_ring(blocks: VecDeque<u32>, fresh: Option<u32>, ring: u32, many: u32) -> VecDeque<u32>
     requires many { many ≤ 8 }
     requires ring { ring + many ≤ 65536 }

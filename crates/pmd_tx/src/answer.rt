@@ -21,7 +21,7 @@ pub struct TxFault {
 /// What a reap found out about the sent packets.
 #[derive(Clone, Copy, Debug, PartialEq, Eq)]
 pub struct Reaped {
-    /// How many sent packets had their blocks freed.
+    /// The number of sent packets with blocks that were freed.
     pub freed: u16,
     /// No packet is outstanding.
     pub idle: bool,

@@ -17,8 +17,8 @@ use std::alloc::Global;
 
 impl TransmitRing {
     /// Frees the blocks of sent packets, oldest first. It first continues with the packets that have waited since
-    /// earlier calls, as `flush` does. By its clauses, if it ends without a fault, the tail has passed both the freed
-    /// packets and the oldest remaining one.
+    /// earlier calls, as `flush` does. Its clauses promise that, if it returns without a fault, the tail has passed
+    /// both the freed packets and the oldest remaining one.
     ///
     /// `DeviceFault` if the device sends a reply that a healthy queue can't send, `Call` if a call was refused. Blocks
     /// already freed stay free.

@@ -86,7 +86,7 @@ impl Model for TransmitRing {
 
 impl TransmitRing {
     /// Creates a ring of 1 to 1,024 slots for a queue that is being enabled; nothing is outstanding. The ring occupies
-    /// consecutive blocks from block `ring` on, all below 65,536. `tail` is the number of the tail register at the
+    /// consecutive blocks starting at block `ring`, all below 65,536. `tail` is the number of the tail register at the
     /// port; `limit` is the maximum length of a packet, 60 to 10,240 bytes. It allocates nothing.
     #[tactic(auto, using(crate::proofs::Outstanding::outstanding))]
     pub fn new(
@@ -128,8 +128,8 @@ impl TransmitRing {
         self.accepted.as_slice()
     }
 
-    /// Closes the ring. The lent blocks are on their way home. Returns the blocks of waiting segments and the accepted
-    /// packets, oldest first. If there is no memory, returns the ring unchanged.
+    /// Closes the ring. Returns the lent blocks, which must still be taken back, the blocks of waiting segments, and
+    /// the accepted packets, oldest first. If there is no memory, returns the ring unchanged.
     #[tactic(auto, using(crate::proofs::Outstanding::outstanding))]
     pub fn close(self, alloc: Global) -> Result<(Reclaim, Bufs, Vec<Record>), TransmitRing>
         ensures way { IfOk result (λ ends. ends.0 ≡ record { lent = lent_of self; lost = 0 }) }
@@ -187,7 +187,7 @@ impl TransmitRing {
         is_ring_block(self.ring_block(), self.size, block) || holds(&self.pieces, block)
     }
 
-    /// Returns whether there isn't room for `more` segments. All slots of the ring but one may be outstanding.
+    /// Returns whether there isn't room for `more` segments. All slots of the ring except one may be outstanding.
     #[tactic(auto, using(crate::proofs::Outstanding::outstanding))]
     pub(crate) fn is_full(&self, more: u16) -> bool
         requires { more ≤ 32 }
@@ -196,7 +196,7 @@ impl TransmitRing {
         self.count() + more >= self.size
     }
 
-    /// How many more segments fit, 0 to 1,023. All slots of the ring but one may be outstanding.
+    /// The number of segments that still fit, 0 to 1,023. All slots of the ring except one may be outstanding.
     #[tactic(auto, using(crate::proofs::Outstanding::outstanding))]
     pub fn vacant(&self) -> u16
         ensures vacant { result ≡ self.now.layout.size - 1 - length self.now.outstanding }
@@ -296,7 +296,7 @@ impl TransmitRing {
 }
 
 impl TransmitRing {
-    /// Lends the first block of a packet, which accepts the packet. Returns the Bufs that hold none of its bytes. If
+    /// Lends the first block of a packet, which accepts the packet. Returns the Bufs that contain none of its bytes. If
     /// the block can't be lent, returns the packet.
     ///
     /// `DeviceFault` if a block with its number is already lent.
@@ -318,7 +318,7 @@ impl TransmitRing {
         self.lend_first(alloc, nic, packet)
     }
 
-    /// Implements `accept`. Its contract states which calls are made.
+    /// Does the work of `accept`. Its contract states which calls are made.
     #[tactic(auto, using(crate::proofs::Outstanding::outstanding))]
     fn lend_first<N: Nic>(
         &mut self,

@@ -23,7 +23,8 @@ use crate::ring::TransmitRing;
 use pmd_access::{Arena, Bufs, Nic, Packet, PmdFault, bytes_in, give_bufs};
 use std::alloc::Global;
 
-/// Returns whether Bufs can go home to the arena: the arena owns their numbers, they aren't free there, and all differ.
+/// Returns whether these blocks can be returned to the arena: it owns their numbers, none is free there, and no number
+/// occurs twice.
 pub fn are_out(arena: &Arena, bufs: &Bufs) -> bool
     ensures { result ≡ are_out arena.now (numbers_of bufs.now) }
 {
@@ -36,7 +37,7 @@ pub fn are_out(arena: &Arena, bufs: &Bufs) -> bool
     true
 }
 
-/// Returns whether a block can go home, and no Buf after this one has its number.
+/// Returns whether a block can be returned to the arena, and no Buf after this one has its number.
 fn is_out(arena: &Arena, bufs: &Bufs, number: usize, block: u32) -> bool
     requires { number < length bufs.now }
     ensures { result ≡ (is_own arena.now block && not (is_free arena.now block)
@@ -60,7 +61,7 @@ fn comes_again(bufs: &Bufs, number: usize, block: u32) -> bool
 }
 
 impl TransmitRing {
-    /// Returns whether the blocks of a packet can go home to the arena, and the ring keeps none of them.
+    /// Returns whether a packet's blocks can be returned to the arena, and the ring keeps none of them.
     pub fn goes_home(&self, arena: &Arena, packet: &Packet) -> bool
         ensures { result ≡ goes_home self.now arena.now packet.now }
     {
@@ -79,19 +80,19 @@ impl TransmitRing {
         false
     }
 
-    /// Sends a packet of 1 byte to the limit, zero-padded to 60 bytes if it is shorter. For each part it lends the
-    /// block and writes the descriptor; then it advances the tail, past packets queued earlier too. It first continues
-    /// with a packet that has waited since an earlier call. `elsewhere` says whether another ring of the driver has
-    /// lent a block with one of the packet's block numbers.
+    /// Sends a packet of 1 byte to the limit, zero-padded to 60 bytes if it is shorter. For each part, it lends the
+    /// block and writes the descriptor. Then it advances the tail past this packet and past those queued earlier. It
+    /// first continues with a packet that has waited since an earlier call. `elsewhere` says whether another ring of
+    /// the driver has lent a block with one of the packet's block numbers.
     ///
-    /// Before any event it checks the packet. `BadSize` if its length is out of range or above the capacity of its
-    /// blocks; `ForeignBlock` if its blocks can't go home or one is lent elsewhere; `RingFull` if the outstanding
-    /// segments and the packet's exceed all slots of the ring but one.
+    /// It checks the packet before any event. `BadSize` if its length is out of range or above the capacity of its
+    /// blocks; `ForeignBlock` if its blocks can't be returned to the arena or one of them is lent elsewhere; `RingFull`
+    /// if the outstanding segments and the packet's together would take more than all but one of the ring's slots.
     ///
     /// After that, `DeviceFault` if the device sends a reply that a healthy queue can't send; `Call` if a call was
     /// refused, or if there was no memory for the record. If none of its blocks was lent yet, the packet is returned;
     /// with `DeviceFault`, the returned packet has blocks with the same numbers. Otherwise it is accepted, and the next
-    /// call continues with it. Blocks that hold no bytes of an accepted packet go home.
+    /// call continues with it. Blocks that contain no bytes of an accepted packet return to the arena.
     pub fn send<N: Nic>(
         &mut self,
         alloc: Global,
@@ -124,9 +125,9 @@ impl TransmitRing {
         }
     }
 
-    /// Does the work of `send` but leaves the tail, so that one `flush` can advance it past several packets. For each
-    /// part of the packet it lends the block and writes the descriptor. It first finishes lending and writing for a
-    /// packet that has waited since an earlier call.
+    /// Does the work of `send` but doesn't advance the tail, so that one `flush` can advance it past several packets.
+    /// For each part of the packet, it lends the block and writes the descriptor. It first finishes lending and writing
+    /// for a packet that has waited since an earlier call.
     ///
     /// It returns what `send` returns. If none of its blocks was lent yet, the packet is returned; otherwise it is
     /// accepted, and the next call continues with it. The device sends it after `flush`, `send` or `reap` has advanced
@@ -259,7 +260,7 @@ impl TransmitRing {
         }
     }
 
-    /// Pads a packet and lends its first block. Returns the Bufs that hold none of its bytes. If that block can't be
+    /// Pads a packet and lends its first block. Returns the Bufs that contain none of its bytes. If that block can't be
     /// lent, returns the packet as it was.
     fn accept_padded<N: Nic>(
         &mut self,

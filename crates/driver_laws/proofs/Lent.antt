@@ -204,10 +204,10 @@ module _ {c : Course} (x : On c) (own : Blocks) where
       (λ before following e split mine is.
       (x.ground before following e split mine is, (fresh before following e split mine is).short)))
 
--- Of an arena's blocks, those that its driver has out with its halves are lent at the device. Each of its blocks is in
+-- Of an arena's blocks, those that its driver has out with its halves are lent to the device. Each of its blocks is in
 -- one place: free in the arena, in hand, or lent to the device.
 
--- What either half has lent is lent at the device, if device and driver agree. So are the blocks that are out.
+-- What either half has lent is lent to the device, if device and driver agree. So are the blocks that are out.
 pub out_is_lent : OutIsLent
 out_is_lent x made =
     let r = reported_ran x in

@@ -29,7 +29,7 @@ NoCallFindsFault = (x : Beside) (n : Moment) → FindsFault (now x) n → ¬ IsC
 abbrev pub NoBurstMeetsFault : Type 0
 NoBurstMeetsFault = (x : Beside) (n : Moment) → MeetsFault (now x) n → ¬ IsCalledApart x n
 
--- Each block that the driver has out is lent at the device.
+-- Each block that the driver has out is lent to the device.
 abbrev pub OutIsLent : Type 0
 OutIsLent =
     (x : Beside) → IsReportedBeside x → (number : ℕ) → IsTrue (is_out (now x).driver.rings number) →
@@ -42,7 +42,7 @@ pub record IsAloneBeside (x : Beside) : Type 0 where
   pub fresh : BeforeLast x.w x.origin x.g (x.ahead ++ x.reported.first) (NoneLent (asked_of x.w x.a x.g))
   pub others : OthersLendNone x.w.pass (asked_of x.w x.a x.g) x.g
 
--- Each of these blocks that is lent at the device is out.
+-- Each of these blocks that is lent to the device is out.
 abbrev pub LentIsOut : Type 0
 LentIsOut =
     (x : Beside) → IsAloneBeside x → (number : ℕ) → IsTrue (asked_of x.w x.a x.g number) →

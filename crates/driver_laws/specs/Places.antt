@@ -1,4 +1,4 @@
--- Where a driver's blocks are: those that it has out with its halves are lent at the device, and no other block that it
+-- Where a driver's blocks are: those that it has out with its halves are lent to the device, and no other block that it
 -- tries to lend is.
 use Rattle.std.specs.Prelude.{[], if◌then◌else◌, ◌&&◌, ◌+◌, ◌++◌, ◌≡◌, Bool, IsTrue, List, ℕ, false, not}
 use Rattle.driver_laws.specs.{Before.is_asked, Healthy.lent_by, StartPrelude.Call, StartPrelude.calls_of}
@@ -20,7 +20,7 @@ is_out (Down h) n = false
 abbrev pub memory_after : State → List Entry → Memory
 memory_after origin h = (leads_to origin h).memory
 
--- Each block that is out is lent at the device.
+-- Each block that is out is lent to the device.
 abbrev pub OutIsLent : Type 0
 OutIsLent =
     (x : Reported) → IsReportedOf x → (number : ℕ) → IsTrue (is_out (now x).driver.rings number) →
@@ -33,7 +33,7 @@ pub record IsReportedAlone (x : Reported) : Type 0 where
   pub fresh : BeforeLast x.w x.origin x.h x.reported.started.2.receive.quiet.0 (NoneLent (asked_of x.w x.a x.h))
   pub others : OthersLendNone x.w.pass (asked_of x.w x.a x.h) x.h
 
--- Each of these blocks that is lent at the device is out.
+-- Each of these blocks that is lent to the device is out.
 abbrev pub LentIsOut : Type 0
 LentIsOut =
     (x : Reported) → IsReportedAlone x → (number : ℕ) → IsTrue (asked_of x.w x.a x.h number) →

@@ -40,18 +40,18 @@ ghost use Rattle.driver_laws.specs.Waits.{WaitingIsNotAllBefore, WaitingIsNotAll
 pub mod starting;
 
 /// The laws in this crate are about histories that begin in any state a device can be in, new or used, with or without
-/// an installed EEPROM image. The calls through a `pmd_access::Direct` form one history, all of pass 0. It follows what
-/// is known to have happened to the device before it came into hand, none of it by pass 0. The calls through an
+/// an installed EEPROM image. The calls through a `pmd_access::Direct` form one history, all of pass 0. It comes after
+/// what is known to have happened to the device before it came into hand; pass 0 did none of that. The calls through an
 /// `Interleaved` form one too: its own calls are of pass 0, the foreign ones of pass 1. The history leads to the device
 /// in hand. The laws require that the device was in the state that the earlier part leads to when the `Direct` or
-/// `Interleaved` was created; `began` says so for a new one, and each call of a driver preserves it. They also require
-/// that the history leaves the queue alone. For a `Direct`, the result of `device_lock::left_alone` suffices in any
-/// state. For an `Interleaved`, it suffices if no image is installed and no mode of pools was set in that state.
+/// `Interleaved` was created; clause `began` ensures this for a new one, and each driver call preserves it. They also
+/// require that the history leaves the queue alone. For a `Direct`, the result of `device_lock::left_alone` suffices in
+/// any state. For an `Interleaved`, it suffices if no image is installed and no pool mode was set in that state.
 ///
-/// The calls through a `pmd_access::ThroughLock` form a history of a device that was new: the history that passes
-/// closed, up to the last of these calls. The pass may have any tag. The premise is that `left_alone`, called on the
-/// result of `close`, is true for that tag and the queue. The closed history contains the calls, up to an entry of that
-/// pass. `pmd::begins_well` reports what the laws require of the place where a driver starts, as
+/// The calls through a `pmd_access::ThroughLock` form a history of a device that was new: the history that `close`
+/// returned for its passes, up to the last of these calls. The pass may have any tag. The premise is that `left_alone`,
+/// called on the result of `close`, is true for that tag and the queue. The closed history contains these calls, up to
+/// an entry of that pass. `pmd::begins_well` reports what the laws require of the place where a driver starts, as
 /// `pmd::laws::worker_begins_well` says.
 pub fn calls_in_hand_are_a_history()
     ensures direct { DirectIsHistory }
@@ -75,19 +75,19 @@ pub fn life_in_order()
     ensures idle { IdleIsAllSent }
 {}
 
-/// Take the place where both sides of a driver's queue are on. From there on, each block that the driver lends over its
-/// life comes from the arena handed to it, and isn't lent by its other half. This holds for the blocks that its start
-/// posts and for those that its calls lend.
+/// Once both sides of a driver's queue are on, each block that the driver lends over its life comes from the arena
+/// handed to it, and isn't lent by its other half. This holds for the blocks that its start posts and for those that
+/// its calls lend.
 pub fn lives_lend_apart()
     ensures { LifeLendsApart }
 {}
 
-/// No call of `rx`, `tx`, `reap`, `rx_burst` or `tx_burst` after the driver's start ends with the device at fault. A
+/// No call to `rx`, `tx`, `reap`, `rx_burst` or `tx_burst` after the driver's start ends with the device at fault. A
 /// `tx_burst` that returns the number of accepted packets doesn't find it at fault either. The premises: the history is
 /// legal, leaves the queue alone and begins well; between the driver's calls, its author may make any harmless calls
 /// through the same pass. Just before the driver's first access, the frames that wait for the queue fit a packet of the
-/// driver. Of its arena's blocks, none that its pass tries to lend is lent at that point, and no other pass tries to
-/// lend any of these after the pass's first entry.
+/// driver. No block of its arena that its pass tries to lend is lent at that point, and no other pass tries to lend any
+/// of these blocks after the pass's first entry.
 pub fn no_call_finds_the_device_at_fault()
     ensures finds { NoCallFindsFault }
     ensures meets { NoBurstMeetsFault }
@@ -101,69 +101,70 @@ pub fn no_start_finds_the_device_at_fault()
     ensures during { NoStartFindsFault }
 {}
 
-/// Take a legal history of any sound device that leaves the queue alone and begins well, where a `start` returned a
-/// driver and its calls followed. Each block that one of the driver's halves has out is lent at the device. Now take
+/// Take a legal history of any sound device that leaves the queue alone and begins well, in which a `start` returned a
+/// driver and its calls followed. Each block that one of the driver's halves has out is lent to the device. Now take
 /// the blocks of its arena that its pass tries to lend. Let none of them be lent just before its first access, and let
-/// no other pass try to lend any of them after the pass's first entry. Then each of them that is lent at the device is
-/// out with one of the halves. So, with the books that `calls_keep_the_books` keeps, each block is in one place: free
-/// in the arena, in hand, or lent to the device. This holds for each block that was free in the arena handed to the
-/// driver, or out of it then, for example in hand. Blocks that were out then, or that the driver handed out, may have
-/// been lent by others.
+/// no other pass try to lend any of them after the pass's first entry. Then each of them that is lent to the device is
+/// out with one of the halves. Together with the accounting of `calls_keep_the_books`, this puts each block in one
+/// place: free in the arena, in hand, or lent to the device. This holds for each block that was free in the arena
+/// handed to the driver, or out of it then, for example in hand. Blocks that were out then, or that the driver handed
+/// out, may have been lent by others.
 pub fn blocks_out_are_lent_at_the_device()
     ensures lent { OutIsLent }
     ensures known { LentIsOut }
     ensures once { EachInOnePlace }
 {}
 
-/// If some blocks of an arena are in hand when a driver starts with it, the driver has all blocks except these. If it
-/// has all except those in hand, the same is true after each of its calls, as their clause `blocks` says. Then the
-/// blocks that the call handed out are in hand too. Those that it was given no longer are, even if they were in hand
-/// when the driver started.
+/// If some blocks of an arena are in hand when a driver starts with it, the driver has all blocks of the arena except
+/// these. If it has all except those in hand before one of its calls, the same is true after the call, by the call's
+/// clause `blocks`. The blocks that the call handed out are then in hand too. The blocks passed to the call no longer
+/// are, even if they were in hand when the driver started.
 pub fn calls_keep_the_books()
     ensures { BooksGoOn }
 {}
 
-/// Suppose a `start` returned a driver, its calls followed, and then `tx` returns that the ring is full. Then the
-/// outstanding packets have fewer parts than the number of descriptors given to the start. Together with the parts of
-/// the given packet, there are at least that many; if it has one part, all slots but one are taken. The same holds
-/// after a call of `tx_burst` that returns 0, with the parts of the first packet that it leaves.
+/// Suppose that a `start` returned a driver, its calls followed, and then `tx` reports that the ring is full. Then the
+/// outstanding packets have fewer parts than the start was given descriptors. Together with the parts of the packet
+/// passed to `tx`, there are at least as many parts as descriptors; if that packet has one part, all slots except one
+/// are taken. The same holds after a call to `tx_burst` that returns 0, with the parts of the first packet that it
+/// leaves.
 pub fn full_ring_has_no_room()
     ensures reported { FullHasNoRoom }
     ensures none { NoneHasNoRoom }
 {}
 
-/// Suppose a pass made a list of calls, and perhaps more after it. Then an entry of the history has the event and the
-/// reply of the list's last call; before that entry, the pass made exactly the list's other calls. No clause says that
-/// the entry is the pass's.
+/// Suppose that a pass made a list of calls, and perhaps more after it. Then an entry of the history has the event and
+/// the reply of the list's last call; before that entry, the pass made exactly the list's other calls. It isn't
+/// promised that the entry belongs to the pass.
 pub fn calls_end_at_an_entry()
     ensures { CallsEnd }
 {}
 
-/// Suppose a call of the driver polls and finds nothing: `rx` returns none, or `rx_burst` returns 0 although packets
-/// were requested. Then the driver had handed out everything that was delivered before the entry of the call's last
-/// poll, also within a longer history. The same holds before the call's own first event, whatever other passes, or
-/// harmless calls of its own pass, did before it.
+/// Suppose that a driver call polls and finds nothing: `rx` returns none, or `rx_burst` returns 0 although packets were
+/// requested. Then the driver had handed out everything that was delivered before the entry of the call's last poll,
+/// even if the history continues after it. It had also handed out everything delivered before the call's own first
+/// event, whatever other passes, or harmless calls of its own pass, did before that event.
 pub fn empty_look_leaves_nothing()
     ensures before { NoneIsAllBefore }
     ensures first { NoneIsAllAtFirst }
 {}
 
-/// Suppose a call of a driver in a life ends with a packet outstanding, as a `reap` that isn't idle does. Then its last
-/// event was a poll. Before the call's own first event, not everything that the driver had accepted was sent, whatever
-/// other passes, or harmless calls of the driver's own pass, did before it. The same follows just from what the calls
-/// of a `pmd_driver::Pmd` return.
+/// Suppose that a driver call in a life ends with a packet outstanding, as a `reap` does that isn't idle. Then its last
+/// event was a poll. Before the call's own first event, not everything that the driver had accepted had been sent,
+/// whatever other passes, or harmless calls of the driver's own pass, did before that event. The same follows from what
+/// the calls of a `pmd_driver::Pmd` return, without any other knowledge of the calls.
 pub fn waiting_look_leaves_some_unsent()
     ensures before { WaitingIsNotAllBefore }
     ensures reported { WaitingIsNotAllAsReported }
 {}
 
-/// The order of packets and frames over a history as in `life_in_order`, derived just from what the calls of a
-/// `pmd_driver::Pmd` return. A `start` returned the driver. Calls of `rx`, `tx`, `reap`, `rx_burst`, `tx_burst`,
+/// The order of packets and frames over a history as in `life_in_order`, derived only from what the calls of a
+/// `pmd_driver::Pmd` return. A `start` returned the driver. Calls to `rx`, `tx`, `reap`, `rx_burst`, `tx_burst`,
 /// `packet` and `release` followed, in any order and with any results. Between them come harmless calls through the
-/// same pass, for example those by which its author lets frames arrive. The packets that the driver handed out are a
-/// prefix of those delivered. If `rx` returns none, or `rx_burst` returns 0 though some were requested, they are all
-/// the packets delivered before the call's last poll, and so before its first event. The frames sent are a prefix of
-/// those that the driver accepted, and all of them if none is outstanding, for example if `reap` reports this.
+/// same pass, for example arrivals of frames. The packets that the driver handed out are a prefix of those delivered.
+/// If `rx` returns none, or `rx_burst` returns 0 though some were requested, they are all the packets delivered before
+/// the call's last poll, and so before its first event. The frames sent are a prefix of those that the driver accepted,
+/// and all of them if none is outstanding, for example if `reap` reports this.
 pub fn driver_in_order()
     ensures handed { reported.HandedIsPrefix }
     ensures none { reported.NoneIsAllBefore }
@@ -174,12 +175,12 @@ pub fn driver_in_order()
 
 /// Packets are also in order if the driver's author makes any calls to the device before the driver's start and between
 /// its calls, for example the calls of a second driver on another queue. These calls must meet the conditions for other
-/// passes: if each of them carries another pass's tag instead, the history leaves the queue alone. So after the first
-/// entry of the driver's pass, they write no row of the queue and no setting, and don't reset its pool. They lend, take
-/// and poke no block that the driver itself lends. Just before its own first access, the driver begins well. The
-/// retagged history has only the driver's own calls, reported as its clauses say (`reported`), and belongs to a life
-/// (`lived`). So the laws on reported drivers and lives apply, and what they state about packets and frames also holds
-/// for the original history. For a device in hand, marks say which calls are the driver's own (`in_hand`,
+/// passes: if each of them carried another pass's tag instead, the history would leave the queue alone. So after the
+/// first entry of the driver's pass, they write no row of the queue and no setting, and don't reset its pool. They
+/// lend, take and poke no block that the driver itself lends. Just before its own first access, the driver begins well.
+/// The retagged history has only the driver's own calls, reported as its clauses say (`reported`), and belongs to a
+/// life (`lived`). So the laws on reported drivers and lives apply, and what they state about packets and frames also
+/// holds for the original history. For a device in hand, marks say which calls are the driver's own (`in_hand`,
 /// `interleaved`). The marks may also span several ways to the device in succession, for example if a `Direct` is
 /// finished and another one steps the other driver's queue.
 pub fn driver_among_any_calls_in_order()
@@ -195,10 +196,10 @@ pub fn driver_among_any_calls_in_order()
     ensures interleaved { beside.InterleavedIsRetagged }
 {}
 
-/// No call of a driver as in `driver_among_any_calls_in_order` finds the device at fault, under these conditions.
-/// Nobody else tries to lend a block of its arena that it tries to lend, neither another pass nor its author alongside
-/// it. Just before its first access, none of these blocks is lent and the frames that wait for its queue fit its
-/// packets. The blocks that it has out are lent at the device. Each block that it tries to lend and that is lent at the
+/// No call of a driver as in `driver_among_any_calls_in_order` finds the device at fault, provided that two conditions
+/// hold. Neither another pass nor the driver's author tries to lend a block of its arena that the driver tries to lend.
+/// Just before the driver's first access, none of these blocks is lent and the frames that wait for its queue fit its
+/// packets. The blocks that it has out are lent to the device. Each block that it tries to lend and that is lent to the
 /// device is out. Each block is in one place.
 pub fn driver_among_any_calls_keeps_its_blocks()
     ensures finds { apart.NoCallFindsFault }
@@ -218,7 +219,7 @@ pub fn driver_among_any_calls_starts()
     ensures during { start.NoStartFindsFault }
 {}
 
-/// Take a driver as in `driver_among_any_calls_in_order`. If its `tx` returns that the ring is full, or its `tx_burst`
+/// Take a driver as in `driver_among_any_calls_in_order`. If its `tx` reports that the ring is full, or its `tx_burst`
 /// returns 0 and leaves a packet, its ring has no room for that packet.
 pub fn full_ring_among_any_calls_has_no_room()
     ensures reported { room.FullHasNoRoom }
@@ -228,7 +229,7 @@ pub fn full_ring_among_any_calls_has_no_room()
 /// If a driver as in `driver_among_any_calls_in_order` is stopped, the packets that it handed out are a prefix of those
 /// delivered, at any place during the calls of its stop and at their end. If the stop takes blocks back only after both
 /// sides were seen off, the frames sent are a prefix of those that it accepted. After its calls have switched both
-/// sides off, nothing more is delivered or sent on the queue. According to `stop_calls_ask_for_no_side` and
+/// sides off, nothing more is delivered or sent on the queue. By `stop_calls_ask_for_no_side` and
 /// `stops_take_blocks_once_off`, the calls that a stop makes meet these conditions.
 pub fn driver_among_any_calls_stops_in_order()
     ensures handed { stop.HandedIsPrefix }
@@ -236,21 +237,21 @@ pub fn driver_among_any_calls_stops_in_order()
     ensures silent { stop.SilentOnceOff }
 {}
 
-/// Take a legal history that leaves the queue alone and begins well, up to where a driver that lived was to stop, as
-/// `pmd::run_worker` says of its driver. The packets that the driver's stop returns as handed out are a prefix of those
-/// delivered. The frames sent are a prefix of those that it returns as accepted. The same holds over a history that
-/// continues to any place during its stop, or to the end of the stop, successful or not.
+/// Take a legal history that leaves the queue alone and begins well, up to where a driver that lived was about to stop,
+/// as `pmd::run_worker` states for its driver. The packets that the driver's stop returns as handed out are a prefix of
+/// those delivered. The frames sent are a prefix of those that it returns as accepted. The same holds over a history
+/// that continues to any place during its stop, or to the end of the stop, successful or not.
 pub fn what_is_left_is_in_order()
     ensures before { LeftIsPrefix }
     ensures handed { HandedOverStop }
     ensures sent { SentOverStop }
 {}
 
-/// Over a history as in `what_is_left_is_in_order`, a driver's start was refused, as `pmd::run_worker` says of a driver
-/// that never lived. Just before the start's first event, port and queue name the queue, and both sides are off with no
-/// enable request pending. From that event on, nothing is sent on the queue, neither during the start nor during the
-/// stop of a driver that it returned. So at any place up to their end, the packets returned as handed out and the
-/// frames sent since that event are in order too.
+/// Suppose that, over a history as in `what_is_left_is_in_order`, a driver's start was refused, as `pmd::run_worker`
+/// states for a driver that never lived. Just before the start's first event, port and queue name the queue, and both
+/// sides are off with no enable request pending. From that event on, nothing is sent on the queue, neither during the
+/// start nor during the stop of a driver that it returned. So at any place up to their end, the packets returned as
+/// handed out and the frames sent since that event are in order too.
 pub fn refused_start_sends_nothing()
     ensures sent { RefusedSendsNothing }
     ensures left { LeftOfRefusedIsPrefix }
@@ -265,16 +266,16 @@ pub fn stopped_life_in_order()
     ensures sent { stopped.SentIsPrefix }
 {}
 
-/// The calls of a stop of a `pmd_driver::Pmd`, with device steps between them, never request that a side be enabled;
-/// nor do the calls of a failed stop.
+/// The calls that a `pmd_driver::Pmd` makes when it stops, with device steps between them, never request that a side be
+/// enabled; nor do the calls of a failed stop.
 pub fn stop_calls_ask_for_no_side()
     ensures stops { stopped.StopEnds }
     // Nor do the calls of a failed stop.
     ensures fails { stopped.FailedStopEnds }
 {}
 
-/// The calls of a stop, and of a failed stop, take blocks back only after both sides were seen off, also if they follow
-/// other calls that do so. The same is true if there are no calls at all.
+/// The calls of a stop, and of a failed stop, take blocks back only after both sides were seen off, even together with
+/// earlier calls for which this is true. It is also true if there are no calls at all.
 pub fn stops_take_blocks_once_off()
     ensures none { stopped.NoCallTakes }
     ensures stops { stopped.StopTakesOnceOff }
@@ -282,10 +283,10 @@ pub fn stops_take_blocks_once_off()
 {}
 
 /// Let a life as in `life_in_order` be followed by calls of a stop that take blocks back only after both sides were
-/// seen off. From then on, nothing more is delivered or sent on the queue, as long as the driver's pass makes only
-/// calls of a stop. The same holds for a driver that lived and was stopped, as `pmd::run_worker` says of its driver:
-/// from where its stop had switched both sides off, up to any place during the stop, and up to its end, successful or
-/// not.
+/// seen off. After these calls have switched both sides off, nothing more is delivered or sent on the queue, as long as
+/// the driver's pass makes only calls of a stop. The same holds for a driver that lived and was stopped, as
+/// `pmd::run_worker` states for its driver. It holds from the place where the stop had switched both sides off, up to
+/// any place during the stop and up to its end, successful or not.
 pub fn switched_off_queue_is_silent()
     ensures once { SilentOnceOff }
     ensures over { SilentOverStop }

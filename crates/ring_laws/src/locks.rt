@@ -1,5 +1,5 @@
-//! The lock's definitions, a second time: which events leave a queue alone, in which order a closing finds its faults,
-//! and where the entries of a pass are. They are written by hand and independently of the definitions that the
+//! The lock's definitions, a second time: which events leave a queue alone, in which order closing a history finds
+//! faults, and where the entries of a pass are. They are written by hand and independently of the definitions that the
 //! contracts cite.
 //!
 //! Each law is the contract of a function that does nothing.
@@ -8,9 +8,9 @@ ghost use Rattle.ring_laws.specs.Begun.{DriversBegin, PoolsAreFollowed, PoolsSta
 ghost use Rattle.ring_laws.specs.Ending.{ClosingHasAnOrder, ClosingIsCompared, PositionsAreExact};
 ghost use Rattle.ring_laws.specs.Leaving.{AddressesLeaveQueues, BlocksAreOfTheirPass, HistoriesLeaveQueues, NothingElseCounts, OthersLeaveQueues, SparingIsEnough, WritesLeaveQueues};
 
-/// A write of another pass leaves a driver's queue alone with these exceptions: a write of CTRL, HLREG0, MAXFRS or
-/// GCR_EXT, whatever it writes; a write of a register of the queue's own rings; and a write of PVFCTRL[v] with bit 26,
-/// if pool v contains the queue. Writes of all other registers, for example FCTRL, at 0x05080, leave it alone.
+/// A write by another pass leaves a driver's queue alone, with these exceptions: a write to CTRL, HLREG0, MAXFRS or
+/// GCR_EXT, whatever the value; a write to a register of the queue's own rings; and a write to PVFCTRL[v] that sets bit
+/// 26, if pool v contains the queue. Writes to all other registers, for example FCTRL, at 0x05080, leave it alone.
 #[tactic(auto, using(crate::proofs::Writes::writes_leave))]
 pub fn writes_leave_queues_alone()
     ensures register { WritesLeaveQueues }
@@ -27,10 +27,10 @@ pub fn other_events_leave_queues_alone()
     ensures nothing_else { NothingElseCounts }
 {}
 
-/// A history up to the first entry of a driver's pass leaves its queue alone. After that entry, a single entry is
-/// enough for the history not to leave the queue alone. It may be a write of another pass, or another pass's access to
-/// a block, that doesn't leave the queue alone. It may also be a step of another queue, by any pass, that writes into a
-/// block of the driver's pass. A history with none of these leaves the queue alone.
+/// A history up to the first entry of a driver's pass leaves its queue alone. After that entry, a single other entry is
+/// enough to violate this. It may be a write of another pass, or another pass's access to a block, that doesn't leave
+/// the queue alone. It may also be a step of another queue, by any pass, that writes into a block of the driver's pass.
+/// A history with none of these leaves the queue alone.
 #[tactic(auto, using(crate::proofs::Others::histories_leave, crate::proofs::Others::sparing_suffices))]
 pub fn histories_leave_queues_alone()
     ensures history { HistoriesLeaveQueues }
@@ -43,9 +43,9 @@ pub fn drivers_begin_with_their_first_entry()
     ensures { DriversBegin }
 {}
 
-/// The last write of GCR_EXT, by any pass, sets the pools by bits 1 to 0 of its word. They determine which pools a
-/// history's later writes of PVFCTRL reset. Before the first write of GCR_EXT, the pools are as given. After a write of
-/// CTRL with bit 3 or bit 26, there are none. No other write changes the pools, and no other event. All these writes
+/// The last write to GCR_EXT, by any pass, sets the pools by bits 1 to 0 of its value. The pools determine which of
+/// them a history's later writes to PVFCTRL reset. Before the first write to GCR_EXT, the pools are as given. After a
+/// write to CTRL that sets bit 3 or bit 26, there are none. No other write or event changes the pools. All these writes
 /// get the reply `Done`.
 #[tactic(auto, using(crate::proofs::Beginning::stay))]
 pub fn pools_are_the_last_that_were_set()

@@ -36,18 +36,18 @@ pub fn receive_step_stays_in_its_blocks()
 {}
 
 /// An event keeps the agreement if it leaves unchanged the receive side of the queue, the register that each address or
-/// offset names, and the driver's blocks. It may enable or disable the side, or request that, so a step of the side's
-/// own enable keeps it too.
+/// offset names, and the driver's blocks. It may enable or disable the side, or request either, so a step that switches
+/// the side keeps the agreement too.
 pub fn other_events_keep_the_agreement()
     ensures leaving { LeavingKeeps }
     ensures switching { SwitchingKeeps }
     ensures enable { EnableStepKeeps }
 {}
 
-/// A receive side that is enabled and requested on stays so if an event leaves it alone, and through a step of its
-/// enable, which then changes nothing. If the device and the driver agree, it stays so through each receive step and
-/// each of the driver's own events. It also stays so through each entry that leaves the queue alone, if that is of
-/// another pass, or is a device step of any pass.
+/// A receive side that is enabled, with no request to disable it pending, stays so if an event leaves it alone, and
+/// through a step that switches the side, which then changes nothing. If the device and the driver agree, it stays so
+/// through each receive step and each of the driver's own events. It also stays so through each entry of another pass
+/// that leaves the queue alone, and through each device step of any pass.
 pub fn queue_up_stays_up()
     ensures leaving { LeavingStaysUp }
     ensures enable { EnableStepChangesNothing }
@@ -80,32 +80,32 @@ pub fn handed_packets_are_a_prefix_of_those_written()
     ensures all { NoneIsAll }
 {}
 
-/// Suppose the ring, of 1 to 1,024 slots, is lent, its registers are written, and the driver's number names the queue's
-/// tail. Then the device and a driver that posted nothing agree, whether the side is enabled or not.
+/// Suppose that the ring, of 1 to 1,024 slots, is lent, its registers are written, and the driver's number names the
+/// queue's tail. Then the device and a driver that posted nothing agree, whether the side is enabled or not.
 #[tactic(auto, using(crate::proofs::Leaving::start_agrees))]
 pub fn fresh_ring_agrees()
     ensures { StartAgrees }
 {}
 
 /// Each of the driver's own events gets the reply of a healthy queue, if the two agree and these conditions hold. No
-/// written packet has more pieces than the driver takes, each piece except a packet's last has 2,048 bytes, and a block
-/// to lend isn't lent yet. A read returns a descriptor, which belongs to a piece of a packet if it is done. The block
-/// of a piece is taken, a fresh one is lent, its descriptor is written, and the tail advances.
+/// written packet has more pieces than the driver takes, each piece except a packet's last is 2,048 bytes long, and a
+/// block to be lent isn't lent yet. A read returns a descriptor, which belongs to a piece of a packet if it is done.
+/// The block of a piece is taken, a fresh one is lent, its descriptor is written, and the tail advances.
 pub fn own_replies_are_healthy()
     ensures { OwnRepliesAreHealthy }
 {}
 
-/// Suppose the two agree, and the side is enabled and requested on. The following stays true through every event that
-/// writes no setting and doesn't reset the queue's pool. The frames of the receive list for the queue fit as many slots
-/// as the driver takes for a packet, longer ones aren't accepted, and the written packets fit too. Each written piece
-/// except the last of its frame fills its block. While the side is disabled, nothing is written of a frame for the
-/// queue.
+/// Suppose that the two agree, and the side is enabled with no request to disable it pending. The following stays true
+/// through every event that writes no setting and doesn't reset the queue's pool. The frames of the receive list for
+/// the queue fit as many slots as the driver takes for a packet, longer ones aren't accepted, and the written packets
+/// fit too. Each written piece except the last of its frame fills its block. While the side is disabled, nothing is
+/// written of a frame for the queue.
 pub fn fitting_frames_stay_fitting()
     ensures stay { FramesStayFitting }
     ensures off { NoneBegunWhileOff }
 {}
 
-/// Suppose that of some block numbers, for example an arena's, only those are lent that the driver has lent for
+/// Suppose that, of some block numbers, for example an arena's, only those are lent that the driver has lent for
 /// receiving or that others have lent. Each of the driver's own events keeps this, with the driver's state after it. A
 /// block of these numbers that the driver lends, and others haven't lent, isn't lent yet.
 #[tactic(auto, using(crate::proofs::ReceiveLent::own_lends_are_known))]

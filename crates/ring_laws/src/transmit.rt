@@ -27,8 +27,8 @@ pub fn sparing_events_keep()
 {}
 
 /// An event spares the driver if it leaves alone the queue and all blocks that its driver has lent for sending, by the
-/// clauses that judge a closed history. A receive step must also write a piece that isn't empty, and on the queue
-/// itself into none of these blocks.
+/// clauses that judge a closed history. If the event is a receive step, the piece that it writes must also be nonempty,
+/// and a piece on the queue itself must be outside these blocks.
 pub fn left_alone_is_spared()
     ensures { LeftAloneIsSpared }
 {}
@@ -41,7 +41,8 @@ pub fn moves_keep()
 
 /// If device and driver agree, the frames sent on the queue are a prefix of the frames that the driver accepted, byte
 /// for byte. If none is outstanding, the frames sent are all frames that it accepted. If a read finds the oldest
-/// outstanding packet not done, not everything that was accepted was sent, neither now nor earlier.
+/// outstanding packet not done, not everything that was accepted has been sent, neither at this time nor at any earlier
+/// time.
 pub fn sent_in_order()
     ensures prefix { SentIsPrefix }
     ensures idle { IdleIsAllSent }
@@ -63,28 +64,28 @@ pub fn sent_frames_are_reported()
     ensures { SentIsReported }
 {}
 
-/// A transmit side that isn't requested on stays so. A side that is also disabled stays disabled and sends nothing.
-/// This holds for every history of events that leave the side unchanged or are its own steps.
+/// If no enable request is in effect for a transmit side, this stays so. A side that is also disabled stays disabled
+/// and sends nothing. This holds for every history of events that leave the side unchanged or are its own steps.
 #[tactic(auto, using(crate::proofs::Off::off_stays))]
 pub fn queue_off_stays_off()
     ensures { OffStays }
 {}
 
-/// If device and driver agree, a transmit side that is enabled and requested on stays so through each of the driver's
-/// moves and through every event that spares the driver.
+/// If device and driver agree, a transmit side that is enabled, with no request to disable it pending, stays so through
+/// each of the driver's moves and through every event that spares the driver.
 pub fn queue_up_stays_up()
     ensures { UpStays }
 {}
 
-/// A write of the enable register of the queue's transmit side keeps the agreement if bit 25 of the word is 0, or
+/// A write to the enable register of the queue's transmit side keeps the agreement if bit 25 of the value is 0, or
 /// nothing is outstanding. The agreement doesn't depend on whether the side is enabled.
 #[tactic(auto, using(crate::proofs::Off::enable_words_keep))]
 pub fn enable_words_keep()
     ensures { EnableWordsKeep }
 {}
 
-/// After a write of the enable register without bit 25, the side isn't requested on. If it isn't requested on, a read
-/// that returns bit 25 as 0 finds it disabled.
+/// After a write to the enable register with bit 25 clear, no enable request is in effect for the side. If none is in
+/// effect, a read that returns bit 25 as 0 finds the side disabled.
 #[tactic(auto, using(crate::proofs::Off::guard_is_off))]
 pub fn guarded_queue_is_off()
     ensures { GuardIsOff }
@@ -92,12 +93,12 @@ pub fn guarded_queue_is_off()
 
 /// Each of the driver's own moves gets the reply of a healthy queue, if the two agree and a block that the move lends
 /// isn't lent yet. The block is lent, its descriptor is written, the tail advances, the oldest descriptor is read, and
-/// the block of a packet that was seen sent is taken back.
+/// the block of a packet that the driver has seen sent is taken back.
 pub fn own_replies_are_healthy()
     ensures { OwnRepliesAreHealthy }
 {}
 
-/// Suppose that of some block numbers, for example an arena's, only those are lent that the sender has lent or that
+/// Suppose that, of some block numbers, for example an arena's, only those are lent that the sender has lent or that
 /// others have lent. Each of the driver's own moves keeps this, with the sender's state after it, as does a call that
 /// lends none of them. A block of these numbers that a move lends, and no other has lent, isn't lent yet.
 #[tactic(auto, using(crate::proofs::TransmitLent::own_lends_are_known))]

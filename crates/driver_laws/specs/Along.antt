@@ -1,4 +1,4 @@
--- A legal history of a sound device that leaves a queue alone, and what holds at each point where its pass has made
+-- A legal history of a sound device that leaves a queue alone, and what holds at each point at which its pass has made
 -- given calls.
 use Rattle.std.specs.Prelude.{[], ◌++◌, ◌<◌, ◌∷◌, ◌≡◌, List, ℕ}
 use Rattle.pmd_driver.specs.DeviceLock.History.{AreEvents, IsLegal}

@@ -12,8 +12,8 @@ use Rattle.pmd_driver.specs.{Life.KeepsHalves, PmdAccess.Begun.From, PmdAccess.B
 use Rattle.pmd_driver.specs.PmdAccess.{Begun.began_in_hand, Made.InHand, Scheduled.Handled}
 use Rattle.pmd_driver.specs.{PmdAccess.Scheduled.own_calls, Started.HasStarted}
 
--- A legal history of a sound device in any initial state, and its retagged form: the same calls, where those that the
--- driver's author made alongside it carry another pass's tag.
+-- A legal history of a sound device in any initial state, and its retagged form: the same calls, but those that the
+-- driver's author made alongside the driver carry another pass's tag.
 pub record WasReported (origin : State) (h g : List Entry) : Type 0 where
   pub sound : IsSound origin
   pub events : AreEvents h
@@ -29,11 +29,11 @@ pub record IsRetagged (w : Watched) (origin : State) (h g : List Entry) : Type 0
   pub was : WasReported origin h g
   pub alone : LeavesAloneFrom w origin g
 
--- From one moment of a running driver to the next, with the calls so far that were the driver's own. Either a call of
--- `rx`, `tx`, `reap`, `rx_burst` or `tx_burst`, as its clause `drives` says, where all calls are its own. Or any calls
--- of the author, through any way to the device, with at most one call of `packet` or `release`, as its clause `halves`
--- says. In the second case, the way's record of its calls may start fresh, for example if a `Direct` is finished and
--- another is created.
+-- From one moment of a running driver to the next, with the calls so far that were the driver's own. Either a call to
+-- `rx`, `tx`, `reap`, `rx_burst` or `tx_burst`, as its clause `drives` says; then all calls are the driver's own. Or
+-- any calls of the author, through any way to the device, with at most one call to `packet` or `release`, as its clause
+-- `halves` says. In the second case, the way's record of its calls may start fresh, for example if a `Direct` is
+-- finished and another one is created.
 
 abbrev pub DroveBy : Moment → List Call → Moment → List Call → Type 0
 DroveBy m own n then = Drove m n × (since : List Call) × (n.made ≡ m.made ++ since) × (then ≡ own ++ since)
@@ -50,7 +50,7 @@ AllFollowBy m own (n ∷ later) then = (next : List Call) × FollowsBy m own n n
 
 -- A `start` brought the driver up, as its clause `started` says, and the other moments follow the moment when it
 -- returned. The driver's own calls are the calls of its start and its calls since. Other calls of its pass may precede
--- them, whichever of the calls made before the start are reported as the pass's.
+-- them, no matter which of the calls made before the start are reported as the pass's.
 pub record IsReportedBy (q : AtPort) (size frame : ℕ) (old : List Call) (a : Numbers) (m : Moment) (later : List Moment)
     (ahead own : List Call) : Type 0 where
   pub started : HasStarted q size frame old a m.made m.driver
@@ -130,7 +130,7 @@ IdleIsAllSent =
     IsAllSent x.course (accepted_of (now x).driver.rings)
 
 -- After the last moment, the driver's next call made the calls in `since`. In the retagged history, the pass has made
--- the driver's own calls up to there at some entry, whatever comes after it.
+-- the driver's own calls so far at some entry, whatever comes after it.
 pub record IsCalledBeside (x : Beside) (n : Moment) : Type 0 where
   pub since : List Call
   pub made : n.made ≡ (now x).made ++ since
@@ -171,9 +171,9 @@ pub record GoesOn (origin : State) (before reported es again : List Entry) (call
   pub leads : leads_to origin (before ++ es) ≡ device
 
 -- The calls through a `Direct` or an `Interleaved` continue a retagged history. Marks say which of the calls are the
--- driver's own; an `Interleaved` has further marks for its own and foreign calls. This continues through several ways
--- in succession. If two drivers share one device, each has its own marks, which count the other driver's calls as not
--- its own.
+-- driver's own; an `Interleaved` has further marks for its own and foreign calls. This may continue through several
+-- ways in succession. If two drivers share one device, each has its own marks, according to which the other driver's
+-- calls aren't its own.
 
 abbrev pub DirectIsRetagged : Type 0
 DirectIsRetagged =

@@ -10,8 +10,8 @@ use Rattle.driver_laws.specs.Beside.{Beside, IsReportedBeside, now}
 use Rattle.driver_laws.specs.Faultless.{FindsFault, IsFresh, MeetsFault, NoneLent}
 
 -- In the retagged history, the driver's own calls up to its last moment were made, then one more of its calls, and
--- perhaps others after. Just before its first access, frames were short and the blocks of its arena that it tries to
--- lend weren't lent. After its first entry, nobody else tries to lend any of them, neither another pass nor the author.
+-- perhaps others after. Just before its first access, the waiting frames were short and the blocks of its arena that it
+-- tries to lend weren't lent. After its first entry, neither another pass nor the author tries to lend any of them.
 pub record IsCalledApart (x : Beside) (n : Moment) : Type 0 where
   pub fresh :
       BeforeLast x.w x.origin x.g (x.ahead ++ x.reported.first) (IsFresh x.w.queue x.frame (asked_of x.w x.a x.g))

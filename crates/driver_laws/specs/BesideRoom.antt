@@ -4,8 +4,8 @@ use Rattle.driver_laws.specs.StartPrelude.{AtPort, Call, Numbers, Packet, parts_
 use Rattle.driver_laws.specs.{Beside.IsReportedBy, Reported.Drove, Reported.Moment, Reported.last}
 use Rattle.driver_laws.specs.FullRing.{AcceptsNone, TellsFull, outstanding}
 
--- If a call of `tx` returns that the ring is full, fewer parts are outstanding than the number of descriptors given to
--- its start. Together with the parts of the given packet, there are at least that many.
+-- If a call to `tx` reports that the ring is full, fewer parts are outstanding than its start was given descriptors.
+-- Together with the parts of the packet passed to `tx`, there are at least as many parts as descriptors.
 abbrev pub FullHasNoRoom : Type 0
 FullHasNoRoom =
     (q : AtPort) (size frame : ℕ) (old : List Call) (a : Numbers) (m : Moment) (later : List Moment)
@@ -14,7 +14,7 @@ FullHasNoRoom =
     (outstanding (last m later).driver.rings < size)
     × (size ≤ outstanding (last m later).driver.rings + parts_for p.len)
 
--- The same bounds hold after a call of `tx_burst` that returns 0, with the parts of the first packet that it leaves.
+-- The same bounds hold after a call to `tx_burst` that returns 0, with the parts of the first packet that it leaves.
 abbrev pub NoneHasNoRoom : Type 0
 NoneHasNoRoom =
     (q : AtPort) (size frame : ℕ) (old : List Call) (a : Numbers) (m : Moment) (later : List Moment)

@@ -6,7 +6,7 @@ use Rattle.driver_laws.specs.{Beside.Beside, Beside.now, Course.IsHandedInOrder,
 use Rattle.driver_laws.specs.Prelude.{Ends, EndsOnceOff, IsSilent, TakesOnceOff}
 
 -- In the retagged history, the driver's own calls up to the last moment were made, followed by some or all calls of its
--- stop. `new` has all calls that were made when the stop returned.
+-- stop. `new` contains all calls that were made when the stop returned.
 pub record IsStoppedBeside (x : Beside) (new : List Call) : Type 0 where
   pub ends : Ends x.q (now x).made new
   pub since : List Call

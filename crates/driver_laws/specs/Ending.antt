@@ -15,20 +15,20 @@ abbrev pub NamesDriven : AtPort → Port → ℕ → Type 0
 NamesDriven q port number =
     (row : RowId) × (port ≡ q.port) × (is_driven row ≡ true) × IsNumberOf q.port row q.queue number
 
--- The event writes only registers of the queue, if any.
+-- The event writes no register, or only the queue's.
 abbrev pub IsPlain : AtPort → Event Block → Type 0
 IsPlain q (event.Write port number word) = NamesDriven q port number
 IsPlain q other = ⊤
 
--- An event that requests a side to be off or observes it: a write of an enable word of the queue without bit 25, a read
--- of a register, or a device step.
+-- An event that requests that a side be off or observes it: a write of an enable word of the queue without bit 25, a
+-- register read, or a device step.
 abbrev pub IsAsking : AtPort → Event Block → Type 0
 IsAsking q (event.Write port number word) =
     (side : Dir) × (port ≡ q.port) × IsFalse (has_bit 25 word) × IsNumberOf q.port (enable_row side) q.queue number
 IsAsking q (event.Read port number) = ⊤
 IsAsking q e = IsTrue (is_step e)
 
--- An event of a stop: one that requests or observes a side off, or one that takes a block.
+-- An event of a stop: one that requests that a side be off or observes it, or one that takes a block.
 abbrev pub IsEnding : AtPort → Event Block → Type 0
 IsEnding q (event.Take number) = ⊤
 IsEnding q e = IsAsking q e

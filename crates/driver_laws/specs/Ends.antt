@@ -38,7 +38,7 @@ LeavesSent x = IsSentInOrder x.course (left_accepted x.left)
 abbrev pub LeftIsPrefix : Type 0
 LeftIsPrefix = (x : Ended) → IsToStop x → LeavesHanded x × LeavesSent x
 
--- Both lists are in order during and after the stop too, with everything delivered and sent meanwhile.
+-- Both lists are in order during and after the stop too, including everything delivered and sent in the meantime.
 
 abbrev pub HandedOverStop : Type 0
 HandedOverStop = (x : Ended) → IsOver x → LeavesHanded x

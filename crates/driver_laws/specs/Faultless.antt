@@ -16,13 +16,13 @@ use Rattle.driver_laws.specs.Reported.{Moment, Reported, now}
 abbrev pub NoneLent : Blocks → State → Type 0
 NoneLent own s = (number : ℕ) → IsTrue (own number) → IsFalse (has_block s.memory number)
 
--- The frames that wait for a queue fit the most blocks that a packet of the driver can have, and none of these blocks
--- is lent.
+-- The frames that wait for a queue fit the maximum number of blocks of a driver's packet, and none of these blocks is
+-- lent.
 pub record IsFresh (queue frame : ℕ) (own : Blocks) (s : State) : Type 0 where
   pub short : All (FitsBlocks queue (most_blocks frame)) s.waiting
   pub none : NoneLent own s
 
--- A call of `rx`, `tx`, `reap`, `rx_burst` or `tx_burst` ended with the device at fault, as `finds` in its clauses
+-- A call to `rx`, `tx`, `reap`, `rx_burst` or `tx_burst` ended with the device at fault, as `finds` in its clauses
 -- says.
 abbrev pub FindsFault : Moment → Moment → Type 0
 FindsFault m n =
@@ -30,8 +30,8 @@ FindsFault m n =
     (λ r s. FindsBy DeviceFault (is_own r.arena) m.made (halves_of r) n.made)
 
 -- In its history, the pass made the calls up to this last moment, and perhaps more after them. Just before the driver's
--- first access, frames were short and the blocks of its arena that its pass tries to lend weren't lent. After the
--- pass's first entry, no other pass tries to lend any of them.
+-- first access, the waiting frames were short and the blocks of its arena that its pass tries to lend weren't lent.
+-- After the pass's first entry, no other pass tries to lend any of them.
 pub record IsReportedApart (x : Reported) (n : Moment) : Type 0 where
   pub fresh :
       BeforeLast x.w x.origin x.h x.reported.started.2.receive.quiet.0
@@ -40,7 +40,7 @@ pub record IsReportedApart (x : Reported) (n : Moment) : Type 0 where
   pub more : List Call
   pub made : calls_of x.w.pass x.h ≡ n.made ++ more
 
--- No call of `rx`, `tx`, `reap`, `rx_burst` or `tx_burst` finds the device at fault over a history of this kind.
+-- No call to `rx`, `tx`, `reap`, `rx_burst` or `tx_burst` finds the device at fault over a history of this kind.
 abbrev pub NoCallFindsFault : Type 0
 NoCallFindsFault = (x : Reported) (n : Moment) → FindsFault (now x) n → ¬ IsReportedApart x n
 
@@ -50,8 +50,8 @@ abbrev pub met_by : (failed : Option PmdFault) (given left : List Packet) (resul
 met_by None given left result old r new s sends = sends.met
 met_by (Some f) given left result old r new s sends = Some f
 
--- A call of `tx_burst` met the device at fault, as its clause `sent` says. It may have returned how many packets were
--- accepted before.
+-- A call to `tx_burst` met the device at fault, as its clause `sent` says. It may have returned the number of packets
+-- accepted before that.
 abbrev pub SendsAtFault : List Call → Running → List Call → Running → Type 0
 SendsAtFault old r new s =
     (vacant : ℕ) × (given left : List Packet) × (result : Result ℕ PmdFault)
@@ -61,7 +61,7 @@ SendsAtFault old r new s =
 abbrev pub MeetsFault : Moment → Moment → Type 0
 MeetsFault m n = WhereUp m.driver.rings n.driver.rings (λ r s. SendsAtFault m.made r n.made s)
 
--- No call of `tx_burst` meets the device at fault over a history of this kind.
+-- No call to `tx_burst` meets the device at fault over a history of this kind.
 abbrev pub NoBurstMeetsFault : Type 0
 NoBurstMeetsFault = (x : Reported) (n : Moment) → MeetsFault (now x) n → ¬ IsReportedApart x n
 
@@ -70,8 +70,8 @@ abbrev pub IsQuietAndFresh : ℕ → AtPort → ℕ → Blocks → State → Typ
 IsQuietAndFresh queue q frame own s = IsQuiet queue q frame s × IsFresh queue frame own s
 
 -- A legal history of a sound device that leaves the queue alone, in which a start made these calls, perhaps followed by
--- more. Just before its first access, both sides were off, frames were short and the blocks of its arena that its pass
--- tries to lend weren't lent. After the pass's first entry, no other pass tries to lend any of them.
+-- more. Just before its first access, both sides were off, the waiting frames were short and the blocks of its arena
+-- that its pass tries to lend weren't lent. After the pass's first entry, no other pass tries to lend any of them.
 pub record BeginsApart : Type 0 where
   pub course : Course
   pub open course use *

@@ -23,8 +23,9 @@ NoneIsLent w origin h calls a =
     (number : ℕ) → is_free a number ≡ true → is_asked calls number ≡ true →
     BeforeLast w origin h calls (λ s. IsFalse (has_block s.memory number))
 
--- If the queue is off just before the start's first call, the start sees no side on. Each word of the receive ring is
--- taken, and so is each of its blocks, if no free block of the arena that the start tries to lend is already lent.
+-- If the queue is off just before the start's first call, the start sees no side on. Each value written to the receive
+-- ring's registers takes effect, and each of the ring's blocks is lent, if no free block of the arena that the start
+-- tries to lend is already lent.
 abbrev pub ReceiveIsReady : Type 0
 ReceiveIsReady =
     (w : Watched) (q : AtPort) (origin : State) (h : List Entry) (size frame : ℕ) (old : List Call) (a : Numbers)
@@ -32,7 +33,8 @@ ReceiveIsReady =
     BeforeNext w origin h old (IsQuiet w.queue q frame) → ReceiveFails DeviceFault q size old a new b out →
     NoneIsLent w origin h new b → Never w origin h new
 
--- Next, each word and each block of the transmit ring is taken, under the same conditions.
+-- Next, each value written to the transmit ring's registers takes effect, and each of the ring's blocks is lent, under
+-- the same conditions.
 abbrev pub TransmitIsReady : Type 0
 TransmitIsReady =
     (w : Watched) (q : AtPort) (origin : State) (h : List Entry) (size frame : ℕ) (old : List Call) (a : Numbers)
@@ -41,7 +43,7 @@ TransmitIsReady =
     IsReceiveReady q size frame old a mid b v →
     PreparingFails DeviceFault q Tx size mid b new c out → NoneIsLent w origin h new c → Never w origin h new
 
--- Finally, the start requests that both sides be on and polls both without a stray access.
+-- Finally, the start requests that both sides be enabled and polls both without a stray access.
 abbrev pub SwitchingIsNeverStray : Type 0
 SwitchingIsNeverStray =
     (w : Watched) (q : AtPort) (origin : State) (h : List Entry) (size frame : ℕ) (old : List Call) (a : Numbers)

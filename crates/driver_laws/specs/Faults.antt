@@ -1,4 +1,4 @@
--- A driver's call that ends with the device at fault.
+-- A driver call that ends with the device at fault.
 use Rattle.std.specs.Prelude.{[], ◌++◌, ◌∷◌, ◌≡◌, List}
 use Rattle.driver_laws.specs.Healthy.{IsUnshared}
 use Rattle.driver_laws.specs.StartPrelude.{AllLendApart, AllOwn, Blocks, Call, Doer, Entry, FindsFault, Halves, State}
@@ -11,7 +11,7 @@ abbrev pub doers_of : (own : Blocks) (old : List Call) (h : Halves) (new : List 
 doers_of own old h new f = f.drives.drives.0 ++ (doers_other f.adds.0 ++ f.doer ∷ [])
 
 -- If a history drives the halves and shares the numbers with no other pass, no call in it ends this way. The calls
--- before it lend as the driver's do.
+-- before it lend only what the driver's calls may lend.
 abbrev pub NoFault : Type 0
 NoFault =
     (w : Watched) (origin : State) (start rest more : List Entry) (h : Halves) (doers : List Doer) (own : Blocks)

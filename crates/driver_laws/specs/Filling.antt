@@ -27,7 +27,7 @@ pub record FaultsAfterOne (q : AtPort) (size frame : ℕ) (old : List Call) (a :
   pub receive : IsReceiveReady q size frame old a made ready_arena empty
   pub fails : PreparingFails DeviceFault q Tx size made ready_arena new arena out
 
--- Both rings are ready, but the sides aren't switched on.
+-- Both rings are ready, but the sides aren't enabled.
 pub record FaultsSwitching (q : AtPort) (size frame : ℕ) (old : List Call) (a : Numbers) (new : List Call) : Type 0
   where
     pub ready_made : List Call

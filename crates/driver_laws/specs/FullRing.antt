@@ -1,11 +1,11 @@
--- How many slots are taken if a driver's ring is reported full.
+-- How many slots are taken if a driver's ring is reported as full.
 use Rattle.std.specs.Prelude.{◌+◌, ◌<◌, ◌∷◌, ◌≤◌, List, Ok, ℕ, length}
 use Rattle.driver_laws.specs.StartPrelude.{AtPort, Call, Down, Numbers, Packet, Rings, Up, WhereUp, parts_for}
 use Rattle.pmd_driver.specs.Bursts.{IsSendBurst}
 use Rattle.pmd_driver.specs.PmdTx.{Sends.IsFullWhereReported, declared.answer.TxAnswer.TheVariants.RingFull}
 use Rattle.driver_laws.specs.Reported.{Drove, IsReported, Moment, last}
 
--- A call of `tx` returned that the ring is full, as `full` in its clause `sent` says.
+-- A call to `tx` reported that the ring is full, as `full` in its clause `sent` says.
 abbrev pub TellsFull : Moment → Moment → Packet → Type 0
 TellsFull m n p =
     WhereUp m.driver.rings n.driver.rings (λ r s. IsFullWhereReported r.transmit p (Ok (RingFull p)))
@@ -15,8 +15,9 @@ abbrev pub outstanding : Rings → ℕ
 outstanding (Up r) = length r.transmit.outstanding
 outstanding (Down h) = 0
 
--- Fewer parts are outstanding than the number of descriptors given to the driver's start. Together with the parts of
--- the given packet, there are at least that many. So if that packet has one part, all slots but one are taken.
+-- Fewer parts are outstanding than the driver's start was given descriptors. Together with the parts of the packet
+-- passed to `tx`, there are at least as many parts as descriptors. So if that packet has one part, all slots except one
+-- are taken.
 abbrev pub FullHasNoRoom : Type 0
 FullHasNoRoom =
     (q : AtPort) (size frame : ℕ) (old : List Call) (a : Numbers) (m : Moment) (later : List Moment) (n : Moment)
@@ -24,7 +25,7 @@ FullHasNoRoom =
     (outstanding (last m later).driver.rings < size)
     × (size ≤ outstanding (last m later).driver.rings + parts_for p.len)
 
--- A call of `tx_burst` accepted none, returned no fault and left this packet first, as its clause `sent` says.
+-- A call to `tx_burst` accepted no packet, returned no fault and left this packet first, as its clause `sent` says.
 abbrev pub AcceptsNone : Moment → Moment → Packet → Type 0
 AcceptsNone m n p =
     WhereUp m.driver.rings n.driver.rings

@@ -12,8 +12,8 @@ use Rattle.driver_laws.specs.StartPrelude.{Adds, AllOwn, Block, Blocks, Call, Do
 use Rattle.driver_laws.specs.StartPrelude.{State, Watched, asks_pool_reset, calls_of, is_neither, played_by, row_of}
 use Rattle.pmd_driver.specs.NicDevice.declared.event.Event.TheVariants as event
 
--- Whether no queue relies on a register when this word is written to it: the register is neither a setting nor part of
--- a queue's side, and the write doesn't request a pool reset. True if there is no register.
+-- Whether no queue relies on a register to which this value is written: the register is neither a setting nor part of a
+-- queue's side, and the write doesn't request a pool reset. True if there is no register.
 abbrev pub spares_all : Option Place → ℕ → Bool
 spares_all None word = true
 spares_all (Some p) word =

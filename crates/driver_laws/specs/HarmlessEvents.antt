@@ -1,4 +1,4 @@
--- Which events alongside a driver's own are harmless, by register addresses and bits of words.
+-- Which events alongside a driver's own are harmless, by register addresses and bits of the values written.
 use Rattle.std.specs.Prelude.{ℕ, ◌≡◌, Bool, true, false, List}
 use Rattle.pmd_driver.specs.NicDevice.DmaRing.declared.dir.Dir.{Dir}
 use Rattle.pmd_driver.specs.NicDevice.IntrUnit.declared.group.Group.{Group}
@@ -15,8 +15,8 @@ IsHarmless address word = is_harmless (event.Write Pf address word) ≡ true
 abbrev pub IsNot : (address word : ℕ) → Type 0
 IsNot address word = is_harmless (event.Write Pf address word) ≡ false
 
--- FCTRL, EIMS and an address without a register are harmless. CTRL, HLREG0, MAXFRS, GCR_EXT and the first and last
--- registers of rings of any queue aren't. PVFCTRL isn't harmless with bit 26.
+-- Writes to FCTRL, EIMS and an address without a register are harmless. Writes to CTRL, HLREG0, MAXFRS, GCR_EXT and the
+-- first and last ring registers of any queue aren't; nor is a write to PVFCTRL that sets bit 26.
 pub record WritesAre (word : ℕ) : Type 0 where
   pub filter : IsHarmless 0x05080 word
   pub masks : IsHarmless 0x00880 word

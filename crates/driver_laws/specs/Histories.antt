@@ -73,7 +73,7 @@ NoneIsAll =
     ≡ delivered w.queue origin (start ++ rest)
 
 -- If the next poll finds its slot not done and no packet is complete, everything delivered before an earlier place of
--- the history was returned by then, if nothing was returned since.
+-- the history was returned by then, provided that nothing has been returned since that place.
 abbrev pub NoneIsAllBefore : Type 0
 NoneIsAllBefore =
     (w : Watched) (origin : State) (start before rest : List Entry) (h : Halves) (early doers : List Doer) →

@@ -12,7 +12,7 @@ use Rattle.pmd_driver.specs.PmdAccess.Made.{InHand}
 use Rattle.pmd_driver.specs.PmdAccess.Scheduled.{Handled, made_of}
 use Rattle.pmd_driver.specs.PmdAccess.Stepped.{AtLock}
 
--- What is known to have happened to a device from this state on before it came into hand, possibly nothing: a legal
+-- What is known to have happened to a device since this state and before it came into hand, possibly nothing: a legal
 -- history, with no entry of pass 0. The state is any that a device can be in, new or used, with or without an installed
 -- EEPROM image.
 pub record WasMade (s : State) (before : List Entry) : Type 0 where
@@ -25,8 +25,8 @@ pub record WasMade (s : State) (before : List Entry) : Type 0 where
 abbrev pub in_hand : State → ℕ → Watched
 in_hand s queue = record { vfs = s.vfs; pass = 0; queue = queue }
 
--- The history from state `s` on is legal and leaves the queue alone (`IsAlong`), pass 0 made these calls in it, and it
--- leads to the device.
+-- The history that begins in state `s` is legal and leaves the queue alone (`IsAlong`), pass 0 made these calls in it,
+-- and it leads to the device.
 pub record IsHistoryOf (s : State) (queue : ℕ) (h : List Entry) (calls : List Call) (device : State) : Type 0 where
   pub along : IsAlong (in_hand s queue) s h
   pub made : calls_of 0 h ≡ calls
@@ -34,15 +34,15 @@ pub record IsHistoryOf (s : State) (queue : ℕ) (h : List Entry) (calls : List 
 
 -- The calls through a `Direct`, after the calls made before, form a history that leaves a queue alone, if they leave it
 -- alone. The reports of a history's entries suffice for this, whatever the state. All entries after the first one of
--- pass 0 belong to that pass, so the only requirement is on what steps wrote for other queues.
+-- pass 0 belong to that pass, so the only requirement concerns what steps wrote for other queues.
 abbrev pub DirectIsHistory : Type 0
 DirectIsHistory =
     (s : State) (queue : ℕ) (before : List Entry) (d : InHand) → queue < 128 → WasMade s before →
     began_in_hand d (From (leads_to s before)) → LeavesAlone (in_hand s queue) (before ++ entries_in d.calls) →
     IsHistoryOf s queue (before ++ entries_in d.calls) d.calls d.device
 
--- The calls through an `Interleaved` with the foreign events form a history too, if these leave the queue alone from
--- that state on.
+-- The calls through an `Interleaved`, together with the foreign events, form a history too, if these leave the queue
+-- alone from that state on.
 abbrev pub InterleavedIsHistory : Type 0
 InterleavedIsHistory =
     (s : State) (queue : ℕ) (before : List Entry) (i : Handled) → queue < 128 → WasMade s before →
@@ -65,16 +65,16 @@ pub record IsClosed (vfs fifo : ℕ) (h : List Entry) (ps : List PassValue) : Ty
 abbrev pub at_lock : (vfs tag queue : ℕ) → Watched
 at_lock vfs tag queue = record { vfs = vfs; pass = tag; queue = queue }
 
--- The history from the new device on is legal and leaves the queue alone (`IsAlong`), and the pass made these calls in
--- it.
+-- The history that begins with the new device is legal and leaves the queue alone (`IsAlong`), and the pass made these
+-- calls in it.
 pub record IsHistoryAtLock (vfs fifo tag queue : ℕ) (h : List Entry) (calls : List Call) : Type 0 where
   pub along : IsAlong (at_lock vfs tag queue) (new_state vfs fifo) h
   pub made : calls_of tag h ≡ calls
 
 -- The calls through a `ThroughLock`, at any time, form a history up to each place where its pass had made exactly these
 -- calls. The premise: `left_alone` is true for its tag and the queue. If the pass is among those that closed the
--- history, with these calls and perhaps more after them, there is a place of this kind, with the last of the calls at
--- its end (`CallsStand`).
+-- history, with these calls and perhaps more after them, there is a place of this kind that ends with the last of these
+-- calls (`CallsStand`).
 abbrev pub ClosedIsHistory : Type 0
 ClosedIsHistory =
     (vfs fifo queue : ℕ) (h : List Entry) (ps : List PassValue) (t : AtLock) → queue < 128 → IsClosed vfs fifo h ps →

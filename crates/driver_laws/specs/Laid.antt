@@ -1,4 +1,4 @@
--- How far a driver has laid out the empty transmit ring of a queue that is off. Nothing is sent on it meanwhile.
+-- How far a driver has laid out the empty transmit ring of a queue that is off. In the meantime, nothing is sent on it.
 use Rattle.std.specs.Prelude.{[], ⊤, ◌%◌, ◌++◌, ◌<◌, ◌^◌, ◌∷◌, ◌≡◌, ◌≤◌, IsFalse, List, true, ℕ}
 use Rattle.ring_laws.specs.Sent.{sent_in}
 use Rattle.driver_laws.specs.StartPrelude.{AtPort, Block, Call, Entry, Event, IsNumberOf, Rdbah, Rdbal, Rdh, Rdlen, Rdt}
@@ -23,8 +23,8 @@ laid_by Tdh l = Headed
 laid_by Tdt l = Empty
 laid_by other l = l
 
--- The words that may be written: the ring's words, in their order, while the side is off; a request to enable the side,
--- only when its ring is empty; and any word of the receive side.
+-- The values that may be written: the values of the ring's registers, in their order, while the side is off; a request
+-- to enable the side, only if its ring is empty; and any value to a register of the receive side.
 
 abbrev pub MayRing : RowId → Laid → ℕ → Type 0
 MayRing Tdbal l word = (l ≡ Off) × (word % 128 ≡ 0)
@@ -64,7 +64,7 @@ LaysOn q l (c ∷ cs) last = (m : Laid) × Lays q l c.event m × LaysOn q m cs l
 
 -- Over a legal history that leaves the queue alone, take a call of its pass before which port and queue name it and its
 -- transmit side is off. If that call and the pass's calls after it lay out the ring in this way, nothing is sent on the
--- queue from it on.
+-- queue since that call.
 abbrev pub LaidQueueIsSilent : Type 0
 LaidQueueIsSilent =
     (w : Watched) (q : AtPort) (frame : ℕ) (origin : State) (h done rest : List Entry) (e : Entry) (last : Laid) →

@@ -1,5 +1,4 @@
--- A call of a driver that polls in vain, whether it was to hand out one packet or several: it finds none that is
--- complete.
+-- A driver call that polls in vain, whether for one packet or for several: it finds none that is complete.
 use Rattle.std.specs.Prelude.{ℕ, ◌≡◌, List, [], ◌∷◌, ◌++◌}
 use Rattle.driver_laws.specs.StartPrelude.{call_in, calls_of, Call, Entry, Receive, delivered}
 use Rattle.pmd_driver.specs.PmdRx.Plays as receiving
@@ -20,8 +19,8 @@ CallsEnd =
     (pass : ℕ) (h : List Entry) (calls more : List Call) (c : Call) →
     calls_of pass h ≡ (calls ++ c ∷ []) ++ more → EndsAt pass h (calls ++ c ∷ [])
 
--- After a life, one call of the driver polled the slots of a packet and found the last of them not done, at an entry of
--- the history.
+-- After a life, one driver call polled the slots of a packet and found the last of them not done, at an entry of the
+-- history.
 pub record LooksInVain (x : Life) (new : List Call) (v : Receive) : Type 0 where
   pub looks : receiving.LooksInVain x.made x.k.receive new v
   pub look : EndsAt x.w.pass x.h new

@@ -20,12 +20,12 @@ pub record IsMet (queue : ℕ) (s : State) : Type 0 where
   pub small : queue < 128
   pub sound : IsSound s
 
--- If a side is requested to be on, its ring is empty.
+-- If an enable request is in effect for a side, its ring is empty.
 abbrev pub MayGoOn : Side → Type 0
 MayGoOn x = x.wanted ≡ true → is_empty x.ring ≡ true
 
--- A word is written to a register of a side that isn't requested to be on: the side takes it, if its ring is empty
--- whenever the word requests it to be on.
+-- A value is written to a register of a side for which no enable request is in effect. It takes effect, provided that
+-- the side's ring is empty if the value requests that the side be enabled.
 abbrev pub WriteStands : Dir → Type 0
 WriteStands dir =
     (queue : ℕ) (s : State) (sides : Dir → Side) (rings : Blocks) (port : Port) (number word : ℕ) (row : RowId) →
@@ -33,8 +33,8 @@ WriteStands dir =
     MayGoOn (side_with dir row word (sides dir)) → NamesRow s port number row queue →
     Stand queue (λ d. side_with d row word (sides d)) rings (after s (event.Write port number word))
 
--- A side after a register is read that returns bit 25 as `on`: the side is enabled if this is its enable word and has
--- the bit.
+-- A side after a register is read that returns bit 25 as `on`: the side is enabled if this is its enable word and bit
+-- 25 is set.
 abbrev pub side_seen : Dir → RowId → Bool → Side → Side
 side_seen Rx Rxdctl on x = record x { on = x.on || on }
 side_seen Tx Txdctl on x = record x { on = x.on || on }
@@ -60,7 +60,7 @@ LendStands =
     reply_to s (event.Lend (zero_block ring)) ≡ reply.Done →
     Stand queue sides (and_one ring rings) (after s (event.Lend (zero_block ring)))
 
--- A fresh side: an empty ring of this many slots from the start of a block on, one buffer of 2,048 bytes for each
+-- A fresh side: an empty ring with this many slots that starts at the start of a block, one 2,048-byte buffer for each
 -- descriptor, and no head write-back.
 
 abbrev pub fresh_ring : (ring size : ℕ) → Ring

@@ -1,4 +1,4 @@
--- Which queue of the device a port and a queue's number at it name.
+-- Which queue of the device is named by a port and a queue's number at that port.
 use Rattle.std.specs.Prelude.{◌+◌, ◌≡◌, None, Option, Some, if◌then◌else◌, nat_lt, true, ℕ}
 use Rattle.pmd_driver.specs.NicDevice.{VfMap.Pools.queues_of, VfMap.declared.mode.Mode.Mode}
 use Rattle.driver_laws.specs.StartPrelude.{AtPort, IsNumberOf, Pf, Port, RowId, State, Vf, is_driven, mode_in}

@@ -1,4 +1,4 @@
--- Where a driver's blocks are: those that it has out with its halves are lent to the device, and no other block that it
+-- Where a driver's blocks are: those that are out with its halves are lent to the device, and no other block that it
 -- tries to lend is.
 use Rattle.std.specs.Prelude.{[], if◌then◌else◌, ◌&&◌, ◌+◌, ◌++◌, ◌≡◌, Bool, IsTrue, List, ℕ, false, not}
 use Rattle.driver_laws.specs.{Before.is_asked, Healthy.lent_by, StartPrelude.Call, StartPrelude.calls_of}
@@ -46,8 +46,8 @@ pub record Balances (a : Numbers) (outside : List ℕ) (h : Halted) (hand : List
   pub all : KeepsEach a outside h.arena (all_out h ++ hand)
 
 -- This holds when the driver starts, with the blocks in hand that were out of the arena. It holds after each call, as
--- its clause `blocks` says: what was in hand for the call no longer is, and what the call hands out, or leaves in a
--- list that it was given, is. The order of the blocks in hand doesn't matter.
+-- the call's clause `blocks` says: what was passed to the call is no longer in hand; what the call hands out, or leaves
+-- in a list that was passed to it, is. The order of the blocks in hand doesn't matter.
 pub record BooksGoOn : Type 0 where
   pub start :
       (a : Numbers) (outside : List ℕ) (h : Halted) → AreOut a outside → HasAll a h []
@@ -65,9 +65,9 @@ abbrev pub lent_elsewhere : List Call → Memory → ℕ → ℕ
 lent_elsewhere calls m number = if has_block m number && not (is_asked calls number) then 1 else 0
 
 -- So each block that was free in the arena handed to the driver, or out of it then, is in one place: free in it, in
--- hand, or lent to the device. No other block of the arena is in any of them. Blocks of packets that the driver holds,
--- complete or not, are in hand too, as are those of parts that wait to be lent. Of the blocks that were out of the
--- arena, or that the driver handed out, some may be lent elsewhere.
+-- hand, or lent to the device. No other block of the arena is in any of these places. Blocks of packets that the driver
+-- holds, complete or not, count as in hand too, as do the blocks of parts that wait to be lent. Of the blocks that were
+-- out of the arena, or that the driver handed out, some may be lent elsewhere.
 abbrev pub EachInOnePlace : Type 0
 EachInOnePlace =
     (x : Reported) → IsReportedAlone x → (outside hand elsewhere : List ℕ) →

@@ -36,8 +36,8 @@ abbrev pub after_accesses : List Access → Sides → Sides
 after_accesses [] p = p
 after_accesses (a ∷ rest) p = after_accesses rest (after_access a p)
 
--- An access that keeps the sides at rest: the read of an enable word, or a word written to a side that isn't requested
--- to be on.
+-- An access that keeps the sides at rest: the read of an enable word, or a value written to a side for which no enable
+-- request is in effect.
 
 abbrev pub IsEnable : RowId → Type 0
 IsEnable Rxdctl = ⊤
@@ -58,7 +58,7 @@ AllMay [] p = ⊤
 AllMay (a ∷ rest) p = May a p × AllMay rest (after_access a p)
 
 -- Over a history that leaves the queue alone, let the sides be in a known state where the pass has made some calls. If
--- the pass then makes accesses that keep them at rest, they are in the state after these accesses.
+-- the pass then makes accesses that keep them at rest, they are in the state to which these accesses lead.
 abbrev pub AccessesLead : Type 0
 AccessesLead =
     (w : Watched) (q : AtPort) (frame : ℕ) (origin : State) (h : List Entry) (known : Sides → Bool) (F : Sides → Sides)

@@ -22,7 +22,7 @@ pub record AreEnables (q : AtPort) (w : Enables) : Type 0 where
   pub receive : IsNumberOf q.port Rxdctl q.queue w.receive
   pub transmit : IsNumberOf q.port Txdctl q.queue w.transmit
 
--- Whether the word last written at a number has bit 25, and the state after another write.
+-- Whether the word last written at a number has bit 25 set, and the state after another write.
 
 abbrev pub is_asked : Enables → Asked → ℕ → Bool
 is_asked w x number =
@@ -39,7 +39,7 @@ asked_after w x (event.Write port number word) =
     if same_port port w.port then with_asked w x number (has_bit 25 word) else x
 asked_after w x other = x
 
--- Whether an event is a miss: it reads one of the two words without bit 25, though the last write requested it.
+-- Whether an event is a miss: it reads one of the two words with bit 25 clear, although the last write set it.
 abbrev pub is_missed : Enables → Asked → Event Block → Reply Block → Bool
 is_missed w x (event.Read port number) (reply.Word word) =
     same_port port w.port && (is_asked w x number && not (has_bit 25 word))

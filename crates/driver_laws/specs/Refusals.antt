@@ -13,8 +13,8 @@ use Rattle.pmd_driver.specs.Started.{has_room}
 use Rattle.driver_laws.specs.StartPrelude.{AtPort, DeviceFault, Numbers, Packet, is_frame, most_blocks, packet_limit}
 use Rattle.driver_laws.specs.StartPrelude.{start_gate}
 
--- A ring or frame size that is refused: a ring has 8 to 1,024 descriptors, a multiple of 8; a frame has 1,518 to 9,728
--- bytes.
+-- A ring size or frame limit that is refused: a ring has 8 to 1,024 descriptors, a multiple of 8; the frame limit is
+-- 1,518 to 9,728 bytes.
 abbrev pub IsBadRing : ℕ → Type 0
 IsBadRing size = (size < 8) ⊎ ((1024 < size) ⊎ (size % 8 ≢ 0))
 
@@ -29,8 +29,9 @@ pub record IsFitting (size frame : ℕ) : Type 0 where
   pub long : 1518 ≤ frame
   pub short : frame ≤ 9728
 
--- A start is refused for these sizes whatever else is wrong. Next, it is refused for too few blocks: one for each slot
--- but one, and one for each 128 descriptors of both rings. Last, it is refused for a queue that its port can't name.
+-- A start is refused for these sizes whatever else is wrong. Next, it is refused for too few free blocks: it needs one
+-- for each slot except one, and one for each 128 descriptors of both rings. Last, it is refused for a queue that its
+-- port can't name.
 pub record StartTells (a : Numbers) (q : AtPort) (size frame : ℕ) : Type 0 where
   pub ring : IsBadRing size → start_gate a q size frame ≡ Some BadSize
   pub frames : IsBadFrame frame → start_gate a q size frame ≡ Some BadSize
@@ -54,9 +55,9 @@ pub record IsGoodLength (v : Sender) (p : Packet) : Type 0 where
   pub few : p.len ≤ v.layout.limit
   pub held : p.len ≤ 2048 * length p.bufs
 
--- A packet is refused for its length whatever else is wrong. Next, it is refused for a block that can't go home, or
--- that another ring of the driver has. Last, it finds the ring full if the outstanding descriptors and its own would be
--- more than all slots but one.
+-- A packet is refused for its length whatever else is wrong. Next, it is refused for a block that can't be returned to
+-- the arena, or that another ring of the driver has. Last, the ring is full for it if the outstanding descriptors and
+-- its own would take more than all but one of the ring's slots.
 pub record PacketMeets (v : Sender) (a : Numbers) (p : Packet) (r : Result TxAnswer TxFault) : Type 0 where
   pub size : IsBadLength v p → IsAnswer (gate_of v a false p) p r →
       r ≡ Err (record { fault = BadSize; packet = Some p })
@@ -74,8 +75,8 @@ abbrev pub PacketsHaveAnOrder : Type 0
 PacketsHaveAnOrder =
     (v : Sender) (a : Numbers) (p : Packet) (r : Result TxAnswer TxFault) → PacketMeets v a p r
 
--- Frames have 1,518 to 9,728 bytes with their check sequence of 4 bytes; their packets have this many bytes, in this
--- many blocks of 2,048 bytes.
+-- The limit on a frame's length is 1,518 to 9,728 bytes, including the 4-byte check sequence. The frame's packet has at
+-- most this many bytes, in at most this many 2,048-byte blocks.
 pub record FramesAre : Type 0 where
   pub shorter : is_frame 1517 ≡ false
   pub shortest : is_frame 1518 ≡ true

@@ -1,4 +1,4 @@
--- A driver with a refused start, and what was sent on its queue meanwhile.
+-- A driver with a refused start, and what was sent on its queue in the meantime.
 use Rattle.std.specs.Prelude.{◌≡◌, List, [], ◌∷◌, ◌++◌}
 use Rattle.driver_laws.specs.StartPrelude.{calls_of, leads_to, Call, Entry, left_accepted, left_handed, Rest}
 use Rattle.driver_laws.specs.StartPrelude.{StartRefused}

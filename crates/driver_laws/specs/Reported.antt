@@ -10,14 +10,14 @@ use Rattle.driver_laws.specs.Course.{Course, IsAllSent, IsHandedInOrder, IsSentI
 use Rattle.pmd_driver.specs.{Driver.Driver, Life.KeepsHalves, Life.RunsOn, Started.HasStarted}
 use Rattle.pmd_driver.specs.PmdRx.Plays as receiving
 
--- When a call of the driver, or of its way to the device, has returned: the driver, and the calls of its pass so far.
+-- After a call to the driver, or to its way to the device, has returned: the driver, and the calls of its pass so far.
 pub record Moment : Type 0 where
   pub made : List Call
   pub driver : Driver
 
--- From one moment of a running driver to the next: a call of `rx`, `tx`, `reap`, `rx_burst` or `tx_burst`, as its
--- clause `drives` says. Or at most one call of `packet` or `release`, as its clause `halves` says, alongside harmless
--- calls through the same way, for example one by which its author lets a frame arrive.
+-- From one moment of a running driver to the next: either a call to `rx`, `tx`, `reap`, `rx_burst` or `tx_burst`, as
+-- its clause `drives` says; or at most one call to `packet` or `release`, as its clause `halves` says, alongside
+-- harmless calls through the same way, for example the arrival of a frame.
 
 abbrev pub Drove : Moment → Moment → Type 0
 Drove m n = RunsOn m.made m.driver.rings n.made n.driver.rings
@@ -82,8 +82,8 @@ IdleIsAllSent =
     (x : Reported) → IsReportedOf x → HasNoneOut (now x).driver.rings →
     IsAllSent x.course (accepted_of (now x).driver.rings)
 
--- A call of `rx` returned none, or one of `rx_burst` returned 0 though some were requested, as `none` in its clause
--- `received` says.
+-- A call to `rx` returned none, or one to `rx_burst` returned 0 although packets were requested, as `none` in its
+-- clause `received` says.
 abbrev pub LooksInVain : Moment → Moment → Type 0
 LooksInVain m n =
     WhereUp m.driver.rings n.driver.rings (λ r s. receiving.LooksInVain m.made r.receive n.made s.receive)

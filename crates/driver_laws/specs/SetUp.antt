@@ -1,5 +1,5 @@
--- What the set-up of the whole device writes, in numbers: the address of each register, in the order of the writes, and
--- its word.
+-- What the setup of the whole device writes, in numbers: the address of each register, in the order of the writes, and
+-- its value.
 use Rattle.std.specs.Prelude.{ℕ, ◌≡◌, ◌*◌, ◌<◌, ◌≤◌, List, [], ◌∷◌, Option, Some, drop, map, take, true, false}
 use Rattle.pmd_driver.specs.NicDevice.RegTable.Place.{address_among}
 use Rattle.pmd_driver.specs.NicDevice.RegTable.Runs.{runs}
@@ -8,7 +8,7 @@ use Rattle.pmd_driver.specs.PmdAccess.Setup.{settings_of, word_in}
 use Rattle.pmd_driver.specs.PmdAccess.declared.setup.Setting.{Setting}
 use Rattle.pmd_driver.specs.PmdAccess.declared.setup.Setup.{Setup}
 
--- The registers' addresses, and their words.
+-- The registers' addresses, and their values.
 
 abbrev pub addresses_of : List Setting → List (Option ℕ)
 addresses_of ss = map (λ s. address_among runs s.place) ss

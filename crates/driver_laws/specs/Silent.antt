@@ -1,4 +1,4 @@
--- A driver's queue that was switched off after its life, and what happens on it from then on.
+-- A driver's queue that was switched off after the driver's life, and what then happens on it.
 use Rattle.std.proofs.Common.{inl, inr}
 use Rattle.std.specs.Prelude.{◌++◌, ◌≡◌, List, None, Option, Some}
 use Rattle.driver_laws.specs.StartPrelude.{AtPort, Call, Entry, Halted, PmdFault, Rest, Up, calls_of, halted_of}
@@ -14,7 +14,8 @@ SilentOnceOff =
     (x : Life) (new : List Call) (done rest : List Entry) → IsStopping x new → (y : EndsOnceOff x.q x.made new) →
     done ++ rest ≡ x.h → calls_of x.w.pass done ≡ y.off → IsSilent x.w x.origin x.h done
 
--- A driver's stop had switched both sides off when these calls were made: it came home, or failed after them.
+-- A driver's stop had switched both sides off when these calls were made: it succeeded, or it failed only after these
+-- calls.
 abbrev pub SwitchesOff : (q : AtPort) (old : List Call) (h : Halted) (new : List Call) (left : Rest)
     (late : Option PmdFault) → IsStopped q old h new left late → List Call → Type 0
 SwitchesOff q old h new (rest.Home home) None (mid, switched, comes) off = off ≡ mid

@@ -6,8 +6,8 @@ use Rattle.driver_laws.specs.StartPrelude.{Block, Blocks, Dir, Event, Memory, Si
 use Rattle.driver_laws.specs.StartPrelude.{frame_limit, is_empty, mode_in, pieces, sent_by, side_of, zero_block}
 use Rattle.std.specs.FinMap as map
 
--- A side equals this one, except for whether it is on; nothing is staged. It is on if this one is on, and only if this
--- one is requested to be on. If it is requested to be on, its ring is empty, so the device does nothing on it.
+-- A side equals this one, except for whether it is on; nothing is staged. It is on if this one is on, and only if an
+-- enable request is in effect for this one. If one is in effect, its ring is empty, so the device does nothing on it.
 pub record Stands (x side : Side) : Type 0 where
   pub same : x ≡ record side { on = x.on; staged = [] }
   pub seen : IsTrue side.on → IsTrue x.on
@@ -18,8 +18,8 @@ pub record Stands (x side : Side) : Type 0 where
 abbrev pub IsZero : Memory → ℕ → Type 0
 IsZero m number = map.get m number ≡ Some (zero_block number).bytes
 
--- Both sides are at rest, no part of a frame that waits for the queue is written yet, and these blocks are lent, all
--- zero.
+-- Both sides are at rest, no part of a frame that waits for the queue is written yet, and these blocks are lent and
+-- zero-filled.
 pub record Stand (queue : ℕ) (sides : Dir → Side) (rings : Blocks) (s : State) : Type 0 where
   pub side : (dir : Dir) → Stands (side_of dir queue s) (sides dir)
   pub begun : partial_on queue s.waiting ≡ 0

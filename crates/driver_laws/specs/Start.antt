@@ -1,4 +1,4 @@
--- What a start of the driver leaves, over a legal history that leaves its queue alone.
+-- The state after a driver's start, over a legal history that leaves its queue alone.
 use Rattle.std.specs.Prelude.{[], List, ℕ}
 use Rattle.pmd_driver.specs.{Running.Running, Started.AreUp}
 use Rattle.driver_laws.specs.StartPrelude.{Agree, Agrees, AtPort, Call, Entry, Numbers, State, Watched}

@@ -1,4 +1,4 @@
--- A queue with both sides switched off, and what is received and sent on it from then on.
+-- A queue with both sides switched off, and what is then received and sent on it.
 use Rattle.std.specs.Prelude.{[], ◌++◌, ◌≡◌, ◌≢◌, List, false, ℕ}
 use Rattle.ring_laws.specs.Delivered.{delivered}
 use Rattle.driver_laws.specs.StartPrelude.{AtPort, Call, Entry, IsSwitched, State, Watched, calls_of, sent_since}

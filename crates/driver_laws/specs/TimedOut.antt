@@ -4,7 +4,7 @@ use Rattle.pmd_driver.specs.Started.{IsShut}
 use Rattle.driver_laws.specs.StartPrelude.{Access, AreMade, AtPort, Call, Numbers, Rxdctl, Sees, Sets, StartRefused}
 use Rattle.driver_laws.specs.StartPrelude.{StartTimeout, StopsStarting, Txdctl, has_bit, start_gate}
 
--- Whether the word last written to RXDCTL, and to TXDCTL, has bit 25.
+-- Whether the word last written to RXDCTL, and to TXDCTL, has bit 25 set.
 pub record Asked : Type 0 where
   pub receive : Bool
   pub transmit : Bool
@@ -19,8 +19,8 @@ asked_by (Sets Rxdctl word) x = record x { receive = has_bit 25 word }
 asked_by (Sets Txdctl word) x = record x { transmit = has_bit 25 word }
 asked_by other x = x
 
--- Whether an access is a miss: it reads RXDCTL or TXDCTL without bit 25, though the word last written to it has the
--- bit.
+-- Whether an access is a miss: it reads RXDCTL or TXDCTL with bit 25 clear, although the word last written to the
+-- register set it.
 abbrev pub is_miss : Asked → Access → Bool
 is_miss x (Sees Rxdctl on) = x.receive && not on
 is_miss x (Sees Txdctl on) = x.transmit && not on
@@ -31,7 +31,7 @@ abbrev pub misses : Asked → List Access → ℕ
 misses x [] = 0
 misses x (a ∷ rest) = (if is_miss x a then 1 else 0) + misses (asked_by a x) rest
 
--- An access of RXDCTL or TXDCTL.
+-- An access to RXDCTL or TXDCTL.
 abbrev pub IsOfEnable : Access → Type 0
 IsOfEnable (Sees Rxdctl on) = ⊤
 IsOfEnable (Sees Txdctl on) = ⊤
@@ -44,7 +44,8 @@ abbrev pub AllAre : (Access → Type 0) → List Access → Type 0
 AllAre K [] = ⊤
 AllAre K (a ∷ rest) = K a × AllAre K rest
 
--- After some calls come accesses of RXDCTL and TXDCTL, including 1,000 misses, each after a write among these accesses.
+-- After some calls come accesses to RXDCTL and TXDCTL, including 1,000 misses, each after a write that is one of these
+-- accesses.
 pub record TimesOut (q : AtPort) (old new : List Call) : Type 0 where
   pub before : List Call
   pub all : List Access

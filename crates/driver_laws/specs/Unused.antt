@@ -10,7 +10,8 @@ pub record AreUnused (queue : ℕ) (s : State) (done : List Entry) : Type 0 wher
       IsTrue (is_on (leads_to s done).registers Rx queue) → pieces_since queue s None done ≡ Some []
   pub transmit : IsTrue (is_on (leads_to s done).registers Tx queue) → sent_since queue s [] done ≡ []
 
--- Both sides were enabled by these entries and are requested to be on, and nothing was received or sent since.
+-- Both sides were enabled by these entries, with no request to disable them pending, and nothing has been received or
+-- sent since.
 pub record WentOn (queue : ℕ) (s : State) (done : List Entry) : Type 0 where
   pub received : pieces_since queue s None done ≡ Some []
   pub sent : sent_since queue s [] done ≡ []

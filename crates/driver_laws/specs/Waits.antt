@@ -1,12 +1,12 @@
--- A call of a driver that ends with a packet outstanding.
+-- A driver call that ends with a packet outstanding.
 use Rattle.std.specs.Prelude.{[], ◌++◌, ◌≡◌, ◌≢◌, List}
 use Rattle.driver_laws.specs.Harmless.{AddsHarmless}
 use Rattle.driver_laws.specs.StartPrelude.{Call, Entry, Sender, WhereUp, accepted_of, bytes_of, calls_of, sent_since}
 use Rattle.pmd_driver.specs.PmdTx.Plays.{LooksLast}
 use Rattle.driver_laws.specs.{Life.Life, Looks.EndsAt, Reported.Moment, Reported.Reported, Reported.now}
 
--- After a life, one call of the driver accepted no packet. Its last event, at an entry of the history, polled the
--- oldest outstanding packet, which wasn't done.
+-- After a life, one driver call accepted no packet. Its last event, at an entry of the history, polled the oldest
+-- outstanding packet, which wasn't done.
 pub record LooksAtWaiting (x : Life) (new : List Call) (v : Sender) : Type 0 where
   pub looks : LooksLast x.made x.k.transmit new v
   pub look : EndsAt x.w.pass x.h new
@@ -19,7 +19,7 @@ WaitingIsNotAllBefore =
     before ++ more ≡ looked.look.before → AddsHarmless x.made (calls_of x.w.pass before) →
     bytes_of x.k.transmit.accepted ≢ sent_since x.w.queue x.origin [] before
 
--- In terms of what a driver's calls report: a call of `reap` returned and wasn't idle, as `waits` in its clause
+-- In terms of what a driver's calls report: a call to `reap` returned and wasn't idle, as `waits` in its clause
 -- `reaped` says.
 abbrev pub Waits : Moment → Moment → Type 0
 Waits m n =

@@ -1,4 +1,4 @@
--- The words of a side that is off: the side takes a word that is written to one of its registers.
+-- The registers of a side that is off: a value that is written to one of them takes effect.
 use Rattle.std.specs.Prelude.{◌%◌, ◌*◌, ◌+◌, ◌/◌, ◌<◌, ◌^◌, ◌≡◌, IsFalse, None, ℕ}
 use Rattle.pmd_driver.specs.NicDevice.Named.{named}
 use Rattle.ring_laws.specs.{DeviceLaws.Leaving.LeavesMemory, Sides.LeavesSide}
@@ -16,7 +16,7 @@ with_low ring word = record ring { base = ring.base / 2 ^ 32 * 2 ^ 32 + word }
 abbrev pub with_high : Ring → ℕ → Ring
 with_high ring word = record ring { base = word * 2 ^ 32 + ring.base % 2 ^ 32 }
 
--- A side after a word is written to one of its registers; any other register leaves it unchanged.
+-- A side after a value is written to one of its registers; a write to any other register leaves it unchanged.
 abbrev pub side_with : Dir → RowId → ℕ → Side → Side
 side_with Rx Rdbal word x = record x { ring = with_low x.ring word }
 side_with Rx Rdbah word x = record x { ring = with_high x.ring word }
@@ -34,8 +34,8 @@ side_with Tx Tdwbal word x = record x { writeback = None }
 side_with Tx Txdctl word x = record x { wanted = has_bit 25 word }
 side_with dir other word x = x
 
--- A 32-bit word that the register of a side takes whole: a base and a length are multiples of 128, a length has 20
--- bits, head and tail have 16. Bit 0 of TDWBAL is 0, so no head is written back.
+-- A 32-bit value of which every bit takes effect in this register of a side: a base and a length are multiples of 128,
+-- a length has 20 bits, head and tail have 16. Bit 0 of TDWBAL is 0, so no head is written back.
 abbrev pub Fits : Dir → RowId → ℕ → Type 0
 Fits Rx Rdbal word = (word % 128 ≡ 0) × (word < 2 ^ 32)
 Fits Rx Rdbah word = word < 2 ^ 32
@@ -70,13 +70,14 @@ abbrev pub across : Dir → Dir
 across Rx = Tx
 across Tx = Rx
 
--- The side takes the word, and everything else stays unchanged.
+-- The value takes effect on the side, and everything else stays unchanged.
 pub record TakesWord (dir : Dir) (queue : ℕ) (row : RowId) (word : ℕ) (s t : State) : Type 0 where
   pub side : side_of dir queue t ≡ side_with dir row word (side_of dir queue s)
   pub other : LeavesSide (across dir) queue s t
   pub ground : KeepsGround s t
 
--- A side takes a word written with a number of its register, in a sound device, while the side is off.
+-- While a side of a sound device is off, a value that is written to one of its registers, by the register's number at a
+-- port, takes effect.
 abbrev pub WordsAreTaken : Dir → Type 0
 WordsAreTaken dir =
     (queue : ℕ) (s : State) (port : Port) (number word : ℕ) (row : RowId) → queue < 128 → IsSound s →

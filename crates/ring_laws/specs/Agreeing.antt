@@ -10,20 +10,21 @@ use Rattle.ring_laws.specs.TransmitPrelude.{is_ring_block, segment_at, slot_at}
 abbrev pub bytes_of : List Kept → List (List ℕ)
 bytes_of packets = map (λ (p : Kept). p.bytes) packets
 
--- The bytes that a segment leaves staged, after those already staged, and the frame that ends with it, if any.
+-- The bytes that are staged after a segment and the bytes staged before it, and the frame that ends with the segment,
+-- if any.
 abbrev pub staged_with : List ℕ → Segment → List ℕ
 staged_with staged s = if s.part.last then [] else staged ++ s.part.bytes
 
 abbrev pub frame_ended : List ℕ → Segment → List (List ℕ)
 frame_ended staged s = if s.part.last then (staged ++ s.part.bytes) ∷ [] else []
 
--- The frames that segments become, after what is staged.
+-- The frames that segments become, given the bytes already staged.
 abbrev pub frames_from : List ℕ → List Segment → List (List ℕ)
 frames_from staged [] = []
 frames_from staged (s ∷ segments) = frame_ended staged s ++ frames_from (staged_with staged s) segments
 
--- After the staged bytes, segments continue their packet and further packets, and end the last. Each packet has at most
--- `limit` bytes, and at least 60.
+-- After the staged bytes, segments continue their packet, contain further packets, and end the last one. Each packet is
+-- 60 to `limit` bytes long.
 abbrev pub ArePackets : ℕ → List ℕ → List Segment → Type 0
 ArePackets limit staged [] = staged ≡ []
 ArePackets limit staged (s ∷ segments) =
@@ -37,7 +38,7 @@ IsPosted m address s = read_at m address 16 ≡ asking s
 abbrev pub IsDone : Memory → ℕ → Segment → Type 0
 IsDone m address s = read_at m address 16 ≡ done_descriptor (asking s)
 
--- A ring of at most 1,024 slots, for packets of at most 10,240 bytes.
+-- A ring with at most 1,024 slots, for packets of at most 10,240 bytes.
 pub record IsLayout (l : Layout) : Type 0 where
   pub some : 0 < l.size
   pub few : l.size ≤ 1024
@@ -72,8 +73,9 @@ pub record IsReady (m : Memory) (ring size : ℕ) (s : Segment) : Type 0 where
   pub apart : is_ring_block ring size s.block ≡ false
   pub bytes : read_at m (2048 * s.block) (length s.part.bytes) ≡ s.part.bytes
 
--- The segments take a slot each, and one slot is vacant. Done segments were fetched, fetched ones are posted, posted
--- ones have their descriptor written, and those have their block lent. No two are in one block.
+-- The segments take a slot each, and one slot is vacant. Done segments were fetched, fetched segments are posted,
+-- posted segments have a written descriptor, and segments with a written descriptor have a lent block. No two segments
+-- are in one block.
 pub record IsCounted (v : Sender) (fetched : ℕ) : Type 0 where
   pub room : length v.outstanding < v.layout.size
   pub done_fetched : v.done ≤ fetched
@@ -100,7 +102,7 @@ pub record IsInTurn (limit : ℕ) (staged : List ℕ) (sent : List (List ℕ)) (
   pub packets : ArePackets limit staged left
   pub in_order : bytes_of accepted ≡ sent ++ frames_from staged left
 
--- The side was disabled during a packet, and isn't requested on: not all accepted packets are sent.
+-- The side was disabled during a packet, and no enable request is in effect: not all accepted packets are sent.
 pub record IsCutOff (side : TransmitQueue) (sent : List (List ℕ)) (left : List Segment) (accepted : List Kept) : Type 0
   where
     pub off : IsFalse side.on
@@ -124,7 +126,7 @@ pub record AgreesAt (s : State) (queue : ℕ) (sent : List (List ℕ)) (v : Send
   pub shows : Shows s.memory v fetched
   pub sends : SendsInOrder s queue sent v.layout.limit (drop fetched v.outstanding) v.accepted
 
--- The agreement, for some number of fetched segments. Every event keeps it that is the driver's own or spares the
--- driver.
+-- The agreement, for some number of fetched segments. Every event that is the driver's own or spares the driver keeps
+-- it.
 abbrev pub Agrees : State → ℕ → List (List ℕ) → Sender → Type 0
 Agrees s queue sent v = (fetched : ℕ) × AgreesAt s queue sent v fetched

@@ -1,10 +1,10 @@
--- What it means to leave a queue alone, from a state of the device on.
+-- What it means for a history to leave a queue alone, starting in some state of the device.
 use Rattle.std.specs.Prelude.{[], ◌++◌, ◌∷◌, ◌≡◌, IsTrue, List, ⊤}
 use Rattle.ring_laws.specs.Prelude.{Blocks, Entry, EntryLeavesAlone, Off, State, Watched, after, has_begun, leads_to}
 use Rattle.ring_laws.specs.Prelude.{lent_by, mode_in}
 use Rattle.device_lock.specs.NicDevice.EepromImage.Image.{blank}
 
--- A history leaves the queue of a pass alone, from a state that any sound device may be in. Each entry after the pass's
+-- A history that begins in any state of a sound device leaves the queue of a pass alone. Each entry after the pass's
 -- first does so, with the queues separated as the device says at that entry, and spares all blocks that the pass lends
 -- in the history.
 abbrev pub LeavesAloneFrom : Watched → State → List Entry → Type 0
@@ -12,14 +12,14 @@ LeavesAloneFrom w s h =
     (before : List Entry) (e : Entry) (after : List Entry) → h ≡ before ++ e ∷ after → IsTrue (has_begun w.pass before)
     → EntryLeavesAlone w (lent_by w.pass h) (mode_in (leads_to s before).registers) e
 
--- A device with a mode that follows from the entries alone, from its state on: a reset makes no writes of an installed
--- EEPROM image, and the queues aren't separated into pools. A new device is such a device.
+-- A device with a mode that follows from later entries alone: a reset makes no writes of an installed EEPROM image, and
+-- the queues aren't separated into pools. A new device is such a device.
 pub record IsPlain (w : Watched) (s : State) : Type 0 where
   pub image : s.image ≡ blank
   pub mode : mode_in s.registers ≡ Off
   pub vfs : w.vfs ≡ s.vfs
 
--- Each entry of a history leaves the queue and these blocks alone, from a state on.
+-- Each entry of a history that begins in this state leaves the queue and these blocks alone.
 abbrev pub AllAlone : Watched → Blocks → State → List Entry → Type 0
 AllAlone w mine s [] = ⊤
 AllAlone w mine s (e ∷ es) =

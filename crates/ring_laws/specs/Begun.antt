@@ -29,16 +29,16 @@ is_of_mode row.GcrExt = true
 is_of_mode row.Ctrl = true
 is_of_mode other = false
 
--- After a write of GCR_EXT, at 0x11050, bits 1 to 0 of its word determine how queues are separated, from the next entry
--- on.
+-- After a write to GCR_EXT, at 0x11050, bits 1 to 0 of its value determine how queues are separated, starting with the
+-- next entry.
 pub record PoolsAreSet (vfs : ℕ) (mode : Mode) (pass word : ℕ) (h : List Entry) : Type 0 where
   pub off : word % 4 ≡ 0 → mode_through vfs mode (written pass Pf 0x11050 word ∷ h) ≡ mode_through vfs Off h
   pub by_16 : word % 4 ≡ 1 → mode_through vfs mode (written pass Pf 0x11050 word ∷ h) ≡ mode_through vfs Pools16 h
   pub by_32 : word % 4 ≡ 2 → mode_through vfs mode (written pass Pf 0x11050 word ∷ h) ≡ mode_through vfs Pools32 h
   pub by_64 : word % 4 ≡ 3 → mode_through vfs mode (written pass Pf 0x11050 word ∷ h) ≡ mode_through vfs Pools64 h
 
--- After a write of CTRL, at this address, with bit 3 or bit 26, they aren't separated; after any other write of it,
--- they are as before.
+-- After a write to CTRL, at this address, that sets bit 3 or bit 26, they aren't separated; after any other write to
+-- it, they are as before.
 pub record PoolsAreReset (vfs : ℕ) (mode : Mode) (pass number word : ℕ) (h : List Entry) : Type 0 where
   pub bit_3 : word / 8 % 2 ≡ 1 → mode_through vfs mode (written pass Pf number word ∷ h) ≡ mode_through vfs Off h
   pub bit_26 : word / 8 % 2 ≡ 0 → word / 0x4000000 % 2 ≡ 1 →
@@ -46,7 +46,7 @@ pub record PoolsAreReset (vfs : ℕ) (mode : Mode) (pass number word : ℕ) (h :
   pub neither : word / 8 % 2 ≡ 0 → word / 0x4000000 % 2 ≡ 0 →
       mode_through vfs mode (written pass Pf number word ∷ h) ≡ mode_through vfs mode h
 
--- No other write changes this, and no other event.
+-- No other write or event changes this.
 pub record PoolsAreLeft (vfs : ℕ) (mode : Mode) (e : Entry) (h : List Entry) : Type 0 where
   pub none : mode_through vfs mode [] ≡ mode
   pub nowhere : (pass : ℕ) (port : Port) (number word : ℕ) → place_at mode vfs port number ≡ None →

@@ -5,7 +5,7 @@ use Rattle.ring_laws.specs.Prelude.{Entry, Rx, State, after, is_on}
 use Rattle.ring_laws.specs.ReceivePrelude.{Kept}
 use Rattle.ring_laws.specs.Pieces.{Piece, packets_of, pieces}
 
--- The pieces that a history writes on a queue, from a state on.
+-- The pieces that a history that begins in this state writes on a queue.
 abbrev pub pieces_in : ℕ → State → List Entry → List Piece
 pieces_in queue s [] = []
 pieces_in queue s (e ∷ es) = pieces queue s e.event ++ pieces_in queue (after s e.event) es
@@ -18,7 +18,7 @@ goes_on queue s t = not (is_on s.registers Rx queue) && is_on t.registers Rx que
 abbrev pub gathered : ℕ → State → State → List Piece → Option (List Piece) → Option (List Piece)
 gathered queue s t ps so_far = if goes_on queue s t then Some [] else option_map (λ qs. qs ++ ps) so_far
 
--- The pieces since the side was last enabled; None if it wasn't.
+-- The pieces since the side was last enabled; `None` if it wasn't enabled.
 abbrev pub pieces_since : ℕ → State → Option (List Piece) → List Entry → Option (List Piece)
 pieces_since queue s so_far [] = so_far
 pieces_since queue s so_far (e ∷ es) =
@@ -30,7 +30,7 @@ packets_if_any None = []
 packets_if_any (Some ps) = packets_of ps
 
 -- The packets that a history delivers on a queue, counted since the queue's receive side was last enabled: the bytes
--- written, in order, cut after each piece that ends a frame. Trailing pieces without an end are left out.
+-- written, in order, cut after each piece that ends a frame. Trailing pieces that don't end a frame are left out.
 abbrev pub delivered : ℕ → State → List Entry → List Kept
 delivered queue s h = packets_if_any (pieces_since queue s None h)
 

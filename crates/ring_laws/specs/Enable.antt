@@ -5,8 +5,8 @@ use Rattle.ring_laws.specs.TransmitPrelude.{Sender}
 use Rattle.ring_laws.specs.{Agreeing.Agrees, Off.NamesEnable}
 use Rattle.pmd_access.specs.NicDevice.declared.event.Event.TheVariants as event
 
--- Device and driver agree after the write as before it, if the word doesn't request the side on, or nothing is
--- outstanding.
+-- Device and driver agree after the write as before it, if the word doesn't request that the side be enabled, or if
+-- nothing is outstanding.
 abbrev pub EnableWordsKeep : Type 0
 EnableWordsKeep =
     (s : State) (queue : ℕ) (sent : List (List ℕ)) (v : Sender) (port : Port) (number word : ℕ) →

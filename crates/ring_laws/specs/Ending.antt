@@ -1,4 +1,4 @@
--- How a history is closed, by the passes given back, and where the entries of a pass are.
+-- How a history is closed with the returned passes, and where the entries of a pass are.
 use Rattle.std.specs.Prelude.{◌≡◌, ◌≢◌, ◌↔◌, ◌<◌, ◌≤◌, ◌==◌, ◌&&◌, ℕ, Bool, true, false, List, length, Contains, AllPairs}
 use Rattle.std.specs.Prelude.{count_by, slice_get, Option, Some, None}
 use Rattle.std.specs.List.{list_any}
@@ -11,9 +11,9 @@ use Rattle.ring_laws.specs.LocksPrelude.{PassValue, Entry, CloseFault, MissingPa
 abbrev pub is_there : ℕ → ℕ → List PassValue → Bool
 is_there bench tag passes = list_any (λ p. p.bench == bench && p.tag == tag) passes
 
--- The lowest tag that no pass has is reported, whatever else is wrong: passes of other benches, a pass that is given
--- twice, or calls that the history doesn't contain. If each tag has a pass, a pass of another bench is reported, or one
--- without a tag of this bench.
+-- The lowest tag that no pass has is reported, whatever else is wrong: passes of other benches, a pass that is returned
+-- twice, or calls that the history doesn't contain. If each tag has a pass, a pass of another bench, or a pass without
+-- a tag of this bench, is reported.
 pub record ClosingTells (bench count : ℕ) (h : List Entry) (passes : List PassValue) (answer : Option CloseFault) :
     Type 0 where
   pub missing : (tag : ℕ) → tag < count → is_there bench tag passes ≡ false →

@@ -12,7 +12,7 @@ HandedIsPrefix =
     (queue : ℕ) (s : State) (out : List Piece) (v : Receive) → Agree queue s out v →
     IsPrefixOf v.handed (packets_of out)
 
--- A poll of the slot after those that a driver saw, in a given state, would find it not done.
+-- In a given state, a poll of the slot after those that a driver saw would find it not done.
 pub record ShowsNone (s : State) (v : Receive) : Type 0 where
   pub looks : v.stage ≡ Looks
   pub posted : length v.seen < length v.layout.blocks
@@ -27,7 +27,7 @@ NoneIsAllTaken =
     (queue : ℕ) (s : State) (out : List Piece) (v : Receive) → Agree queue s out v → ShowsNone s v →
     packets_of out ≡ v.handed ++ records_of v.whole
 
--- The poll finds none, and no complete packet waits for the tail.
+-- The poll finds none, and no complete packet is waiting for the tail to advance.
 pub record FindsNone (s : State) (v : Receive) : Type 0 where
   pub shows : ShowsNone s v
   pub none_whole : v.whole ≡ []

@@ -12,13 +12,13 @@ use Rattle.pmd_access.specs.NicDevice.declared.event.Event.TheVariants as event
 abbrev pub FitsBlocks : ℕ → ℕ → Waiting → Type 0
 FitsBlocks queue most w = w.queue ≡ queue → length w.frame ≤ 2048 * most
 
--- How many bytes are written of the frame that waits first, if it is this queue's; otherwise 0.
+-- How many bytes of the oldest waiting frame are written, if it is this queue's; otherwise 0.
 abbrev pub partial_on : ℕ → List Waiting → ℕ
 partial_on queue [] = 0
 partial_on queue (w ∷ others) = if w.queue == queue then w.offset else 0
 
 -- The frames that wait for the queue fit, and longer ones aren't accepted. The packets of the written pieces fit too.
--- Of a packet that doesn't end yet, as many bytes are written as its pieces fill.
+-- The written bytes of a packet that doesn't end yet are as many as its pieces fill.
 pub record AreFitting (queue most : ℕ) (s : State) (out : List Piece) : Type 0 where
   pub limit : frame_limit s.registers ≤ 2048 * most
   pub waiting : All (FitsBlocks queue most) s.waiting

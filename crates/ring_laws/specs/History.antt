@@ -5,7 +5,7 @@ use Rattle.ring_laws.specs.Prelude.{lent_by, mode_in, mode_through, new_state}
 use Rattle.device_lock.specs.{Alone.LeavesAlone, Reported.first_settings, Reported.limit_of, Reported.settings_through}
 use Rattle.ring_laws.specs.Alone.{AllAlone, IsPlain, LeavesAloneFrom}
 
--- The mode computed from the entries is the device's, from a new device on.
+-- In a history that begins with a new device, the mode computed from the entries is the device's.
 abbrev pub ModeIsReported : Type 0
 ModeIsReported =
     (vfs fifo : ℕ) (h : List Entry) → IsSound (new_state vfs fifo) → AreEvents h →
@@ -19,8 +19,8 @@ SettingsAreReported =
     let s = leads_to (new_state vfs fifo) h in
     (reported.mode ≡ mode_in s.registers) × (limit_of reported.frames ≡ frame_limit s.registers)
 
--- So if the mode follows from the entries alone, a history that leaves a queue alone by that mode leaves it alone from
--- that device on.
+-- So if a device's mode follows from the entries alone, a history that begins with that device and leaves a queue alone
+-- by that mode leaves it alone.
 abbrev pub PlainIsLeftAlone : Type 0
 PlainIsLeftAlone =
     (w : Watched) (s : State) (h : List Entry) → IsSound s → IsPlain w s → AreEvents h → LeavesAlone w h →
@@ -30,20 +30,20 @@ PlainIsLeftAlone =
 abbrev pub NewIsPlain : Type 0
 NewIsPlain = (w : Watched) (fifo : ℕ) → IsPlain w (new_state w.vfs fifo)
 
--- A history that leaves a queue alone does so entry by entry, from any place after the pass's first entry on.
+-- A history that leaves a queue alone does so entry by entry, starting at any place after the pass's first entry.
 abbrev pub AloneByEntries : Type 0
 AloneByEntries =
     (w : Watched) (s : State) (before rest : List Entry) → LeavesAloneFrom w s (before ++ rest) →
     IsTrue (has_begun w.pass before) →
     AllAlone w (lent_by w.pass (before ++ rest)) (leads_to s before) rest
 
--- The beginning of a history that leaves a queue alone leaves it alone.
+-- Each initial part of a history that leaves a queue alone leaves it alone.
 abbrev pub BeginningIsAlone : Type 0
 BeginningIsAlone =
     (w : Watched) (s : State) (beginning rest : List Entry) → LeavesAloneFrom w s (beginning ++ rest) →
     LeavesAloneFrom w s beginning
 
--- The rest does too, from the state that its beginning leads to.
+-- The rest does too, starting in the state that the initial part leads to.
 abbrev pub RestIsAlone : Type 0
 RestIsAlone =
     (w : Watched) (s : State) (before rest : List Entry) → LeavesAloneFrom w s (before ++ rest) →

@@ -5,7 +5,7 @@ use Rattle.ring_laws.specs.ReceivePrelude.{Layout, Receive, block_at, blocks_for
 use Rattle.ring_laws.specs.{Joint.Agree, Pieces.Piece}
 use Rattle.pmd_access.specs.NicDevice.declared.event.Event.TheVariants as event
 
--- A descriptor is in one of the blocks of a ring of this many slots, from this block on.
+-- A descriptor is in one of the blocks of a ring with this many slots that starts at this block.
 pub record IsInRing (ring size desc : ℕ) : Type 0 where
   pub part : ℕ
   pub known : part < blocks_for size

@@ -19,7 +19,7 @@ pub record IsPosted (m : Memory) (a block : ℕ) : Type 0 where
   pub waits : IsFalse (is_done (second_half (read_at m a 16)))
   pub there : IsTrue (has_block m block)
 
--- A descriptor that was written back with a piece, which is at the start of the block.
+-- A descriptor that was written back for a piece, which is at the start of the block.
 pub record IsFilled (m : Memory) (a block : ℕ) (p : Piece) : Type 0 where
   pub done : IsTrue (is_done (second_half (read_at m a 16)))
   pub end : ends_packet (second_half (read_at m a 16)) ≡ p.end
@@ -40,8 +40,8 @@ pub record IsRing (l : Layout) : Type 0 where
   pub not_ring : (k : ℕ) → k < length l.blocks → is_ring_block l.ring l.size (block_at l k) ≡ false
   pub apart : (i j : ℕ) → i < length l.blocks → j < length l.blocks → i ≢ j → block_at l i ≢ block_at l j
 
--- The queue's receive side is the driver's, with one buffer of 2,048 bytes for each descriptor. This many of its slots
--- are filled and not consumed. The side may be on or off.
+-- The queue's receive side is the driver's, with one 2,048-byte buffer for each descriptor. This many of its slots are
+-- filled and not consumed. The side may be on or off.
 pub record IsSetUp (q : ReceiveQueue) (l : Layout) (filled : ℕ) : Type 0 where
   pub one_buffer : descriptor_type_of q.control ≡ 1
   pub buffer_size : buffer_size_of q.control ≡ 2048
@@ -67,8 +67,8 @@ abbrev pub StageHolds : Memory → Layout → Stage → Type 0
 StageHolds m l (Lent b) = IsLoose m l b
 StageHolds m l other = ⊤
 
--- The slots with a block, from the next one on: the first are filled with these pieces, and those after them wait. The
--- other slots, which are consumed or vacant, aren't constrained.
+-- The slots with a block, starting at the next one: the first are filled with these pieces, and those after them wait.
+-- The other slots, which are consumed or vacant, aren't constrained.
 pub record HasSlots (m : Memory) (l : Layout) (here : List Piece) : Type 0 where
   pub there : EachRingBlock l.ring l.size (λ b. IsTrue (has_block m b))
   pub within : length here ≤ length l.blocks
@@ -101,7 +101,8 @@ EndLast [] = ⊤
 EndLast (t ∷ []) = ends_packet t.second ≡ true
 EndLast (t ∷ u ∷ ts) = IsOpen t × EndLast (u ∷ ts)
 
--- While the driver polls, it holds nothing and saw no end; otherwise, it saw where the packet ends.
+-- While the driver polls, it holds nothing and hasn't seen the packet's end; otherwise, it has seen where the packet
+-- ends.
 abbrev pub IsAt : Stage → List Reported → Packet → Type 0
 IsAt Looks seen held = (held ≡ no_packet) × AreOpen seen
 IsAt Takes seen held = EndLast seen

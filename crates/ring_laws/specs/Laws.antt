@@ -13,7 +13,7 @@ StepsOfQueueKeep =
     (s : State) (queue : ℕ) (sent : List (List ℕ)) (v : Sender) → Agrees s queue sent v →
     Agrees (after s (event.TxStep queue)) queue (sent ++ sent_by queue s (event.TxStep queue)) v
 
--- An event that spares the driver keeps it too.
+-- An event that spares the driver keeps the agreement too.
 abbrev pub SparingEventsKeep : Type 0
 SparingEventsKeep =
     (s : State) (queue : ℕ) (sent : List (List ℕ)) (v : Sender) (e : Event Block) → Agrees s queue sent v →
@@ -25,7 +25,7 @@ LeftAloneIsSpared =
     (w : Watched) (mine : Blocks) (v : Sender) (s : State) (e : Event Block) → IsLeft w mine v s e →
     Spares w.queue v s e
 
--- Each move of the driver's keeps it, by its reply.
+-- Each of the driver's moves keeps the agreement, with the driver's state after the move's reply.
 abbrev pub MovesKeep : Type 0
 MovesKeep =
     (s : State) (queue : ℕ) (sent : List (List ℕ)) (v : Sender) (e : Event Block) (m : Move) → Agrees s queue sent v →
@@ -47,7 +47,7 @@ IdleIsAllSent =
     (s : State) (queue : ℕ) (sent : List (List ℕ)) (v : Sender) → Agrees s queue sent v → v.outstanding ≡ [] →
     bytes_of v.accepted ≡ sent
 
--- A poll of the end of the oldest outstanding packet, in a given state, would find it not done.
+-- In a given state, a poll of the end of the oldest outstanding packet would find it not done.
 pub record FindsWaiting (s : State) (v : Sender) : Type 0 where
   pub bytes : List ℕ
   pub posted : first_end v.outstanding < v.posted

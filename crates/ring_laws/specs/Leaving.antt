@@ -1,4 +1,5 @@
--- Which events of other passes leave the queue of a driver alone, by the names of registers and the bits of words.
+-- Which events of other passes leave a driver's queue alone, by the names of registers and the bits of the values
+-- written.
 use Rattle.std.specs.Prelude.{◌≡◌, ◌≢◌, ◌↔◌, ◌+◌, ◌/◌, ◌%◌, ◌<◌, ◌≤◌, ◌==◌, ◌||◌, ℕ, Bool, true, false}
 use Rattle.std.specs.Prelude.{List, [], ◌∷◌, ◌++◌, ◌&&◌, nat_lt, Some, None}
 use Rattle.device_lock.specs.NicDevice.RegTable.declared.rows.RowId.TheVariants as row
@@ -42,8 +43,8 @@ abbrev pub is_reset : RowId → Bool
 is_reset row.Pvfctrl = true
 is_reset other = false
 
--- Pool v contains queue q: the eight from 8v on with 16 pools, the four from 4v on with 32 and the two from 2v on with
--- 64.
+-- Pool v contains queue q: with 16 pools the eight queues starting at 8v, with 32 the four starting at 4v, and with 64
+-- the two starting at 2v.
 abbrev pub pool_has : Mode → ℕ → ℕ → Bool
 pool_has Off v q = false
 pool_has Pools16 v q = q / 8 == v
@@ -51,8 +52,8 @@ pool_has Pools32 v q = q / 4 == v
 pool_has Pools64 v q = q / 2 == v
 
 -- A write that reaches a register doesn't leave the queue alone in three cases. The register is CTRL, HLREG0, MAXFRS or
--- GCR_EXT; it belongs to the queue's own rings; or it is the PVFCTRL of the queue's pool and bit 26 of the word is 1.
--- Any other write does.
+-- GCR_EXT; it belongs to the queue's own rings; or it is the PVFCTRL of the queue's pool and bit 26 of the value is 1.
+-- Any other write leaves the queue alone.
 pub record WriteLeaves (w : Watched) (mode : Mode) (write : Event Block) (p : Place) (word : ℕ) : Type 0 where
   pub setting : is_setting p.row ≡ true → LeavesRegisters w mode write → ⊥
   pub own_ring : is_ring p.row ≡ true → p.index ≡ w.queue → LeavesRegisters w mode write → ⊥
@@ -73,7 +74,7 @@ abbrev pub WritesLeaveQueues : Type 0
 WritesLeaveQueues =
     (w : Watched) (mode : Mode) (port : Port) (number word : ℕ) → w.queue < 128 → WritesLeave w mode port number word
 
--- By the datasheet's addresses: a write of FCTRL leaves the queue alone; a write of CTRL, at either of its addresses,
+-- By the datasheet's addresses: a write to FCTRL leaves the queue alone; a write to CTRL, at either of its addresses,
 -- HLREG0, MAXFRS or GCR_EXT doesn't.
 pub record AddressesLeave (w : Watched) (mode : Mode) (word : ℕ) : Type 0 where
   pub filter : LeavesRegisters w mode (event.Write Pf 0x05080 word)
@@ -113,8 +114,8 @@ pub record StepsLeave (queue : ℕ) (mine : Blocks) : Type 0 where
 abbrev pub Leaves : Watched → Mode → Blocks → Event Block → Type 0
 Leaves w mode mine e = LeavesRegisters w mode e × LeavesBlocks mine e
 
--- Lending, taking and poking touch no register. Apart from these and a write, no event touches anything: not a read, a
--- peek at a block, nor a device step, for which only the reply counts.
+-- Lending, taking and poking touch no register. Apart from these and a write, no event touches anything, for example a
+-- read, a peek at a block, or a device step. For a device step, only the reply counts.
 pub record EventsLeave (w : Watched) (mode : Mode) (mine : Blocks) : Type 0 where
   pub lend : (block : Block) → LeavesRegisters w mode (event.Lend block)
   pub take : (number : ℕ) → LeavesRegisters w mode (event.Take number)
@@ -156,7 +157,7 @@ abbrev pub NothingElseCounts : Type 0
 NothingElseCounts =
     (w : Watched) (mode : Mode) (mine : Blocks) → EventsLeave w mode mine × RepliesLeave w.queue mine
 
--- Whether an event lends a block: it requests this, and is done.
+-- Whether an event lends a block: it requests this, and the reply is `Done`.
 abbrev pub lends_one : Event Block → Reply Block → ℕ → Bool
 lends_one (event.Lend block) Done number = block.number == number
 lends_one event reply number = false
@@ -176,16 +177,16 @@ pub record EntrySpares (w : Watched) (h before : List Entry) (e : Entry) : Type 
   pub blocks : e.pass ≢ w.pass → LeavesBlocks (lent_by w.pass h) e.event
   pub step : WritesOutside w.queue (lent_by w.pass h) e.reply
 
--- A history is only required to have each entry after the first of the driver's pass do so.
+-- For a history, this is required only of the entries after the first entry of the driver's pass.
 abbrev pub SparingIsEnough : Type 0
 SparingIsEnough =
     (w : Watched) (h : List Entry) →
     ((before : List Entry) (e : Entry) (after : List Entry) → h ≡ before ++ e ∷ after →
     has_begun w.pass before ≡ true → EntrySpares w h before e) → LeavesAlone w h
 
--- Only entries after the first of the driver's pass count. One entry of another pass that doesn't leave the queue's
--- registers or the pass's blocks alone is enough to violate this. So is one entry of any pass with a step of another
--- queue that writes into these blocks.
+-- Only entries after the first of the driver's pass count. A single entry of another pass that doesn't leave the
+-- queue's registers or the pass's blocks alone is enough to violate this. So is a single entry of any pass with a step
+-- of another queue that writes into these blocks.
 pub record HistoriesLeave (w : Watched) (h : List Entry) (e : Entry) : Type 0 where
   pub before : has_begun w.pass h ≡ false → LeavesAlone w (h ++ e ∷ [])
   pub register : (after : List Entry) → has_begun w.pass h ≡ true → e.pass ≢ w.pass →

@@ -24,7 +24,7 @@ pub record IsLeft (w : Watched) (mine : Blocks) (s : State) (e : Event Block) : 
   pub steps : WritesOutside w.queue mine (reply_to s e)
 
 -- Whether an event is a device step of a side of this queue: a receive step for any queue, or a transmit step for this
--- one. `is_switch_of`: whether it is a step of the side's enable.
+-- one. `is_switch_of`: whether it is a step that enables or disables the side.
 abbrev pub is_step_of : Dir → ℕ → Event Block → Bool
 is_step_of Rx queue event.RxStep = true
 is_step_of Tx queue (event.TxStep on) = on == queue
@@ -92,7 +92,7 @@ abbrev pub MeetsFault : Dir → ℕ → State → Type 0
 MeetsFault Rx queue s = CannotFill queue s
 MeetsFault Tx queue s = CannotFetch queue s
 
--- An event took the slot at the head of a side, which was tried.
+-- An event took the slot at the head of a side, after trying it.
 pub record Takes (dir : Dir) (queue : ℕ) (s : State) (e : Event Block) : Type 0 where
   pub tried : IsTried (side_of dir queue s)
   pub staged : List ℕ
@@ -140,7 +140,7 @@ pub record Did (queue : ℕ) (mine : Blocks) (s : State) (e : Event Block) : Typ
 abbrev pub LeftDid : Type 0
 LeftDid = (w : Watched) (mine : Blocks) (s : State) (e : Event Block) → IsLeft w mine s e → Did w.queue mine s e
 
--- What an event does to a side that it leaves alone unless it is a step of that side.
+-- What an event does to a side, if it leaves the side alone or is a step of that side.
 abbrev pub SidesDo : Type 0
 SidesDo =
     (dir : Dir) (queue : ℕ) (s : State) (e : Event Block) → IsSound s → queue < 128 →

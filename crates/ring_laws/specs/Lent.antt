@@ -32,16 +32,16 @@ abbrev pub LendsOneOf : Blocks → Event Block → Reply Block → Type 0
 LendsOneOf mine (event.Lend block) Done = IsTrue (mine block.number)
 LendsOneOf mine e other = ⊤
 
--- What was lent, with a newly lent block; and what was lent, without a block that was taken back.
+-- The lent blocks with a newly lent one; and the lent blocks without one that was taken back.
 abbrev pub with_lent : Blocks → ℕ → Blocks
 with_lent known taken number = number == taken || known number
 
 abbrev pub without : Blocks → ℕ → Blocks
 without known taken number = not (number == taken) && known number
 
--- An event that lends none of the numbers keeps the property that only known ones are lent. So does lending a block
--- that is known from then on, and taking back one that is then no longer known. A number that isn't known isn't lent
--- before it is lent.
+-- An event that lends none of the numbers keeps the property that only known ones are lent. So does lending a block,
+-- which is then known, and taking one back, which is then no longer known. A block that isn't known isn't lent yet when
+-- it is to be lent.
 pub record OnlyLentStays : Type 0 where
   pub others :
       (own known : Blocks) (s : State) (e : Event Block) → LendsNone own e → OnlyLent own known s.memory

@@ -1,4 +1,4 @@
--- A queue with its transmit side off and not requested on.
+-- A queue with its transmit side off and no enable request pending.
 use Rattle.std.specs.Prelude.{[], ◌<◌, ◌∷◌, ◌≡◌, IsFalse, List, ℕ, ⊤}
 use Rattle.ring_laws.specs.Prelude.{Block, Entry, Event, IsEvent, IsSound, LeavesTransmit, Port, Register, State, Tx}
 use Rattle.ring_laws.specs.Prelude.{Txdctl, after, has_bit, leads_to, named, place, reply_to}
@@ -8,7 +8,7 @@ use Rattle.pmd_access.specs.NicDevice.declared.event.Event.TheVariants as event
 use Rattle.pmd_access.specs.NicDevice.declared.event.Reply.TheVariants as reply
 use Rattle.ring_laws.specs.Sides as sides
 
--- The side isn't requested on; for `IsOff`, it is off too.
+-- No enable request is in effect for the side; for `IsOff`, it is off too.
 abbrev pub IsUnwanted : ℕ → State → Type 0
 IsUnwanted queue s = sides.IsUnwanted (side_of Tx queue s)
 
@@ -26,7 +26,7 @@ abbrev pub AllLeaveSide : ℕ → State → List Entry → Type 0
 AllLeaveSide queue s [] = ⊤
 AllLeaveSide queue s (e ∷ es) = LeavesSide queue s e.event × AllLeaveSide queue (after s e.event) es
 
--- A side that isn't requested on stays so. One that is off too stays off and sends nothing.
+-- If no enable request is in effect for a side, this stays so. A side that is also off stays off and sends nothing.
 pub record OffStays : Type 0 where
   pub unwanted :
       (queue : ℕ) (s : State) (e : Event Block) → queue < 128 → LeavesSide queue s e → IsUnwanted queue s
@@ -42,8 +42,8 @@ pub record OffStays : Type 0 where
 abbrev pub NamesEnable : ℕ → State → Port → ℕ → Type 0
 NamesEnable queue s port number = named s port number ≡ Register (place Txdctl queue) 0xFFFFFFFF
 
--- After a write of a word without bit 25 to the enable register, the side isn't requested on. A side that isn't
--- requested on is disabled if a read of the register returns bit 25 as 0.
+-- After a write to the enable register with bit 25 clear, no enable request is in effect for the side. If none is in
+-- effect and a read of the register returns bit 25 as 0, the side is disabled.
 pub record GuardIsOff : Type 0 where
   pub written :
       (queue : ℕ) (s : State) (port : Port) (number word : ℕ) → queue < 128 → IsSound s

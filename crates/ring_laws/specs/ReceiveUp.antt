@@ -1,4 +1,4 @@
--- A queue with its receive side on and requested on.
+-- A queue with its receive side on and no request to disable it pending.
 use Rattle.std.specs.Prelude.{◌≡◌, ◌≢◌, ◌⊎◌, IsTrue, List, ℕ}
 use Rattle.ring_laws.specs.Prelude.{Block, Blocks, Entry, EntryLeavesAlone, Event, IsSound, LeavesReceive, Mode, Rx}
 use Rattle.ring_laws.specs.Prelude.{State, Watched, after}
@@ -11,7 +11,7 @@ use Rattle.ring_laws.specs.Sides as sides
 abbrev pub IsUp : ℕ → State → Type 0
 IsUp queue s = sides.IsUp (side_of Rx queue s)
 
--- It stays up if an event leaves the side unchanged, and a step of the side's enable changes nothing.
+-- It stays up if an event leaves the side unchanged, and a step that switches the side changes nothing.
 abbrev pub LeavingStaysUp : Type 0
 LeavingStaysUp = (queue : ℕ) (s t : State) → LeavesReceive queue s t → IsUp queue s → IsUp queue t
 

@@ -29,7 +29,7 @@ reported_pieces queue waiting (Wrote on slot end desc at len) =
     if on == queue then record { bytes = piece_of waiting len; first = first_of waiting; end = end } ∷ [] else []
 reported_pieces queue waiting other = []
 
--- The pieces that one event writes on a queue: a receive step writes one or none, and no other event writes any.
+-- The pieces that one event writes on a queue: a receive step writes one piece or none, and no other event writes any.
 abbrev pub pieces : ℕ → State → Event Block → List Piece
 pieces queue s event.RxStep = reported_pieces queue s.waiting (reply_to s event.RxStep)
 pieces queue s other = []

@@ -3,7 +3,7 @@ pub use Rattle.ring_laws.specs.Segments.{frames_added, sent_by}
 use Rattle.std.specs.Prelude.{[], if◌then◌else◌, ◌&&◌, ◌++◌, ◌∷◌, Bool, List, not, ℕ}
 use Rattle.ring_laws.specs.Prelude.{Block, Entry, Event, State, Tx, after, is_on}
 
--- The frames that the entries of a history send on a queue, from a state on.
+-- The frames that the entries of a history that begins in this state send on a queue.
 abbrev pub sent_in : ℕ → State → List Entry → List (List ℕ)
 sent_in queue s [] = []
 sent_in queue s (e ∷ es) = sent_by queue s e.event ++ sent_in queue (after s e.event) es

@@ -8,15 +8,17 @@ use Rattle.ring_laws.specs.Left.{is_step_of}
 use Rattle.pmd_access.specs.NicDevice.declared.event.Event.TheVariants as event
 use Rattle.ring_laws.specs.Left as left
 
--- Whether an event is a transmit step of this queue, and whether it is a step of its transmit side's enable.
+-- Whether an event is a transmit step of this queue, and whether it is a step that enables or disables the queue's
+-- transmit side.
 abbrev pub is_transmit_of : ℕ → Event Block → Bool
 is_transmit_of queue e = is_step_of Tx queue e
 
 abbrev pub is_switch_of : ℕ → Event Block → Bool
 is_switch_of queue e = left.is_switch_of Tx queue e
 
--- An event that can be made and writes no setting. It is a transmit step of the driver's queue. Or it leaves unchanged
--- each block that the driver has lent, and also the transmit side, unless it is a step of that side's enable.
+-- An event that can be made and writes no setting. Either it is a transmit step of the driver's queue. Or it leaves
+-- unchanged each block that the driver has lent, and also the transmit side, unless it is a step that enables or
+-- disables that side.
 pub record Spares (queue : ℕ) (v : Sender) (s : State) (e : Event Block) : Type 0 where
   pub made : IsEvent e
   pub setting : WritesNoSetting s e

@@ -6,8 +6,8 @@ use Rattle.ring_laws.specs.ReceivePrelude.{EachRingBlock, blocks_for}
 use Rattle.pmd_rx.specs.Receive.{at_start}
 use Rattle.ring_laws.specs.Joint.{Agree, IsNamed}
 
--- The side has a ring of this many slots from the start of a block on, none of them posted, and one buffer of 2,048
--- bytes for each descriptor.
+-- The side has a ring with this many slots that starts at the start of a block, none of them posted, and one 2,048-byte
+-- buffer for each descriptor.
 pub record IsFreshSide (q : ReceiveQueue) (ring size : ℕ) : Type 0 where
   pub one_buffer : descriptor_type_of q.control ≡ 1
   pub buffer_size : buffer_size_of q.control ≡ 2048

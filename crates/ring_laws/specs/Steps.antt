@@ -78,7 +78,8 @@ ReceiveStepKeeps =
     SparesBlocks queue v (reply_to s event.RxStep) →
     Agree queue (after s event.RxStep) (out ++ pieces queue s event.RxStep) v
 
--- An event keeps the agreement if it leaves everything unchanged except whether the side is on and requested on.
+-- An event keeps the agreement if it leaves everything unchanged except whether the side is on and whether an enable
+-- request is in effect.
 pub record LeavesButOn (queue : ℕ) (v : Receive) (old new : State) : Type 0 where
   pub ring : (receive_queue_of new.registers queue).ring ≡ (receive_queue_of old.registers queue).ring
   pub control : (receive_queue_of new.registers queue).control ≡ (receive_queue_of old.registers queue).control
@@ -91,7 +92,7 @@ SwitchingKeeps =
     (queue : ℕ) (s t : State) (out : List Piece) (v : Receive) → LeavesButOn queue v s t → Agree queue s out v →
     Agree queue t out v
 
--- So does a step of the enable of the queue's receive side.
+-- So does a step that enables or disables the queue's receive side.
 abbrev pub EnableStepKeeps : Type 0
 EnableStepKeeps =
     (queue : ℕ) (s : State) (out : List Piece) (v : Receive) → IsSound s → Agree queue s out v →

@@ -10,8 +10,8 @@ abbrev pub SparesNumbers : Blocks → Move → Event Block → Type 0
 SparesNumbers own Elsewhere e = LendsNone own e
 SparesNumbers own other e = ⊤
 
--- Of some numbers, let only those be lent that the sender has lent, or that others have lent. Each of the driver's own
--- moves keeps this. A block of these numbers that it lends, and others haven't lent, isn't lent yet.
+-- Suppose that, of some block numbers, only those are lent that the sender has lent, or that others have lent. Each of
+-- the driver's own moves keeps this. A block of these numbers that it lends, and others haven't lent, isn't lent yet.
 pub record OwnLendsAreKnown : Type 0 where
   pub kept :
       (own others : Blocks) (s : State) (v : Sender) (m : Move) (e : Event Block)

@@ -1,4 +1,4 @@
--- A queue with its transmit side on and requested on.
+-- A queue with its transmit side on and no request to disable it pending.
 use Rattle.std.specs.Prelude.{List, ℕ}
 use Rattle.ring_laws.specs.Prelude.{Block, Event, State, Tx, after}
 use Rattle.ring_laws.specs.TransmitPrelude.{Move, Sender, side_of}

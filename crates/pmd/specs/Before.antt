@@ -13,7 +13,7 @@ use Rattle.pmd.specs.declared.before.Reported.{Reported}
 abbrev pub is_first : Watched → ℕ → Entry → Bool
 is_first w left e = (e.pass == w.pass) && ((left == 0) && not (is_step e.event))
 
--- How many calls remain after an entry.
+-- The number of calls that remain after an entry.
 abbrev pub still_left : Watched → ℕ → Entry → ℕ
 still_left w left e = if e.pass == w.pass then left - 1 else left
 

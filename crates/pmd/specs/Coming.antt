@@ -66,7 +66,7 @@ module _ {T : Type 0} where
   HaveCome (s ∷ cells) [] = ⊥
   HaveCome (s ∷ cells) (c ∷ collectors) = HasCome s c × HaveCome cells collectors
 
-  -- An end contains what came back, and all reports.
+  -- An outcome contains what the worker's thread returned, and all reports.
   abbrev pub IsMade : TaskCell T Back → WorkerEnd → Type 0
   IsMade (Ended b) e =
       (e.pass ≡ b.pass) × (e.rest ≡ b.rest) × (e.reports.items ≡ sent b.producer) × (e.fault ≡ b.fault)

@@ -1,4 +1,4 @@
--- Tests of a worker's end.
+-- Tests of a worker's outcome.
 use Rattle.std.specs.Prelude.{Bool, true, false, Option, Some, None, Result, Ok, Err}
 use Rattle.pmd_driver.specs.PmdAccess.declared.fault.PmdFault.{PmdFault}
 use Rattle.pmd_driver.specs.declared.start.Rest.{Rest}
@@ -6,7 +6,7 @@ use Rattle.pmd_driver.specs.declared.start.Rest.TheVariants.{Home, Running}
 use Rattle.pmd.specs.declared.fault.WorkerFault.{WorkerFault}
 use Rattle.pmd.specs.declared.fault.WorkerFault.TheVariants.{Pmd, GateShut, NoThread}
 
--- Whether the arena is home.
+-- Whether the arena was returned.
 abbrev pub is_home : Rest → Bool
 is_home (Home h) = true
 is_home (Running p) = false

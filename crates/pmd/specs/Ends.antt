@@ -16,13 +16,13 @@ use Rattle.pmd.specs.declared.assignment.Back.{Back}
 use Rattle.pmd.specs.declared.assignment.Assignment.{Assignment}
 use Rattle.pmd.specs.declared.ends.WorkerEnd.{WorkerEnd}
 
--- The end of a job's worker: its pass, its driver's arena and records or the driver that didn't stop, its reports, and
--- its fault.
+-- The outcome of a job's worker: its pass, its driver's arena and records or the driver that didn't stop, its reports,
+-- and its fault.
 pub record IsEndOf (j : Job) (pass : PassValue) (rest : Rest) (reported : List Report) (fault : Option WorkerFault) :
     Type 0 where
   pub bench : pass.bench ≡ j.pass.bench
   pub tag : pass.tag ≡ j.pass.tag
-  -- With a thread, the calls that its pass gained are the life of one driver of the job's queue.
+  -- With a thread, the calls added to its pass are the life of one driver of the job's queue.
   pub lived : fault ≢ Some NoThread
       → HasRun (record { port = j.port; queue = j.queue }) j.size j.frame j.pass.calls j.arena pass.calls rest fault
   -- There is one report for each packet that its driver handed out.
@@ -30,19 +30,19 @@ pub record IsEndOf (j : Job) (pass : PassValue) (rest : Rest) (reported : List R
   pub few : length reported ≤ j.rounds
   -- Without a fault, the driver stopped.
   pub home : IfNone fault (is_home rest ≡ true)
-  -- No block is missing: if none is lost, the same numbers are free as before in an arena that is home.
+  -- No block is missing: if none is lost, the same numbers as before are free in an arena that was returned.
   pub whole : IsWhole j.arena rest
   -- Without a thread, nothing was done.
   pub idle : fault ≡ Some NoThread → (pass ≡ j.pass) × IsHome j.arena rest
 
--- What comes back from the thread of an assignment.
+-- What an assignment's thread returns.
 abbrev pub IsBack : Assignment → Back → Type 0
 IsBack d b = IsEndOf d.job b.pass b.rest (sent b.producer) b.fault × SameProducer d.producer b.producer
 
 abbrev pub IsEnd : Job → WorkerEnd → Type 0
 IsEnd j e = IsEndOf j e.pass e.rest e.reports.items e.fault
 
--- Each job has an end, in order.
+-- Each job has an outcome, in order.
 abbrev pub AreEnds : List Job → List WorkerEnd → Type 0
 AreEnds [] [] = ⊤
 AreEnds [] (e ∷ ends) = ⊥

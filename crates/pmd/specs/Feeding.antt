@@ -13,11 +13,11 @@ abbrev pub is_done : Reply Block → Bool
 is_done Done = true
 is_done other = false
 
--- How many of these calls were done.
+-- The number of these calls that were done.
 abbrev pub done_in : List Call → ℕ
 done_in calls = count_by (λ (c : Call). is_done c.reply) calls
 
--- The calls that a pass gained.
+-- The calls that were added to a pass.
 abbrev pub gained : PassValue → PassValue → List Call
 gained old new = drop (length old.calls) new.calls
 
@@ -33,7 +33,7 @@ IsFed frames None old new = HaveArrived frames old new
 IsFed frames (Some refusal) old new =
     (count : ℕ) × (count < length frames) × HaveArrived (take count frames) old new
 
--- Some of these frames arrived, from the first on.
+-- The first of these frames arrived, possibly none.
 abbrev pub AreFed : List (List ℕ) → PassValue → PassValue → Type 0
 AreFed frames old new = (count : ℕ) × HaveArrived (take count frames) old new
 

@@ -13,7 +13,7 @@ use Rattle.pmd_driver.specs.DeviceLock.declared.entry.Entry.{Entry}
 use Rattle.pmd.specs.Before.{known_through}
 use Rattle.pmd.specs.Starts.{Starts}
 
--- The `count` blocks from `first` on.
+-- The `count` blocks starting at `first`.
 abbrev pub are_from : (first count : ℕ) → Blocks
 are_from first count number = nat_le first number && nat_lt number (first + count)
 

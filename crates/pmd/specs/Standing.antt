@@ -9,7 +9,8 @@ has_come point Outside = false
 has_come point (At own) = nat_le point own
 has_come point Left = true
 
--- Where a member is after it reaches a point. It never returns to an earlier point, and stays away after it has left.
+-- Where a member is after it reaches a point. It never returns to an earlier point, and doesn't return after it has
+-- left.
 abbrev pub moved_to : ℕ → Standing → Standing
 moved_to point Outside = At point
 moved_to point (At own) = At (max own point)

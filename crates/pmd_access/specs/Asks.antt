@@ -1,4 +1,4 @@
--- How each call of the driver leaves the `Nic` it uses, regardless of the accesses it makes.
+-- What each driver call preserves of the `Nic` that it uses, regardless of the accesses that it makes.
 use Rattle.std.specs.Prelude.{◌≡◌, Option, Some, None, Result, Ok, Err, IfSome}
 use Rattle.pmd_access.specs.Begun.{BeganAs, Origin}
 use Rattle.pmd_access.specs.Refusals.{CanFail, Refusals}

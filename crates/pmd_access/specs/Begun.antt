@@ -33,7 +33,7 @@ entry_by tag c = entry_of tag c.event c.reply
 abbrev pub entries_in : List Call → List Entry
 entries_in calls = map (entry_by 0) calls
 
--- Calls with marks, one for each in order, that say whether the call is own: own calls are of pass 0, foreign ones of
+-- Calls with marks, one for each in order, that say whether the call is own. Own calls are of pass 0, foreign ones of
 -- pass 1.
 
 abbrev pub tag_of : Bool → ℕ

@@ -11,24 +11,24 @@ use Rattle.pmd_access.specs.Sides.{quiet, asked, polled, PollsEnd}
 abbrev pub both_quiet : List Access
 both_quiet = quiet Rx ++ quiet Tx
 
--- The driver requests that both sides switch on or off.
+-- The driver requests that both sides be enabled or disabled.
 abbrev pub both_asked : Bool → List Access
 both_asked on = asked Rx on ++ asked Tx on
 
--- The driver requests that both sides switch, then polls the receive side: this many polls show the other state, the
--- next shows the wanted one.
+-- The driver requests that both sides be enabled or disabled, then polls the receive side: this many polls show the
+-- other state, and the next one shows the wanted state.
 abbrev pub receive_polled : Bool → (misses : ℕ) → List Access
 receive_polled on misses = both_asked on ++ polled Rx on misses
 
--- The driver requested that both sides switch, then polled the receive side and the transmit side until each was as
--- wanted. Fewer polls than the limit showed the other state.
+-- The driver requested that both sides be enabled or disabled, then polled the receive side and the transmit side until
+-- each was as wanted. Fewer polls than the limit showed the other state.
 abbrev pub IsSwitched : AtPort → List Call → List Call → Bool → ℕ → Type 0
 IsSwitched q old new on polls =
     (first : ℕ) × (second : ℕ) × (first + second < polls)
     × AreMade q old new (receive_polled on first ++ polled Tx on second)
 
--- Switching fails during the requests; or while polling the receive side; or while polling the transmit side, with the
--- polls that are left.
+-- Switching fails during the requests, while polling the receive side, or while polling the transmit side with the
+-- remaining polls.
 abbrev pub SwitchFails : PmdFault → AtPort → List Call → List Call → Bool → ℕ → Type 0
 SwitchFails f q old new on polls =
     StopsBy f q old new (both_asked on)

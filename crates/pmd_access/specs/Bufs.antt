@@ -23,7 +23,7 @@ blocks_in [] = []
 blocks_in (None ∷ places) = blocks_in places
 blocks_in (Some b ∷ places) = b ∷ blocks_in places
 
--- The first `count` places each hold a block; the later places are empty.
+-- The first `count` places each contain a block; the later places are empty.
 abbrev pub StandFirst : ℕ → List (Option Block) → Type 0
 StandFirst zero places = blocks_in places ≡ []
 StandFirst (suc count) [] = ⊥

@@ -6,7 +6,7 @@ use Rattle.pmd_access.specs.Bufs.{numbers_of}
 use Rattle.pmd_access.specs.Home.{IsDrawn}
 use Rattle.pmd_access.specs.declared.packet.Packet.{Packet}
 
--- How many Bufs a packet of `len` bytes needs: at least one.
+-- The number of Bufs that a packet of `len` bytes needs: at least one.
 abbrev pub bufs_for : ℕ → ℕ
 bufs_for len = max 1 ((len + 2047) / 2048)
 

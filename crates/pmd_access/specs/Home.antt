@@ -26,12 +26,13 @@ Exchanges a out b new =
     (drawn : List ℕ) × IsDrawn a drawn b
     × ((number : ℕ) → times_in_hand new number ≡ times_in_hand (drawn ++ out) number)
 
--- Blocks on their way home: the numbers of those still lent, and how many the device no longer had.
+-- Blocks that are being returned to their arena: the numbers of those still lent, and the number of blocks that the
+-- device no longer had.
 pub record Homebound : Type 0 where
   pub lent : List ℕ
   pub lost : ℕ
 
--- The calls made, an arena, and the blocks on their way home to it.
+-- The calls made, an arena, and the blocks that are being returned to it.
 pub record Bringing : Type 0 where
   pub made : List Call
   pub arena : Numbers
@@ -49,20 +50,21 @@ pub record IsMissed (n : ℕ) (s t : Bringing) : Type 0 where
   pub arena : t.arena ≡ s.arena
   pub lost : t.way.lost ≡ s.way.lost + 1
 
--- The first block came home or is lost.
+-- The first block was returned or is lost.
 abbrev pub BringsOne : Bringing → Bringing → Type 0
 BringsOne s t = (n : ℕ) × (s.way.lent ≡ n ∷ t.way.lent) × (IsBrought n s t ⊎ IsMissed n s t)
 
--- This many blocks came home or are lost, in order.
+-- This many blocks were returned or are lost, in order.
 abbrev pub Brings : ℕ → Bringing → Bringing → Type 0
 Brings zero s t = t ≡ s
 Brings (suc count) s t = (mid : Bringing) × Brings count s mid × BringsOne mid t
 
--- Every block came home or is lost, in order.
+-- Every block was returned to the arena or is lost, in order.
 abbrev pub BringsAll : Bringing → Bringing → Type 0
 BringsAll s t = (count : ℕ) × Brings count s t × (t.way.lent ≡ [])
 
--- Some blocks came home or are lost, then taking the next one was refused: only device steps were added for it.
+-- Some blocks were returned to the arena or are lost, possibly none; then taking the next one was refused. Only device
+-- steps were added for it.
 abbrev pub StopsBringing : Bringing → Bringing → Type 0
 StopsBringing s t =
     (count : ℕ) × (mid : Bringing) × Brings count s mid

@@ -24,7 +24,7 @@ Adds old new event reply =
 abbrev pub AddsSome : List Call → List Call → Type 0
 AddsSome old new = (before : List Call) × (new ≡ old ++ before) × AreSteps before
 
--- With one mark for each call in order: calls marked as somebody else's are device steps, and so are all calls after
+-- Given marks for the calls, in order: calls that are marked as not own are device steps, and so are all calls after
 -- the last mark.
 abbrev pub StepsWhere : {D : Type 0} → (D → Bool) → List D → List Call → Type 0
 StepsWhere other [] calls = AreSteps calls
@@ -50,6 +50,6 @@ abbrev pub after_events : InHand → List (Event Block) → InHand
 after_events h [] = h
 after_events h (e ∷ es) = after_events (after_event h e) es
 
--- Some of the queue's device steps ran, from the first on, but nothing else.
+-- Only device steps of the queue ran: the first ones, possibly none.
 abbrev pub StopsDuring : InHand → InHand → Type 0
 StopsDuring old new = (made : ℕ) × (new ≡ after_events old (take made (steps_of_queue old.queue)))

@@ -9,7 +9,7 @@ use Rattle.device_lock.specs.NicDevice.VfMap.Map.{distance}
 use Rattle.device_lock.specs.NicDevice.VfMap.Owner.{is_receive}
 use Rattle.pmd_access.specs.Setup.{IsAddressOf}
 
--- How many queues a port can address: the physical function all 128, a virtual function 64.
+-- The number of queues that a port can address: 128 through the physical function, 64 through a virtual function.
 abbrev pub queues_named : Port → ℕ
 queues_named Pf = 128
 queues_named (Vf v) = 64

@@ -11,7 +11,7 @@ use Rattle.pmd_access.specs.declared.fault.PmdFault.TheVariants.{BadSize, Foreig
 use Rattle.pmd_access.specs.declared.fault.PmdFault.TheVariants.{DeviceFault}
 use Rattle.pmd_access.specs.declared.fault.PmdFault.TheVariants as fault
 use Rattle.pmd_access.specs.Named.{AtPort, IsDriven, IsNumberOf}
--- An access to a register of the queue: a read that shows ENABLE (bit 25) on or off, or a write of a value.
+-- An access to a register of the queue: a read that shows ENABLE (bit 25) set or clear, or a write of a value.
 pub use Rattle.pmd_access.specs.declared.registers.Access.{Access}
 pub use Rattle.pmd_access.specs.declared.registers.Access.TheVariants.{Sees, Sets}
 
@@ -67,7 +67,7 @@ FailsBy NoBuffer q old new a = ⊥
 FailsBy DeviceFault q old new a = IsOtherwise q old new a
 FailsBy (fault.Call refused) q old new a = AddsSome old new
 
--- Reading the register fails, whatever value was wanted: the read was stray (`DeviceFault`), or the call was refused
+-- Reading the register fails, whatever state was wanted: the read was stray (`DeviceFault`), or the call was refused
 -- (`Call`) and only device steps were added.
 abbrev pub ReadFails : PmdFault → AtPort → List Call → List Call → RowId → Type 0
 ReadFails BadSize q old new row = ⊥
@@ -77,7 +77,7 @@ ReadFails NoBuffer q old new row = ⊥
 ReadFails DeviceFault q old new row = IsStrayRead q old new row
 ReadFails (fault.Call refused) q old new row = AddsSome old new
 
--- Some of the accesses were made, from the first on, and the next one fails.
+-- The first of the accesses were made, possibly none, and the next one fails.
 abbrev pub StopsBy : PmdFault → AtPort → List Call → List Call → List Access → Type 0
 StopsBy f q old new all =
     (done : List Access) × (a : Access) × (rest : List Access) × (mid : List Call)

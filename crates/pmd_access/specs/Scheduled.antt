@@ -52,7 +52,7 @@ pub record Scheduled : Type 0 where
   pub handled : Handled
   pub lists : List (List (Event Block))
 
--- The foreign events to apply before the next call; none if no list is left.
+-- The foreign events to be applied before the next call; none if no list remains.
 abbrev pub next_list : List (List (Event Block)) → List (Event Block)
 next_list [] = []
 next_list (es ∷ lists) = es
@@ -76,11 +76,11 @@ after_call s e = record {
   lists = later_lists s.lists;
 }
 
--- Some foreign events of this list were applied, from the first on; `rest` is the remainder.
+-- The first foreign events of this list were applied, possibly none; `rest` contains the others.
 abbrev pub IsMadeTo : Handled → List (Event Block) → Handled → List (Event Block) → Type 0
 IsMadeTo old all new rest = (done : List (Event Block)) × (all ≡ done ++ rest) × (new ≡ after_list old done)
 
--- An event of the next list was refused. It stays first in its list, with those after it.
+-- An event of the next list was refused. It stays first in its list, followed by the rest of the list.
 abbrev pub StopsInList : Scheduled → Scheduled → Type 0
 StopsInList old new =
     (refused : Event Block) × (rest : List (Event Block)) × (new.lists ≡ (refused ∷ rest) ∷ later_lists old.lists)

@@ -25,7 +25,7 @@ use Rattle.pmd_access.specs.declared.setup.Setup.{Setup}
 abbrev pub IsInRow : Place → Type 0
 IsInRow p = p.index < (row_of p.row).count
 
--- The first address of a register. It names the register and shows all of its bits.
+-- The first address of a register. It names the register with all of its bits.
 pub record IsAddressOf (address : ℕ) (p : Place) : Type 0 where
   pub first : address_among runs p ≡ Some address
   pub names : place_among runs address ≡ Some p
@@ -52,7 +52,7 @@ SettingFails fault.ForeignBlock old new s = ⊥
 SettingFails fault.StartTimeout old new s = ⊥
 SettingFails fault.NoBuffer old new s = ⊥
 
--- Some of the registers were written, from the first on, and the next one wasn't.
+-- The first of the registers were written, possibly none, and the next one wasn't.
 abbrev pub StopsSetting : PmdFault → List Call → List Call → List Setting → Type 0
 StopsSetting f old new ss =
     (done : List Setting) × (s : Setting) × (rest : List Setting) × (mid : List Call)
@@ -87,7 +87,8 @@ packed row bytes (suc count) = packed row bytes count ++ setting row count (word
 abbrev pub fctrl_word : Bool → ℕ
 fctrl_word promiscuous = if promiscuous then 0x700 else 0x400
 
--- HLREG0 accepts frames of up to 1,518 bytes. For longer frames its bit 2 is set and MAXFRS contains the length.
+-- By default, HLREG0 accepts frames of up to 1,518 bytes. For longer frames, its bit 2 is set and MAXFRS contains the
+-- length.
 
 abbrev pub maxfrs_settings : ℕ → List Setting
 maxfrs_settings frame = if nat_lt shortest_frame frame then setting Maxfrs 0 (65536 * frame) ∷ [] else []

@@ -18,13 +18,13 @@ abbrev pub enable_word : Bool → ℕ
 enable_word true = 0x2000000
 enable_word false = 0
 
--- The driver reads that the side is off, writes "off", and reads that it is off again. After this, the device holds no
--- value of the side's ring registers, and no device step switches the side on while the driver writes them.
+-- The driver reads that the side is off, writes "off", and reads that it is off again. After this, the device holds
+-- back no write to the side's ring registers, and no device step enables the side while the driver writes them.
 abbrev pub quiet : Dir → List Access
 quiet side = Sees (enable_row side) false ∷ Sets (enable_row side) 0 ∷ Sees (enable_row side) false ∷ []
 
--- The register values of an empty ring of `size` descriptors that starts at block `ring`: advanced descriptors, buffers
--- of 2,048 bytes, and no head write-back.
+-- The register values of an empty ring of `size` descriptors that starts at block `ring`: advanced descriptors,
+-- 2,048-byte buffers, and no head write-back.
 abbrev pub ring_words : Dir → (ring size : ℕ) → List Access
 ring_words Rx ring size =
     Sets Rdbal (2048 * ring) ∷ Sets Rdbah 0 ∷ Sets Rdlen (16 * size) ∷ Sets Srrctl 0x2000002
@@ -33,7 +33,7 @@ ring_words Tx ring size =
     Sets Tdbal (2048 * ring) ∷ Sets Tdbah 0 ∷ Sets Tdlen (16 * size) ∷ Sets Tdwbal 0
     ∷ Sets Tdh 0 ∷ Sets Tdt 0 ∷ []
 
--- The driver requests that a side switch on or off.
+-- The driver requests that a side be enabled or disabled.
 abbrev pub asked : Dir → Bool → List Access
 asked side on = Sets (enable_row side) (enable_word on) ∷ []
 

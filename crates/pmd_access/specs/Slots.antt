@@ -10,7 +10,7 @@ wrapped size at = if nat_lt at size then at else at - size
 abbrev pub descriptor_in : ℕ → ℕ → ℕ
 descriptor_in ring slot = 2048 * ring + 16 * slot
 
--- How many blocks a ring of `size` slots occupies. Each contains 128 descriptors.
+-- The number of blocks that a ring of `size` slots occupies. Each block contains 128 descriptors.
 abbrev pub blocks_for : ℕ → ℕ
 blocks_for size = (size + 127) / 128
 

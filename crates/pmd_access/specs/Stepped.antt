@@ -9,8 +9,8 @@ use Rattle.device_lock.specs.Stepping.{steps_of_queue, events_in}
 use Rattle.device_lock.specs.Stepping as stepping
 use Rattle.pmd_access.specs.Refusals.{Refusals}
 
--- A pass, the number of the shared device's bench, how many passes the device has, and the queue that the steps belong
--- to.
+-- A pass, the number of the shared device's bench, the number of the device's passes, and the queue that the steps
+-- belong to.
 pub record AtLock : Type 0 where
   pub bench : ℕ
   pub passes : ℕ
@@ -34,7 +34,7 @@ abbrev pub AreStepped : AtLock → AtLock → List (Event Block) → Type 0
 AreStepped old new events =
     (steps : List Call) × (events_in steps ≡ events) × (new ≡ with_calls old steps)
 
--- Some of the queue's device steps ran, from the first on, but nothing else.
+-- Only device steps of the queue ran: the first ones, possibly none.
 abbrev pub StopsStepping : AtLock → AtLock → Type 0
 StopsStepping old new = (count : ℕ) × AreStepped old new (take count (steps_of_queue old.queue))
 

@@ -16,7 +16,7 @@ abbrev pub reply_of : Arrived → Reply Block
 reply_of Taken = reply.Done
 reply_of (Dropped why) = reply.Dropped why
 
--- After some device steps a frame of these bytes arrived, with this outcome.
+-- After some device steps, a frame with these bytes arrived, with this outcome.
 abbrev pub Arrives : List Call → List Call → List ℕ → Arrived → Type 0
 Arrives old new frame arrived = Adds old new (event.Arrive frame) (reply_of arrived)
 

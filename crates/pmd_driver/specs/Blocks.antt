@@ -15,12 +15,12 @@ pub record KeepsEach (a : Numbers) (out : List ℕ) (b : Numbers) (new : List �
   pub each : (n : ℕ)
       → (if is_free b n then 1 else 0) + times_in_hand new n ≡ (if is_free a n then 1 else 0) + times_in_hand out n
 
--- A call of two rings that are up: each block is free in the arena, out, or in hand as often as before. `given` were in
--- hand before the call, `back` are in hand after it.
+-- A call to two rings that are up: each block is free in the arena, out, or in hand as often as before. The blocks
+-- `given` were in hand before the call, and the blocks `back` are in hand after it.
 abbrev pub KeepsUp : Running → List ℕ → Running → List ℕ → Type 0
 KeepsUp r given s back = KeepsEach r.arena (rings_out r ++ given) s.arena (rings_out s ++ back)
 
--- A call of a driver, running or not: each of its blocks is free in its arena, out with its rings, or in hand as often
+-- A call to a driver, running or not: each of its blocks is free in its arena, out with its rings, or in hand as often
 -- as before. A block of a packet passed to the call was in hand before; a block of a packet that the call hands out or
 -- returns is in hand after it.
 abbrev pub KeepsBlocks : Rings → List ℕ → Rings → List ℕ → Type 0
@@ -28,7 +28,8 @@ KeepsBlocks old given new back =
     KeepsEach (halted_of old).arena (all_out (halted_of old) ++ given) (halted_of new).arena
     (all_out (halted_of new) ++ back)
 
--- The blocks that are free, out with the driver, or in hand are exactly those that were free in the arena it was given.
+-- The blocks that are free, out with the driver, or in hand are exactly those that were free in the arena that it was
+-- given.
 abbrev pub HasAll : Numbers → Halted → List ℕ → Type 0
 HasAll a h hand = KeepsEach a [] h.arena (all_out h ++ hand)
 
@@ -36,9 +37,9 @@ HasAll a h hand = KeepsEach a [] h.arena (all_out h ++ hand)
 abbrev pub LosesNone : Numbers → Halted → Type 0
 LosesNone a h = ((n : ℕ) → is_own h.arena n ≡ is_own a n) × (h.way.lost ≡ 0 → HasAll a h [])
 
--- A driver was given this arena. Either it is home: the returned arena owns exactly the same numbers and, if no block
--- is lost, has the same numbers free. Or a driver is left: it owns these numbers and, if no block is lost, has all of
--- the arena's blocks.
+-- A driver was given this arena. Either the arena was returned: it owns exactly the same numbers and, if no block is
+-- lost, has the same numbers free. Or a driver remains: it owns these numbers and, if no block is lost, has all of the
+-- arena's blocks.
 abbrev pub IsWhole : Numbers → Rest → Type 0
 IsWhole a (rest.Home h) =
     ((n : ℕ) → is_own h.arena n ≡ is_own a n) × (h.lost ≡ 0 → (n : ℕ) → is_free h.arena n ≡ is_free a n)

@@ -28,16 +28,16 @@ use Rattle.pmd_driver.specs.DriverCalls.{IsReapCall}
 use Rattle.pmd_driver.specs.Halves.{Halves, Sends, halves_of}
 use Rattle.pmd_driver.specs.Running.{Running, receives}
 
--- The driver was asked for at most `most` packets. It appends those it hands out to a list.
+-- The driver was to hand out at most `most` packets. It appends those that it hands out to a list.
 pub record IsReceiveBurst (most : ℕ) (before after : List Packet) (result : Result ℕ PmdFault) (old : List Call)
     (r : Running) (new : List Call) (s : Running) : Type 0 where
   pub packets : List Packet
-  -- It hands them out, as many as it reports and at most `most`; with a fault none.
+  -- It hands out as many packets as it reports, at most `most`, and none if it returns a fault.
   pub out : after ≡ before ++ packets
   pub count : IfOk result (λ n. n ≡ length packets)
   pub few : length packets ≤ most
   pub err : OnErr result (packets ≡ [])
-  -- They are the newest packets it has handed out.
+  -- They are the newest packets that it has handed out.
   pub handed : s.receive.handed ≡ r.receive.handed ++ records_of packets
   -- If it hands out none although `most` isn't 0, it looked at the slots of a packet and found one that isn't done.
   pub none : result ≡ Ok 0 → 0 < most → LooksInVain old r.receive new s.receive
@@ -46,14 +46,14 @@ pub record IsReceiveBurst (most : ℕ) (before after : List Packet) (result : Re
   -- After `DeviceFault`, each call is made by one of the halves or is a device step. The last call got a reply that a
   -- healthy queue never sends.
   pub finds : IfErr result (λ f. FindsBy f (is_own r.arena) old (halves_of r) new)
-  -- After `NoBuffer`, a packet waits for free blocks.
+  -- After `NoBuffer`, a packet is waiting for free blocks.
   pub waits : result ≡ Err fault.NoBuffer → PacketWaits s.receive.stage
   -- The receive half keeps its blocks, except those of the packets it hands out.
   pub keeps : Keeps r.arena r.receive s.arena s.receive (numbers_of_all packets)
   -- The transmit half is unchanged.
   pub transmit : s.transmit ≡ r.transmit
 
--- How many more segments fit. All slots of the ring but one may be outstanding.
+-- The number of segments that still fit. All slots of the ring except one may be outstanding.
 abbrev pub vacant_in : Sender → ℕ
 vacant_in v = v.layout.size - 1 - length v.outstanding
 
@@ -71,7 +71,7 @@ abbrev pub segments_in : List Packet → List Segment
 segments_in [] = []
 segments_in (p ∷ ps) = segments_of (outgoing_of p) ++ segments_in ps
 
--- The arena after the blocks that hold no bytes of these accepted packets have returned, in order.
+-- The arena after the blocks that contain no bytes of these accepted packets have returned, in order.
 abbrev pub with_rests : Numbers → List Packet → Numbers
 with_rests a [] = a
 with_rests a (p ∷ ps) = with_rests (with_all_free a (drop (parts_for p.len) (numbers_of p.bufs))) ps
@@ -107,7 +107,8 @@ abbrev pub FailedDuring : PmdFault → Blocks → List Call → Halves → List 
 FailedDuring f own old h new =
     (mid : List Call) × (later : List Call) × (new ≡ mid ++ later) × FailsDuring f own old h mid
 
--- The packets that weren't accepted remain. If a fault was met, the first of them may be as returned after that fault.
+-- The packets that weren't accepted remain. If a fault was met, the first of them may be in the form in which it is
+-- returned after that fault.
 abbrev pub AreLeft : Option PmdFault → List Packet → List Packet → Type 0
 AreLeft None waiting left = left ≡ waiting
 AreLeft (Some f) [] left = left ≡ []
@@ -119,16 +120,16 @@ abbrev pub IsRefusedFirst : PmdFault → Running → List Packet → Type 0
 IsRefusedFirst f s [] = ⊥
 IsRefusedFirst f s (p ∷ left) = IsKeptOut s p × MayAnswer s p (Err (record { fault = f; packet = Some p }))
 
--- Why no more packets were accepted: none is left, the ring has no room for the next, the next is refused before any
--- event, or a fault occurred during events.
+-- Why no more packets were accepted: none is left, the ring has no room for the next one, the next one is refused
+-- before any event, or a fault occurred during events.
 abbrev pub Stops : Option PmdFault → Running → List Packet → Type 0
 Stops None s [] = ⊤
 Stops None s (p ∷ left) =
     IsKeptOut s p × MayAnswer s p (Ok (RingFull p)) × IsFullWhereReported s.transmit p (Ok (RingFull p))
 Stops (Some f) s left = IsLate f ⊎ IsRefusedFirst f s left
 
--- The driver was given packets to send. It accepted the first ones, then advanced the tail past them and past those
--- that waited for it.
+-- The driver was given packets to send. It accepted the first ones, then advanced the tail past them and past the
+-- packets that were waiting for this.
 pub record SendsBurst (given left : List Packet) (result : Result ℕ PmdFault) (old : List Call) (r : Running)
     (new : List Call) (s : Running) : Type 0 where
   pub gone : List Packet
@@ -196,7 +197,7 @@ pub record IsSendBurst (vacant : ℕ) (given left : List Packet) (result : Resul
   pub finds : IfErr result (λ f. FindsBy f (is_own r.arena) old (halves_of r) new)
   -- Without a fault, the tail has passed everything outstanding.
   pub settled : IfOk result (λ n. s.transmit.posted ≡ length s.transmit.outstanding)
-  -- The ring is the same, except for the slot of the oldest packet.
+  -- The transmit ring is the same, except for the slot of the oldest packet.
   pub layout : s.transmit.layout ≡ record r.transmit.layout { next = s.transmit.layout.next }
   -- The receive half is unchanged.
   pub receive : s.receive ≡ r.receive

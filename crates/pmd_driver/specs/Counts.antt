@@ -5,8 +5,8 @@ use Rattle.pmd_driver.specs.Bursts.{vacant_in}
 use Rattle.pmd_driver.specs.declared.driver.Rings.{Rings}
 use Rattle.pmd_driver.specs.declared.driver.Rings.TheVariants.{Up, Down}
 
--- How many more descriptors can be filled, and how many packets are accepted but not yet reaped; 0 if the driver isn't
--- running.
+-- The number of descriptors that can still be filled, and the number of packets accepted but not yet reaped; 0 if the
+-- driver isn't running.
 
 abbrev pub vacant_of : Rings → ℕ
 vacant_of (Up r) = vacant_in r.transmit

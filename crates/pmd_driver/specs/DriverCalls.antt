@@ -20,21 +20,21 @@ use Rattle.pmd_driver.specs.Apart.{FindsBy}
 use Rattle.pmd_driver.specs.Halves.{halves_of}
 use Rattle.pmd_driver.specs.Running.{Running, receives}
 
--- The driver was asked for the next received packet.
+-- The driver was to hand out the next received packet.
 pub record IsReceiveCall (result : Result (Option Packet) PmdFault) (old : List Call) (r : Running) (new : List Call)
     (s : Running) : Type 0 where
-  -- A packet that it hands out is the newest of those it has handed out.
+  -- A packet that it hands out is the newest of those that it has handed out.
   pub some : IfOk result (λ out. IfSome out (λ packet. s.receive.handed ≡ r.receive.handed ++ kept_of packet ∷ []))
   -- If it hands out none, it looked at the slots of a packet and found one that isn't done.
   pub none : IfOk result (λ out. IfNone out (LooksInVain old r.receive new s.receive))
-  -- With a fault it hands out nothing.
+  -- If it returns a fault, it hands out nothing.
   pub err : OnErr result (s.receive.handed ≡ r.receive.handed)
   -- The fault belongs to its receive half. After a refused call, the event is one that this half may make next.
   pub fails : IfErr result (λ f. FailsBy f old r.arena r.receive new s.arena s.receive)
   -- After `DeviceFault`, each call is made by one of the halves or is a device step. The last call got a reply that a
   -- healthy queue never sends.
   pub finds : IfErr result (λ f. FindsBy f (is_own r.arena) old (halves_of r) new)
-  -- After `NoBuffer`, a packet waits for free blocks.
+  -- After `NoBuffer`, a packet is waiting for free blocks.
   pub waits : result ≡ Err NoBuffer → PacketWaits s.receive.stage
   -- The receive half keeps its blocks, except those of the packet it hands out.
   pub keeps : Keeps r.arena r.receive s.arena s.receive (handed_blocks result)
@@ -44,7 +44,7 @@ pub record IsReceiveCall (result : Result (Option Packet) PmdFault) (old : List 
 -- The driver was given a packet to send.
 pub record IsSendCall (packet : Packet) (result : Result TxAnswer TxFault) (old : List Call) (r : Running)
     (new : List Call) (s : Running) : Type 0 where
-  -- The answer follows from the packet's check: refused, ring full, or open.
+  -- The answer follows from the packet's check: the packet is refused, the ring is full, or the packet can be sent.
   pub answer : IsAnswer (gate_of r.transmit r.arena (receives r packet) packet) packet result
   -- If the ring is reported as full, it has no room for the packet.
   pub full : IsFullWhereReported r.transmit packet result
@@ -52,11 +52,11 @@ pub record IsSendCall (packet : Packet) (result : Result TxAnswer TxFault) (old 
   pub shut : IsShut (gate_of r.transmit r.arena (receives r packet) packet) → (new ≡ old) × (s ≡ r)
   -- A packet that isn't returned was accepted.
   pub accepted : IfNone (returned result) (IsAccepted r.transmit packet s.transmit)
-  -- If a packet is returned, none was accepted.
+  -- If the packet is returned, no packet was accepted.
   pub kept : IfSome (returned result) (λ back. IsNoneAccepted r.transmit s.transmit)
   -- A packet returned with a fault is the one passed in; after `DeviceFault`, only its block numbers are the same.
   pub back : IfErr result (λ failed. IfSome failed.packet (λ back. IsBack failed.fault packet back))
-  -- The blocks that hold no bytes of an accepted packet went home.
+  -- The blocks that contain no bytes of an accepted packet were returned to the arena.
   pub home : SendsHome (returned result) packet r.arena s.arena
   -- After `Taken`, the tail has passed all outstanding packets.
   pub settled : result ≡ Ok Taken → s.transmit.posted ≡ length s.transmit.outstanding
@@ -65,25 +65,25 @@ pub record IsSendCall (packet : Packet) (result : Result TxAnswer TxFault) (old 
   pub faults : IfErr result (λ failed. FaultsBy failed.fault (outgoing_of packet).blocks old r.transmit new)
   -- After `DeviceFault`, each call up to that last one is made by one of the halves or is a device step.
   pub finds : IfErr result (λ failed. FindsBy failed.fault (is_own r.arena) old (halves_of r) new)
-  -- The ring is the same.
+  -- The transmit ring is the same.
   pub layout : s.transmit.layout ≡ r.transmit.layout
   -- The receive half is unchanged.
   pub receive : s.receive ≡ r.receive
 
--- The driver was asked to free the blocks of sent packets.
+-- The driver was to free the blocks of sent packets.
 pub record IsReapCall (result : Result Reaped PmdFault) (old : List Call) (r : Running) (new : List Call)
     (s : Running) : Type 0 where
   -- It reports whether no packet is outstanding.
   pub idle : IfOk result (λ done. IsTrue done.idle ↔ (s.transmit.outstanding ≡ []))
-  -- If some packet is, it looked last at the oldest, which isn't sent.
+  -- If a packet is outstanding, its last call looked at the oldest one, which hasn't been sent.
   pub waits : IfOk result (λ done. done.idle ≡ false → LooksLast old r.transmit new s.transmit)
-  -- It freed as many packets as it reports, oldest first.
+  -- It freed the blocks of as many packets as it reports, oldest first.
   pub freed : IfOk result (λ done. FreesSome r.transmit s.transmit r.arena s.arena done.freed)
-  -- With a fault it freed some packets, possibly none.
+  -- If it returns a fault, it freed the blocks of some packets, possibly none.
   pub some : OnErr result ((packets : ℕ) × FreesSome r.transmit s.transmit r.arena s.arena packets)
   -- It accepted nothing.
   pub accepted : s.transmit.accepted ≡ r.transmit.accepted
-  -- The ring is the same, except for the slot of the oldest packet.
+  -- The transmit ring is the same, except for the slot of the oldest packet.
   pub layout : s.transmit.layout ≡ record r.transmit.layout { next = s.transmit.layout.next }
   -- The fault is `DeviceFault` or a refused call.
   pub late : IfErr result (λ fault. IsLate fault)

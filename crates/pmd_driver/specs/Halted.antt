@@ -1,4 +1,4 @@
--- A driver that isn't running: its blocks are on their way home.
+-- A driver that isn't running: its blocks are being returned to the arena.
 use Rattle.std.specs.Prelude.{ℕ, ◌+◌, ◌<◌, ◌&&◌, ◌||◌, nat_lt, not, Bool, List, [], ◌++◌, length}
 use Rattle.std.specs.List.{list_any}
 use Rattle.pmd_access.specs.NicDevice.DmaArena.Numbers.{Numbers, is_free}
@@ -13,8 +13,9 @@ use Rattle.pmd_tx.specs.Leaving as transmit
 use Rattle.pmd_tx.specs.Sending.{Sender}
 use Rattle.pmd_tx.specs.Sends.{are_out}
 
--- The driver's arena; the blocks that it has in hand, of packets that its receive ring didn't hand out yet or its
--- transmit ring didn't lend yet; its other blocks, on their way home; and the packets it handed out and accepted.
+-- The driver's arena; the blocks that it has in hand, which belong to packets that its receive ring hasn't handed out
+-- yet or its transmit ring hasn't lent yet; its other blocks, which are being returned; and the packets that it handed
+-- out and accepted.
 pub record Halted : Type 0 where
   pub arena : Numbers
   pub held : List ℕ
@@ -26,7 +27,7 @@ pub record Halted : Type 0 where
 abbrev pub all_out : Halted → List ℕ
 all_out h = h.way.lent ++ h.held
 
--- Each block is in one place, and the number of lost blocks fits in 32 bits.
+-- Each block is in at most one place, and the number of lost blocks fits in 32 bits.
 pub record IsHalted (h : Halted) : Type 0 where
   pub home : AreOut h.arena (all_out h)
   pub few : h.way.lost + length h.way.lent < 4294967296
@@ -35,8 +36,8 @@ pub record IsHalted (h : Halted) : Type 0 where
 abbrev pub is_out : Halted → ℕ → Bool
 is_out h n = nat_lt 0 (times_in_hand (all_out h) n)
 
--- Whether a packet's blocks can go back: the arena owns their numbers, they aren't free there, all differ, and none is
--- out.
+-- Whether a packet's blocks can be returned to the arena: it owns their numbers, none is free there, no number occurs
+-- twice, and none is out with the driver.
 abbrev pub goes_back : Halted → Packet → Bool
 goes_back h p = are_out h.arena (numbers_of p.bufs) && not (list_any (λ n. is_out h n) (numbers_of p.bufs))
 
@@ -44,11 +45,11 @@ goes_back h p = are_out h.arena (numbers_of p.bufs) && not (list_any (λ n. is_o
 abbrev pub is_free_or_out : Numbers → List ℕ → ℕ → Bool
 is_free_or_out a out n = is_free a n || nat_lt 0 (times_in_hand out n)
 
--- Two ways home combined into one: the first one's blocks, then the second one's.
+-- Two lists of blocks to be returned, combined: the first list's blocks, then the second list's.
 abbrev pub both_ways : Homebound → Homebound → Homebound
 both_ways a b = record { lent = a.lent ++ b.lent; lost = a.lost + b.lost }
 
--- The way home of these blocks, with none lost yet.
+-- These blocks, to be returned, with none lost yet.
 abbrev pub way_of : List ℕ → Homebound
 way_of lent = record { lent = lent; lost = 0 }
 

@@ -77,8 +77,8 @@ doers_moved moves = map Sends moves
 abbrev pub doers_other : List Call → List Doer
 doers_other calls = map (λ (n : Call). Sends Elsewhere) calls
 
--- Three facts. Calls of one half, while the other stays unchanged, are calls of the driver. Calls of neither half leave
--- both unchanged. Sequences of calls can follow each other.
+-- Three facts. Calls of one half, while the other stays unchanged, are driver calls. Calls of neither half leave both
+-- unchanged. Sequences of calls can follow each other.
 abbrev pub ReceivingDrives : Type 0
 ReceivingDrives =
     (old new : List Call) (h k : Halves) → receive.Plays old h.receive new k.receive → k.transmit ≡ h.transmit →

@@ -16,6 +16,6 @@ leaving_as l = record {
   accepted = l.accepted.items;
 }
 
--- Two ways home combined into one, with the calls made.
+-- Two lists of blocks to be returned, combined, with the calls made.
 abbrev pub bringing_both : List Call → Numbers → Homebound → Homebound → Bringing
 bringing_both made a first second = record { made = made; arena = a; way = both_ways first second }

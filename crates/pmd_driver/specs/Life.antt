@@ -1,4 +1,4 @@
--- A driver's life: its start, the calls of its halves, and its end.
+-- A driver's life: its start, the calls of its halves, and its stop.
 use Rattle.std.specs.Prelude.{ℕ, ◌≡◌, List, [], Option, Some, None, Err}
 use Rattle.pmd_access.specs.NicDevice.DmaArena.Numbers.{Numbers}
 use Rattle.pmd_access.specs.DeviceLock.declared.entry.Call.{Call}
@@ -36,7 +36,7 @@ pub record Lives (q : AtPort) (size frame : ℕ) (old : List Call) (a : Numbers)
   pub up : AreUp q size frame old a made fresh
   pub drives : DrivesRings made fresh new r
 
--- The driver of this queue was stopped once. Either it is home, or the stop was refused for this fault and returned a
+-- The driver of this queue was stopped once. Either the stop succeeded, or it was refused for this fault and returned a
 -- driver that isn't running.
 abbrev pub IsStopped : AtPort → List Call → Halted → List Call → Rest → Option PmdFault → Type 0
 IsStopped q old h new (rest.Home home) None = Stops q old h new home
@@ -47,7 +47,7 @@ IsStopped q old h new left late = ⊥
 -- The driver lived and was stopped. The packets it handed out and accepted are its halves' packets up to that point.
 pub record HasLived (q : AtPort) (size frame : ℕ) (old : List Call) (a : Numbers) (new : List Call) (left : Rest)
     (late : Option PmdFault) : Type 0 where
-  -- The calls made when it was to stop, and the driver at that point.
+  -- The calls made up to the stop, and the driver at that point.
   pub made : List Call
   pub last : Running
   pub lives : Lives q size frame old a made last

@@ -41,8 +41,8 @@ pub record QueuesUpTo (ends : Bool) (given left : List Packet) (sent : ℕ) (met
   pub queues : Queues given left sent met old r new s
   pub stops : ends ≡ true → Stops met s left
 
--- A packet before others: the packets that remain if it is returned, how many were queued, and whether a burst ends
--- with it.
+-- A packet before others: the packets that remain if it is returned, the number of packets queued, and whether a burst
+-- ends with it.
 
 abbrev pub left_with : Option Packet → List Packet → List Packet
 left_with None rest = rest
@@ -62,7 +62,7 @@ QueuesOne p x old r new s =
     (rest : List Packet) → QueuesUpTo (ends_by (returned x) (failed_in x)) (p ∷ rest) (left_with (returned x) rest)
     (sent_by (returned x)) (failed_in x) old r new s
 
--- The transmit half continued with what waits, and accepted no packet.
+-- The transmit half continued with what was waiting, and accepted no packet.
 pub record Continues (f : Option PmdFault) (old : List Call) (r : Running) (new : List Call) (s : Running) : Type 0
   where
     pub drives : DrivesRings old r new s

@@ -27,7 +27,7 @@ use Rattle.pmd_driver.specs.declared.start.StartRefused.{StartRefused}
 
 -- Their requirements.
 
--- The blocks from block `ring` on are free, as many as a ring of 8 to 1,024 descriptors takes.
+-- The blocks starting at block `ring` are free, as many as a ring of 8 to 1,024 descriptors takes.
 pub record HasPlace (a : Numbers) (ring size : ℕ) : Type 0 where
   pub some : 8 ≤ size
   pub few : size ≤ 1024
@@ -43,7 +43,7 @@ pub record HasPlaces (a : Numbers) (size frame receive transmit : ℕ) : Type 0 
   pub runs : AreRuns a (blocks_for size) receive transmit
   pub enough : size - 1 + 2 * blocks_for size ≤ free_count a
 
--- The receive ring is empty, its blocks are out, and at least as many blocks are free as its slots but one.
+-- The receive ring is empty, its blocks are out, and at least one block is free for each of its slots except one.
 pub record IsEmpty (a : Numbers) (v : Receive) : Type 0 where
   pub empty : v.layout.blocks ≡ []
   pub stage : v.stage ≡ Looks
@@ -80,7 +80,7 @@ abbrev pub PreparesTransmit : Result Sender Unprepared → AtPort → ℕ → �
 PreparesTransmit (Ok v) q size frame old a new b = IsTransmitReady q size frame old a new b v
 PreparesTransmit (Err e) q size frame old a new b = PreparingFails e.fault q Tx size old a new b e.lent.items
 
--- Both sides switched on and the receive ring was filled, or part of this failed.
+-- Both sides were enabled and the receive ring was filled, or part of this failed.
 pub record GoesUp (result : Result (Unit {0}) PmdFault) (q : AtPort) (old : List Call) (a : Numbers) (v : Receive)
     (new : List Call) (b : Numbers) (w : Receive) : Type 0 where
   pub on : OnOk result (GoesOn q old a v new b w)

@@ -26,7 +26,7 @@ kept_out v = blocks_of v.outstanding ++ ring_blocks v.layout.ring v.layout.size
 abbrev pub rings_out : Running → List ℕ
 rings_out r = blocks_out r.receive ++ kept_out r.transmit
 
--- Each block is in one place, the receive ring is filled, and the transmit ring has at least one slot.
+-- Each block is in at most one place, the receive ring is filled, and the transmit ring has at least one slot.
 pub record IsUp (r : Running) : Type 0 where
   pub home : AreOut r.arena (rings_out r)
   pub filled : IsRunning r.receive
@@ -36,7 +36,7 @@ pub record IsUp (r : Running) : Type 0 where
 abbrev pub receives : Running → Packet → Bool
 receives r p = list_any (λ n. nat_lt 0 (times_in_hand (blocks_out r.receive) n)) (numbers_of p.bufs)
 
--- Whether a packet's blocks can go back: they can go home as the transmit ring sees it, and the receive ring owns none
+-- Whether a packet's blocks can be returned to the arena: the transmit ring permits it, and the receive ring owns none
 -- of them.
 abbrev pub goes_back : Running → Packet → Bool
 goes_back r p = goes_home r.transmit r.arena p && not (receives r p)

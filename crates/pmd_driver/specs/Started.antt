@@ -26,8 +26,8 @@ use Rattle.pmd_driver.specs.declared.start.StartRefused.{StartRefused}
 abbrev pub is_size : ℕ → Bool
 is_size size = nat_le 8 size && (nat_le size 1024 && size % 8 == 0)
 
--- Whether enough blocks are free: the blocks of its two rings, and one for each slot of the receive ring but one. There
--- must be two runs of consecutive blocks for the rings.
+-- Whether enough blocks are free: the blocks of its two rings, and one for each slot of the receive ring except one.
+-- There must be two runs of consecutive blocks for the rings.
 abbrev pub has_room : Numbers → ℕ → Bool
 has_room a size =
     nat_le (size - 1 + 2 * blocks_for size) (free_count a) && is_some (second_run a (blocks_for size))
@@ -46,12 +46,12 @@ abbrev pub IsHome : Numbers → Rest → Type 0
 IsHome a (rest.Home h) = (h.arena ≡ a) × (h.lost ≡ 0) × (h.handed.items ≡ []) × (h.accepted.items ≡ [])
 IsHome a (rest.Running p) = ⊥
 
--- The packets that the driver handed out, whether it is home or not.
+-- The packets that the driver handed out, whether it stopped or not.
 abbrev pub left_handed : Rest → List Kept
 left_handed (rest.Home h) = h.handed.items
 left_handed (rest.Running p) = handed_of p.rings
 
--- The packets that the driver accepted, whether it is home or not.
+-- The packets that the driver accepted, whether it stopped or not.
 abbrev pub left_accepted : Rest → List Kept
 left_accepted (rest.Home h) = h.accepted.items
 left_accepted (rest.Running p) = accepted_of p.rings
@@ -111,7 +111,7 @@ pub record StopsAfterOne (q : AtPort) (size frame : ℕ) (old : List Call) (a : 
   pub fails : PreparingFails e.fault q Tx size made ready_arena new arena out
   pub left : IsHalfStarted q (with_receive_ring arena empty out) e.rest
 
--- A side didn't switch on, or the receive ring was only partly filled. The returned driver has both rings.
+-- A side wasn't enabled, or the receive ring was only partly filled. The returned driver has both rings.
 pub record StopsAfterBoth (q : AtPort) (size frame : ℕ) (old : List Call) (a : Numbers) (new : List Call)
     (e : StartRefused) : Type 0 where
   pub sized : is_size size ≡ true

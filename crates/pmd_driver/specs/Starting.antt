@@ -77,7 +77,7 @@ PreparingFails f q side size old a new b out =
     ⊎ ((mid : List Call) × AreMade q old mid (ring_words side ring size)
     × StopsLending f (ring_blocks ring size) mid a new b out))
 
--- The driver read that both sides are off, wrote "off", and read it again. An empty receive ring is lent.
+-- The driver read that both sides are off, wrote "off", and read this again. An empty receive ring is lent.
 pub record IsReceiveReady (q : AtPort) (size frame : ℕ) (old : List Call) (a : Numbers) (new : List Call) (b : Numbers)
     (v : Receive) : Type 0 where
   pub mid : List Call
@@ -103,7 +103,7 @@ pub record IsTransmitReady (q : AtPort) (size frame : ℕ) (old : List Call) (a 
   pub named : IsNumberOf q.port (tail_row Tx) q.queue tail
   pub fresh : v ≡ transmit.at_start q.port tail ring size (packet_limit frame)
 
--- Both sides switched on, then the receive ring was filled with blocks that were free in the arena.
+-- Both sides were enabled, then the receive ring was filled with blocks that were free in the arena.
 pub record GoesOn (q : AtPort) (old : List Call) (a : Numbers) (v : Receive) (new : List Call) (b : Numbers)
     (w : Receive) : Type 0 where
   pub mid : List Call
@@ -111,7 +111,7 @@ pub record GoesOn (q : AtPort) (old : List Call) (a : Numbers) (v : Receive) (ne
   pub plays : PlaysFrom a mid v new w
   pub filled : Fills a v b w
 
--- A side didn't switch on, and the driver is unchanged; or the receive ring was only partly filled.
+-- A side wasn't enabled, and the driver is unchanged; or the receive ring was only partly filled.
 abbrev pub GoingOnFails : PmdFault → AtPort → List Call → Numbers → Receive → List Call → Numbers → Receive → Type 0
 GoingOnFails f q old a v new b w =
     (SwitchFails f q old new true 1000 × (b ≡ a) × (w ≡ v))

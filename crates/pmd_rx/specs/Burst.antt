@@ -10,8 +10,8 @@ use Rattle.pmd_rx.specs.Receive.{Receive, records_of}
 abbrev pub HasPart : Packet → Type 0
 HasPart p = 0 < length p.bufs
 
--- Packets were appended to those already in `out`: as many as the result says, at most `most`, and none after a fault.
--- Their records are kept, no block is lost, and the ring is the same ring at the same port.
+-- Packets were appended to those already in `out`: as many as the result reports, at most `most`, and none after a
+-- fault. Their records are kept, no block is lost, and the ring is the same ring at the same port.
 pub record IsBurst (r : Result ℕ PmdFault) (most : ℕ) (a : Numbers) (v : Receive) (old : List Packet) (b : Numbers)
     (w : Receive) (new : List Packet) : Type 0 where
   pub packets : List Packet

@@ -16,12 +16,12 @@ pub record PostsSome (count : ℕ) (a : Numbers) (v : Receive) (b : Numbers) (w 
   pub many : length blocks ≡ count
   pub left : w ≡ record v { layout = record v.layout { blocks = v.layout.blocks ++ blocks } }
 
--- All slots of the ring but one were posted.
+-- All slots of the ring except one were posted.
 abbrev pub Fills : Numbers → Receive → Numbers → Receive → Type 0
 Fills a v b w = (count : ℕ) × (count + 1 ≡ v.layout.size) × PostsSome count a v b w
 
--- Fewer blocks were posted, and this fault kept the next from being posted. Every call made is the driver's or a device
--- step.
+-- Fewer blocks were posted, and this fault prevented the next one from being posted. Every call made is the driver's or
+-- a device step.
 pub record StopsFilling (f : PmdFault) (old : List Call) (a : Numbers) (v : Receive) (new : List Call) (b : Numbers)
     (w : Receive) : Type 0 where
   pub count : ℕ

@@ -54,7 +54,7 @@ abbrev pub handed_blocks : Result (Option Packet) PmdFault → List ℕ
 handed_blocks (Ok o) = numbers_in o
 handed_blocks (Err fault) = []
 
--- How many slots are vacant in addition to the one that is always vacant.
+-- The number of vacant slots in addition to the one that is always vacant.
 abbrev pub vacated : Stage → ℕ
 vacated Looks = 0
 vacated Takes = 0
@@ -69,8 +69,9 @@ IsDuring v Takes = 0 < length v.seen
 IsDuring v Owes = 0 < length v.held.bufs
 IsDuring v (Lent b) = 0 < length v.held.bufs
 
--- The driver has started. All slots but one have a block, or all but two if one must be refilled. As many blocks are
--- named but not posted, counting one still owed, as the held and complete packets occupy.
+-- The driver has started. All slots except one have a block, or all except two if one must be refilled. The number of
+-- blocks that are named but not posted, including a block still owed, equals the number of blocks of the held and
+-- complete packets.
 pub record IsRunning (v : Receive) : Type 0 where
   pub part : 0 < v.layout.most
   pub some : v.layout.most < v.layout.size

@@ -61,8 +61,8 @@ pub record PlaysFrom (a : Numbers) (old : List Call) (v : Receive) (new : List C
   pub plays : Plays old v new w
   pub free : AllLendFree a plays.0 plays.1
 
--- The driver looked at the slots of a packet, from the next slot on; the slot after those it has seen isn't done. It
--- holds no packet and no named block, and nothing else changed.
+-- The driver looked at the slots of a packet, starting at the next slot; the slot after those it has seen isn't done.
+-- It holds no packet and no named block, and nothing else changed.
 pub record LooksInVain (old : List Call) (v : Receive) (new : List Call) (w : Receive) : Type 0 where
   pub mid : List Call
   pub looks : Plays old v mid w

@@ -28,9 +28,9 @@ pub record Layout : Type 0 where
   pub next : ℕ
   pub blocks : List ℕ
 
--- The ring; the packets handed out; what the descriptors from the next slot on reported; the packet with some parts
--- taken; the complete packets; the blocks named after the tail; and the stage. The named blocks replace those of the
--- complete packets. When the tail advances, named blocks are posted and complete packets handed out.
+-- The ring; the packets handed out; what the descriptors reported, starting at the next slot; the packet with some
+-- parts taken; the complete packets; the blocks named after the tail; and the stage. The named blocks replace those of
+-- the complete packets. When the tail advances, named blocks are posted and complete packets handed out.
 pub record Receive : Type 0 where
   pub layout : Layout
   pub handed : List Kept
@@ -66,7 +66,7 @@ reach v = extended v.layout v.named
 abbrev pub no_packet : Packet
 no_packet = record { bufs = []; len = 0; rss = 0; hash = 0 }
 
--- A packet with one more part, in this block. The last part's descriptor reports the RSS type and hash.
+-- A packet with another part, in this block. The last part's descriptor reports the RSS type and hash.
 abbrev pub joined : Packet → Block → Reported → Packet
 joined p b t = record {
   bufs = p.bufs ++ b ∷ [];
@@ -79,8 +79,8 @@ joined p b t = record {
 abbrev pub reported_by : List ℕ → Reported
 reported_by d = record { first = first_half d; second = second_half d }
 
--- Whether a done descriptor reports a valid part of a packet after `before` others. It has no more bytes than a block.
--- If it doesn't end the packet, it fills its block, and the packet may have further parts.
+-- Whether a done descriptor reports a valid part of a packet after `before` others. It isn't longer than a block. If it
+-- doesn't end the packet, it fills its block, and the packet may have further parts.
 abbrev pub is_part : ℕ → ℕ → ℕ → Bool
 is_part most before second =
     if ends_packet second then nat_le (bytes_in second) 2048
@@ -195,10 +195,10 @@ drive v (event.Poke16 a bytes) reply.Done = names v
 drive v (event.Write port number word) reply.Done = moved v word
 drive v e r = v
 
--- The events that the driver may cause next. Each belongs to a stage, and none depends on the device's state.
+-- The events that the driver may cause next. Each event belongs to a stage and is independent of the device's state.
 
--- A block that may be lent: it has 2,048 bytes, the ring doesn't occupy it, and none of the ring's slots contains it.
--- The ring has a vacant slot to spare.
+-- A block that may be lent: it is 2,048 bytes long, the ring doesn't occupy it, and none of the ring's slots contains
+-- it. The ring has a vacant slot to spare.
 pub record MayLend (l : Layout) (b : Block) : Type 0 where
   pub low : b.number < 65536
   pub not_ring : is_ring_block l.ring l.size b.number ≡ false

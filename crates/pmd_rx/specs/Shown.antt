@@ -42,7 +42,7 @@ StandsAt Takes l seen held = 0 < length seen
 StandsAt Owes l seen held = ⊤
 StandsAt (Lent b) l seen held = (length l.blocks + 1 < l.size) × (b < 65536)
 
--- A part has no more bytes than a block.
+-- A part isn't longer than a block.
 abbrev pub FitsBlock : Reported → Type 0
 FitsBlock t = bytes_in t.second ≤ 2048
 
@@ -111,7 +111,7 @@ pub record LooksAtPart (old : List Call) (v : Receive) (new : List Call) (w : Re
   pub part : is_part v.layout.most (length v.seen) (second_half bytes) ≡ true
   pub left : w ≡ saw v bytes
 
--- A look found something that no healthy queue shows.
+-- A look found a state that is impossible in a healthy queue.
 pub record LooksAtWrong (old : List Call) (v : Receive) (new : List Call) (w : Receive) : Type 0 where
   pub bytes : Option (List ℕ)
   pub made : IsPeeked old new (descriptor_at v.layout (length v.seen)) bytes
@@ -133,7 +133,7 @@ IsRefused fault.ForeignBlock old new = ⊥
 IsRefused fault.StartTimeout old new = ⊥
 IsRefused fault.NoBuffer old new = ⊥
 
--- How many fresh blocks must still be posted until the packet is fully taken.
+-- The number of fresh blocks that must still be posted until the packet is fully taken.
 abbrev pub rounds : Receive → ℕ
 rounds v = length v.seen + vacated v.stage
 
@@ -141,13 +141,14 @@ rounds v = length v.seen + vacated v.stage
 abbrev pub OneMore : Receive → Receive → Type 0
 OneMore v w = (p : Packet) × (w.whole ≡ v.whole ++ p ∷ [])
 
--- The packet still waits. If enough blocks were free for it before, enough are still free.
+-- The packet is still waiting. If enough blocks were free for it before, enough are still free.
 pub record WaitsStill (a : Numbers) (v : Receive) (b : Numbers) (w : Receive) : Type 0 where
   pub stage : PacketWaits w.stage
   pub whole : w.whole ≡ v.whole
   pub free : wanted v ≤ free_count a → wanted w ≤ free_count b
 
--- One part of the packet was taken and a fresh block named in its place. The packet still waits, or it is complete.
+-- One part of the packet was taken, and a fresh block was named in its place. The packet is still waiting, or it is
+-- complete.
 pub record IsOneLess (a : Numbers) (v : Receive) (b : Numbers) (w : Receive) : Type 0 where
   pub rounds_are : rounds w + 1 ≡ rounds v
   pub waits : 0 < rounds w → WaitsStill a v b w

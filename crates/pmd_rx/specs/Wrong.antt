@@ -1,4 +1,4 @@
--- Why a call of the driver fails.
+-- Why a driver call fails.
 use Rattle.std.specs.Prelude.{ℕ, ◌≡◌, ◌+◌, ◌<◌, ◌||◌, not, Bool, true, false, List, length, IsFalse, ⊤}
 use Rattle.pmd_access.specs.NicDevice.DmaArena.Block.{Block}
 use Rattle.pmd_access.specs.NicDevice.DmaArena.Numbers.{Numbers, free_count}
@@ -37,14 +37,14 @@ EndsWrong a old v new w =
     (mid : List Call) × (e : Event Block) × (r : Reply Block)
     × PlaysFrom a old v mid w × IsOwn w e × LendsFree a true e × Adds mid new e r × IsFalse (is_healthy w e r)
 
--- A packet waits: the driver has seen it, or has taken parts of it.
+-- A packet is waiting: the driver has seen it, or has taken parts of it.
 abbrev pub PacketWaits : Stage → Type 0
 PacketWaits Looks = ⊥
 PacketWaits Takes = ⊤
 PacketWaits Owes = ⊤
 PacketWaits (Lent b) = ⊤
 
--- How many free blocks are needed: one for each part seen, and one if a block must be lent.
+-- The number of free blocks needed: one for each part seen, and one if a block must be lent.
 abbrev pub owed : Stage → ℕ
 owed Looks = 1
 owed Takes = 0

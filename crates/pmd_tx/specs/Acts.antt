@@ -1,4 +1,4 @@
--- The effect of one sending call of the driver, in one record: the calls made, and the ring before and after.
+-- The effect of one driver call that sends, in one record: the calls made, and the ring before and after.
 use Rattle.std.specs.Prelude.{◌≡◌, ℕ, List, length, Bool, if◌then◌else◌, Option, Some, None, Result, Ok, Err, IfSome, IfNone, IfErr}
 use Rattle.pmd_access.specs.NicDevice.DmaArena.Numbers.{Numbers}
 use Rattle.pmd_access.specs.DeviceLock.declared.entry.Call.{Call}
@@ -42,7 +42,8 @@ pub record HasReaped (f : Option PmdFault) (old : List Call) (v : Sender) (a : N
   pub accepted : w.accepted ≡ v.accepted
   pub layout : w.layout ≡ record v.layout { next = w.layout.next }
 
--- How many segments and packets were reaped. The result says whether a segment was, and whether it ends its packet.
+-- The number of segments and packets reaped. The result says whether a segment was reaped, and whether it ends its
+-- packet.
 
 abbrev pub parts_reaped : Result (Option Bool) PmdFault → ℕ
 parts_reaped (Ok (Some end)) = 1

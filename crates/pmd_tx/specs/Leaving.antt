@@ -7,6 +7,6 @@ use Rattle.pmd_tx.specs.Sending.{Sender, blocks_of}
 abbrev pub lent_of : Sender → List ℕ
 lent_of v = blocks_of (take v.lent v.outstanding) ++ ring_blocks v.layout.ring v.layout.size
 
--- The blocks that the ring holds because their segments wait.
+-- The blocks that the ring still has in hand because their segments are waiting.
 abbrev pub waiting_of : Sender → List ℕ
 waiting_of v = blocks_of (drop v.lent v.outstanding)

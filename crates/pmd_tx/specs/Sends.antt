@@ -29,22 +29,22 @@ outgoing_of p = record { blocks = take (parts_for p.len) (numbers_of p.bufs); ke
 abbrev pub is_bad_size : Sender → Packet → Bool
 is_bad_size v p = p.len == 0 || nat_lt v.layout.limit p.len || nat_lt (2048 * length p.bufs) p.len
 
--- Whether blocks can go home: the arena owns their numbers, they aren't free there, and all differ.
+-- Whether blocks can be returned to the arena: it owns their numbers, none is free there, and no number occurs twice.
 abbrev pub are_out : Numbers → List ℕ → Bool
 are_out a [] = true
 are_out a (n ∷ numbers) =
     is_own a n && not (is_free a n) && not (list_any (λ b. n == b) numbers) && are_out a numbers
 
--- Whether the blocks of a packet can go home, and the ring keeps none of them.
+-- Whether a packet's blocks can be returned to the arena, and the ring keeps none of them.
 abbrev pub goes_home : Sender → Numbers → Packet → Bool
 goes_home v a p = are_out a (numbers_of p.bufs) && not (list_any (λ n. keeps v n) (numbers_of p.bufs))
 
--- Whether there is no room for a packet. All slots but one may be outstanding.
+-- Whether there is no room for a packet. All slots except one may be outstanding.
 abbrev pub is_full : Sender → Packet → Bool
 is_full v p = not (nat_lt (length v.outstanding + parts_for p.len) v.layout.size)
 
--- The check of a packet before any event: refused, ring full, or open. `elsewhere` says whether another ring of the
--- driver has lent a block with one of the packet's block numbers.
+-- The check of a packet before any event: the packet is refused, the ring is full, or the packet can be sent.
+-- `elsewhere` says whether another ring of the driver has lent a block with one of the packet's block numbers.
 abbrev pub gate_of : Sender → Numbers → Bool → Packet → Gate
 gate_of v a elsewhere p =
     if is_bad_size v p then Refused BadSize
@@ -75,7 +75,8 @@ IsShut (Refused f) = ⊤
 IsShut Full = ⊤
 IsShut Open = ⊥
 
--- If the ring is reported as full, the outstanding segments and the packet's exceed all slots of the ring but one.
+-- If the ring is reported as full, the outstanding segments and the packet's together would take more than all but one
+-- of the ring's slots.
 abbrev pub IsFullWhereReported : Sender → Packet → Result TxAnswer TxFault → Type 0
 IsFullWhereReported v given (Ok (RingFull p)) = v.layout.size ≤ length v.outstanding + parts_for given.len
 IsFullWhereReported v given (Ok Taken) = ⊤
@@ -102,12 +103,13 @@ abbrev pub IsBack : PmdFault → Packet → Packet → Type 0
 IsBack DeviceFault given back = numbers_of back.bufs ≡ numbers_of given.bufs
 IsBack fault given back = back ≡ given
 
--- If the packet was accepted, the blocks that hold none of its bytes went home; otherwise the arena is unchanged.
+-- If the packet was accepted, the blocks that contain none of its bytes were returned to the arena; otherwise, the
+-- arena is unchanged.
 abbrev pub SendsHome : Option Packet → Packet → Numbers → Numbers → Type 0
 SendsHome None p a b = b ≡ with_all_free a (drop (parts_for p.len) (numbers_of p.bufs))
 SendsHome (Some back) p a b = b ≡ a
 
--- How many of these segments end a packet.
+-- The number of these segments that end a packet.
 abbrev pub ends_in : List Segment → ℕ
 ends_in [] = 0
 ends_in (s ∷ segments) = (if s.part.last then 1 else 0) + ends_in segments

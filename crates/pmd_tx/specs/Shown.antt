@@ -23,7 +23,7 @@ all_parts (k ∷ kept) = parts_of k.bytes ++ all_parts kept
 abbrev pub latest : ℕ → List Kept → List Part
 latest count kept = drop (length (all_parts kept) - count) (all_parts kept)
 
--- How many parts the newest packet has, and the bytes of part number `left` from its end, where 1 is the last part.
+-- The number of parts of the newest packet, and the bytes of part number `left` from its end, where 1 is the last part.
 abbrev pub newest_parts : List Kept → ℕ
 newest_parts [] = 0
 newest_parts (k ∷ []) = parts_for (length k.bytes)
@@ -66,8 +66,8 @@ abbrev pub AreDistinct : List ℕ → Type 0
 AreDistinct [] = ⊤
 AreDistinct (b ∷ blocks) = (list_any (λ n. b == n) blocks ≡ false) × AreDistinct blocks
 
--- A ring of at most 1,024 slots, in consecutive blocks of bus memory, and the progress of its pieces. The blocks not
--- lent yet are in hand.
+-- A ring of at most 1,024 slots, in consecutive blocks of bus memory, and the progress of its pieces. The blocks that
+-- aren't lent yet are in hand.
 pub record IsRing (l : Layout) (pieces : List Piece) (waiting : List Block) (lent poked posted done : ℕ)
     (accepted : List Kept) : Type 0 where
   pub some : 0 < l.size

@@ -6,7 +6,7 @@ use nic_device::{Arena, Buf, Config, Device, Event, LentMemory, Mode, Octets, Pa
 use pmd::{Direct, Home, Nic, Packet, Pmd, PmdFault, Setup, StopRefused, TxAnswer, pf_setup};
 use std::process::Abort;
 
-/// A promiscuous set-up with neither pools nor RSS.
+/// A promiscuous setup with neither pools nor RSS.
 pub const PLAIN: Setup = Setup {
     mode: Mode::Off,
     mrqc: 0,
@@ -26,7 +26,7 @@ pub fn count_calls(calls: &Calls) -> usize {
     made.len().saturating_add(steps)
 }
 
-/// Why a driver refuses a call: its fault, in a comparable form.
+/// Why a driver call is refused: the fault, in a comparable form.
 #[derive(Clone, Copy, PartialEq, Eq)]
 pub enum Why {
     BadSize,
@@ -49,7 +49,7 @@ pub fn reason(fault: &PmdFault) -> Why {
     }
 }
 
-/// Checks that the driver refuses a call for this reason.
+/// Checks that a driver call is refused for this reason.
 pub fn is_why(rt: &impl Abort, fault: &PmdFault, wanted: Why) {
     sees(rt, reason(fault) == wanted);
 }
@@ -71,31 +71,31 @@ pub const TCP6_FRAME: [u8; 74] = [
     0x00, 0x00, 0x50, 0x10, 0x00, 0x00, 0x00, 0x00, 0x00, 0x00,
 ];
 
-/// Creates a promiscuous device with one virtual function and a receive list of `fifo` frames. This queue is stepped
-/// before each call.
+/// Creates a promiscuous device with one virtual function and a receive list of `fifo` frames. The steps of this queue
+/// run before each call.
 pub fn opened(rt: &impl Hand, fifo: u16, queue: u16) -> Direct {
     set_up(rt, fifo, queue, &PLAIN)
 }
 
-/// Like `opened`, with a different set-up.
+/// Like `opened`, with a different setup.
 pub fn set_up(rt: &impl Hand, fifo: u16, queue: u16, setup: &Setup) -> Direct {
     let mut direct = untouched(rt, fifo, queue);
     done(rt, pf_setup(rt.alloc(), &mut direct, setup));
     direct
 }
 
-/// Like `opened`, without a set-up.
+/// Like `opened`, without a setup.
 pub fn untouched(rt: &impl Hand, fifo: u16, queue: u16) -> Direct {
     let device = done(rt, Device::new(rt.alloc(), Config { vfs: 1, fifo }));
     Direct::new(rt.alloc(), device, queue)
 }
 
-/// Steps queue 0 of a device before each call.
+/// Runs the steps of a device's queue 0 before each call.
 pub fn stepped(rt: &impl Hand, device: Device) -> Direct {
     Direct::new(rt.alloc(), device, 0)
 }
 
-/// Steps a different queue of a device from now on.
+/// Runs the steps of a different queue of a device before each later call.
 pub fn stepped_on(rt: &impl Hand, direct: Direct, queue: u16) -> Direct {
     Direct::new(rt.alloc(), in_hand(direct), queue)
 }
@@ -147,7 +147,7 @@ pub fn end(rt: &impl Hand, device: Device) -> Vec<(u8, Octets)> {
     frames
 }
 
-/// The remains of a driver: its arena, and the numbers of lost blocks, returned packets and accepted packets.
+/// What remains of a driver: its arena, and the numbers of lost blocks, returned packets and accepted packets.
 pub fn left_by(home: Home) -> (Arena, u32, usize, usize) {
     let Home {
         arena,
@@ -174,7 +174,7 @@ pub fn is_done(rt: &impl Abort, reply: Reply) {
     }
 }
 
-/// The word in a reply to a read.
+/// The value in a reply to a read.
 pub fn word_in(rt: &impl Abort, reply: Reply) -> u32 {
     match reply {
         Reply::Word(word) => word,
@@ -190,17 +190,17 @@ pub fn block_in(rt: &impl Abort, reply: Reply) -> Buf {
     }
 }
 
-/// Makes an event, and checks that the reply is `Done`.
+/// Applies an event, and checks that the reply is `Done`.
 pub fn make<N: Nic>(rt: &impl Hand, nic: &mut N, event: Event) {
     is_done(rt, done(rt, nic.call(rt.alloc(), event)));
 }
 
-/// Lets a frame arrive, and checks that it joins the receive list.
+/// Delivers a frame, and checks that it is appended to the receive list.
 pub fn arrive<N: Nic>(rt: &impl Hand, nic: &mut N, bytes: Vec<u8>) {
     make(rt, nic, Event::Arrive(Octets::of(bytes)));
 }
 
-/// The frame with this number: 60 to 315 bytes that start with the number.
+/// The frame with this number, which is 60 to 315 bytes long and starts with the number.
 pub fn frame_of(rt: &impl Hand, number: u16) -> Vec<u8> {
     let [low, high] = number.to_le_bytes();
     let mut bytes = empty(rt);
@@ -309,7 +309,7 @@ pub fn stops<N: Nic>(rt: &impl Hand, nic: &mut N, pmd: Pmd, packets: (usize, usi
     same_pair(rt, stop(rt, nic, pmd), packets);
 }
 
-/// Checks that stopping a driver times out because its queue isn't stepped.
+/// Checks that stopping a driver times out because the steps of its queue don't run.
 pub fn stop_times_out<N: Nic>(rt: &impl Hand, nic: &mut N, pmd: Pmd) -> Pmd {
     let StopRefused { fault, pmd } = refused(rt, pmd.stop(rt.alloc(), nic));
     is_why(rt, &fault, Why::StartTimeout);

@@ -10,12 +10,12 @@ use nic_device::{Event, Octets, Port};
 use pmd::{Direct, Packet, Pmd};
 use std::collections::VecDeque;
 
-/// The tail registers of queue 0. Writing them hands descriptors to the device.
+/// The tail registers of queue 0. Writing one hands descriptors to the device.
 const RDT: u32 = 0x1018;
 
 const TDT: u32 = 0x6018;
 
-/// The number of calls that wrote this register of the physical function.
+/// The number of calls that wrote this register through the physical function.
 fn writes(calls: &Calls, register: u32) -> usize {
     let (made, _rested) = calls.kept();
     let mut writes: usize = 0;
@@ -27,7 +27,7 @@ fn writes(calls: &Calls, register: u32) -> usize {
     writes
 }
 
-/// A device, a driver of its queue 0, and the received packets that weren't sent yet.
+/// A device, a driver of its queue 0, and the received packets that haven't been sent yet.
 struct Bursts {
     direct: Direct,
     pmd: Pmd,
@@ -35,7 +35,7 @@ struct Bursts {
 }
 
 impl Bursts {
-    /// Creates a device and a driver with rings of this size and `count` blocks from block 4 on.
+    /// Creates a device and a driver with rings of this size and `count` blocks starting at block 4.
     fn new(rt: &impl Hand, size: u16, count: u32) -> Bursts {
         let mut direct = opened(rt, 64, 0);
         let pmd = started_with(rt, &mut direct, size, (4, count));
@@ -46,7 +46,7 @@ impl Bursts {
         }
     }
 
-    /// Lets the frames with numbers `first` to `after` - 1 arrive.
+    /// Delivers the frames with numbers `first` to `after` - 1.
     fn arrive(&mut self, rt: &impl Hand, first: u16, after: u16) {
         for number in first..after {
             arrive(rt, &mut self.direct, frame_of(rt, number));
@@ -63,7 +63,7 @@ impl Bursts {
     }
 
     /// Sends the packets in a burst, which frees sent packets if fewer than `vacant` slots are free. Returns the number
-    /// of packets that it accepted.
+    /// of packets accepted.
     fn sent(&mut self, rt: &impl Hand, vacant: u16) -> u16 {
         done(
             rt,
@@ -72,7 +72,7 @@ impl Bursts {
         )
     }
 
-    /// The number of calls so far that wrote a register of the physical function.
+    /// The number of calls so far that wrote a register through the physical function.
     fn writes(&self, register: u32) -> usize {
         writes(self.direct.calls(), register)
     }
@@ -87,8 +87,8 @@ impl Bursts {
         same(rt, usize::from(number), usize::from(count));
     }
 
-    /// Ends everything after all packets were sent. Checks that `count` packets were returned and accepted. Returns the
-    /// transmitted frames.
+    /// Stops the driver and closes the device after all packets were sent. Checks that `count` packets were returned
+    /// and accepted. Returns the transmitted frames.
     fn end(self, rt: &impl Hand, count: usize) -> Vec<(u8, Octets)> {
         let Bursts {
             mut direct,
@@ -132,7 +132,7 @@ fn packets_come_and_go_by_bursts_with_one_tail_write_each(rt: HostRuntime) {
     forty_come_and_go(&rt);
 }
 
-/// A step of the test. Frames with these numbers arrive; a burst receives at most this many packets; or a burst sends,
+/// A step of the test: frames with these numbers arrive; a burst receives at most this many packets; or a burst sends,
 /// and frees sent packets if fewer than this many slots are free.
 #[derive(Clone, Copy)]
 enum Step {
@@ -165,7 +165,7 @@ fn make_step(rt: &impl Hand, bursts: &mut Bursts, step: Step) -> u16 {
     }
 }
 
-/// Runs these steps with rings of 8, through which nine packets are received and sent.
+/// Runs these steps with rings of 8 slots, through which nine packets are received and sent.
 fn make_steps(rt: &impl Hand, steps: &[(Step, u16)]) {
     let mut bursts = Bursts::new(rt, 8, 32);
     for (step, wanted) in steps {
@@ -175,8 +175,8 @@ fn make_steps(rt: &impl Hand, steps: &[(Step, u16)]) {
     bursts.end(rt, 9);
 }
 
-/// With rings of 8, at most seven packets can be outstanding. While three transmitted packets aren't freed, a burst
-/// sends four more. The last two are sent only by a burst that frees those three.
+/// With rings of 8 slots, at most seven packets can be outstanding. While the blocks of three transmitted packets
+/// aren't freed, a burst sends four more. Only a burst that frees these blocks sends the last two.
 #[test]
 fn a_burst_frees_what_was_sent_where_too_few_slots_are_vacant(rt: HostRuntime) {
     make_steps(&rt, &STEPS);

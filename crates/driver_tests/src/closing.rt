@@ -1,5 +1,5 @@
-//! A shared device doesn't close with the wrong passes. Its history stays unchanged, takes further calls up to its
-//! limit, and closes with the right passes.
+//! A shared device doesn't close with the wrong passes. Its history stays unchanged and accepts further calls up to its
+//! limit, and the device closes with the right passes.
 
 use crate::bench::{count_calls, end};
 use crate::outcome::{Hand, done, push, refused, same, same_pair, sees, some};
@@ -35,8 +35,8 @@ fn stays_open(
     (shared, passes)
 }
 
-/// Makes three more calls with pass 1, after which the history takes no more. Then closes the device with both passes
-/// and checks that the history contains all 16 calls, ten of pass 0 and six of pass 1.
+/// Makes three more calls with pass 1, after which the history is full. Then closes the device with both passes and
+/// checks that the history contains all 16 calls, ten of pass 0 and six of pass 1.
 fn goes_on(rt: &impl Hand, bench: Bench, passes: Vec<Pass>) {
     let mut passes = passes;
     let mut second = some(rt, passes.pop());

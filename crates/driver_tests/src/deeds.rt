@@ -15,9 +15,9 @@ pub enum At {
     Transmit,
     /// A free range in the block of its receive ring.
     Free,
-    /// Block 100, for a ring of the others.
+    /// Block 100, for a ring of the other programs.
     Ring,
-    /// Block 101, for a buffer of the others.
+    /// Block 101, for a buffer of the other programs.
     Buffer,
 }
 
@@ -43,20 +43,21 @@ impl Rings {
 /// An action of the other programs.
 #[derive(Clone, Copy)]
 pub enum Deed {
-    /// They write a word to a register at a port, by the register's number there.
+    /// They write a value to a register at a port, by the register's number there.
     Writes(Port, u32, u32),
-    /// They take this many blocks, from a block number on.
+    /// They take this many blocks, starting at a block number.
     Takes(u32, u32),
-    /// They lend this many of their own blocks, from a block number on.
+    /// They lend this many of their own blocks, starting at a block number.
     Lends(u32, u32),
     /// They fill the eight slots of a ring with one byte value.
     Fills(At, u8),
-    /// They write a descriptor to the eight slots of a ring. The descriptor consists of a buffer's place and, as a
-    /// word, its second half.
+    /// They write a descriptor to the eight slots of a ring. The descriptor consists of a buffer's place and of the
+    /// value of its second half.
     Names(At, At, u64),
-    /// Queue 3 receives a TCP segment through a ring of 8.
+    /// Queue 3 receives a TCP segment through a ring of 8 slots.
     Receives(At),
-    /// Queue 3 fetches this many slots of a ring of 8. If a second place is given, its head is written back there.
+    /// Queue 3 fetches this many slots of a ring of 8 slots. If a second place is given, the ring's head is written
+    /// back there.
     Sends(At, Option<At>, u32),
 }
 
@@ -68,7 +69,7 @@ pub struct Doing {
 }
 
 impl Doing {
-    /// Creates a value without events, with these blocks for the others.
+    /// Creates a value without events, with these blocks for the other programs.
     pub fn new(rt: &impl Hand, rings: Rings, (first, count): (u32, u32)) -> Doing {
         Doing {
             list: empty(rt),

@@ -11,7 +11,7 @@ use crate::rig::Rig;
 use nic_device::{Arena, Buf, Event, Mode, Octets, Port};
 use pmd::{Bufs, Direct, Nic, Packet, Pmd, Rest, Setup, StartRefused, TxFault};
 
-/// Lets the TCP frame arrive and receives it.
+/// Delivers the TCP frame and receives it.
 fn tcp_received(rt: &impl Hand, rig: &mut Rig) -> Packet {
     rig.arrive(rt, segment(rt, TCP_FRAME[35]));
     let packet = some(rt, rig.received(rt));
@@ -73,7 +73,7 @@ fn tcp_is_hashed(rt: &impl Hand, rig: &mut Rig) {
     release(rt, &mut rig.pmd, packet);
 }
 
-/// With 16 pools a virtual function has eight queues. A frame's entry of the redirection table selects one of them.
+/// With 16 pools, a virtual function has eight queues. A frame's redirection table entry selects one of them.
 #[test]
 fn the_sixth_queue_of_a_function_receives_by_the_hash(rt: HostRuntime) {
     let rt = &rt;
@@ -170,7 +170,7 @@ pub fn refused_start<N: Nic>(
     )
 }
 
-/// Ends the remains of a refused start. Returns the reason of the refusal, and whether blocks were lent.
+/// Closes or stops what a refused start returned. Returns the reason for the refusal, and whether blocks were lent.
 pub fn come_home<N: Nic>(rt: &impl Hand, nic: &mut N, refusal: StartRefused) -> (Why, bool) {
     let StartRefused { fault, rest } = refusal;
     let (packets, is_lent) = match rest {
@@ -201,8 +201,8 @@ fn start_beside(rt: &impl Hand, steps: Steps, size: u16, numbers: (u32, u32)) ->
     }
 }
 
-/// A start on a queue that the device can't have. The size of a ring, the length of frames and the number of blocks are
-/// checked first.
+/// A start on a queue that no device has. The size of a ring, the length of frames and the number of blocks are checked
+/// first.
 type Unnamed<'a> = (&'a str, u16, u16, u32, Why);
 
 #[rattlefmt::skip]
@@ -329,7 +329,7 @@ fn stop_twice(rt: &impl Hand) {
     Rig { direct, pmd }.end(rt, (0, 0));
 }
 
-/// While the device is stepped on another queue, the first stop finds that the driver's queue isn't disabled. The
+/// While the device's steps run for another queue, the first stop finds that the driver's queue isn't disabled. The
 /// second stop succeeds. In between, the driver refuses calls because it isn't running, but still creates packets and
 /// takes them back.
 #[test]
@@ -350,7 +350,7 @@ fn stop_with_a_loss(rt: &impl Hand, direct: &mut Direct, pmd: Pmd) -> Arena {
     arena
 }
 
-/// Takes a block from a driver. It counts as lost, and all others are free again.
+/// Takes a block from a driver. The block counts as lost, and all others are free again.
 fn lose_a_block(rt: &impl Hand) {
     let Rig { mut direct, pmd } = Rig::new(rt, 8, (4, 32));
     let gone = taken(rt, &mut direct, 9);
@@ -360,7 +360,8 @@ fn lose_a_block(rt: &impl Hand) {
     end(rt, in_hand(direct));
 }
 
-/// If a block is taken from the device without the driver's knowledge, it counts as lost. All others are free again.
+/// If a block is taken from the device without the driver's knowledge, the block counts as lost. All others are free
+/// again.
 #[test]
 fn a_block_that_is_gone_is_lost(rt: HostRuntime) {
     lose_a_block(&rt);

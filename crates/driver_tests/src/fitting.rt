@@ -1,4 +1,4 @@
-//! Whether a closed history says that the frames accepted before a driver's start fit its packets.
+//! Whether the frames accepted before a driver's start fit its packets, according to a closed history.
 
 use crate::bench::{PLAIN, end, word_in};
 use crate::outcome::{Hand, done, empty, fail, holds, push, sees, some};
@@ -11,7 +11,7 @@ type Bench = Shared<0, 64>;
 
 /// The length of an arriving frame in bytes, the maximum length of a driver's frames with their check sequence, whether
 /// the frame is accepted, and whether it fits the driver's packets or was dropped. The packets have one, two or five
-/// blocks of 2,048 bytes.
+/// 2,048-byte blocks.
 #[rattlefmt::skip]
 const ROWS: [(&str, u16, u16, bool, bool); 8] = [
     ("one block holds it", 2048, 1518, true, true),
@@ -24,7 +24,7 @@ const ROWS: [(&str, u16, u16, bool, bool); 8] = [
     ("it is dropped as too short", 59, 1518, false, true),
 ];
 
-/// Lets a broadcast frame of this many bytes arrive. Returns whether it is accepted.
+/// Delivers a broadcast frame of this length in bytes. Returns whether it is accepted.
 fn arrive(rt: &impl Hand, bench: &Bench, pass: &mut Pass, len: u16) -> bool {
     let mut bytes = empty(rt);
     for _byte in 0..len {
@@ -46,7 +46,7 @@ fn look(rt: &impl Hand, bench: &Bench, pass: &mut Pass) {
     word_in(rt, done(rt, reported));
 }
 
-/// Sets the device up for frames of 9,728 bytes with their check sequence.
+/// Sets the device up for 9,728-byte frames, including their check sequence.
 fn set_up(rt: &impl Hand, bench: &Bench, pass: Pass) -> Pass {
     let mut nic = ThroughLock::new(rt, bench, pass, 0);
     let setup = Setup {
@@ -73,8 +73,9 @@ fn fits_in(rt: &impl Hand, bench: Bench, passes: [Pass; 2], frame: u16) -> bool 
     answer
 }
 
-/// Whether a frame of this many bytes is accepted by a device for frames of 9,728 bytes with their check sequence, and
-/// whether the frames fit a driver that makes its first event right after. A longer frame is accepted after that event.
+/// Whether a frame of this length is accepted by a device that is set up for 9,728-byte frames, including their check
+/// sequence, and whether the frames fit a driver that makes its first event immediately afterwards. A longer frame is
+/// accepted after that event.
 fn fits(rt: &impl Hand, len: u16, frame: u16) -> (bool, bool) {
     let (bench, mut passes) = done(rt, Bench::new(rt.alloc(), 1, 2, 1000));
     let other = some(rt, passes.pop());

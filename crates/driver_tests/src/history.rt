@@ -1,4 +1,4 @@
-//! The calls on an owned device as a history. A driver of queue 0 made some of them, and others made the rest.
+//! The calls on an owned device as a history. A driver of queue 0 made some of them, and other programs made the rest.
 
 use crate::outcome::{Hand, done, push, some};
 use device_lock::{Call, Entry, Watched, left_alone};
@@ -8,7 +8,7 @@ use pmd::Direct;
 /// The pass of the driver.
 pub const DRIVER: u8 = 0;
 
-/// The pass of all others.
+/// The pass of all other programs.
 pub const OTHERS: u8 = 1;
 
 /// Appends a call to a history.
@@ -49,7 +49,7 @@ pub fn add_marked(rt: &impl Hand, history: &mut Vec<Entry>, marks: &[bool], call
     }
 }
 
-/// Whether a history from a new device leaves the driver's queue alone.
+/// Whether a history that begins with a new device leaves the driver's queue alone.
 pub fn is_left_alone(history: &[Entry]) -> bool {
     let watched = Watched {
         vfs: 1,

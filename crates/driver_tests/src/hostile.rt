@@ -1,5 +1,5 @@
-//! A driver with a queue that others don't leave alone. Nothing is promised about its packets, but it can still be
-//! stopped.
+//! A driver with a queue that other programs don't leave alone. Nothing is promised about its packets, but it can still
+//! be stopped.
 
 use crate::bench::{
     PLAIN, frame_of, in_hand, left_by, make, release, set_up, started, stepped, stopped,
@@ -16,7 +16,7 @@ use device_lock::Entry;
 use nic_device::{Arena, Buf, Device, Event, Mode, Octets, Port, Reply};
 use pmd::{Direct, Home, Nic, Packet, Pmd, Setup, StopRefused, TxAnswer, TxFault};
 
-/// Foreign writes, by address and word, that reach a driver's queue 0 or the whole device, and whether each of them
+/// Foreign writes, by address and value, that affect a driver's queue 0 or the whole device, and whether each of them
 /// still leaves the queue alone.
 #[rattlefmt::skip]
 pub const WRITES: [(u32, u32, bool); 24] = [
@@ -88,7 +88,7 @@ type Reported<P> = (What, P, P);
 
 const NO_WRITE: Reported<At> = (What::Nothing, Zero, Zero);
 
-/// Actions of others, in order. (A table of lists can't be a constant, and its proof would need a step for each
+/// Actions of others, in order. (A table of lists can't be a constant, and proving it would need a step for each
 /// element.)
 type Deeds = (Deed, Deed, Deed);
 
@@ -128,10 +128,10 @@ const GOES_ON: u64 = 0x000F_0000_2A30_003C;
 
 const ENDS: u64 = 0x000F_0000_2B30_003C;
 
-/// In the first rows others write registers, take and lend blocks, and write descriptors. In the last rows a step of
-/// queue 3 writes, in some of them into the driver's blocks. Only the reply shows this, whichever pass runs the step.
-/// The ring of queue 3 may be in one of the driver's blocks, where all bytes are 0 and therefore name block 0, or it
-/// may be the driver's own ring.
+/// In the first rows, other programs write registers, take and lend blocks, and write descriptors. In the last rows, a
+/// step of queue 3 writes to memory, in some of them into the driver's blocks. Only the reply shows this, whichever
+/// pass runs the step. The ring of queue 3 may be in one of the driver's blocks, where all bytes are 0 and therefore
+/// name block 0, or it may be the driver's own ring.
 #[rattlefmt::skip]
 const ROWS: [Row<'static>; 28] = [
     ("nothing is done", On::Plain, SAME, (NONE, NONE, NONE), true, NO_WRITE),
@@ -198,7 +198,7 @@ fn begin_on(rt: &impl Hand, setup: &Setup) -> Begun {
     }
 }
 
-/// Appends `count` lists with the steps of queue 0. In every fifth a frame arrives.
+/// Appends `count` lists with the steps of queue 0. In every fifth list, a frame arrives.
 fn traffic(rt: &impl Hand, schedule: &mut Schedule, count: u16) {
     for number in 0..count {
         let mut list = empty(rt);
@@ -223,7 +223,7 @@ pub fn offer<N: Nic>(rt: &impl Hand, nic: &mut N, pmd: &mut Pmd, packet: Packet)
     }
 }
 
-/// Drives thirty rounds and ignores the results.
+/// Runs the driver for thirty rounds and ignores the results.
 fn drive<N: Nic>(rt: &impl Hand, nic: &mut N, pmd: &mut Pmd) {
     for _round in 0..30 {
         match pmd.rx(rt.alloc(), nic) {
@@ -247,7 +247,7 @@ fn schedule_with(rt: &impl Hand, list: Vec<Event>) -> Schedule {
     schedule
 }
 
-/// The remains of a stopped driver. If the stop was refused, stops it again.
+/// What remains of a stopped driver. If the stop was refused, stops the driver again.
 fn home_of(rt: &impl Hand, direct: &mut Direct, stopped: Result<Home, StopRefused>) -> Home {
     match stopped {
         Ok(home) => home,
@@ -281,14 +281,14 @@ fn endures(rt: &impl Hand, begun: Begun, doing: Doing) -> Vec<Entry> {
     history
 }
 
-/// Switches the steps of the device on again, and stops the driver.
+/// Enables the device's steps again, and stops the driver.
 pub fn stopped_again(rt: &impl Hand, direct: &mut Direct, pmd: Pmd) -> Home {
     make(rt, direct, Event::Write(Port::Pf, 0, 0));
     stopped(rt, direct, pmd)
 }
 
-/// Checks that all blocks are back or counted as lost. The lost blocks and the second arena's blocks must be where the
-/// others left them: owned, or still lent.
+/// Checks that all blocks were returned or are counted as lost. The lost blocks and the second arena's blocks must be
+/// where the other programs left them: in hand, or still lent.
 fn settle(rt: &impl Hand, home: Home, device: Device, mut bufs: Vec<Buf>, second: Arena) {
     let (arena, lost, _handed, _accepted) = left_by(home);
     same(rt, arena.free_blocks().saturating_add(lost) as usize, 32);

@@ -32,7 +32,7 @@ fn switched(rt: &impl Hand, device: Device) -> Interleaved {
     during(rt, device, schedule)
 }
 
-/// The device of an `Interleaved`. Its foreign events must not have taken a block.
+/// Finishes an `Interleaved` and returns its device. The foreign events must not have taken a block.
 pub fn without_blocks(rt: &impl Hand, nic: Interleaved) -> Device {
     let Left {
         device,
@@ -44,7 +44,7 @@ pub fn without_blocks(rt: &impl Hand, nic: Interleaved) -> Device {
     device
 }
 
-/// A packet of 60 bytes in a free block.
+/// A 60-byte packet in a free block.
 fn own_packet(rt: &impl Hand, pmd: &mut Pmd) -> Packet {
     some(rt, pmd.packet(60))
 }
@@ -66,8 +66,8 @@ fn empty_comes_back(rt: &impl Hand, nic: &mut Interleaved, pmd: &mut Pmd) {
     release(rt, pmd, packet);
 }
 
-/// Sends seven packets, which the ring accepts but nothing transmits. The stop times out. Other faults of a packet are
-/// reported before the full ring.
+/// Sends seven packets, which the ring accepts but which aren't transmitted. The stop times out. Other faults of a
+/// packet are reported before the full ring.
 fn seven_are_taken(rt: &impl Hand, nic: &mut Interleaved, pmd: Pmd) -> Pmd {
     let mut pmd = pmd;
     for _packet in 0..7 {
@@ -91,8 +91,7 @@ fn fill_a_ring(rt: &impl Hand) {
     same(rt, end(rt, without_blocks(rt, nic)).len(), 0);
 }
 
-/// If both sides are switched on at the start and nothing is stepped afterwards, the ring accepts exactly seven
-/// packets.
+/// If both sides are switched on at the start and no steps run afterwards, the ring accepts exactly seven packets.
 #[test]
 fn a_ring_of_eight_takes_seven_packets_that_nobody_sends(rt: HostRuntime) {
     fill_a_ring(&rt);
@@ -110,8 +109,8 @@ fn last_is_a_fault(rt: &impl Hand, mut replies: Vec<Reply>) {
     emptied(rt, replies);
 }
 
-/// Lists for two calls. Before the first a frame arrives and a tail beyond the ring is written; before the second the
-/// device receives.
+/// Lists for two calls. Before the first call, a frame arrives and a tail beyond the ring is written; before the
+/// second, the device receives.
 fn foreign_tail(rt: &impl Hand) -> Schedule {
     let (mut first, mut second) = (empty(rt), empty(rt));
     push(rt, &mut first, Event::Arrive(Octets::of(frame_of(rt, 0))));
@@ -120,7 +119,7 @@ fn foreign_tail(rt: &impl Hand) -> Schedule {
     done(rt, Vec::from_array(rt.alloc(), [first, second]))
 }
 
-/// Marks the driver's calls among five: one follows two foreign events, the other follows one.
+/// Marks that identify the driver's calls among five: one follows two foreign events, the other follows one.
 const OWN: &[bool] = &[false, false, true, false, true];
 
 /// Finishes an `Interleaved` with five calls, of which the last foreign one met a fault.
@@ -158,7 +157,7 @@ fn a_foreign_tail_switches_the_queue_off(rt: HostRuntime) {
 }
 
 /// Sets up the transmit ring of another queue, with 8 slots in the first of two lent blocks. Each descriptor names 60
-/// bytes of the second.
+/// bytes of the second block.
 fn lay_out<N: Nic>(rt: &impl Hand, nic: &mut N, queue: u16, [ring, data]: [Buf; 2]) {
     let (base, [low, middle, high, _]) = (ring.block() * 2048, (data.block() * 2048).to_le_bytes());
     let side = 0x06000 + 0x40 * u32::from(queue);
@@ -176,7 +175,7 @@ fn lay_out<N: Nic>(rt: &impl Hand, nic: &mut N, queue: u16, [ring, data]: [Buf; 
 }
 
 /// Lists in which queues 3 and 6 send alternately, queue 0 sends, and the device receives. The first 200 lists switch
-/// these queues on. After that a frame arrives in every eighth list.
+/// these queues on. After that, a frame arrives in every eighth list.
 fn busy(rt: &impl Hand, count: u16) -> Schedule {
     let mut schedule = empty(rt);
     for number in 0..count {
@@ -227,7 +226,7 @@ fn with_two_queues(rt: &impl Hand, others: &mut Arena) -> Device {
     in_hand(direct)
 }
 
-/// If a packet waits, checks that it contains the frame with this number and sends it. Returns the next number.
+/// If a packet is waiting, checks that it contains the frame with this number and sends it. Returns the next number.
 fn next_goes_on(rt: &impl Hand, nic: &mut Interleaved, pmd: &mut Pmd, number: u16) -> u16 {
     match received(rt, nic, pmd) {
         Some(packet) => {
@@ -262,7 +261,7 @@ fn a_thousand_go_through(rt: &impl Hand, device: Device) -> Device {
     in_hand(direct)
 }
 
-/// Dismantles a device to which blocks of one arena are lent. Returns its transmitted frames.
+/// Closes a device to which blocks of one arena are lent, and returns the blocks. Returns its transmitted frames.
 fn apart(rt: &impl Hand, device: Device, others: Arena) -> Vec<(u8, Octets)> {
     let mut bufs = empty(rt);
     let (memory, frames) = taken_apart(device);
@@ -281,8 +280,8 @@ fn go_through_beside_two(rt: &impl Hand) {
     went_out(rt, frames.as_slice(), 1000);
 }
 
-/// A thousand frames arrive while two other queues send. Each is received through a ring of eight, in order, and sent
-/// back.
+/// A thousand frames arrive while two other queues send. Each is received through a ring of eight slots, in order, and
+/// sent back.
 #[test]
 fn a_thousand_frames_go_through_a_ring_of_eight_beside_two_queues(rt: HostRuntime) {
     go_through_beside_two(&rt);

@@ -28,14 +28,15 @@ fn packet_of(rt: &impl Hand, rig: &mut Rig, len: u16) -> Packet {
     some(rt, rig.pmd.packet(len))
 }
 
-/// A packet with the Bufs for `held` bytes that claims to have `more` bytes.
+/// A packet with Bufs for `held` bytes that claims to be `more` bytes long.
 fn claiming(rt: &impl Hand, rig: &mut Rig, held: u16, more: u16) -> Packet {
     let mut packet = packet_of(rt, rig, held);
     packet.len = held.saturating_add(more);
     packet
 }
 
-/// The maximum frame length of a driver, and the length of the longest packet that it sends. One more byte isn't sent.
+/// The maximum frame length of a driver, and the length of the longest packet that it sends. A packet that is one byte
+/// longer isn't sent.
 const LONGEST: [(u16, u16); 4] = [(1518, 1514), (1519, 1515), (4100, 4096), (9728, 9724)];
 
 /// Checks that a packet of the longest length is sent, and a longer one is returned.
@@ -58,7 +59,7 @@ fn the_longest_packet_is_sent_and_no_longer_one(rt: HostRuntime) {
     }
 }
 
-/// Checks that a packet of 2,048 bytes is sent from one Buf, and that one of 2,049 bytes isn't.
+/// Checks that a 2,048-byte packet is sent from one Buf, and that a 2,049-byte packet isn't.
 fn sends_what_its_bufs_hold(rt: &impl Hand) {
     let mut rig = rig_for(rt, 9728);
     let packet = claiming(rt, &mut rig, 2000, 48);

@@ -1,4 +1,4 @@
-//! A driver of long frames, up to 9,728 bytes including the frame check sequence.
+//! A driver of long frames, which are up to 9,728 bytes long including the frame check sequence.
 
 use crate::bench::{
     PLAIN, Why, close, count_calls, end, holds_bytes, in_hand, is_why, reason, release, set_up,
@@ -32,7 +32,7 @@ fn stop_with_320(rt: &impl Hand, direct: &mut Direct, pmd: Pmd, packets: (usize,
     same_pair(rt, close(rt, home), packets);
 }
 
-/// A broadcast frame of 5,000 bytes.
+/// A 5,000-byte broadcast frame.
 fn long_frame(rt: &impl Hand) -> Vec<u8> {
     let mut bytes = done(rt, Vec::from_array(rt.alloc(), [0xFF; 6]));
     for number in 6..5000_u16 {
@@ -165,8 +165,8 @@ fn made_no_call(rt: &impl Hand, direct: Direct) {
     end(rt, in_hand(direct));
 }
 
-/// A packet of 5,000 bytes, filled with these bytes by two writes, each of which continues in the next Buf. A write
-/// that would go one byte beyond the packet is refused.
+/// A 5,000-byte packet, filled with these bytes by two writes, each of which continues in the next Buf. A write that
+/// would extend one byte beyond the packet is refused.
 fn filled(rt: &impl Hand, pmd: &mut Pmd, frame: &[u8]) -> Packet {
     let (first, others) = frame.split_at(frame.len() / 2);
     let mut packet = some(rt, pmd.packet(5000));
@@ -186,7 +186,7 @@ fn a_packet_of_5_000_bytes_is_filled_and_sent(rt: HostRuntime) {
     goes_out(rt, rig, packet, (0, 1));
 }
 
-/// Sizes of rings, in descriptors, and of frames, in bytes, that no driver supports.
+/// Ring sizes, in descriptors, and frame sizes, in bytes, that no driver supports.
 const NO_SIZES: [(u16, u16); 3] = [(1032, 9728), (256, 9729), (256, 1517)];
 
 /// Checks that starting a driver with this size for these frames makes no call.
@@ -205,7 +205,7 @@ fn a_driver_of_no_such_size_makes_no_call(rt: HostRuntime) {
     }
 }
 
-/// Checks that a set-up for frames of up to this many bytes makes no call.
+/// Checks that a setup for frames of up to this many bytes makes no call.
 fn sets_nothing_up(rt: &impl Hand, frame: u16) {
     let setup = Setup { frame, ..PLAIN };
     let mut direct = untouched(rt, 64, 0);

@@ -6,10 +6,10 @@ use std::sync::atomic::{AtomicU64, Ordering};
 use std::sync::{Mutex, Wait};
 use std::thread;
 
-/// How often a task looks for another one that is sure to come: more often than any test can last. Other threads may
-/// run after each look.
+/// How many times a task looks for another one that is sure to come: enough to outlast any test. Other threads may run
+/// after each look.
 pub const PATIENT: u32 = u32::MAX;
-/// How often a task looks for another one that comes only later.
+/// How many times a task looks for another one that comes only later.
 pub const SHORT: u32 = 1_000;
 
 /// The number of points in a worker's run.
@@ -99,7 +99,7 @@ fn two_tasks_meet(rt: HostRuntime) {
     same(&rt, missing as usize, 0);
 }
 
-/// Passes each point in turn. After each point, checks that every worker has reached it.
+/// Passes the points one after the other. After each point, checks that every worker has reached it.
 fn go_through<G: Gate>(
     rt: &impl Hand,
     gate: &G,

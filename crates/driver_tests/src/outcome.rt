@@ -1,4 +1,4 @@
-//! The runtime of a test, and helpers that unwrap results and check conditions.
+//! A test's runtime, and helpers that unwrap results and check conditions.
 
 use std::alloc::AllocGlobal;
 use std::mem;

@@ -54,7 +54,7 @@ fn jobs_of(rt: &impl Hand, passes: &mut Vec<Pass>, blocks: &[(u32, u32)]) -> Vec
     jobs
 }
 
-/// Ends a job, which must have all of its blocks. Returns its pass.
+/// Closes the arena of a job, which must have all of its blocks. Returns the job's pass.
 fn pass_of(rt: &impl Hand, job: Job) -> Pass {
     let Job {
         pass,

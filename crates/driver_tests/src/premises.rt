@@ -1,13 +1,13 @@
 //! The premises of the laws about a driver's packets and blocks, tested with pairs of histories: one that just
 //! satisfies a premise, and one that doesn't because a single entry differs slightly. The entries are written out here,
-//! so each row shows the premise itself, whatever a device would have replied.
+//! so each row shows the premise itself, regardless of what a device would have replied.
 
 use crate::outcome::{Hand, done, empty, holds, push, some};
 use device_lock::{Entry, Watched, left_alone};
 use nic_device::{Arena, Buf, Event, EventNote, Octets, Port, Reply, ReplyNote};
 use pmd::{Doubt, Driven, Given, begins_well, judge, never_asked_on, others_lend_none};
 
-/// The pass of the driver; `OTHER` is the pass of all others.
+/// The driver's pass; `OTHER` is the pass of all others.
 const DRIVER: u8 = 0;
 
 const OTHER: u8 = 1;
@@ -70,7 +70,7 @@ enum Deed {
     /// A transmit step of this queue sent a frame and, if an address is given, reported it there.
     Sent(u16, Option<u64>),
     Advanced(u16, Option<u64>),
-    /// A frame of this many bytes arrives and is accepted.
+    /// A frame with this length in bytes arrives and is accepted.
     Arrives(u16),
 }
 
@@ -95,7 +95,7 @@ const FUNCTION: Given = Given {
     frame: 1518,
 };
 
-/// An arena of one block, and its block, filled with zeros and taken out.
+/// An arena with one block, and that block, filled with zeros and taken out.
 fn taken(rt: &impl Hand, number: u32) -> (Arena, Buf) {
     let mut arena = done(rt, Arena::new(rt.alloc(), number, 1));
     let buf = some(rt, arena.take());
@@ -220,8 +220,8 @@ const OWN: [(u8, Deed); 3] = [
     (DRIVER, Deed::Takes(5)),
 ];
 
-/// The initial value of GCR_EXT, an additional entry, the number of the driver's entries before it, and whether the
-/// queue is left alone.
+/// The initial value of GCR_EXT, an additional entry, the number of driver entries before it, and whether the queue is
+/// left alone.
 type Beside<'a> = (&'a str, u32, (u8, Deed), usize, bool);
 
 #[rattlefmt::skip]
@@ -406,7 +406,7 @@ fn a_driver_begins_well_or_not(rt: HostRuntime) {
 /// never enabled before.
 type Asked<'a> = (&'a str, Made, usize, bool);
 
-/// The value that requests a side to be enabled.
+/// The value that requests that a side be enabled.
 const ON: u32 = 0x0200_0000;
 
 #[rattlefmt::skip]

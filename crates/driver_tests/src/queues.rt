@@ -5,7 +5,7 @@ use crate::outcome::{Hand, done, holds, refused, same, sees, some};
 use nic_device::{Config, Device, Dir, Mode, Port};
 use pmd::{Direct, POLLS, Queue, Setup, pf_setup};
 
-/// A device with two virtual functions and 64 pools, stepped on its queue 2.
+/// A device with two virtual functions and 64 pools, of which the steps of queue 2 run.
 fn opened(rt: &impl Hand) -> Direct {
     let device = done(rt, Device::new(rt.alloc(), Config { vfs: 2, fifo: 64 }));
     let mut direct = Direct::new(rt.alloc(), device, 2);
@@ -17,7 +17,7 @@ fn opened(rt: &impl Hand) -> Direct {
     direct
 }
 
-/// The words of four registers of queue 2: RDBAL, RDLEN, TDBAL and RXDCTL.
+/// The values of four registers of queue 2: RDBAL, RDLEN, TDBAL and RXDCTL.
 fn words(rt: &impl Hand, device: &Device) -> [u32; 4] {
     let mut words = [0; 4];
     for (at, address) in [0x01080, 0x01088, 0x06080, 0x010A8].into_iter().enumerate() {
@@ -26,7 +26,7 @@ fn words(rt: &impl Hand, device: &Device) -> [u32; 4] {
     words
 }
 
-/// Makes both sides of a queue ready, enables them, and checks that they are enabled.
+/// Prepares both sides of a queue, enables them, and checks that they are enabled.
 fn bring_up(rt: &impl Hand, direct: &mut Direct, queue: &Queue) {
     let alloc = rt.alloc();
     for side in [Dir::Rx, Dir::Tx] {
@@ -44,11 +44,11 @@ fn bring_up(rt: &impl Hand, direct: &mut Direct, queue: &Queue) {
 enum Ask {
     /// Both sides are brought up.
     Up,
-    /// Both sides are brought up, then the receive side is made ready again.
+    /// Both sides are brought up, then the receive side is prepared again.
     ReadyAgain,
     /// The receive side is enabled.
     On,
-    /// The transmit side is made ready.
+    /// The transmit side is prepared.
     Ready,
 }
 

@@ -95,8 +95,8 @@ fn offer<N: Nic>(rt: &impl Hand, nic: &mut N, pmd: &mut Pmd, packet: Packet) {
     }
 }
 
-/// Drives this many rounds. Each sends back a received packet, sometimes sends one of the driver's own packets, and
-/// sometimes reaps.
+/// Runs the driver for this many rounds. Each round sends back a received packet, sometimes sends one of the driver's
+/// own packets, and sometimes reaps.
 fn drive<N: Nic>(rt: &impl Hand, random: &mut Random, nic: &mut N, pmd: &mut Pmd, rounds: usize) {
     for _round in 0..rounds {
         match received(rt, nic, pmd) {
@@ -113,14 +113,14 @@ fn drive<N: Nic>(rt: &impl Hand, random: &mut Random, nic: &mut N, pmd: &mut Pmd
     }
 }
 
-/// A driver among random events, the remains of its `Interleaved`, and the history before it.
+/// A driver among random events, what remains of its `Interleaved`, and the history before it.
 struct During {
     pmd: Pmd,
     left: Left,
     history: Vec<Entry>,
 }
 
-/// Starts a driver among random events, and drives it.
+/// Starts a driver among random events, and runs it.
 fn driven(rt: &impl Hand, others: &mut Others) -> During {
     let lists = others.lists(rt, 2500);
     let mut history = empty(rt);
@@ -142,8 +142,8 @@ fn is_well(rt: &impl Hand, history: &[Entry], pmd: &Pmd) {
     sees(rt, tally.sent as usize <= pmd.accepted().len());
 }
 
-/// Sets the link up and steps only the driver's queue before each call. The driver returns all waiting frames, and all
-/// accepted packets are transmitted.
+/// Brings the link up and runs only the steps of the driver's queue before each call. The driver returns all waiting
+/// frames, and all accepted packets are transmitted.
 fn settle(rt: &impl Hand, others: &mut Others, nic: &mut Direct, pmd: &mut Pmd) {
     match done(rt, nic.call(rt.alloc(), Event::Link(true))) {
         Reply::Done | Reply::Idle => {}
@@ -188,8 +188,7 @@ struct Settled {
     foreign: usize,
 }
 
-/// Drives a driver among random events and checks it. Lets it settle, stops it, and checks that its queue was left
-/// alone.
+/// Runs a driver among random events and checks it. Lets it settle, stops it, and checks that its queue was left alone.
 fn driven_and_stopped(rt: &impl Hand, others: &mut Others) -> Settled {
     let During {
         mut pmd,
@@ -259,7 +258,7 @@ fn among_events_of(rt: &impl Hand, seed: u32) -> usize {
     foreign
 }
 
-/// In total, 100,000 foreign events happen, none of which touches the driver's queue. The driver returns the first of
+/// In total, 100,000 foreign events occur, none of which touches the driver's queue. The driver returns the first of
 /// the frames written for its queue, and in the end all of them. The device transmits the first of the packets that the
 /// driver accepted, and in the end all of them.
 #[test]

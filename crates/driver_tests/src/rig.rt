@@ -24,12 +24,12 @@ impl Rig {
         Rig { direct, pmd }
     }
 
-    /// Lets a frame arrive from the link.
+    /// Delivers a frame from the link.
     pub fn arrive(&mut self, rt: &impl Hand, bytes: Vec<u8>) {
         arrive(rt, &mut self.direct, bytes);
     }
 
-    /// The next packet, if one waits.
+    /// The next packet, if one is waiting.
     pub fn received(&mut self, rt: &impl Hand) -> Option<Packet> {
         received(rt, &mut self.direct, &mut self.pmd)
     }
@@ -51,7 +51,7 @@ impl Rig {
         self.send(rt, packet);
     }
 
-    /// Lets five frames arrive, numbered from `first` on, checks that they are returned in order, and sends them back.
+    /// Delivers five frames, numbered starting at `first`, checks that they are returned in order, and sends them back.
     fn five_frames(&mut self, rt: &impl Hand, first: u16) {
         for number in first..first.saturating_add(5) {
             self.arrive(rt, frame_of(rt, number));
@@ -69,8 +69,8 @@ impl Rig {
         }
     }
 
-    /// Stops the driver. Checks that all its blocks are back, and its numbers of returned and accepted packets. Returns
-    /// the transmitted frames.
+    /// Stops the driver. Checks that all its blocks were returned, and checks its numbers of returned and accepted
+    /// packets. Returns the transmitted frames.
     pub fn end(self, rt: &impl Hand, packets: (usize, usize)) -> Vec<(u8, Octets)> {
         let Rig { mut direct, pmd } = self;
         stops(rt, &mut direct, pmd, packets);

@@ -161,8 +161,8 @@ fn limited(rt: &impl Hand, limit: u32) -> bool {
     met
 }
 
-/// Whatever the limit, from just after the set-up to where both workers are done, every call returns, the history
-/// closes with at most that many entries, and all blocks come back.
+/// Whatever the limit, from just after the setup to where both workers are done, every call returns, the history closes
+/// with at most that many entries, and all blocks are returned.
 #[test]
 fn a_full_history_ends_both_workers(rt: HostRuntime) {
     sees(&rt, limited(&rt, 300));
@@ -172,7 +172,7 @@ fn a_full_history_ends_both_workers(rt: HostRuntime) {
     sees(&rt, !limited(&rt, 2_300));
 }
 
-/// Visits of a neighbour, by name: the number of blocks that each worker loses, whether each queue is left alone, and
+/// A neighbour's visits, by name: the number of blocks that each worker loses, whether each queue is left alone, and
 /// the number of arenas that don't close before those blocks are returned.
 #[rattlefmt::skip]
 const VISITS: [(&str, How, [u32; 2], [bool; 2], usize); 2] = [

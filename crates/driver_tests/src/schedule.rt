@@ -1,4 +1,4 @@
-//! Lists of foreign events for an `Interleaved`, its remains at the end, and the return of blocks.
+//! Lists of foreign events for an `Interleaved`, what remains of it at the end, and the return of blocks.
 
 use crate::history::add_marked;
 use crate::outcome::{Hand, done, emptied, empty, none, push, put, some};
@@ -44,7 +44,7 @@ fn let_all_go(rt: &impl Hand, bufs: &mut Vec<Buf>, mut list: Vec<Event>) {
     emptied(rt, list);
 }
 
-/// The remains of an `Interleaved`: the device, the history of its calls, the number of foreign events, and the blocks
+/// What remains of an `Interleaved`: the device, the history of its calls, the number of foreign events, and the blocks
 /// that foreign events took or didn't lend.
 pub struct Left {
     /// The device at the end.

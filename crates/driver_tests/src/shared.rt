@@ -89,14 +89,14 @@ fn read(rt: &impl Hand, bench: &Bench, pass: &mut Pass, address: u32) -> u32 {
     word_in(rt, reply(rt, bench, pass, Event::Read(Port::Pf, address)))
 }
 
-/// Writes a word and checks that it reads back.
+/// Writes a register and checks that the value reads back.
 fn write_and_see(rt: &impl Hand, bench: &Bench, pass: &mut Pass, address: u32, word: u32) {
     write(rt, bench, pass, address, word);
     let reported = read(rt, bench, pass, address);
     same(rt, reported as usize, word as usize);
 }
 
-/// Alternately writes the EITR word that belongs to a pass and reads it back, ten calls in total.
+/// Alternately writes a pass's EITR register and reads it back, ten calls in total.
 pub fn write_and_read(rt: &impl Hand, bench: &Bench, pass: Pass) -> Pass {
     let mut pass = pass;
     let tag = u32::from(pass.tag());
@@ -107,7 +107,7 @@ pub fn write_and_read(rt: &impl Hand, bench: &Bench, pass: Pass) -> Pass {
 }
 
 /// Switches a side of a queue on and off through the lock. Each switch is a write and a poll. Each of these four calls
-/// follows four steps of the device.
+/// follows four device steps.
 pub fn switch(rt: &impl Hand, bench: &Bench, pass: Pass, queue: u16) -> Pass {
     let mut nic = ThroughLock::new(rt, bench, pass, queue);
     let at = some(rt, Queue::new(Port::Pf, queue));
@@ -118,7 +118,7 @@ pub fn switch(rt: &impl Hand, bench: &Bench, pass: Pass, queue: u16) -> Pass {
     nic.finish()
 }
 
-/// The work of a thread with its pass: it writes and reads a word, or it switches queue 5 or 6.
+/// A thread's work with its pass: it writes and reads a register, or it switches queue 5 or 6.
 #[derive(Clone, Copy)]
 enum Deed {
     Words,
@@ -136,7 +136,7 @@ fn work(rt: &impl Hand, bench: &Bench, pass: Pass, work: Deed) -> Pass {
     }
 }
 
-/// Lets two passes do this work, each on its own thread.
+/// Does this work with two passes, each on its own thread.
 fn both_work(rt: &impl Hand, bench: &Bench, passes: Vec<Pass>, what: Deed) -> Vec<Pass> {
     let mut passes = passes;
     let mut second = passes.pop();
@@ -149,7 +149,7 @@ fn both_work(rt: &impl Hand, bench: &Bench, passes: Vec<Pass>, what: Deed) -> Ve
     passes_of(rt, [some(rt, first), some(rt, second)])
 }
 
-/// Lets two threads work on one device. Checks the total number of calls, and the number of one pass's calls.
+/// Runs two threads that work on one device. Checks the total number of calls, and the number of one pass's calls.
 fn two_threads(rt: &impl Hand, what: Deed, tag: u8, calls: (usize, usize)) {
     let (bench, passes) = shared(rt, 1, 2, 1000);
     let passes = both_work(rt, &bench, passes, what);
@@ -207,7 +207,7 @@ fn five_and_seven(rt: &impl Hand, bench: &Bench, pass: Pass) -> Pass {
     pass
 }
 
-/// One pass makes calls that follow steps, until the history is full.
+/// One pass makes calls, each after steps, until the history is full.
 fn call_after_steps(rt: &impl Hand) {
     let (bench, mut passes) = shared(rt, 1, 1, 7);
     let pass = five_and_seven(rt, &bench, some(rt, passes.pop()));
@@ -274,7 +274,7 @@ fn three_and_no_more(rt: &impl Hand, bench: &Bench, pass: Pass) -> Pass {
     pass
 }
 
-/// Checks that a history of three calls takes no more.
+/// Checks that a history with a limit of three calls accepts no more.
 fn fill_a_history(rt: &impl Hand) {
     let (bench, mut passes) = shared(rt, 1, 1, 3);
     let pass = three_and_no_more(rt, &bench, some(rt, passes.pop()));

@@ -62,7 +62,7 @@ fn job(rt: &impl Hand, pass: Pass) -> Vec<Job> {
     jobs
 }
 
-/// Runs the job at a gate, without frames. Returns the worker's end.
+/// Runs the job at a gate, without frames. Returns the worker's outcome.
 fn run<G: Gate + Sync>(
     rt: &impl Hand,
     gate: &G,
@@ -80,7 +80,8 @@ fn run<G: Gate + Sync>(
     end
 }
 
-/// Runs the job at a gate that shuts the worker out. Returns the worker's end, and the passes of the gate and the host.
+/// Runs the job at a gate that shuts the worker out. Returns the worker's outcome, and the passes of the gate and of
+/// the calling thread.
 fn ended(rt: &impl Hand, bench: &Bench, passes: Vec<Pass>) -> (WorkerEnd, Vec<Pass>) {
     let mut passes = passes;
     let mut host = some(rt, passes.pop());
@@ -101,8 +102,8 @@ fn ended(rt: &impl Hand, bench: &Bench, passes: Vec<Pass>) -> (WorkerEnd, Vec<Pa
     (end, passes)
 }
 
-/// Checks that the worker was shut out and its driver still runs, because no side is disabled while the device takes no
-/// steps. Returns the pass and the driver.
+/// Checks that the worker was shut out and its driver couldn't be stopped, because no side is disabled while no device
+/// steps run. Returns the pass and the driver.
 fn is_shut_out(rt: &impl Hand, end: WorkerEnd) -> (Pass, Pmd) {
     let WorkerEnd {
         pass,
@@ -118,7 +119,7 @@ fn is_shut_out(rt: &impl Hand, end: WorkerEnd) -> (Pass, Pmd) {
     }
 }
 
-/// Runs one worker, closes the device, and stops the driver after the device takes steps again.
+/// Runs one worker, closes the device, and stops the driver after device steps run again.
 fn shut_one_out(rt: &impl Hand) {
     let (bench, passes) = done(rt, Bench::new(rt.alloc(), 1, 3, 100_000));
     let (ended, passes) = ended(rt, &bench, passes);
@@ -132,7 +133,7 @@ fn shut_one_out(rt: &impl Hand) {
     same(rt, end(rt, in_hand(direct)).len(), 0);
 }
 
-/// If the gate shuts the worker out and stopping the driver then times out, the end reports the shut gate.
+/// If the gate shuts the worker out and stopping the driver then times out, the outcome reports the shut gate.
 #[test]
 fn the_first_fault_of_a_worker_is_reported(rt: HostRuntime) {
     shut_one_out(&rt);

@@ -1,5 +1,5 @@
 //! Two drivers of the queues of one pool, while 10,000 frames arrive. A stranger resets the device, the pool and the
-//! function, takes and lends blocks of the drivers' rings, and writes random words to registers on which the queues
+//! function, takes and lends blocks of the drivers' rings, and writes random values to registers on which the queues
 //! rely.
 
 use crate::bench::segment;
@@ -49,7 +49,7 @@ impl Driver {
         }
     }
 
-    /// Takes over the remains of a stopped driver.
+    /// Takes over what remains of a stopped driver.
     fn come_home(&mut self, rt: &impl Hand, home: Home) {
         let Home {
             arena,
@@ -61,7 +61,7 @@ impl Driver {
         put(rt, &mut self.arena, arena);
     }
 
-    /// Starts the driver if it is stopped. A driver that only half started is stopped later.
+    /// Starts the driver if it is stopped. A driver that started only partly is stopped later.
     fn start(&mut self, rt: &impl Hand, bench: &Bench) {
         let Some(arena) = self.arena.take() else {
             return;
@@ -123,7 +123,7 @@ impl Driver {
     }
 }
 
-/// A random event of the stranger.
+/// A random event by the stranger.
 fn event(random: &mut Random, bufs: &mut Vec<Buf>) -> Event {
     let queue = u32::from(random.byte() % 2);
     match random.byte() % 8 {
@@ -142,7 +142,7 @@ fn event(random: &mut Random, bufs: &mut Vec<Buf>) -> Event {
     }
 }
 
-/// Two drivers, the host that sets everything up and lets frames arrive, and a stranger.
+/// Two drivers, the host that sets everything up and delivers frames, and a stranger.
 struct Storm {
     random: Random,
     drivers: [Driver; 2],
@@ -175,7 +175,7 @@ impl Storm {
     }
 
     /// Stops both drivers, sets the device up, and starts them. Both queues belong to pool 0, and frames are
-    /// distributed between them by their hash.
+    /// distributed between them using their hash.
     fn begin(&mut self, rt: &impl Hand, bench: &Bench) {
         self.stop(rt, bench);
         let host = some(rt, self.host.take());
@@ -189,7 +189,7 @@ impl Storm {
         }
     }
 
-    /// Lets a frame arrive from the link.
+    /// Delivers a frame from the link.
     fn arrive(&mut self, rt: &impl Hand, bench: &Bench) {
         let mut host = some(rt, self.host.take());
         let arriving = Event::Arrive(Octets::of(segment(rt, self.random.byte())));
@@ -198,8 +198,8 @@ impl Storm {
         put(rt, &mut self.host, host);
     }
 
-    /// Lets four frames arrive, lets the stranger make an event in a quarter of the rounds, and lets both drivers
-    /// receive and send.
+    /// Delivers four frames, applies an event by the stranger in a quarter of the rounds, and has both drivers receive
+    /// and send.
     fn turn(&mut self, rt: &impl Hand, bench: &Bench) {
         for _frame in 0..4 {
             self.arrive(rt, bench);
@@ -241,7 +241,7 @@ fn end_storm(rt: &impl Hand, storm: Storm) -> Over {
     }
 }
 
-/// Runs all rounds of a storm, with the set-up.
+/// Runs all rounds of a storm, with the setup.
 fn all_turns(rt: &impl Hand, bench: &Bench, storm: &mut Storm) {
     for number in 0..TURNS {
         if number % SPELL == 0 {

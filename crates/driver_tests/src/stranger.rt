@@ -12,7 +12,7 @@ use nic_device::{Arena, Buf, Event, Port, Reply};
 use pmd::Gate;
 use std::sync::atomic::{AtomicU64, Ordering};
 
-/// The neighbour's number at the gate, after the workers and the host.
+/// The neighbour's number at the gate, after those of the workers and the calling thread.
 const NEIGHBOUR: usize = 3;
 
 /// The minimum and the maximum number of events of the stranger.
@@ -20,10 +20,10 @@ pub const LEAST: u32 = 1_000;
 
 const MOST: u32 = 20_000;
 
-/// The actions of other programs next to the workers.
+/// What other programs do next to the workers.
 #[derive(Clone, Copy)]
 pub enum How {
-    /// There is no other action.
+    /// Other programs do nothing.
     Nothing,
     /// A neighbour takes the blocks that slots 5 and 6 of queue 0 name.
     Takes,
@@ -53,7 +53,7 @@ impl Beside {
         }
     }
 
-    /// Appends the arenas to others. Returns the owned blocks.
+    /// Appends the other programs' arenas to `arenas`. Returns the blocks in hand.
     pub fn leave(self, rt: &impl Hand, arenas: &mut Vec<Arena>) -> Vec<Buf> {
         let Beside {
             how: _,
@@ -68,9 +68,9 @@ impl Beside {
         bufs
     }
 
-    /// Acts through the other programs' pass. A visit happens after both workers have started, and no step is made
-    /// before it is done. The stranger continues until the workers have ended, within its minimum and maximum number
-    /// of events.
+    /// Acts through the other programs' pass. A visit takes place after both workers have started, and no step runs
+    /// before it is over. The stranger continues until the workers have ended, within its minimum and maximum number of
+    /// events.
     pub fn act<G: Gate>(
         &mut self,
         rt: &impl Hand,
@@ -107,7 +107,7 @@ impl Beside {
         }
     }
 
-    /// Lets the neighbour take the block that a slot of queue 0 names.
+    /// The neighbour takes the block that a slot of queue 0 names.
     fn take(&mut self, rt: &impl Hand, bench: &Bench, pass: &mut Pass, slot: u32) {
         let (_at, [a, b, c, d, ..]) = descriptor(rt, bench, pass, 0, slot);
         let block = u32::from_le_bytes([a, b, c, d]) / 2048;
@@ -154,7 +154,7 @@ impl Beside {
     }
 }
 
-/// Lets the neighbour poke slot 0 of queue 0 so that it names the block of slot 0 of queue 1.
+/// The neighbour pokes slot 0 of queue 0 so that it names the block of slot 0 of queue 1.
 fn redirect(rt: &impl Hand, bench: &Bench, pass: &mut Pass) {
     let (at, _named) = descriptor(rt, bench, pass, 0, 0);
     let (_at, other) = descriptor(rt, bench, pass, 1, 0);

@@ -1,4 +1,5 @@
-//! Runs two workers, on queues 0 and 1 of a shared device, and another program on its own thread, and ends them.
+//! Runs two workers, on queues 0 and 1 of a shared device, and another program on its own thread, then stops everything
+//! and checks it.
 
 use crate::bench::{TCP_FRAME, TCP6_FRAME, count_calls, taken_apart};
 use crate::hostile::stopped_again;
@@ -18,10 +19,10 @@ use std::thread::join_mut;
 /// A shared device with one virtual function.
 pub type Bench = Shared<1, 64>;
 
-/// The number of blocks of each worker: those from 0 on, and those from 32 on.
+/// The number of blocks of each worker, which start at block 0 and at block 32.
 pub const BLOCKS: u32 = 32;
 
-/// The number of entries in a history after the set-up: 54 writes, each after four steps.
+/// The number of entries in a history after the setup: 54 writes, each after four steps.
 const SET_UP: usize = 270;
 
 /// The parameters of a run of two workers: the limit of entries in the history, the number of polls of each worker, and
@@ -36,7 +37,7 @@ pub struct Order {
     pub frames: u8,
 }
 
-/// A set-up that distributes TCP segments over IPv4 between queues 0 and 1.
+/// A setup that distributes TCP segments over IPv4 between queues 0 and 1.
 pub fn parting(mode: Mode, mrqc: u32) -> Setup {
     let mut reta = [0; 128];
     for entry in 0..64usize {
@@ -59,7 +60,7 @@ const KEY: [u8; 40] = [
     0x6A, 0x42, 0xB7, 0x3B, 0xBE, 0xAC, 0x01, 0xFA,
 ];
 
-/// The set-up of `nicbench threads` for two workers: its IPv4 frames go to queue 0, and its IPv6 frames to queue 1.
+/// The setup of `nicbench threads` for two workers: its IPv4 frames go to queue 0, and its IPv6 frames to queue 1.
 fn setup_of_threads() -> Setup {
     let mut reta = [0; 128];
     for entry in 0..64usize {
@@ -138,8 +139,8 @@ fn work<G: Gate + Sync>(
     done(rt, ran)
 }
 
-/// Runs two workers at a gate, and the other program. Returns the workers' ends, and the passes of the host and of the
-/// other program.
+/// Runs two workers at a gate, and the other program. Returns the workers' outcomes, and the passes of the calling
+/// thread and of the other program.
 fn run_beside<G: Gate + Sync>(
     rt: &impl Hand,
     gate: &G,
@@ -167,7 +168,7 @@ fn run_beside<G: Gate + Sync>(
     (some(rt, ran), host, other)
 }
 
-/// The outcome of a run after all blocks came back.
+/// The outcome of a run after all blocks were returned.
 #[derive(Drop)]
 pub struct Came {
     /// The number of accepted frames.
@@ -188,11 +189,12 @@ pub struct Came {
     pub lost: [u32; 2],
     /// Whether the history leaves each queue alone.
     pub alone: [bool; 2],
-    /// The number of arenas that didn't close before all blocks came back.
+    /// The number of arenas that didn't close before all blocks were returned.
     pub away: usize,
 }
 
-/// The parts still to be dismantled: the outcome so far, the running drivers with their queues, and the arenas.
+/// What must still be stopped and closed, with the outcome so far: the running drivers with their queues, and the
+/// arenas.
 struct Ending {
     came: Came,
     running: Vec<(u16, Pmd)>,
@@ -234,7 +236,7 @@ impl Ending {
         }
     }
 
-    /// Adds the remains of a queue's driver. Checks that each of its blocks is free or counted as lost.
+    /// Adds what remains of a queue's driver. Checks that each of its blocks is free or counted as lost.
     fn add_home(&mut self, rt: &impl Hand, queue: u16, home: Home) {
         let Home {
             arena,
@@ -247,7 +249,7 @@ impl Ending {
         push(rt, &mut self.arenas, arena);
     }
 
-    /// Adds one worker's end. Returns its pass.
+    /// Adds one worker's outcome. Returns its pass.
     fn add(&mut self, rt: &impl Hand, end: WorkerEnd) -> Pass {
         let WorkerEnd {
             pass,
@@ -265,7 +267,7 @@ impl Ending {
         pass
     }
 
-    /// Adds the facts of the history.
+    /// Adds what the history shows.
     fn look(&mut self, rt: &impl Hand, closed: &Closed<1, 64>) {
         self.came.made = closed.history().len();
         self.came.alone = [closed.left_alone(0, 0), closed.left_alone(1, 1)];
@@ -273,7 +275,7 @@ impl Ending {
         same(rt, beside.len(), self.came.beside);
     }
 
-    /// Stops the running drivers on the owned device. Frames that are transmitted meanwhile are appended to `sent`.
+    /// Stops the running drivers on the owned device. Frames that are transmitted during this are appended to `sent`.
     fn stop_all(&mut self, rt: &impl Hand, device: Device, sent: &mut Sent) -> Device {
         let mut device = device;
         for _driver in 0..self.running.len() {
@@ -295,7 +297,7 @@ impl Ending {
 /// The transmitted frames that weren't collected, as queue and length, in order.
 pub type Sent = VecDeque<(u16, usize)>;
 
-/// Adds a reply to the transmitted frames.
+/// Adds the frame that a reply reports as transmitted, or removes the one that it reports as collected.
 fn add_sent(rt: &impl Hand, sent: &mut Sent, reply: &ReplyNote) {
     match reply {
         ReplyNote::Sent { queue, len, .. } => done(rt, sent.push_back((*queue, *len))),
@@ -346,7 +348,7 @@ pub fn apart(
     all_home(rt, bufs, arenas)
 }
 
-/// Collects the ends of all workers. Returns the parts to dismantle, and all passes.
+/// Collects the outcomes of all workers. Returns what must still be stopped and closed, and all passes.
 fn begin_ending(rt: &impl Hand, ran: Ran, host: Pass, other: Pass) -> (Ending, Vec<Pass>) {
     let Ran { mut ends, fed } = ran;
     let mut ending = Ending::new(rt, fed, count_calls(other.calls()));
@@ -376,7 +378,7 @@ fn end_all(rt: &impl Hand, ending: Ending, closed: Closed<1, 64>, beside: Beside
     came
 }
 
-/// Runs two workers at a gate with the other program, and ends everything.
+/// Runs two workers at a gate with the other program, and stops and closes everything.
 pub fn run_team<G: Gate + Sync>(
     rt: &impl Hand,
     gate: &G,

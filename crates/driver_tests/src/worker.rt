@@ -1,4 +1,4 @@
-//! The run of one worker: its state when it reaches its last point, and its end after that.
+//! The run of one worker: its state when it reaches its last point, and its outcome after that.
 
 use crate::bench::{PLAIN, close, end, word_in};
 use crate::outcome::{
@@ -19,21 +19,21 @@ impl<R: Abort + Wait + AllocGlobal> Caller for R {}
 /// A shared device without virtual functions.
 type Bench = Shared<0, 64>;
 
-/// The set-up for the longest frames.
+/// The setup for the longest frames.
 const LONG: Setup = Setup {
     frame: 9728,
     ..PLAIN
 };
 
-/// The result of a look at the device: whether both sides of queue 0 are enabled, and the transmitted frame, which is
+/// What the gate saw of the device: whether both sides of queue 0 are enabled, and the transmitted frame, which is
 /// empty if there is none.
 struct Seen {
     is_on: bool,
     frame: Octets,
 }
 
-/// A gate at which a worker and the host meet. When the worker reaches point 2, the gate looks at the device through
-/// its own pass.
+/// A gate at which a worker and the calling thread meet. When the worker reaches point 2, the gate looks at the device
+/// through its own pass.
 struct Looking<'a, R> {
     rt: &'a R,
     bench: &'a Bench,
@@ -89,7 +89,7 @@ impl<'a, R: Caller> Gate for Looking<'a, R> {
     }
 }
 
-/// A broadcast frame of 9,000 bytes, which takes five Bufs.
+/// A 9,000-byte broadcast frame, which takes five Bufs.
 fn frame(rt: &impl Hand) -> Vec<u8> {
     let mut bytes = done(rt, Vec::from_array(rt.alloc(), [0xFF; 6]));
     for number in 6..9000_u16 {
@@ -98,7 +98,7 @@ fn frame(rt: &impl Hand) -> Vec<u8> {
     bytes
 }
 
-/// A frame of 59 bytes, which is too short to be accepted, followed by the long frame.
+/// A 59-byte frame, which is too short to be accepted, followed by the long frame.
 fn frames(rt: &impl Hand) -> Vec<Vec<u8>> {
     let short = done(rt, Vec::from_array(rt.alloc(), [0xFF; 59]));
     done(rt, Vec::from_array(rt.alloc(), [short, frame(rt)]))
@@ -128,7 +128,7 @@ fn job(rt: &impl Hand, pass: Pass) -> Vec<Job> {
     jobs
 }
 
-/// Runs the job while both frames arrive. Checks that one is accepted. Returns the worker's end.
+/// Runs the job while both frames arrive. Checks that one is accepted. Returns the worker's outcome.
 fn run<G: Gate + Sync>(
     rt: &impl Hand,
     gate: &G,
@@ -163,7 +163,8 @@ fn has_echoed(rt: &impl Hand, end: WorkerEnd) -> Pass {
     pass
 }
 
-/// Runs the job at a `Looking` gate. Returns the passes of the host, the worker and the gate, and the gate's looks.
+/// Runs the job at a `Looking` gate. Returns the passes of the calling thread, the worker and the gate, and what the
+/// gate saw.
 fn watched(rt: &impl Hand, bench: &Bench, passes: Vec<Pass>) -> (Vec<Pass>, Vec<Seen>) {
     let mut passes = passes;
     let mut host = set_up(rt, bench, some(rt, passes.pop()));

@@ -19,7 +19,7 @@ enable_word true = 0x2000000
 enable_word false = 0
 
 -- The driver reads that the side is off, writes "off", and reads that it is off again. After this, the device holds
--- back no write to the side's ring registers, and no device step enables the side while the driver writes them.
+-- back no value written to the side's ring registers, and no device step enables the side while the driver writes them.
 abbrev pub quiet : Dir → List Access
 quiet side = Sees (enable_row side) false ∷ Sets (enable_row side) 0 ∷ Sees (enable_row side) false ∷ []
 

@@ -64,7 +64,7 @@ all_again m own (n ∷ later) then (next, goes, more) =
     let (others, follow, ends) = all_again n next later then more in
     (by_own next n ∷ others, (follows_again m own n next goes, follow), ends)
 
--- The driver's own calls from its start on, after calls that came before.
+-- The driver's own calls since its start, after earlier calls.
 pub own_again : {q : AtPort} {size frame : ℕ} {old : List Call} {a : Numbers} {m : Moment} {later : List Moment}
     {ahead own : List Call} (x : IsReportedBy q size frame old a m later ahead own)
     → IsReportedAgain q size frame old a m later ahead own x
@@ -89,7 +89,7 @@ own_again {q = q} {old = old} {m = m} {later = later} {ahead = ahead} {own = own
 pub retagged_along : {w : Watched} {origin : State} {h g : List Entry} → IsRetagged w origin h g → IsAlong w origin g
 retagged_along {origin = origin} {h = h} {g = g} x = grind (arith, common_steps, events_same, legal_same)
 
--- A start with none of its blocks lent, which never finds the device at fault.
+-- A start before which none of its blocks is lent; it never finds the device at fault.
 
 abbrev apart : BeginsBeside → BeginsApart
 apart x = record {

@@ -159,7 +159,7 @@ module _ (q : AtPort) where
   pub asks_end : (old new : List Call) → Asks q old new → Ends q old new
   asks_end old new (cs, is, are) = (cs, is, each_such (IsAsking q) (IsEnding q) asking_ends cs are)
 
--- Accesses of the enable words that don't request that a side be enabled.
+-- Accesses to the enable words that don't request that a side be enabled.
 
 abbrev pub MayAsk : Access → Type 0
 MayAsk (Sees row on) = IsEnable row
@@ -256,7 +256,7 @@ module _ {q : AtPort} {side : Dir} {size : ℕ} {old : List Call} {a : Numbers} 
 pub quiet_plain : (q : AtPort) (old new : List Call) → AreMade q old new both_quiet → AreMadeOf (IsPlain q) old new
 quiet_plain q old new = accesses_plain q both_quiet old new (refl, (refl, (refl, (refl, (refl, (refl, tt))))))
 
--- A receive ring is made ready.
+-- A receive ring is prepared.
 pub ready_plain : {q : AtPort} {size frame : ℕ} {old : List Call} {a : Numbers} {new : List Call} {b : Numbers}
     {v : Receive} → IsReceiveReady q size frame old a new b v → AreMadeOf (IsPlain q) old new
 ready_plain {q = q} {old = old} {new = new} x =

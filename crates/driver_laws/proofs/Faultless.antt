@@ -1,6 +1,6 @@
--- No call of a driver finds the device at fault from the place where both sides of its queue are on, and so over its
--- whole life. Nor does a burst meet it at fault, whatever it returns. What a call reports also holds after other calls:
--- the calls that it added come after the driver's. The same holds for a start.
+-- No driver call finds the device at fault after the place where both sides of the driver's queue are on, and so over
+-- its whole life. Nor does a burst meet the device at fault, whatever the burst returns. What a call reports also holds
+-- after other calls: the calls that it added come after the driver's. The same holds for a start.
 use Rattle.driver_laws.proofs.Laying.{LaysTo, among, past_first, preparing_lays, ready_after, then_some}
 use Rattle.driver_laws.proofs.Order.{begun, drawn_both, drawn_gone, driven_by, first, last_before, may, on_before}
 use Rattle.driver_laws.proofs.Order.{on_of}

@@ -1,5 +1,6 @@
--- The words that a driver writes to a queue's registers: while a side is off, it takes each of them whole. Also what a
--- driver relies on in addition to its sides: port and queue name its queue, and frames are no longer than its packets.
+-- The values that a driver writes to a queue's registers: while a side is off, each of them takes effect as a whole.
+-- Also what a driver relies on in addition to its sides: port and queue name its queue, and frames are no longer than
+-- its packets.
 use Rattle.driver_laws.proofs.StartPrelude.{AllAre, Done, Fits, HasGround, IsKept, IsPlain, NamesRow, Outcome, Tdwbah}
 use Rattle.driver_laws.proofs.StartPrelude.{WritesNoSetting, across, asks_pool_reset, asks_reset, gives, is_receive}
 use Rattle.driver_laws.proofs.StartPrelude.{is_setting, is_transmit, left_did, named_written, owner_of, plain-write}
@@ -59,9 +60,9 @@ driven dir row word fits = grind (arith, common_steps)
 pub side_driven : (side : Dir) → is_driven (enable_row side) ≡ true
 side_driven side = grind (arith, common_steps)
 
--- Words that a register takes whole, whatever it contained.
+-- Values that take effect in a register as a whole, whatever it contained.
 
--- A multiple of 128 with 20 bits, through a mask of bits 19 to 7.
+-- A 20-bit multiple of 128, through a mask of bits 19 to 7.
 pub merged-length : (old new : ℕ) → old % 2 ^ 7 ≡ 0 → new % 128 ≡ 0 → new < 2 ^ 20
     → merged 0x000FFF80 old new % 2 ^ 20 ≡ new
 merged-length old new low even small =
@@ -102,7 +103,7 @@ module _ (queue : ℕ) (s : State) (port : Port) (n word : ℕ) (row : RowId) (n
 
 -- A word of a row of a side that is off.
 
--- What a register takes of this word, whatever it contained.
+-- What this value changes in a register, whatever it contained.
 
 base_low : (high low word : ℕ) → low < 2 ^ 32 → low % 2 ^ 7 ≡ 0 → (word % 128 ≡ 0) × (word < 2 ^ 32)
     → high * 2 ^ 32 + merged 0xFFFFFF80 low word ≡ (high * 2 ^ 32 + low) / 2 ^ 32 * 2 ^ 32 + word

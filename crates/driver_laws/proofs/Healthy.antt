@@ -1,5 +1,5 @@
--- Each call of a driver gets a healthy reply over a whole history, and no call ends with the device at fault: the
--- waiting frames keep fitting, and what a reply relies on holds after each call.
+-- Each driver call gets a healthy reply over a whole history, and no call ends with the device at fault: the waiting
+-- frames keep fitting, and what a reply relies on holds after each call.
 use Rattle.driver_laws.proofs.InOrder.{Runs, driven_runs, first_doer, goes, heads, own_here, played_on, runs_on}
 use Rattle.driver_laws.proofs.Meeting.{Meets, driven_meets, others_apart, steps_harmless}
 use Rattle.driver_laws.proofs.StartPrelude.{AreFitting, Deed, IsDriven, IsHealthy, IsUp, begun_stays, both_apart}

@@ -1,5 +1,5 @@
--- The calls of a start, successful or failed, and those alongside them, in turn: how far they lay out an empty transmit
--- ring, and which blocks they lend.
+-- The calls of a start, successful or failed, and those alongside them, one after the other: how far they lay out an
+-- empty transmit ring, and which blocks they lend.
 use Rattle.driver_laws.proofs.{Reached.steps_are, CallKinds.switched_are, CallKinds.unswitched_are}
 use Rattle.driver_laws.specs.{Laid.MayLay, Laid.laid_by, StartPrelude.SwitchFails, StartPrelude.both_asked}
 use Rattle.driver_laws.specs.{TimedOut.AllAre}
@@ -31,7 +31,7 @@ Steps q size lent l (event.Write port number word) r m =
 Steps q size lent l (event.Lend block) reply.Done m = (m ≡ l) × IsTrue (lent block.number)
 Steps q size lent l e r m = m ≡ l
 
--- Calls in turn lay out from `l` to `last`, and lend only these blocks.
+-- Successive calls lay out from `l` to `last`, and lend only these blocks.
 abbrev pub StepsOn : AtPort → ℕ → Blocks → Laid → List Call → Laid → Type 0
 StepsOn q size lent l [] last = last ≡ l
 StepsOn q size lent l (c ∷ cs) last =
@@ -140,7 +140,7 @@ module _ (q : AtPort) (size : ℕ) (lent : Blocks) where
       let (some, one) = go_parts size done a rest l (subst (AllGo size l) is go) in
       then_some (all_made done l some made) (fails_made f a (all_gone l done) one fails)
 
-  -- A ring's words, followed by its blocks.
+  -- A ring's register values, followed by its blocks.
 
   abbrev pub Mine : List ℕ → Type 0
   Mine ns = (n : ℕ) → IsTrue (among ns n) → IsTrue (lent n)

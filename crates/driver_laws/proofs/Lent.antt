@@ -78,7 +78,8 @@ module _ (pass : ℕ) (own : Blocks) where
   begun_at [] e own = or_left _ _ own
   begun_at (f ∷ front) e own = or_right _ _ (begun_at front e own)
 
-  -- No other pass tries to lend them after an entry of the pass, also from that entry on.
+  -- No other pass tries to lend them after an entry of the pass; the same holds for the history that starts at that
+  -- entry.
 
   pub others_after : (front back : List Entry) → OthersLendNone pass own (front ++ back) → has_begun pass front ≡ true
       → OnlyPassLends pass own back
@@ -149,7 +150,7 @@ module _ (w : Watched) (origin : State) (h : List Entry) (q : AtPort) (size : �
         grind (arith, lent, not))
         (last_or_none made.calls)
 
--- Frames of this length fit the most blocks that a packet has.
+-- Frames of this length fit the maximum number of blocks of a packet.
 pub short_by : (queue : ℕ) (q : AtPort) (frame : ℕ) (s : State) → HasGround queue q frame s
     → All (FitsBlocks queue (most_blocks frame)) s.waiting → AreShort queue (most_blocks frame) s
 short_by queue q frame s g short = grind (arith, common_steps)

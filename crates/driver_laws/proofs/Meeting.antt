@@ -1,6 +1,6 @@
 -- Harmless calls alongside the driver's lead both halves on and leave the queue alone. Between two entries of a
--- history: an event of either half, or one of neither half that leaves the queue alone, keeps the invariant. A side of
--- the queue that is up stays up.
+-- history, an event of either half, or of neither half if it leaves the queue alone, keeps the invariant. A side of the
+-- queue that is up stays up.
 use Rattle.driver_laws.proofs.StartPrelude.{AreLent, BothAgree, IsDriven, IsMet, Spares, asked, both_apart, doer_of}
 use Rattle.driver_laws.proofs.StartPrelude.{doers_after, events_before, histories_sound, keeps_sound, mine-moved}
 use Rattle.driver_laws.proofs.StartPrelude.{mine_driven, plain-write, runs, vfs_stays, write_rest}

@@ -1,6 +1,6 @@
--- The words of both rings are written while neither side is requested to be on. Both are then requested and polled
--- until they are on. When both rings came up and both sides were enabled this way, the device and the driver agree on
--- both.
+-- The register values of both rings are written while no enable request is in effect for either side. Both sides are
+-- then requested to be enabled and polled until they are. When both rings came up and both sides were enabled this way,
+-- the device and the driver agree on both.
 use Rattle.pmd_driver.specs.PmdAccess.Frames.{most_blocks}
 use Rattle.pmd_driver.specs.{Running.Running, Started.AreUp}
 use Rattle.ring_laws.proofs.{Kept.first_place, Leaving.start_agrees as fresh_agrees}
@@ -26,7 +26,7 @@ use Rattle.std.proofs.Common.{Bool, List, [], ap, arith, false, inl, refl, repli
 use Rattle.std.proofs.Common.{zero, ℕ, ◌%◌, ◌*◌, ◌++◌, ◌+◌, ◌<◌, ◌∷◌, ◌≡◌, ◌≢◌, ◌≤◌}
 use Rattle.std.{proofs.lemmas.Bool.both_ways, proofs.lemmas.Grind.common_steps, specs.Prelude.IsTrue}
 
--- The sides after the words of both rings were written and their blocks lent.
+-- The sides after the register values of both rings were written and their blocks lent.
 abbrev pub laid : (ring size other : ℕ) → Sides → Sides
 laid ring size other p = laid_with Tx other size (laid_with Rx ring size p)
 
@@ -73,7 +73,7 @@ switching polls more = receive_polled true polls ++ polled Tx true more
 
 module _ (ring size other : ℕ) (one : IsSized ring size) (two : IsSized other size) (p : Sides)
     (off : ((p.side Rx).wanted ≡ false) × ((p.side Tx).wanted ≡ false)) where
-  -- Both are requested to be on.
+  -- The enable requests for both sides.
 
   abbrev asked_on : Sides
   asked_on = after_access (Sets Txdctl 0x2000000) (after_access (Sets Rxdctl 0x2000000) (laid ring size other p))

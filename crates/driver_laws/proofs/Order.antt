@@ -1,5 +1,5 @@
--- The halves when both sides of a queue are on: each has lent only its ring's blocks. What a driver lends from then on.
--- What it handed out and sent after both sides were enabled, and so in its life, also within a longer history: the
+-- The halves when both sides of a queue are on: each has lent only its ring's blocks. What a driver lends after that.
+-- What it handed out and sent after both sides were enabled, and so in its life, even if the history continues: the
 -- beginning of a life is a life too.
 use Rattle.pmd_driver.proofs.DeviceLock.Histories.{events_before, events_after, legal_before}
 use Rattle.ring_laws.proofs.Alone.{beginning_alone, histories_sound, rest_alone}
@@ -83,7 +83,7 @@ module _ {q : AtPort} {size frame : ℕ} {old : List Call} {a : Numbers} {ready_
       → MayLend (is_own a) (record { receive = v; transmit = t }) Receives n
   may n free = grind (arith, both_own, is_own-of_free, ring_gone)
 
--- A driver lends this way from then on.
+-- A driver lends this way after that.
 module _ {q : AtPort} {size frame : ℕ} {old : List Call} {a : Numbers} {new : List Call} {r : Running}
     (x : Lives q size frame old a new r) where
   pub fresh_own : OwnsSame a x.fresh.arena

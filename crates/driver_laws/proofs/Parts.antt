@@ -62,7 +62,7 @@ pub record Around (pass : ℕ) (h : List Entry) (calls : List Call) (c : Call) (
   pub later : calls_of pass following ≡ more
 
 module _ (pass : ℕ) where
-  -- A history around one of a pass's calls extends by one entry at its front.
+  -- A history around one of a pass's calls is extended by one entry at its front.
   ahead : (e : Entry) (es : List Entry) (xs calls : List Call) (c : Call) (more : List Call)
       → ((g : List Entry) → calls_of pass g ≡ xs → calls_of pass (e ∷ g) ≡ calls) → Around pass es xs c more
       → Around pass (e ∷ es) calls c more
@@ -120,7 +120,7 @@ module _ (pass : ℕ) where
         backs = calls_own pass a.entry a.following (eq-eqb a.entry.pass pass a.own) ∙ (λ k. a.call k ∷ a.later k);
       }
 
--- Of two beginnings of a list, for example of a history or of a pass's calls, one is a beginning of the other.
+-- Of two prefixes of a list, for example of a history or of a pass's calls, one is a prefix of the other.
 
 abbrev pub Begins : {A : Type 0} → List A → List A → Type 0
 Begins {A} xs zs = (back : List A) × (xs ++ back ≡ zs)

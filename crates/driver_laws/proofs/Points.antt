@@ -43,7 +43,7 @@ standing_sides_are_left w mine rings s e sides left covers stand =
     let begun = begun_stays w.queue s left.sound stand.begun e (on Rx).1 in
     assumption (λ (dir : Dir). (on dir).0, begun, zero, (on Rx).1, (on Tx).1)
 
--- A word is written to one of them.
+-- A value is written to a register of one of them.
 
 pub write_stands : (dir : Dir) → WriteStands dir
 write_stands dir queue s sides rings port n word row met stand unwanted fits goes names =
@@ -51,7 +51,7 @@ write_stands dir queue s sides rings port n word row met stand unwanted fits goe
     let t : State = after s (event.Write port n word) in
     let off = not_so (side_of dir queue s).on (sides dir).wanted x.wanted unwanted in
     let taken = words_taken dir queue s port n word row met.small met.sound off fits names in
-    -- A side that is off stays at rest: the word changes neither whether it is on nor what it has staged.
+    -- A side that is off stays at rest: the value changes neither whether it is on nor what it has staged.
     let same : side_of dir queue t ≡ side_with dir row word (record (sides dir) { on = false; staged = [] }) =
     let is = x.same in cc (taken.side) in
     let own : Stands (side_of dir queue t) (side_with dir row word (sides dir)) = grind (arith, same, not_so, goes) in
@@ -69,7 +69,7 @@ pub read_stands : (dir : Dir) → ReadStands dir
 read_stands dir queue s sides rings port n word stand names reported =
     grind (arith, common_steps, queues_left, reported_on, read_rest s port n)
 
--- A block of zero bytes is lent.
+-- A zero-filled block is lent.
 
 zero_in : (m : Memory) (ring b : ℕ) (rings : Blocks) → ((c : ℕ) → IsTrue (rings c) → IsZero m c)
     → IsTrue (and_one ring rings b) → IsZero (map.insert m ring (zero_block ring).bytes) b
@@ -80,7 +80,7 @@ pub lend_stands : LendStands
 unfolding step_of
 lend_stands queue s sides rings ring stand = search (rules, lent_cases, and_one, each_side, zero_in)
 
--- The state of sides after the accesses of a driver.
+-- The state of sides after a driver's accesses.
 
 -- What is preserved by each entry that receives and sends nothing.
 abbrev pub IdleKeeps : Watched → State → (List Entry → Type 0) → Type 0
@@ -97,7 +97,7 @@ unused_kept w origin done e received sent unused =
 abbrev pub with_all : List ℕ → Sides → Sides
 with_all ns p = record p { rings = and_all ns p.rings }
 
--- The sides after the words of one of their rings were written, and its blocks lent.
+-- The sides after the register values of one of their rings were written, and its blocks lent.
 abbrev pub laid_with : Dir → (ring size : ℕ) → Sides → Sides
 laid_with dir ring size p = with_all (ring_blocks ring size) (after_accesses (ring_words dir ring size) p)
 
@@ -198,7 +198,7 @@ module _ {w : Watched} {origin : State} {h : List Entry} (q : AtPort) (frame : �
       (λ k below. subst (λ (n : ℕ). IsLentBy w.pass n h) (omega arith) (lent (suc k) (omega (arith, below))))
       (added_at F G old mid lends at)
 
-  -- A ring is prepared: its words are written and its blocks are lent.
+  -- A ring is prepared: its register values are written and its blocks are lent.
   pub prepared_at : {side : Dir} {size : ℕ} {old : List Call} {a : Numbers} {new : List Call} {b : Numbers} {ring : ℕ}
       (F : Sides → Sides) → IsPrepared q side size old a new b ring
       → ((p : Sides) → C p → AllMay (ring_words side ring size) (F p))

@@ -237,7 +237,7 @@ module _ (K : Access → Type 0) where
     pub all_polled : (side : Dir) (count : ℕ) → AllAre K (polled side on count)
     all_polled side count = grind (arith, common_steps, all_both, missed, all_missed)
 
-    -- Both sides are requested before they are polled.
+    -- The requests for both sides come before the polls.
     pub all_received : AllAre K (both_asked on) → (count : ℕ) → AllAre K (receive_polled on count)
     all_received asked count = all_both (both_asked on) (polled Rx on count) asked (all_polled Rx count)
 

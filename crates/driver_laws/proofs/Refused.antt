@@ -1,6 +1,6 @@
--- The calls of a start lay out an empty transmit ring, in turn, and those alongside them lay out no more of it. The
--- same is true of the calls of a refused start, as far as it got, until its remains came down. Therefore it sends
--- nothing.
+-- The calls of a start lay out an empty transmit ring, one after the other, and those alongside them lay out no more of
+-- it. The same is true of the calls of a refused start, as far as it got, until what it left was stopped. Therefore it
+-- sends nothing.
 use Rattle.driver_laws.proofs.{Healthy.drive_same, Laid.laid_queue_is_silent, CallKinds.each_such}
 use Rattle.driver_laws.specs.StartPrelude.{drive}
 use Rattle.driver_laws.specs.{Laid.Lays, Laid.LaysOn, StartPrelude.Rdt, StartPrelude.StartRefused}
@@ -80,8 +80,8 @@ module _ (q : AtPort) (size : ℕ) where
       (stay q size any_block
       (since, is, all_stay Empty (at_start q.port tail ring size most) marks since own others (refl, named)))
 
-  -- The calls of a driver with a refused start lay out an empty transmit ring this far, until it came down. So it sent
-  -- nothing on its queue.
+  -- The calls of a driver with a refused start lay out an empty transmit ring this far, until the driver was stopped.
+  -- So it sent nothing on its queue.
 
   -- A start that was refused during its events.
   starting_lays : {frame : ℕ} {old : List Call} {a : Numbers} {new : List Call} {e : StartRefused}
@@ -98,7 +98,7 @@ module _ (q : AtPort) (size : ℕ) where
       (prepared_lays q size any_block {side = Tx} (λ n is. refl) x.transmit.prepared) goes in
       (Empty, then_lays q size any_block (receive_ready q size any_block x.receive (λ n is. refl)) both)
 
-  -- The remains come down.
+  -- What the start left is stopped.
 
   half_lays : {l : Laid} (h : Halted) (r : Rest) (old new : List Call) (left : Rest) → IsHalfStarted q h r
       → ComesDown old r new left → LaysSo l old new l
@@ -137,7 +137,7 @@ none_first : (xs ys : List (List ℕ)) → xs ++ ys ≡ [] → ys ≡ []
 none_first [] ys is = is
 none_first (x ∷ xs) ys is = cc
 
--- Lemmas up to some place during the start and the stop of its remains.
+-- Lemmas up to some place during the start and the stop of what it left.
 module _ (c : Course) {e : StartRefused} {new : List Call} {left : Rest}
     (never : NeverLived c.q c.size c.frame c.old c.a e new left) (along : IsAlong c.w c.origin c.h)
     (before following : List Entry) (first : Entry) (split : before ++ first ∷ following ≡ c.h)
@@ -150,7 +150,7 @@ module _ (c : Course) {e : StartRefused} {new : List Call} {left : Rest}
   abbrev calls : List Call
   calls = call_in first ∷ calls_of w.pass following
 
-  -- The calls from the first on.
+  -- The calls, starting with the first.
   lays : (last : Laid) × LaysOn q Off calls last
   lays =
       let (cs, last, is, laid) = by_gate q c.size c.frame old c.a e new left never _ refl in

@@ -1,6 +1,7 @@
--- A call of a driver that polls last and finds no packet complete, or the oldest outstanding one not done, within a
--- longer history. What a call reports also holds after other calls: the calls that it added come after a life. A
--- driver's life as its calls report it is a life: it continues over calls as reported, with harmless ones between.
+-- A driver call of which the last event is a poll that finds no packet complete, or the oldest outstanding one not
+-- done, even if the history continues. What a call reports also holds after other calls: the calls that it added come
+-- after a life. A driver's life as its calls report it is a life: it continues over calls as reported, with harmless
+-- ones in between.
 use Rattle.driver_laws.proofs.Order.{Ran, all_apart, begun, counted, driven, fresh_own, in_parts, last as last_there}
 use Rattle.driver_laws.proofs.Prelude.{AllFollow, AllOwn, AtPort, Block, Blocks, Call, Doer, Drives, Drove, Entry}
 use Rattle.driver_laws.proofs.Prelude.{Event, FindsNone, Follows, Halves, IsReported, Leads, LeadsApart, Life, List, Lives}
@@ -226,13 +227,13 @@ module _ (x : Reported) where
     goes = (led x.reported).leads;
   }
 
--- If a driver reports its ring full, or accepts none of several packets without a fault, its ring has no room for the
--- first.
+-- If a driver reports that its ring is full, or accepts none of several packets without a fault, its ring has no room
+-- for the first.
 
 -- A running driver with one vacant slot.
 module _ (size : ℕ) (m n : Moment) (r : Running) (p : Packet) (is : m.driver.rings ≡ Up r)
     (some : HasRoom size r.transmit) where
-  -- If the driver reports its ring full, the ring has no room for the packet.
+  -- If the driver reports that its ring is full, the ring has no room for the packet.
   pub full_lacks : TellsFull m n p
       → (outstanding m.driver.rings < size) × (size ≤ outstanding m.driver.rings + parts_for p.len)
   full_lacks tells = grind (arith, common_steps)

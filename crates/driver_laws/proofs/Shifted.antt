@@ -63,7 +63,7 @@ rings r s old new x =
       owns = x.owns;
     })
 
--- Accesses of registers, and those that stop.
+-- Register accesses, and those that stop.
 
 module _ (q : AtPort) where
   pub access : (a : Access) → Shift (λ o n. IsMade q o n a)

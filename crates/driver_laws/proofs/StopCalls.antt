@@ -31,7 +31,7 @@ abbrev pub once_of : (q : AtPort) (old new mid off : List Call) → Asks q old m
     → Ends q off new → EndsOnceOff q old new
 once_of q old new mid off asks on ends = record { mid = mid; off = off; asks = asks; switched = on; ends = ends }
 
--- Until both sides are off, the calls only request them to be off.
+-- Until both sides are off, the calls only request that they be off.
 pub off_asks : (q : AtPort) (old new : List Call) (x : EndsOnceOff q old new) → Asks q old x.off
 off_asks q old new x = then_made (IsAsking q) old x.mid x.off x.asks (switched_off_asks q x.mid x.off x.switched)
 

@@ -1,5 +1,5 @@
 -- What a driver handed out and sent stays in order during its stop and after. After its life, neither side is enabled
--- again. Device and driver still agree while the driver requests its sides to be off. When both are off, nothing more
+-- again. Device and driver still agree while the driver requests that its sides be off. When both are off, nothing more
 -- happens on the queue. The same is true of the records that a stopped driver left.
 use Rattle.driver_laws.proofs.Reached.{LeadsOver, all_lead, free_left, reached, reached_next}
 use Rattle.ring_laws.proofs.DeviceLaws.{KeptSettings.settings_stand, Standing.stays_within}
@@ -95,7 +95,7 @@ module _ (w : Watched) (origin : State) (q : AtPort) (frame : ℕ) where
         let ends : IsEnding q e.event = subst (λ (n : Call). IsEnding q n.event) (sym same) own in
         keeps_on done e (ending_moves (reached w origin done) e.event met made ends kept.ground kept.settled) kept
 
-    -- Device and driver agree while the driver requests its sides to be off, counting the frames sent since the
+    -- Device and driver agree while the driver requests that its sides be off, counting the frames sent since the
     -- transmit side was enabled.
     module _ (mine : Blocks) (k : Halves) where
       abbrev sent : List Entry → List (List ℕ)
@@ -223,7 +223,7 @@ module _ (x : Life) (new : List Call) (y : IsStopping x new) where
       (first_sent _ w.queue _ k.transmit
       (over_asks z.off (off_asks q made new z) p.front p.back p.both p.fronts).both.transmit)
 
--- The driver lived, up to where it was to stop.
+-- The driver lived, up to where it was about to stop.
 abbrev pub life : Ended → Life
 life x =
     let live = x.lived.lives in

@@ -1,6 +1,6 @@
--- The sides of a queue while its driver stops or starts: a side that is on, or isn't requested to be on, doesn't become
--- enabled; both are requested to be off, seen off, and stay off. Then nothing is received or sent, over events that
--- leave the queue alone and calls of a stop.
+-- The sides of a queue while its driver stops or starts: a side that is on, or for which no enable request is in
+-- effect, doesn't become enabled. The driver requests that both be off and sees them off, and they stay off. Then
+-- nothing is received or sent, over events that leave the queue alone and calls of a stop.
 use Rattle.driver_laws.proofs.Ground.{each_side, ground_kept, ground_names, plain_keeps, side_driven}
 use Rattle.driver_laws.proofs.StartPrelude.{HasGround, IsAlong, IsEnding, IsKept, IsMet, IsOff, IsPlain, IsQuiet, Leads}
 use Rattle.driver_laws.proofs.StartPrelude.{asked, left_deed, memory_rest, no_block, none_begun_while_off, not_again}
@@ -39,7 +39,7 @@ pub left_settles : (dir : Dir) (w : Watched) (mine : Blocks) (s : State) (e : Ev
     → IsSettled dir w.queue s → Settles dir w.queue s (after s e)
 left_settles dir w mine s e x is = deed_settles dir w.queue s e (left_deed dir w mine s e x) is
 
--- What an event of a stop does to a side: it leaves it, requests it to be off, or is a device step.
+-- What an event of a stop does to a side: it leaves the side unchanged, requests that it be off, or is a device step.
 module _ (dir : Dir) (P : Side → Type 0) (R : Side → Side → Type 0) (same : (x y : Side) → y ≡ x → P x → R x y)
     (asks : (x y : Side) (wanted : Bool) → y ≡ record x { wanted = wanted } → wanted ≡ false → P x → R x y)
     (deed :
@@ -62,7 +62,7 @@ module _ (dir : Dir) (P : Side → Type 0) (R : Side → Side → Type 0) (same 
 pub ending_plain : (q : AtPort) (e : Event Block) → IsEnding q e → IsPlain q e
 ending_plain q e ending = grind (arith, common_steps)
 
--- What stays true of a side whatever the device does to it, and if it is requested to be off.
+-- What stays true of a side whatever the device does to it, and after a request that it be off.
 record IsShutting (P : Side → Type 0) : Type 0 where
   stays : IsSteady P
   asks : (x : Side) (wanted : Bool) → wanted ≡ false → P x → P (record x { wanted = wanted })
@@ -131,7 +131,7 @@ module _ {w : Watched} {origin : State} {h : List Entry} (q : AtPort) (frame : �
         (made_next along (One P) (IsEnding q) (one_kept P is.stays) (one_ending P is) calls old mid same each
         (then_before along (One P) (one_kept P is.stays) old some at)))
 
-  -- Both sides are off after accesses during which each is requested to be off, and then seen off.
+  -- Both sides are off after accesses that request that each be off and then see it off.
   module _ (all : List Access) (ask : AllAre MayAsk all)
       (turns : (dir : Dir) → (xs : List Access) × (ys : List Access) × (zs : List Access)
       × (all ≡ xs ++ Sets (enable_row dir) 0 ∷ (ys ++ Sees (enable_row dir) false ∷ zs))) (old new : List Call)
@@ -180,7 +180,7 @@ switching_off_leads w q frame origin h old new along (first, second, few, made) 
     (each_side _ ([], Sets Txdctl 0 ∷ missed Rx false first, polled Tx false second, simp append_assoc)
     (Sets Rxdctl 0 ∷ [], polled Rx false first ++ missed Tx false second, [], simp append_assoc)) old new made some at
 
--- A receive side that isn't requested to be on stays so.
+-- If no enable request is in effect for a receive side, this stays so.
 
 pub receive_guard_is_off : ReceiveGuardIsOff
 receive_guard_is_off = record {

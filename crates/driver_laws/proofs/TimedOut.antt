@@ -33,7 +33,7 @@ use Rattle.ring_laws.proofs.Lent.{again_is_done}
 use Rattle.pmd_driver.specs.NicDevice.declared.event.Event.TheVariants as event
 use Rattle.pmd_driver.specs.NicDevice.declared.event.Reply.TheVariants as reply
 
--- Both sides are requested to be on, and this many reads find one of them off.
+-- The driver requests that both sides be enabled, and this many reads find one of them off.
 
 abbrev both : Asked
 both = record { receive = true; transmit = true }
@@ -44,7 +44,7 @@ side_misses side zero rest = omega arith
 side_misses Rx (suc n) rest = let later = side_misses Rx n rest in omega (arith, later)
 side_misses Tx (suc n) rest = let later = side_misses Tx n rest in omega (arith, later)
 
--- Reads of the enable words are accesses of these words only.
+-- Reads of the enable words access only these words.
 enable_reads : (side : Dir) (seen : Bool) → IsOfEnable (Sees (enable_row side) seen)
 enable_reads side seen = grind (arith, common_steps)
 
@@ -145,7 +145,7 @@ polls_are_reported q old new x w are =
     let reported = accesses_reported q w are x.all (old ++ x.before) new none_asked x.enables x.made in
     (reported.0, reported.1, reported.2 ∙ x.polls)
 
--- An access by which a side is seen off, or requested to be off.
+-- An access that sees a side off, or requests that it be off.
 abbrev IsQuieting : Access → Type 0
 IsQuieting (Sees row on) = IsEnable row × (on ≡ false)
 IsQuieting (Sets row word) = MayAsk (Sets row word)
@@ -234,7 +234,7 @@ module _ {w : Watched} {origin : State} {h : List Entry} (q : AtPort) (frame : �
       (asked_last stops.mid stops.fails.1.0 (call_of (event.Lend (zero_block stops.next)) (reply.Twice stops.fails.0))
       stops.next (eq-eqb stops.next stops.next refl))))
 
-  -- Both sides are requested to be on and polled.
+  -- The driver requests that both sides be enabled, and polls them.
 
   polls_never_stray : (side : Dir) (polls : ℕ) (old new : List Call)
       → PollsEnd DeviceFault q old new side true polls → Next Ground old → Never w origin h new

@@ -44,7 +44,7 @@ stops_before before rest all frame refusal old new are arrived = (
       (sym (first_of before (frame ∷ rest)) ∙ ap (λ (l : List (List ℕ)). take (length before) l) are) arrived,
 )
 
--- The calls of the frames that arrived are those that the pass gained.
+-- The calls of the frames that arrived are those that were added to the pass.
 gained_since : (frames : List (List ℕ)) (old new : PassValue) (arrived : HaveArrived frames old new)
     → gained old new ≡ arrived.since
 gained_since frames old new arrived =

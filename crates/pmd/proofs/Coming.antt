@@ -1,4 +1,4 @@
--- Lemmas: workers that came back, and their ends for the jobs.
+-- Lemmas: workers that have returned, and their outcomes for the jobs.
 use Rattle.std.proofs.Common.{◌≡◌, ℕ, zero, suc, ◌<◌, ◌++◌, List, take, refl, ap, [], ◌∷◌, length, set, slice_index_or, inl, inr, sym, ◌∙◌, subst, arith}
 use Rattle.std.proofs.Math.Seq.{take-append_seam}
 use Rattle.std.proofs.lemmas.Bool.{cases_eq}
@@ -35,7 +35,7 @@ same_there [] i x y inside = absurd (omega (arith, inside))
 same_there (c ∷ cs) zero x y inside = refl
 same_there (c ∷ cs) (suc i) x y inside = same_there cs i x y (omega (arith, inside))
 
--- The reports of one more worker were taken.
+-- The reports of another worker were taken.
 pub drained_more : (old cs : List Collector) (i : ℕ) (x d : Collector) → i < length cs → AreDrained old cs
     → IsDrained (slice_index_or cs i x) d → AreDrained old (set cs i d)
 drained_more old cs i x d inside drained one = (
@@ -120,7 +120,7 @@ one_end j (Ended b) d e ended (pass, rest, reports, fault) = rw (pass, rest, rep
 one_end j (Waits assignment) d e ended made = absurd ended
 one_end j Empty d e ended made = absurd ended
 
--- The collected ends are the jobs' ends.
+-- The collected outcomes are the jobs' outcomes.
 pub all_ends : (jobs : List Job) (cells : List (TaskCell Assignment Back)) (collectors : List Collector)
     (ends : List WorkerEnd) → AllEnded jobs cells collectors → AreMade cells ends → AreEnds jobs ends
 all_ends [] [] [] [] ended made = tt

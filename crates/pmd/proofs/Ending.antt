@@ -19,7 +19,7 @@ had_thread (Err fault) late had = had
 had_thread (Ok done) None had = tt
 had_thread (Ok done) (Some fault) had = refl
 
--- A fault of the stop never says that the gate was shut.
+-- A fault of the stop is never that the gate was shut.
 pub shut_out : (worked : Result (Unit {0}) WorkerFault) (late : Option PmdFault) (T : Type 0)
     → IfErr worked (λ (f : WorkerFault). is_shut_out f ≡ true → T)
     → IfSome (first_fault worked late) (λ (f : WorkerFault). is_shut_out f ≡ true → T)

@@ -1,4 +1,4 @@
--- Lemmas: a worker's end is in order, over every history that its pass may be closed with.
+-- Lemmas: a worker's outcome is in order, over every history that its pass may be closed with.
 use Rattle.pmd_driver.specs.PmdAccess.QueueMade.{IsSeen}
 use Rattle.driver_laws.proofs.Prelude.{Call, DrivesRings, Entry, HasGround, HasLived, IsAlong, IsFalse, IsQuiet}
 use Rattle.driver_laws.proofs.Prelude.{IsStopping, Life, List, None, Numbers, Option, PmdFault, Rest, Rxdctl, Some}
@@ -117,9 +117,9 @@ module _ (w : Watched) (origin : State) (h : List Entry) {q : AtPort} {size fram
         let sent = sent_over life _ stopping (stop.following life.made) in
         search (rules, over_stop life _ stopping, sent, lived)
 
--- A worker's end.
+-- A worker's outcome.
 
--- The end of one of the jobs.
+-- The outcome of one of the jobs.
 end_of : (jobs : List Job) (ran : List WorkerEnd) (j : Job) (e : WorkerEnd) → AreEnds jobs ran
     → IsEndAmong jobs ran j e → IsEnd j e
 end_of (k ∷ jobs) (f ∷ ran) j e are among = grind (arith, end_of jobs ran j e are.1)
@@ -181,7 +181,7 @@ module _ (vfs fifo : ℕ) (h : List Entry) (j : Job) (e : WorkerEnd) (ends : IsE
 
     in_order : InOrder
     in_order =
-        -- Without a thread there is no such entry.
+        -- Without a thread, there is no such entry.
         let none : e.fault ≢ Some NoThread = λ none.
         grind (arith, common_steps, isnt_none, none_past, calls_from, ends) in
         run_in_order (ends.lived none) (⊎_elim (λ none. inl none) (λ at. inr (at there)) x.quiet)

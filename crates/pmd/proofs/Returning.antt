@@ -1,4 +1,4 @@
--- Lemmas: returned packets with blocks that can still go home.
+-- Lemmas: returned packets with blocks that can still be returned to the arena.
 use Rattle.std.proofs.Common.{◌≡◌, ℕ, ◌&&◌, not, nat_lt, Bool, true, List, Option, Some, None, Result, Ok, Err, IfSome, sym, ap, ◌∙◌, subst}
 use Rattle.std.specs.List.{list_any}
 use Rattle.pmd_driver.specs.DeviceLock.declared.entry.Call.{Call}
@@ -21,7 +21,7 @@ use Rattle.pmd_driver.specs.declared.driver.Rings.{Rings}
 use Rattle.pmd_driver.specs.declared.driver.Rings.TheVariants.{Up, Down}
 use Rattle.pmd_driver.proofs.SentCounted.{fault_blocks}
 
--- Whether blocks with these numbers can go back, given what a driver has.
+-- Whether blocks with these numbers can be returned to the arena, given what a driver has.
 abbrev back_at : Numbers → Receive → Layout → List Segment → List ℕ → Bool
 back_at a v l segments ns =
     (are_out a ns && not (list_any (λ n. is_among l segments n) ns))

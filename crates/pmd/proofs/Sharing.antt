@@ -31,7 +31,7 @@ job_there [] at number own = absurd (grind (arith, nat_tests, own))
 job_there (j ∷ jobs) zero number own = omega arith
 job_there (j ∷ jobs) (suc at) number own = omega (arith, job_there jobs at number own)
 
--- None so far and not the next means none up to it.
+-- If no job so far shares a number, and the next doesn't either, none up to it does.
 pub none_more : (P : ℕ → Type 0) (n : ℕ) → ((k : ℕ) → k < n → ¬ P k) → ¬ P n → (k : ℕ) → k < n + 1 → ¬ P k
 none_more P n below here k less p =
     elim (cases_eq k n) [ inl e ↦ here (subst P e p) | inr ne ↦ below k (omega (arith, less, ne)) p ]

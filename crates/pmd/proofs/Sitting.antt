@@ -14,7 +14,7 @@ use Rattle.pmd.specs.Coming.{AreWays, Sits, AllSit}
 use Rattle.pmd.specs.declared.assignment.Back.{Back}
 use Rattle.pmd.specs.declared.assignment.Assignment.{Assignment}
 
--- One more job is in its cell.
+-- Another job is in its cell.
 sit_more : (jobs : List Job) (ss : List (TaskCell Assignment Back)) (cs : List Collector) (j : Job)
     (s : TaskCell Assignment Back) (c : Collector) → AllSit jobs ss cs → Sits j s c
     → AllSit (jobs ++ j ∷ []) (ss ++ s ∷ []) (cs ++ c ∷ [])

@@ -1,4 +1,4 @@
--- Lemmas: successive calls of the driver on one `Nic`.
+-- Lemmas: successive driver calls through one `Nic`.
 use Rattle.std.proofs.Common.{◌≡◌, Option, None, Result, Ok, Err, IfSome, IfErr, refl, ◌∙◌}
 use Rattle.pmd_access.specs.Asks.{Asks, fault_in}
 use Rattle.pmd_access.specs.Begun.{BeganAs, Origin}

@@ -1,4 +1,4 @@
--- Lemmas: the calls made to a device in hand are a legal history from where it began.
+-- Lemmas: the calls made to a device in hand are a legal history from the state in which it began.
 use Rattle.std.proofs.Common.{◌≡◌, ◌<◌, ℕ, zero, suc, Bool, List, [], ◌∷◌, ◌++◌, length, take, refl, sym, ap, subst, ◌∙◌, arith, Result, Ok, Err, IfOk, OnOk, OnErr}
 use Rattle.std.specs.Prelude.{⊤}
 use Rattle.std.proofs.lemmas.List.{map-append}

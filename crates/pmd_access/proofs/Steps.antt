@@ -20,7 +20,7 @@ mine_is : {P : Type 0} (b : Bool) → b ≡ false → IsTrue b → P
 mine_is b mine is = cc
 
 module _ {D : Type 0} (other : D → Bool) where
-  -- Steps that all have one mark, followed by one call of the driver.
+  -- Steps that all have the same mark, followed by one driver call.
   pub steps_marked : (d : D) (calls : List Call) → AreSteps calls → StepsWhere other (map (λ (c : Call). d) calls) calls
   steps_marked d [] steps = tt
   steps_marked d (c ∷ calls) steps = (λ is. steps.0, steps_marked d calls steps.1)

@@ -14,7 +14,7 @@ next_from at n = omega arith
 next_past : (at n : ℕ) → suc at + n ≡ suc (at + n)
 next_past at n = omega arith
 
--- Overwriting two concatenated lists from the first byte on.
+-- Overwriting two concatenated lists, starting at the first byte.
 put-front : (xs ys bytes : List ℕ) → put_bytes (xs ++ ys) 0 bytes
     ≡ put_bytes xs 0 (take (length xs) bytes) ++ put_bytes ys 0 (drop (length xs) bytes)
 unfolding put_bytes
@@ -43,7 +43,7 @@ put-append (x ∷ xs) ys (suc at) bytes =
     let over = next_past (min at (length xs)) (length (take (length xs - at) bytes)) in
     rw (left, past, start, next, over) (ap (λ (zs : List ℕ). x ∷ zs) (put-append xs ys at bytes))
 
--- A Buf takes the bytes that fall into it; the rest go to the Bufs after it.
+-- The bytes that belong in a Buf are written to it, and the rest to the Bufs after it.
 pub writes_one : (written now : List Block) (b c : Block) (left : List Block) (at start more : ℕ)
     (rest piece after all : List ℕ) → bytes_of written ++ put_bytes (bytes_of (b ∷ left)) at rest ≡ all
     → length b.bytes ≡ 2048 → start ≡ min at 2048 → more ≡ min (length rest) (2048 - start)
@@ -78,7 +78,7 @@ fits_after left b at start more rest after room begins many others =
     ap (λ (xs : List ℕ). length xs) others ∙ length-drop more rest in
     omega (arith, room, begins, many, less)
 
--- If no Bufs remain, no bytes do.
+-- If no Bufs remain, no bytes remain.
 pub nothing_left : (left : List Block) (at : ℕ) (rest xs : List ℕ) → length left ≡ 0
     → at + length rest ≤ 2048 * length left → xs ++ put_bytes (bytes_of left) at rest ≡ xs
 unfolding put_bytes

@@ -1,4 +1,4 @@
--- Lemmas: what is preserved while blocks come home.
+-- Lemmas: what is preserved while blocks are returned to the arena.
 use Rattle.std.proofs.Common.{◌≡◌, ◌≢◌, ℕ, zero, suc, ◌+◌, ◌<◌, ◌≤◌, ◌⊎◌, inl, inr, true, List, [], ◌∷◌, ◌++◌, length, refl, sym, ap, subst, ◌∙◌, arith}
 use Rattle.std.proofs.Math.Bool.{or-false}
 use Rattle.std.proofs.lemmas.Bool.{cases_eq}
@@ -42,7 +42,7 @@ brings_own (suc count) s t (mid, before, one) k = one_own mid t one k ∙ brings
 pub all_own : (s t : Bringing) → BringsAll s t → (k : ℕ) → is_own t.arena k ≡ is_own s.arena k
 all_own s t (count, brings, none) k = brings_own count s t brings k
 
--- How many blocks can be lost.
+-- The number of blocks that can be lost.
 
 one_few : (s t : Bringing) → BringsOne s t
     → (s.way.lost ≤ t.way.lost) × (t.way.lost + length t.way.lent ≤ s.way.lost + length s.way.lent)

@@ -76,7 +76,7 @@ received_kept r s out keeps same =
       );
     }
 
--- A packet is made of free blocks.
+-- A packet is made from free blocks.
 pub fresh_kept : (a b : Numbers) (out : List ℕ) (len : ℕ) (made : Option Packet) → IsFresh a len made b
     → KeepsEach a (out ++ []) b (out ++ numbers_in made)
 fresh_kept a b out len None is =
@@ -119,7 +119,7 @@ fresh_down h k len made is rest =
     subst (λ (x : List ℕ). KeepsEach h.arena (all_out h ++ []) k.arena (x ++ numbers_in made)) (sym (ap all_out rest))
     (fresh_kept h.arena k.arena (all_out h) len made is)
 
--- A packet with blocks that go back, for a driver that isn't running.
+-- A packet with blocks that can be returned to the arena, for a driver that isn't running.
 pub down_out : (h : Halted) (ns : List ℕ) → AreOut h.arena (all_out h)
     → (are_out h.arena ns && not (list_any (λ n. is_out h n) ns)) ≡ true → AreOut h.arena (ns ++ all_out h)
 down_out h ns out goes =

@@ -16,7 +16,7 @@ use Rattle.pmd_driver.specs.Blocks.{KeepsEach, HasAll, LosesNone}
 use Rattle.pmd_driver.proofs.Several.{all_given, all_own_same}
 use Rattle.pmd_driver.proofs.Whole.{has_out, keeps_then, keeps_counted, one_given}
 
--- Some of the blocks in hand go home.
+-- Some of the blocks in hand are returned to the arena.
 
 part_has : (a : Numbers) (h : Halted) (gone kept : List ℕ) → gone ++ kept ≡ h.held → HasAll a h []
     → HasAll a (record h { arena = with_all_free h.arena gone; held = kept }) []
@@ -53,7 +53,7 @@ closed_loses a h loses =
     part_loses a h (closed h)
     (record { gone = h.held; kept = []; parts = append-nil h.held; left_is = refl }) loses
 
--- Blocks come home.
+-- Lent blocks are returned to the arena.
 
 one_keeps : (s t : Bringing) → BringsOne s t → AreOut s.arena s.way.lent → t.way.lost ≡ s.way.lost
     → KeepsEach s.arena s.way.lent t.arena t.way.lent

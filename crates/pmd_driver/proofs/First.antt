@@ -1,4 +1,4 @@
--- Lemmas: the first packet of a burst was accepted, or is back at the front of the list.
+-- Lemmas: the first packet of a burst was accepted, or was put back at the front of the list.
 use Rattle.std.proofs.Common.{◌≡◌, ◌⊎◌, inl, inr, ℕ, ◌+◌, ◌≤◌, true, false, List, [], ◌∷◌, ◌++◌, length, length-append, Option, Some, None, Result, Ok, Err, IfErr, IfSome, IfNone, refl, sym, ap, subst, arith}
 use Rattle.std.specs.Prelude.{⊤}
 use Rattle.pmd_access.specs.NicDevice.DmaArena.Numbers.{Numbers, is_own}
@@ -122,7 +122,7 @@ module _ (p : Packet) (old new : List Call) (r s : Running) (rest : List Packet)
       subst (λ (y : Result TxAnswer TxFault). StaysShut f (returned y) (failed_in y))
       (sym (one_answer r p x (Refused f (Some p)) refused.0 m.answer refused.1)) (refl, refl, refl, still.0, still.1)
 
-  -- The packet was accepted, or is back.
+  -- The packet was accepted, or was put back.
   queues_by : (o : Option Packet) (met : Option PmdFault) → DrivesRings old r new s
       → IfSome met (λ f. FailsDuring f (is_own r.arena) old (halves_of r) new)
       → s.transmit.posted ≡ r.transmit.posted → ((f : PmdFault) → IsRefusedFirst f r (p ∷ rest) → StaysShut f o met)

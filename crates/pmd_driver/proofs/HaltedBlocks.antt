@@ -67,7 +67,7 @@ rings_out a v w out =
       times-append lent sent k,
     ))
 
--- The rings are closed: all or some of the blocks in hand go home.
+-- The rings are closed: all or some of the blocks in hand are returned to the arena.
 
 module _ (a : Numbers) (lent gone kept : List ℕ) (out : AreOut a (lent ++ (gone ++ kept))) where
   turned : AreOut a (gone ++ (lent ++ kept))
@@ -130,7 +130,7 @@ module _ (a : Numbers) (lent held : List ℕ) (out : AreOut a (lent ++ held)) wh
 pub closed_halted : (h : Halted) → IsHalted h → IsHalted (closed h)
 closed_halted h is = record { home = closed_out h.arena h.way.lent h.held is.home; few = is.few }
 
--- Some blocks went home.
+-- Some blocks were returned to the arena.
 pub part_halted : (h k : Halted) → IsHalted h → IsInPart h k → IsHalted k
 part_halted h k is part =
     subst (λ (x : Halted). IsHalted x) (sym part.left_is) (record {

@@ -1,4 +1,4 @@
--- Lemmas: two ways home combined into one.
+-- Lemmas: two lists of blocks to be returned, combined into one.
 use Rattle.std.proofs.Common.{◌≡◌, ℕ, zero, suc, ◌+◌, inl, inr, List, [], ◌++◌, length-append, refl, sym, ap, subst, arith}
 use Rattle.pmd_access.specs.DeviceLock.declared.entry.Call.{Call}
 use Rattle.pmd_access.specs.NicDevice.DmaArena.Numbers.{Numbers}
@@ -7,14 +7,14 @@ use Rattle.pmd_driver.specs.Halted.{both_ways}
 use Rattle.pmd_driver.specs.Leaving.{bringing_both}
 use Rattle.pmd_driver.proofs.Bringing.{brings_out}
 
--- The blocks of one way, then the blocks of the other.
+-- The blocks of one list, then the blocks of the other.
 brings_then : (count more : ℕ) (s m t : Bringing) → Brings count s m → Brings more m t
     → (all : ℕ) × Brings all s t
 brings_then count zero s m t first same = (count, subst (λ (b : Bringing). Brings count s b) (sym same) first)
 brings_then count (suc more) s m t first (mid, before, one) =
     let rest = brings_then count more s m mid first before in (suc rest.0, (mid, rest.1, one))
 
--- The first way with further blocks after it, and some lost before.
+-- The first list with further blocks after it, and some blocks lost before.
 abbrev before_others : List ℕ → ℕ → Bringing → Bringing
 before_others others lost s = record s { way = record { lent = s.way.lent ++ others; lost = s.way.lost + lost } }
 
@@ -84,7 +84,7 @@ module _ (old mid : List Call) (a b : Numbers) (first left second : Homebound) w
   abbrev onward : Bringing
   onward = record { made = mid; arena = b; way = second }
 
-  -- All of the first way, then part of the second.
+  -- All of the first list, then part of the second.
   onto : (t : Bringing) (count more : ℕ) → Brings count start halfway → left.lent ≡ [] → Brings more onward t
       → (all : ℕ) × Brings all (bringing_both old a first second) (bringing_both t.made t.arena left t.way)
   onto t count more brings none then =
@@ -96,7 +96,7 @@ module _ (old mid : List Call) (a b : Numbers) (first left second : Homebound) w
       brings_then count more (bringing_both old a first second) (bringing_both mid b left second)
       (bringing_both t.made t.arena left t.way) (all_before second.lent second.lost count start halfway brings) over
 
-  -- The second way's blocks are still out when the first is home.
+  -- The second list's blocks are still out when the first list's are returned.
   pub second_out : BringsAll start halfway → AreOut a (first.lent ++ second.lent) → AreOut b second.lent
   second_out (count, brings, none) out =
       subst (λ (xs : List ℕ). AreOut b (xs ++ second.lent)) none

@@ -23,7 +23,7 @@ free_or_out a h has n =
     by_count (is_free h.arena n) (is_free a n) (times_in_hand (all_out h) n)
     (omega (arith, has.each n, times-append (all_out h) [] n))
 
--- No more blocks are lost before the end than at the end.
+-- The number of lost blocks at an earlier time is at most the number at the end.
 lost_before : (q : AtPort) (old new : List Call) (h : Halted) (home : Home) → Stops q old h new home
     → home.lost ≡ 0 → h.way.lost ≡ 0
 lost_before q old new h home (mid, off, comes) none =

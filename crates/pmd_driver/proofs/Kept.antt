@@ -38,7 +38,7 @@ module _ (v : Sender) (n : ℕ) where
   abbrev waiting : List ℕ
   waiting = blocks_of (drop v.lent v.outstanding)
 
-  -- Each block is lent or waits.
+  -- Each block is lent or is waiting to be lent.
   parted : times_in_hand blocks n ≡ times_in_hand lent n + times_in_hand waiting n
   parted =
       let all : lent ++ waiting ≡ blocks =
@@ -81,7 +81,7 @@ module _ (v : Sender) (n : ℕ) where
       (λ away. omega (arith, none_kept away, kept_parted, all))
       (λ none. away_kept (omega (arith, none, kept_parted, all)))
 
--- The blocks of a packet that go back join those that are out.
+-- A packet's blocks that can be returned to the arena join those that are out.
 
 pub home_goes : (r : Running) (p : Packet) → IsUp r → goes_home r.transmit r.arena p ≡ true → receives r p ≡ false
     → AreOut r.arena (numbers_of p.bufs ++ rings_out r)

@@ -26,7 +26,7 @@ runs_on old mid new (Up r) (Up s) (Down h) one two = absurd two
 runs_on old mid new (Up r) (Down h) last one two = absurd one
 runs_on old mid new (Down h) then last one two = tt
 
--- From the driver's start to its end.
+-- From the driver's start to its stop.
 
 lived_up : (q : AtPort) (size frame : ℕ) (old : List Call) (a : Numbers) (made mid new : List Call) (p : Driver)
     (rings : Rings) (left : Rest) (late : Option PmdFault) → HasStarted q size frame old a made p

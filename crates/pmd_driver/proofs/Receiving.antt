@@ -48,7 +48,7 @@ burst_kept r s before after packets out keeps same =
     (past_others r.arena s.arena (rings_out r) (rings_out s) (numbers_of_all before) (numbers_of_all packets)
     (received_kept r s (numbers_of_all packets) keeps same))
 
--- Each packet can go home.
+-- Each packet's blocks can be returned to the arena.
 
 each_goes : (s : Running) (ps : List Packet) → AreOut s.arena (numbers_of_all ps ++ rings_out s)
     → All (λ (p : Packet). goes_back s p ≡ true) ps
@@ -99,7 +99,7 @@ burst_goes r s before after packets out up keeps same =
     (sym (ap (λ (l : List Packet). drop (length before) l) out ∙ drop-append_seam before packets))
     (each_goes s packets (burst_out r s (numbers_of_all packets) up keeps same))
 
--- How many packets were handed out.
+-- The number of packets handed out.
 
 pub burst_count : (x : Result ℕ PmdFault) (most : ℕ) (packets : List Packet)
     → IfOk x (λ n. (length packets ≡ n) × (n ≤ most)) → IfOk x (λ n. n ≡ length packets)

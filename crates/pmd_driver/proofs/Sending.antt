@@ -26,7 +26,8 @@ use Rattle.pmd_driver.proofs.Kept.{home_goes}
 use Rattle.pmd_driver.proofs.Placed.{blocks_accepted}
 use Rattle.pmd_driver.proofs.Several.{all_given, all_own_same, out_all_given}
 
--- A packet is accepted: the ring keeps its blocks, and those that hold none of its bytes go home.
+-- A packet is accepted: the ring keeps its blocks, except that those that contain none of its bytes are returned to the
+-- arena.
 
 module _ (r s : Running) (p : Packet) (out : AreOut r.arena (numbers_of p.bufs ++ rings_out r))
     (placed : blocks_of s.transmit.outstanding
@@ -188,7 +189,7 @@ pub way_out : (r : Running) (p : Packet) → IsUp r → (goes_home r.transmit r.
     → AreOut r.arena (numbers_of p.bufs ++ rings_out r)
 way_out r p up goes = home_goes r p up (grind (arith, nat_tests, goes)) (grind (arith, nat_tests, goes))
 
--- If it didn't pass, no block went home.
+-- If it didn't pass, no block was returned to the arena.
 
 gave_all : (p : Packet) (x y : Result TxAnswer TxFault) (a b : Numbers) → x ≡ y → SendsHome (returned x) p a b
     → SendsHome (returned y) p a b

@@ -17,7 +17,7 @@ use Rattle.pmd_driver.proofs.Both.{outstanding_may, packet_may, rings_still, tra
 use Rattle.pmd_driver.proofs.Finding.{fault_by, still_by}
 use Rattle.pmd_driver.proofs.Sending.{way_out}
 
--- The packet fails its check, or its blocks can go back.
+-- The packet fails its check, or its blocks can be returned to the arena.
 
 module _ (q : Running) (p : Packet) (up : IsUp q) where
   abbrev pub Way : Type 0

@@ -1,4 +1,4 @@
--- Lemmas: several blocks together, both a packet's blocks that go home and blocks kept in hand.
+-- Lemmas: several blocks together, both a packet's blocks that are returned to the arena and blocks kept in hand.
 use Rattle.std.proofs.Common.{◌≡◌, ℕ, zero, suc, ◌+◌, ◌<◌, ◌≤◌, ◌==◌, ◌&&◌, ◌||◌, nat_lt, not, Bool, true, false, List, [], ◌∷◌, ◌++◌, length, drop, get_or, refl, sym, ap, subst, ◌∙◌, arith}
 use Rattle.std.specs.Prelude.{⊤}
 use Rattle.std.specs.List.{list_any}
@@ -17,7 +17,7 @@ use Rattle.pmd_driver.specs.Blocks.{KeepsEach}
 use Rattle.pmd_driver.proofs.Blocks.{out_joined}
 use Rattle.pmd_driver.proofs.Whole.{keeps_then, one_given}
 
--- Blocks go home.
+-- Blocks are returned to the arena.
 
 pub free_both : (a : Numbers) (xs ys : List ℕ) → with_all_free a (xs ++ ys) ≡ with_all_free (with_all_free a xs) ys
 free_both a [] ys = refl

@@ -103,7 +103,7 @@ module _ {q : AtPort} {size frame : ℕ} {old mid : List Call} {a b : Numbers} w
         }
 
         module _ {last : List Call} {c : Numbers} {w : Receive} where
-          -- A side didn't switch on, or the receive ring wasn't filled.
+          -- A side wasn't enabled, or the receive ring wasn't filled.
           pub stops_late : {f : PmdFault} → GoesUp (Err f) q new d v last c w → StopsShort q size frame old a last
               (record { fault = f; rest = rest.Running (record { queue = q; rings = Down (with_rings c w s) }) })
           stops_late {f} goes =

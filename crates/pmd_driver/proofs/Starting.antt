@@ -21,7 +21,7 @@ use Rattle.pmd_access.specs.NicDevice.DmaArena.Run.{IsFreeRun}
 use Rattle.pmd_driver.specs.Running.{kept_out}
 use Rattle.pmd_driver.specs.Starting.{IsPrepared, IsReceiveReady, IsTransmitReady, PreparingFails, ReceiveFails}
 
--- How many blocks are free after a ring is prepared.
+-- The number of free blocks after a ring is prepared.
 
 drawn_count : (a : Numbers) (ns : List ℕ) (b : Numbers) → IsDrawn a ns b → free_count b + length ns ≡ free_count a
 drawn_count a [] b is = rw is (omega arith)

@@ -1,4 +1,4 @@
--- Lemmas: successive calls of the driver, each with a record of its effect.
+-- Lemmas: successive driver calls, each with a record of its effect.
 use Rattle.std.proofs.Common.{◌≡◌, ◌≢◌, ◌<◌, ◌≤◌, true, List, [], length, Option, Some, None, IfSome, Result, Ok, Err, IfOk, IfErr, OnOk, OnErr, refl, ap, subst, sym, ◌∙◌, arith}
 use Rattle.std.proofs.lemmas.List.{length-append}
 use Rattle.pmd_access.specs.NicDevice.DmaArena.Numbers.{Numbers, free_count}
@@ -26,7 +26,7 @@ use Rattle.pmd_rx.proofs.Own.{name_plays, name_fails}
 use Rattle.pmd_rx.proofs.Playing.{plays_none}
 use Rattle.pmd_rx.proofs.Refilling.{name_keeps}
 
--- A call that gathers, then one that never lacks a block.
+-- A call that collects effects, then one that never lacks a block.
 
 pub acts_then : {f h : Option PmdFault} {l m n : List Call} {a b d : Numbers} {v w x : Receive} → Gathers f l a v m b w
     → h ≢ Some fault.NoBuffer → Acts h m b w n d x → Acts h l a v n d x
@@ -139,7 +139,7 @@ look_gathers r {old} {new} {v} {w} can some looked same refused =
     (λ a. looks_keep a r old new v w can looked same) (ap (λ (y : Receive). y.handed) kept)
     (omega (arith, ap (λ (y : Receive). length y.whole) kept))
 
--- A look that found something no healthy queue shows.
+-- A look that found a state that is impossible in a healthy queue.
 pub wrong_gathers : {old new : List Call} {v w : Receive} → v.stage ≡ Looks
     → length v.seen < length v.layout.blocks → LooksAtWrong old v new w
     → GathersAlone (Some fault.DeviceFault) old v new w

@@ -12,7 +12,7 @@ use Rattle.pmd_rx.specs.Keeping.{fresh_block, lent_of, blocks_held, blocks_out, 
 use Rattle.pmd_rx.specs.Receive.{Receive, reach}
 use Rattle.pmd_rx.proofs.Keeping.{times_out}
 
--- Blocks come home one after the other.
+-- Blocks are returned to the arena one after the other.
 pub given_both : (a : Numbers) (xs ys : List ℕ)
     → with_all_free (with_all_free a xs) ys ≡ with_all_free a (xs ++ ys)
 given_both a [] ys = refl
@@ -23,7 +23,7 @@ pub all_given : (a : Numbers) (ns others : List ℕ) → AreOut a (ns ++ others)
 all_given a [] others out = out
 all_given a (n ∷ ns) others out = all_given (with_free a n true) ns others (out_given a (ns ++ others) n out)
 
--- First the blocks of the complete packets come home, then those of the held one; all others stay out.
+-- First the blocks of the complete packets are returned to the arena, then those of the held one; all others stay out.
 module _ (a : Numbers) (v : Receive) (out : AreOut a (blocks_out v)) where
   pub whole_out : AreOut a (numbers_of_all v.whole)
   whole_out =
@@ -41,7 +41,7 @@ module _ (a : Numbers) (v : Receive) (out : AreOut a (blocks_out v)) where
       (out_fewer a (blocks_out v) (ns ++ lent_of v) out
       (λ k. omega (arith, times-append (lent_of v) ns k, times-append ns (lent_of v) k)))
 
--- The first packet's blocks come home, then those of the others.
+-- The first packet's blocks are returned, then the other packets' blocks.
 module _ (a : Numbers) (p : Packet) (ps : List Packet) where
   pub first_out : AreOut a (numbers_of_all (p ∷ ps)) → AreOut a (numbers_of p.bufs)
   first_out out =

@@ -13,7 +13,7 @@ use Rattle.pmd_rx.specs.Keeping.{IsRunning, Posts}
 use Rattle.pmd_rx.specs.Receive.{Receive, extended, no_packet}
 use Rattle.pmd_rx.specs.declared.ring.Stage.TheVariants.{Looks}
 
--- Taking blocks lowers the free count by their number.
+-- Taking blocks decreases the number of free blocks by the number taken.
 
 pub drawn_count : (a : Numbers) (ns : List ℕ) (b : Numbers) → IsDrawn a ns b → free_count a ≡ free_count b + length ns
 drawn_count a [] b is = omega (arith, ap free_count is)

@@ -49,7 +49,7 @@ pub lends_own : (a : Numbers) (v : Receive) (b : Block) → CanLend v.stage v.se
     → length b.bytes ≡ 2048 → LendsNext v b
 lends_own a v b can free out low room whole = record { stage = can; may = may_lend a v b free out low room whole }
 
--- A block that was taken and comes back.
+-- A block that was taken and is returned.
 pub own_after : (a b : Numbers) (n m : ℕ) → is_free a n ≡ true → b ≡ with_free a n false → m ≡ n → is_own b m ≡ true
 own_after a b n m free taken same = rw (same, taken, is_own-with_free a n false n) (is_own-of_free a n free)
 

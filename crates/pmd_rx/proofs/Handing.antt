@@ -42,7 +42,7 @@ owed_some v a some free none = omega (arith, some, free, none)
 pub owed_here : (v : Receive) (a : Numbers) → v.stage ≡ Owes → wanted v ≤ free_count a → free_count a ≡ 0 → ⊥
 owed_here v a owes free none = omega (arith, free, none, ap owed owes)
 
--- After naming a block while holding a part, one round fewer remains; the packet still waits, or it is complete.
+-- After naming a block while holding a part, one round fewer remains; the packet is still waiting, or it is complete.
 
 ended_some : (bs : List Block) (p : Packet) → 0 < length bs → if_any bs p ≡ p ∷ []
 ended_some [] p some = absurd (omega (arith, some))

@@ -40,7 +40,7 @@ times_out v k =
       times-append (numbers_of_all v.whole) (numbers_of v.held.bufs) k,
     )
 
--- How many blocks the driver's packets occupy.
+-- The number of blocks that the driver's packets occupy.
 pub held_count : (v : Receive) → length (blocks_held v) ≡ length (numbers_of_all v.whole) + length v.held.bufs
 held_count v =
     omega (

@@ -21,7 +21,7 @@ use Rattle.pmd_rx.specs.Wrong.{AsksNext}
 use Rattle.pmd_rx.proofs.Keeping.{times_out, held_count, keeps_none, keeps_to}
 use Rattle.pmd_rx.proofs.Lists.{all-split}
 
--- How many blocks the packets occupy.
+-- The number of blocks that the packets occupy.
 
 count_first : (p : Packet) (ps : List Packet)
     → length (numbers_of_all (p ∷ ps)) ≡ length p.bufs + length (numbers_of_all ps)

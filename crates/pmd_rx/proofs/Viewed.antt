@@ -15,8 +15,8 @@ use Rattle.pmd_rx.specs.declared.ring.Stage.TheVariants.{Looks, Owes, Lent}
 use Rattle.pmd_rx.specs.declared.ring.Reported.{Reported}
 use Rattle.pmd_rx.proofs.Lists.{take_less, drop_less, records_same}
 
--- The ring with its slots' blocks and how many are posted; the records and how many belong to packets handed out; what
--- is seen, held and complete; and the stage.
+-- The ring with its slots' blocks and the number of posted ones; the records and the number of those that belong to
+-- packets handed out; what is seen, held and complete; and the stage.
 abbrev pub shown : Layout → ℕ → List Kept → ℕ → List Reported → Packet → List Packet → Stage → Receive
 shown l posted records handed seen held whole s = record {
   layout = record l { blocks = take posted l.blocks };

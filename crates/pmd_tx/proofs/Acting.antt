@@ -1,4 +1,4 @@
--- Lemmas: successive calls of the driver, each with a record of its effect.
+-- Lemmas: successive driver calls, each with a record of its effect.
 use Rattle.std.proofs.Common.{◌≡◌, ℕ, ◌+◌, ◌<◌, List, length, drop, true, false, if◌then◌else◌, Option, Some, None, Result, Ok, Err, IfSome, IfErr, refl, ap, ◌∙◌, subst, sym, add-zero, arith}
 use Rattle.std.proofs.lemmas.List.{length-drop}
 use Rattle.pmd_access.specs.NicDevice.DmaArena.Block.{Block}

@@ -36,7 +36,7 @@ module _ (bs : List ℕ) (len : ℕ) (whole : length bs ≡ 2048) (short : len <
       take_at (take len bs ++ zeros len) (drop (len + length (zeros len)) bs) 60 front
       ∙ ap (λ (n : ℕ). take len bs ++ replicate (60 - n) 0) (sym start)
 
-  -- The bytes from index 60 on are unchanged.
+  -- The bytes at index 60 and later are unchanged.
   after : drop 60 (put_bytes bs len (zeros len)) ≡ drop 60 bs
   unfolding put_bytes
   after =
@@ -178,7 +178,7 @@ module _ (p : Packet) (whole : All (λ (b : Block). IsBlock b) p.bufs) (some : 0
           })
     ]
 
-    -- The same Bufs hold none of its bytes.
+    -- The same Bufs contain none of its bytes.
     pub parts_padded : parts_for (padded_packet p).len ≡ parts_for p.len
     parts_padded = elim (cases_Bool (nat_lt p.len 60)) [
       | inl is ↦

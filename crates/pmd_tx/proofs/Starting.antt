@@ -17,7 +17,7 @@ use Rattle.pmd_tx.proofs.Distinct.{Absent, distinct-append, neither, none_of}
 use Rattle.pmd_tx.proofs.Fields.{shown}
 use Rattle.pmd_tx.proofs.Outstanding.{blocks-outstanding, places-append, length-outstanding, outstanding-push, places-pieces, tell-pieces, tells-push, ends-append, ends-pieces}
 
--- Blocks hold the parts of the bytes that they start with.
+-- Blocks contain the parts of the bytes that they start with.
 pub all-hold : (whole n : ℕ) (bs others : List Block) (len : ℕ) → length bs ≡ n → 0 < n → 2048 * (n - 1) ≤ len
     → len ≤ 2048 * n → All (λ (b : Block). IsBlock b) bs
     → AllHold (paired (numbers_of bs) (parts_in whole n (take len (bytes_of (bs ++ others))))) bs
@@ -167,7 +167,7 @@ module _ (p : Packet) (whole : All (λ (b : Block). IsBlock b) p.bufs) (held : p
         (omega (arith, length-numbers, length-kept, long)) in
         rw length-kept (rw (length-kept, length-numbers) at at)
 
-    -- The blocks hold the parts.
+    -- The blocks contain the parts.
     pub packet-held : AllHold (paired numbers (parts_of bytes)) firsts
     packet-held =
         let at :
@@ -233,7 +233,7 @@ module _ (l : Layout) (ps : List Piece) (waiting : List Block) (lent poked poste
         All-take (λ (n : ℕ). keeps (shown l ps lent poked posted done ks) n ≡ false) (parts_for p.len)
         (numbers_of p.bufs) may.loose.away
 
-    -- Its blocks not lent yet are in hand.
+    -- Its blocks that aren't lent yet are in hand.
     rest_held : drop (lent + 1) (outstanding_of ps ks ++ segments_of (sent_as p)) ≡ drop 1 (segments_of (sent_as p))
     rest_held =
         sym (drop-drop 1 lent (outstanding_of ps ks ++ segments_of (sent_as p)))

@@ -94,7 +94,7 @@ module _ (l : Layout) (ps : List Piece) (waiting : List Block) (lent poked poste
           block.size,
         )
 
-    -- A block with its number holds the segment after the bytes are written into it.
+    -- A block with its number contains the segment after the bytes are written into it.
     pub next_put : (d e : Block) → d.number ≡ b.number
         → e ≡ record d { bytes = put_bytes d.bytes 0 (newest_part ks (length ps - lent)) } → Holds next e
     next_put d e number put =

@@ -1,5 +1,5 @@
--- A ring in memory, of either half of a driver: its descriptors, the other blocks, and what is unchanged of both. Also
--- the ring of a driver that sends, after a posted slot is fetched.
+-- A ring in memory, for either half of a driver: its descriptors, the other blocks, and what stays unchanged of both.
+-- Also the ring of a driver that sends, after a posted slot is fetched.
 use Rattle.ring_laws.specs.Prelude.{Fetched, IsWhole, LiesIn, Memory, Ring, State, TransmitQueue, done_descriptor}
 use Rattle.ring_laws.specs.Prelude.{first_half, gives, has_block, is_empty, is_lent, is_outside, read_at, reply_to}
 use Rattle.ring_laws.specs.Prelude.{second_half, sending_of, step_of, transmit_queue_of, write_at}
@@ -44,8 +44,8 @@ pub buffer_and_slot : (b n ring size slot : ℕ) → is_ring_block ring size b �
     → AreApart (2048 * b) n (descriptor_in ring slot) 16
 buffer_and_slot b n ring size slot other h l = grind arith
 
--- A ring whose head and tail are slots of it, `first` and `last` slots after the next one. It isn't outside, its head
--- is a descriptor, and if it isn't empty the head is before the tail.
+-- A ring whose head and tail are slots of it, `first` and `last` slots after the next one. It isn't outside memory, its
+-- head is a descriptor, and if it isn't empty, the head is before the tail.
 
 pub record IsRingAt (r : Ring) (ring size next first last : ℕ) : Type 0 where
   pub inside : is_outside r ≡ false
@@ -106,7 +106,7 @@ same_stays ring size m n same = record {
   there = λ b is. ap (λ (o : _). is_some o) is;
 }
 
--- Everything is the same except a written descriptor, which then has these bytes.
+-- Everything is the same except a written descriptor, which then contains these bytes.
 module _ (ring size slot : ℕ) (below : slot < size) (m : Memory) (bytes : List ℕ) (long : length bytes ≡ 16) where
   pub written_stays : Stays ring size m (write_at m (descriptor_in ring slot) bytes) (λ j. j ≢ slot) (λ b. ⊤)
   written_stays = grind (arith, SameLent-write_at, read_at-write_at_apart)

@@ -40,7 +40,7 @@ unfolding step_of
 step_cases P s r = grind arith
 
 module _ (queue : ℕ) (s : State) (sound : IsSound s) where
-  -- If the slot is tried for the frame that waits longest, it is filled, or the side is shut.
+  -- If the slot is tried for the oldest waiting frame, it is filled, or the side is shut.
   worked : (w : Waiting) (others : List Waiting) → s.waiting ≡ w ∷ others → IsTried (side_of Rx w.queue s)
       → (answer : Result Filled RingFault) → (fill_on s w.queue (rest_of w)).answer ≡ answer
       → step_of s event.RxStep ≡ receive.slot_done s w others answer (fill_on s w.queue (rest_of w)).memory
@@ -90,7 +90,7 @@ module _ (queue : ℕ) (s : State) (sound : IsSound s) (small : queue < 128) whe
     | inr loud ↦ sent loud _ refl (grind (arith, lt-ltb))
   ]
 
-  -- A step of a side's enable: the side gets its requested state, or nothing changes.
+  -- A step that switches a side: the side gets its requested state, or nothing changes.
 
   pub switching_did : (dir : Dir) → Rests dir queue s (event.QueueStep dir queue)
   unfolding step_of

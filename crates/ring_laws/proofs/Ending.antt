@@ -15,7 +15,7 @@ use Rattle.ring_laws.specs.Ending.{is_there, ClosingTells, ClosingCompares, Clos
 use Rattle.ring_laws.specs.Ending.{PositionsAre, PositionsAreExact}
 use Rattle.ring_laws.specs.LocksPrelude.{PassValue, Entry, CloseFault, MissingPass, ForeignPass, Mismatch}
 
--- How many passes have the tag, one by one.
+-- The number of passes with the tag, counted one by one.
 how_many : (bench tag : ℕ) → List PassValue → ℕ
 how_many bench tag [] = 0
 how_many bench tag (p ∷ ps) =

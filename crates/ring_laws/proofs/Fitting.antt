@@ -71,7 +71,7 @@ pub frames_fit : (queue most : ℕ) (s : State) → frame_limit s.registers ≤ 
 frames_fit queue most s limit h e =
     all_wait (FitsBlocks queue most) (λ w n fits. fits) s h e (λ frame t is low own. omega (arith, low, limit))
 
--- How much is written of the frame that waits first, if it belongs to a queue.
+-- The number of bytes written of the oldest waiting frame, if it belongs to a queue.
 
 either_zero : (b : Bool) → let z : ℕ = 0 in cond b z z ≡ z
 either_zero true = refl
@@ -188,7 +188,7 @@ module _ (queue most : ℕ) (s : State) (out : List Piece) (v : Receive) (gone_b
   none_written : (ws : List Waiting) → Has queue (2048 * n) ws → Goes ws []
   none_written ws has = rw (append-nil out) (has, fit.pieces)
 
-  -- A receive step, by the frame that waits first.
+  -- A receive step, by the oldest waiting frame.
   module _ (w : Waiting) (others : List Waiting) (e : s.waiting ≡ w ∷ others) where
     are : AreWaiting (w ∷ others)
     are = subst AreWaiting e sound.waiting

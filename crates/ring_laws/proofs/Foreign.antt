@@ -165,7 +165,7 @@ module _ {queue : ℕ} {s : State} {out : List Piece} {v : Receive} {gone here :
         order = (grind (arith, seen_longer, append_assoc));
       }
 
--- A device step neither writes a register by its number nor takes or pokes a block.
+-- A device step doesn't write a register by its number, and doesn't take or poke a block.
 
 pub no_registers : (w : Watched) (mode : Mode) (mine : Blocks) (e : Event Block) → is_step e ≡ true
     → LeavesRegisters w mode e × LeavesBlocks mine e
@@ -229,15 +229,15 @@ piece_inside queue s out v sound (gone, here, h) slot end desc at len is = elim 
   | Rested none rests ↦ absurd (let e = rw (is, eq-eqb queue queue refl) at none in cc)
 ]
 
--- A step of the enable of the queue's receive side keeps the agreement. If the side is on and requested on, nothing
--- changes.
+-- A step that switches the queue's receive side keeps the agreement. If the side is on and no request to disable it is
+-- pending, nothing changes.
 
 pub enable_keeps : EnableStepKeeps
 enable_keeps queue s out v sound j =
     rested queue s out v sound j (event.QueueStep Rx queue) tt (switching_did queue s sound j.2.named.low Rx)
     (λ b lent. ap (λ (m : Memory). map.get m b) (switching_rest s Rx queue).memory)
 
--- A receive side that is on and requested on stays so, if device and driver agree.
+-- A receive side that is on, with no request to disable it pending, stays so, if device and driver agree.
 
 pub left_up : LeavingStaysUp
 left_up queue s t left up = subst sides.IsUp (sym (receive_left queue s t left)) up

@@ -173,8 +173,8 @@ pub sent_in-append : (queue : ℕ) (s : State) (g h : List Entry)
 sent_in-append queue s [] h = refl
 sent_in-append queue s (e ∷ g) h = grind (arith, common_steps, sent_in-append queue (after s e.event) g h)
 
--- If a poll finds the end of the oldest packet not done, it isn't fetched. So more was accepted than was sent then, or
--- earlier.
+-- If a poll finds the end of the oldest packet not done, it isn't fetched. So more was accepted than was sent at that
+-- time or at any earlier time.
 pub waiting-left : WaitingIsNotAllSent
 waiting-left s queue sent v (f, h) finds xs more split same =
     let end = first_end v.outstanding in
@@ -261,12 +261,12 @@ two_pieces_are_a_packet :
     ≡ record { bytes = 1 ∷ 2 ∷ 3 ∷ []; rss = 2; hash = 7 } ∷ []
 two_pieces_are_a_packet = refl
 
--- Of two frames out, of queues 3 and 5, the second was added.
+-- Of two transmitted frames, of queues 3 and 5, the second was added.
 one_added : frames_added ((3, 1 ∷ []) ∷ []) ((3, 1 ∷ []) ∷ (5, 7 ∷ 8 ∷ []) ∷ []) ≡ (7 ∷ 8 ∷ []) ∷ []
 one_added = refl
 
--- Two packets of 60 bytes go out after one write of the tail. With the first in its slot and the tail before it, the
--- second may be accepted, and then the tail advances past both.
+-- Two 60-byte packets are sent after one tail write. With the first in its slot and the tail before it, the second may
+-- be accepted, and then the tail advances past both.
 
 abbrev packet : ℕ → Outgoing
 packet block = record { blocks = block ∷ []; kept = record { bytes = replicate 60 0; rss = 0; hash = 0 } }

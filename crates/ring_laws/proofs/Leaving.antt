@@ -19,7 +19,8 @@ use Rattle.std.proofs.{Common.◌∷◌, Common.◌≡◌, Common.◌≤◌, lem
 use Rattle.pmd_access.specs.NicDevice.declared.event.Event.TheVariants as event
 use Rattle.std.specs.FinMap as map
 
--- An event that leaves a queue's receive side unchanged, except whether it is on and requested on, keeps the agreement.
+-- An event that leaves a queue's receive side unchanged, except whether it is on and whether an enable request is in
+-- effect, keeps the agreement.
 
 module _ {queue : ℕ} {s t : State} {out : List Piece} {v : Receive} {gone here : List Piece}
     (h : Holds queue s out v gone here) where

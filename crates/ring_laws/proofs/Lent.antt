@@ -59,7 +59,7 @@ Follows had has e r n = has n ≡ had n
 abbrev pub AllFollow : Blocks → (Reply Block → Blocks) → Event Block → Type 0
 AllFollow had has e = (r : Reply Block) (n : ℕ) → Follows had (has r) e r n
 
--- Of some numbers, only those stay lent that it or others have lent.
+-- Of some numbers, still only those are lent that the half or others have lent.
 module _ (own others : Blocks) (s : State) (had : Blocks) (only : OnlyLent own (either had others) s.memory) where
   -- After an event that neither lends nor takes, still only known blocks are lent.
   pub still_known : (e : Event Block) (has : Blocks) → LendsNone own e → ((k : ℕ) → had k ≡ true → has k ≡ true)

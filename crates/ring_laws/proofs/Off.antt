@@ -22,7 +22,8 @@ enable_words_keep s queue sent v port n word made names rests (f, h) =
     (grind (arith, length-drop)) h.sends)
     (λ number is. ap (λ (m : Memory). map.get m number) (write_memory s port n word))
 
--- A transmit side that isn't requested on stays so; one that is off too stays off, and sends nothing.
+-- If no enable request is in effect for a transmit side, this stays so; a side that is also off stays off, and sends
+-- nothing.
 
 did : (queue : ℕ) (s : State) (e : Event Block) → queue < 128 → LeavesSide queue s e → Deed Tx queue s e
 did queue s e small x =
@@ -45,7 +46,7 @@ off_stays = record {
   silent = λ queue s h small all is. (off_history queue s h small all is).1;
 }
 
--- What a driver does with the enable word: it requests the side on or off, and sees the side off.
+-- What a driver does with the enable word: it requests that the side be enabled or disabled, and sees the side off.
 
 pub guard_is_off : GuardIsOff
 guard_is_off = record {

@@ -132,7 +132,7 @@ module _ {s : State} {queue : ℕ} {sent : List (List ℕ)} {v : Sender} {f : �
     shows-asked : Shows new (asked v) f
     shows-asked = grind (arith, stays, other, written_here, here, length-asking)
 
-  -- A poll reports whether the oldest packet was sent.
+  -- A poll shows whether the oldest packet was sent.
 
   abbrev end : ℕ
   end = first_end v.outstanding
@@ -144,7 +144,7 @@ module _ {s : State} {queue : ℕ} {sent : List (List ℕ)} {v : Sender} {f : �
     known : end < v.lent
     known = omega (arith, h.counted.posted_poked, h.counted.poked_lent)
 
-    -- A poll of the end of the oldest outstanding packet reports whether it was fetched.
+    -- A poll of the end of the oldest outstanding packet shows whether it was fetched.
     pub look-fetched : end < f → is_sent descriptor ≡ true
     look-fetched before = grind (arith, small_of_lent, end-last, done-sent)
 

@@ -48,8 +48,8 @@ based-after s queue l e b made none =
       stays.limit ∙ b.limit,
     )
 
--- The effect of a move of the driver's, by its outcome. If the event can be made, the two still agree, a side that is
--- up stays up, and the reply is a healthy queue's, if a block to lend isn't lent yet.
+-- The effect of one of the driver's moves, by its outcome. If the event can be made, the two still agree, a side that
+-- is up stays up, and the reply is a healthy queue's, if a block to lend isn't lent yet.
 pub record Does (queue : ℕ) (s : State) (sent : List (List ℕ)) (v : Sender) (m : Move) (e : Event Block) (o : Outcome) :
     Type 0 where
   pub agree : IsEvent e → Agrees o.state queue sent (moved v m o.reply)

@@ -1,4 +1,4 @@
--- A side of a queue, whatever the device does to it, and when a driver requests it on or off.
+-- A side of a queue, whatever the device does to it, and when a driver requests that it be enabled or disabled.
 use Rattle.device_laws.proofs.StandingAccesses.{read_rest, write_rest}
 use Rattle.ring_laws.specs.Prelude.{Port, Register, State, after, has_bit, named, place, reply_to, step_of}
 use Rattle.ring_laws.specs.Sides.{IsOff, IsTried, IsUnwanted, IsUp, LeavesSide, Side, as_wanted, shut, side_of}
@@ -52,7 +52,7 @@ module _ (dir : Dir) (queue : ℕ) (s : State) (e : Event Block) where
       → IsUp (side_of dir queue (after s e))
   up_kept up never did = grind arith
 
--- A side that isn't requested on stays so, and one that is also off stays off.
+-- If no enable request is in effect for a side, this stays so, and a side that is also off stays off.
 
 pub unwanted_steady : IsSteady IsUnwanted
 unwanted_steady = grind arith
@@ -63,7 +63,7 @@ off_idle = grind arith
 pub off_steady : IsSteady IsOff
 off_steady = idle_steady IsOff off_idle
 
--- A side that is on, or isn't requested on, doesn't become enabled.
+-- A side that is on, or for which no enable request is in effect, doesn't become enabled.
 
 abbrev pub IsSettled : Side → Type 0
 IsSettled x = IsTrue x.on ⊎ IsUnwanted x
@@ -77,7 +77,7 @@ pub record Settles (x y : Side) : Type 0 where
 pub not_again : (was is : Bool) → (was ≡ true) ⊎ (is ≡ false) → (not was && is) ≡ false
 not_again was is only = grind arith
 
--- A side that is unchanged, or requested off, stays settled.
+-- A side that is unchanged, or that is requested to be off, stays settled.
 pub same_settles : (x y : Side) → y ≡ x → IsSettled x → Settles x y
 same_settles x y same is = grind arith
 
@@ -88,15 +88,15 @@ pub deed_settles : (dir : Dir) (queue : ℕ) (s : State) (e : Event Block) → D
     → IsSettled (side_of dir queue s) → Settles (side_of dir queue s) (side_of dir queue (after s e))
 deed_settles dir queue s e did is = grind arith
 
--- A word written to the enable register of a side of a queue only requests that side on or off. A read reports whether
--- it is on.
+-- A value written to the enable register of a queue's side only requests that the side be enabled or disabled. A read
+-- shows whether it is on.
 
 -- A number at a port names the enable register of a side, with all its bits.
 abbrev pub NamesEnable : Dir → ℕ → State → Port → ℕ → Type 0
 NamesEnable dir queue s port n = named s port n ≡ Register (place (enable_row dir) queue) 0xFFFFFFFF
 
 module _ (queue : ℕ) (s : State) (sound : IsSound s) (small : queue < 128) (port : Port) (n word : ℕ) where
-  -- The side is requested.
+  -- The request takes effect.
   abbrev Asks : Dir → Type 0
   Asks dir =
       side_of dir queue (after s (event.Write port n word)) ≡ record (side_of dir queue s) { wanted = has_bit 25 word }
@@ -117,12 +117,12 @@ module _ (queue : ℕ) (s : State) (sound : IsSound s) (small : queue < 128) (po
 
 module _ (queue : ℕ) (s : State) (port : Port) (n word : ℕ) (reported : reply_to s (event.Read port n) ≡ Word word)
   where
-    -- Bit 25 is whether the side is on.
+    -- Bit 25 shows whether the side is on.
     pub reported_on : (dir : Dir) → NamesEnable dir queue s port n → has_bit 25 word ≡ (side_of dir queue s).on
     unfolding step_of
     reported_on dir names = grind (arith, common_steps)
 
-    -- A side that isn't requested on is off if bit 25 is read as 0.
+    -- If no enable request is in effect for a side and bit 25 is read as 0, the side is off.
     pub seen_off : (dir : Dir) → NamesEnable dir queue s port n → IsFalse (has_bit 25 word)
         → IsUnwanted (side_of dir queue s) → IsOff (side_of dir queue (after s (event.Read port n)))
     seen_off dir names zero none = grind (arith, common_steps, queues_left, read_rest, reported_on)

@@ -190,8 +190,8 @@ module _ (v : Sender) where
   follows Elsewhere e may ne r n = absurd (ne refl)
   follows m e may ne r n = grind arith
 
--- Every block that the driver has lent is one of these. This stays true as it moves, if a move lends at most one of
--- them.
+-- Every block that the driver has lent is one of these. This stays true through its moves, if a move lends at most one
+-- of them.
 abbrev pub AreMine : Blocks → Sender → Type 0
 AreMine mine v = (number : ℕ) → IsTrue (has_lent v number) → IsTrue (mine number)
 

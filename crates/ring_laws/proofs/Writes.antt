@@ -18,7 +18,7 @@ same_rings : (r : RowId) → (is_receive r || is_transmit r) ≡ is_ring r
 same_rings row.Ctrl = refl
 same_rings other = refl
 
--- A register other than PVFCTRL resets no pool; PVFCTRL does with bit 26.
+-- A write to a register other than PVFCTRL resets no pool; a write to PVFCTRL does if it sets bit 26.
 resets_none : (r : RowId) (word : ℕ) → is_reset r ≡ false → asks_pool_reset (row_of r).kind word ≡ false
 resets_none row.Pvfctrl word h = absurd (true≢false h)
 resets_none other word h = refl
@@ -74,7 +74,7 @@ module _ (queue : ℕ) (mode : Mode) (p : Place) (word : ℕ) (small : queue < 1
     pool = λ asked. absurd (both_ways _ (resets_none p.row word (ring_apart p.row h).1) asked);
   }
 
-  -- PVFCTRL, if it resets no pool that contains the queue.
+  -- A write to PVFCTRL that resets no pool that contains the queue.
   no_ring : is_ring p.row ≡ false → (is_receive p.row ≡ false) × (is_transmit p.row ≡ false)
   no_ring h = or_parts (is_receive p.row) (is_transmit p.row) (same_rings p.row ∙ h)
 

@@ -46,7 +46,7 @@ fetch_on s queue =
     tx.fetch_of s.memory (staged_by s queue) (transmit_queue_of s.registers queue).ring
     (sending_of s.registers (transmit_queue_of s.registers queue))
 
--- The frame that waits longest is for this queue.
+-- The oldest waiting frame is for this queue.
 pub record IsFirst (queue : ℕ) (s : State) (w : Waiting) : Type 0 where
   pub others : List Waiting
   pub waits : s.waiting ≡ w ∷ others

@@ -1,4 +1,4 @@
--- What happened to a device in hand is a history of it: the calls of pass 0 come after the calls of others.
+-- What happened to a device in hand is a history of the device: the calls of pass 0 come after the calls of others.
 use Rattle.driver_laws.specs.StartPrelude.{entries_in}
 use Rattle.driver_laws.proofs.Prelude.{LeadsTo, LeavesAloneFrom, List, State, [], after, ap, arith, calls_joined}
 use Rattle.driver_laws.proofs.Prelude.{calls_of, calls_other, common_steps, events-append, false, has_begun}

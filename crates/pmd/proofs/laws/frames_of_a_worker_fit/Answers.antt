@@ -11,7 +11,7 @@ use Rattle.std.proofs.lemmas.List.Elements.{All-nil, All-push, All-weaker}
 use Rattle.pmd.specs.{Before.known_through, Fitting.let_in_by, Fitting.longest_after, Fitting.longest_let_in}
 use Rattle.pmd_driver.specs.NicDevice.declared.event.Event.TheVariants as event
 
--- A waiting frame has at most this many bytes.
+-- A waiting frame is at most this many bytes long.
 abbrev IsUpTo : ℕ → Waiting → Type 0
 IsUpTo longest w = length w.frame ≤ longest
 

@@ -6,7 +6,7 @@ use Rattle.pmd_driver.proofs.PmdTx.Starting.{length-blocks}
 use Rattle.pmd.specs.declared.reports.Report.{Report}
 use Rattle.pmd.proofs.turns.tell.Goals as goal
 
--- A packet has the smaller of its stated length and the capacity of its blocks.
+-- The number of bytes in a packet is the smaller of its stated length and the capacity of its blocks.
 pub returns-clause-sent : goal.returns-clause-sent
 returns-clause-sent c =
     let p = c.args.packet.now in

@@ -67,7 +67,7 @@ driver.md
     A driver whose rings are up: pmd_driver/running pmd_driver/bursts
     Packets: pmd_access/packet pmd_access/bufs pmd_access/frames
     Ways to a device: pmd_access pmd_driver/arriving
-    Set-up, queues and blocks: pmd_access/names pmd_access/setup pmd_access/sides pmd_access/both pmd_access/slots \
+    Setup, queues and blocks: pmd_access/names pmd_access/setup pmd_access/sides pmd_access/both pmd_access/slots \
 pmd_access/home
     The receive half: pmd_rx
     The transmit half: pmd_tx

@@ -31,8 +31,8 @@ pub record IsUnshared (w : Watched) (origin : State) (start rest : List Entry) (
   pub known : OnlyLent own (lent_by h) (leads_to origin start).memory
   pub others : OnlyPassLends w.pass own rest
 
--- Suppose the halves lend only blocks of these numbers, and neither lends a block that the other has lent, as the
--- clause `drives` of a driver's calls says. Then each call of either half gets a healthy reply.
+-- Suppose that the halves lend only blocks with these numbers, and neither lends a block that the other has lent, as
+-- the clause `drives` of a driver's calls says. Then each call of either half gets a healthy reply.
 abbrev pub OwnRepliesAreHealthy : Type 0
 OwnRepliesAreHealthy =
     (w : Watched) (origin : State) (start rest : List Entry) (h : Halves) (doers : List Doer) (own : Blocks) →

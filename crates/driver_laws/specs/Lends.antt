@@ -8,8 +8,8 @@ abbrev pub first_of : (q : AtPort) (size frame : ℕ) (old : List Call) (a : Num
     → Lives q size frame old a new r → Halves
 first_of q size frame old a new r x = record { receive = x.up.empty; transmit = x.fresh.transmit }
 
--- From there on, each call is made by one of the halves or is a device step. Each half lends only blocks of that arena
--- that the other half hasn't lent.
+-- Once both sides are on, each call is made by one of the halves or is a device step. Each half lends only blocks of
+-- that arena that the other half hasn't lent.
 abbrev pub LifeLendsApart : Type 0
 LifeLendsApart =
     (q : AtPort) (size frame : ℕ) (old : List Call) (a : Numbers) (new : List Call) (r : Running)

@@ -85,7 +85,7 @@ pub record SetUp (s : Setup) : Type 0 where
 abbrev pub SetUpIsWritten : Type 0
 SetUpIsWritten = (s : Setup) → SetUp s
 
--- The two words of eight bytes.
+-- The two 32-bit values of eight bytes.
 pub record BytesAreLowestFirst : Type 0 where
   pub first : word_in (1 ∷ 2 ∷ 3 ∷ 4 ∷ 5 ∷ 6 ∷ 7 ∷ 8 ∷ []) 0 ≡ 0x04030201
   pub second : word_in (1 ∷ 2 ∷ 3 ∷ 4 ∷ 5 ∷ 6 ∷ 7 ∷ 8 ∷ []) 1 ≡ 0x08070605

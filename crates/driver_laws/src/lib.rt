@@ -292,7 +292,7 @@ pub fn switched_off_queue_is_silent()
     ensures over { SilentOverStop }
 {}
 
-/// A start finds two runs of `count` free blocks, at least one each, exactly if there are two that share none.
+/// A start finds two runs of `count` free blocks, at least one each, exactly if there are two that share no block.
 pub fn two_runs_are_found()
     ensures { TwoRunsAreFound }
 {}

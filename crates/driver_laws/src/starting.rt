@@ -39,9 +39,9 @@ ghost use Rattle.driver_laws.specs.TimedOut.{TimeoutsPoll};
 ghost use Rattle.driver_laws.specs.Waiting.{WaitingIsNotAll};
 ghost use Rattle.driver_laws.specs.Words.{WordsAreTaken};
 
-/// The numbers that a driver uses at its port name the registers of its queue. At the physical function, its queue is
-/// any of the device's queues, by its number. At a virtual function, it is any queue of the function's pool, counted
-/// from the pool's first.
+/// The numbers that a driver uses at its port name the registers of its queue. At the physical function, this may be
+/// any of the device's queues, by its number. At a virtual function, it may be any queue of the function's pool,
+/// counted from the pool's first.
 #[tactic(auto, using(crate::proofs::Ground::named_queue_has_the_numbers))]
 pub fn named_queue_has_the_numbers()
     ensures { NamedQueueHasTheNumbers }
@@ -219,7 +219,7 @@ pub fn calls_lead_both_halves()
 {}
 
 /// Take a history of any sound device that leaves the driver's queue alone, from a place where the device agrees with
-/// both halves. At that place, the receive side has just been enabled, and a request to disable it isn't pending. From
+/// both halves. At that place, the receive side has just been enabled, and no request to disable it is pending. From
 /// there on, the pass makes the calls of the halves, and calls that leave the queue alone. The packets that the driver
 /// returned are a prefix of those delivered since. If the next poll finds none, each of them was returned, or is
 /// complete and returned when the tail advances. If none is complete, all were returned. For each earlier place since
@@ -277,8 +277,8 @@ pub fn waiting_packets_are_not_all_sent()
 /// either half gets a reply that a healthy queue sends, under these conditions at that place. The frames of the receive
 /// list for the queue fit as many blocks as the driver takes for a packet, as do those that are accepted. Of the blocks
 /// of the driver's arena, only those that the driver has lent are lent, and no other pass tries to lend any of them
-/// from there on. What the halves lend is as the clause `drives` of a driver's calls says: only blocks of the arena,
-/// and none that the other half has lent.
+/// from there on. The halves lend as the clause `drives` of a driver's calls says: only blocks of the arena, and none
+/// that the other half has lent.
 #[tactic(auto, using(crate::proofs::Healthy::own_replies_are_healthy))]
 pub fn own_replies_are_healthy()
     ensures { OwnRepliesAreHealthy }

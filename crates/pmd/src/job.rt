@@ -29,9 +29,9 @@ pub struct Job {
 }
 
 impl Job {
-    /// Returns whether the device steps before its calls belong to its own queue: whether `pf_queue` is the queue that
-    /// its port and queue name, in this pool mode and with `vfs` virtual functions. If it isn't, only others can enable
-    /// its queue.
+    /// Returns whether the device steps before the worker's calls belong to its own queue: whether `pf_queue` is the
+    /// queue that its port and queue name, in this pool mode and with `vfs` virtual functions. If it isn't, only others
+    /// can enable the worker's queue.
     pub fn steps_its_queue(&self, mode: Mode, vfs: u8) -> bool
         ensures { IsTrue result ↔ (queue_at mode vfs self.now.port self.now.queue ≡ Some self.now.pf_queue) }
     {

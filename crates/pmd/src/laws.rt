@@ -15,8 +15,8 @@ ghost use Rattle.pmd.specs.Order.{EndsAreInOrder};
 ///
 /// Over such a history, the packets that the outcome reports as handed out are a prefix of those delivered on the
 /// queue. The frames sent there are a prefix of those that the driver accepted, up to the last note of the worker's
-/// pass. Both are counted since the sides were enabled, starting at that event. If the driver has no event there, it
-/// handed out and accepted nothing.
+/// pass. Both are counted since the sides were enabled after that event. If the driver has no event there, it handed
+/// out and accepted nothing.
 pub fn ends_are_in_order()
     ensures { EndsAreInOrder }
 {}

@@ -72,7 +72,7 @@ impl<'a, R: Wait> Lockstep<'a, R> {
 impl<'a, R: Wait> Gate for Lockstep<'a, R> {
     ghost shuts = { λ members worker. members ≤ worker };
 
-    /// Returns false exactly if the worker isn't a member. Nobody waits for it then, and it doesn't wait for anybody.
+    /// Returns false exactly if the worker isn't a member. Then nobody waits for it, and it doesn't wait for anybody.
     fn pass(&self, worker: usize, point: u8) -> bool
         ensures shut { result ≡ false → self.now ≤ worker }
         // The gate lets a member pass at each point, and nobody else.

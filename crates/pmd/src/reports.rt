@@ -94,7 +94,7 @@ impl Collector {
         self.reports.push_reserved(report);
     }
 
-    /// Returns all reports, in order, after the worker's end of the ring came back.
+    /// Returns all reports, in order, after the worker's end of the ring was returned.
     pub fn finish(self, producer: Producer<Report>) -> Vec<Report>
         requires pair { IsPair producer self.consumer }
         requires room { length (sent producer) ≤ vec_capacity self.reports }

@@ -124,7 +124,7 @@ impl Direct {
 
 impl Direct {
     /// Runs the device steps of its queue, then applies the event. The steps switch both sides, then send, then
-    /// receive. `Nic::call` calls this function, but its clauses ensure only what those of `Nic` do.
+    /// receive. `Nic::call` calls this function, but promises only what the clauses of `Nic` say.
     ///
     /// `OutOfMemory` if there is no memory to apply or record a step or the event. Then the earlier steps have run, and
     /// the event hasn't been applied.

@@ -99,8 +99,8 @@ impl Pmd {
         }
     }
 
-    /// The number of transmit descriptors that can still be filled. A packet takes one for each 2,048 bytes or part of
-    /// them. 0 if the driver isn't running.
+    /// The number of transmit descriptors that can still be filled. A packet takes one for every 2,048 bytes or part
+    /// thereof. 0 if the driver isn't running.
     pub fn vacant(&self) -> u16
         ensures { result ≡ vacant_of self.now.rings }
     {

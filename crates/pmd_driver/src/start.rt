@@ -228,7 +228,7 @@ fn bring_up<N: Nic>(
 impl Pmd {
     /// Starts the driver of a queue that is off, with `size` descriptors for each ring: a multiple of 8 from 8 to
     /// 1,024. Each ring takes a run of blocks of the arena, one for every 128 descriptors, and `size` - 1 blocks are
-    /// posted for incoming frames. A frame has at most `frame` bytes with its frame check sequence: 1,518 to 9,728.
+    /// posted for incoming frames. A frame is at most `frame` bytes long with its frame check sequence: 1,518 to 9,728.
     ///
     /// It fails before any event, in this order: `BadSize` if the size or the frame length is out of range; `NoBuffer`
     /// if too few blocks are free, or no two such runs are free; `DeviceFault` if the port can't address the queue.

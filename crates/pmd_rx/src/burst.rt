@@ -114,8 +114,8 @@ impl ReceiveRing {
     /// writes the tail. It isn't promised that it then looks at no slot, or that it causes no other event.
     ///
     /// `NoBuffer` only if a packet is waiting and too few blocks are free; the driver is unchanged except for what it
-    /// has seen. `DeviceFault` if a healthy queue would never reply this way. `Call` if a call was refused, or if there
-    /// was no memory for what it saw or for the packet's record; the driver keeps its place, and the next call
+    /// has seen. `DeviceFault` if a reply is one that a healthy queue never sends. `Call` if a call was refused, or if
+    /// there was no memory for what it saw or for the packet's record; the driver keeps its place, and the next call
     /// continues.
     pub fn receive<N: Nic>(
         &mut self,

@@ -96,7 +96,7 @@ abbrev pub NamesEnable : Dir → ℕ → State → Port → ℕ → Type 0
 NamesEnable dir queue s port n = named s port n ≡ Register (place (enable_row dir) queue) 0xFFFFFFFF
 
 module _ (queue : ℕ) (s : State) (sound : IsSound s) (small : queue < 128) (port : Port) (n word : ℕ) where
-  -- The request takes effect.
+  -- The side's requested state becomes bit 25 of the value, and the rest of the side is unchanged.
   abbrev Asks : Dir → Type 0
   Asks dir =
       side_of dir queue (after s (event.Write port n word)) ≡ record (side_of dir queue s) { wanted = has_bit 25 word }

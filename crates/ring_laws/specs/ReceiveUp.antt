@@ -31,8 +31,7 @@ OwnEventStaysUp =
     (queue : ℕ) (s : State) (out : List Piece) (v : Receive) (e : Event Block) → IsSound s → Agree queue s out v →
     IsOwn v e → IsUp queue s → IsUp queue (after s e)
 
--- It also stays up through an entry of another pass that leaves the queue alone, and through each device step of any
--- pass.
+-- It also stays up through an entry of another pass, or a device step of any pass, that leaves the queue alone.
 abbrev pub EntryStaysUp : Type 0
 EntryStaysUp =
     (w : Watched) (mine : Blocks) (mode : Mode) (s : State) (out : List Piece) (v : Receive) (e : Entry) →

@@ -61,8 +61,8 @@ pub record IsMetBy (w : Watched) (mode : Mode) (s : State) (e : Entry) : Type 0 
   pub reply : e.reply ≡ reply_to s e.event
   pub event : IsEvent e.event
 
--- An entry of another pass keeps the agreement under two conditions: it leaves alone the queue and all blocks that the
--- driver has lent, and the queue's own transmit side reports into none of these. So does a device step of any pass.
+-- An entry of another pass, or a device step of any pass, keeps the agreement under two conditions: it leaves alone the
+-- queue and all blocks that the driver has lent, and the queue's own transmit side reports into none of these.
 abbrev pub EntryKeeps : Type 0
 EntryKeeps =
     (w : Watched) (mine : Blocks) (mode : Mode) (s : State) (out : List Piece) (v : Receive) (e : Entry) →

@@ -46,8 +46,8 @@ pub fn other_events_keep_the_agreement()
 
 /// A receive side that is enabled, with no request to disable it pending, stays so if an event leaves it alone, and
 /// through a step that switches the side, which then changes nothing. If the device and the driver agree, it stays so
-/// through each receive step and each of the driver's own events. It also stays so through each entry of another pass
-/// that leaves the queue alone, and through each device step of any pass.
+/// through each receive step and each of the driver's own events. It also stays so through each entry of another pass,
+/// and each device step of any pass, that leaves the queue alone.
 pub fn queue_up_stays_up()
     ensures leaving { LeavingStaysUp }
     ensures enable { EnableStepChangesNothing }
@@ -64,9 +64,9 @@ pub fn own_event_keeps_the_agreement()
     ensures { OwnEventKeeps }
 {}
 
-/// An entry of another pass keeps the agreement if it leaves alone the queue and all blocks that the driver has lent
-/// for receiving. So does a device step of any pass. The queue's own transmit side must report into none of these
-/// blocks.
+/// An entry of another pass, or a device step of any pass, keeps the agreement if it leaves alone the queue and all
+/// blocks that the driver has lent for receiving. In addition, the queue's own transmit side must report into none of
+/// these blocks.
 pub fn foreign_entry_keeps_the_agreement()
     ensures { EntryKeeps }
 {}

@@ -20,7 +20,7 @@ abbrev pub IsPlain : AtPort → Event Block → Type 0
 IsPlain q (event.Write port number word) = NamesDriven q port number
 IsPlain q other = ⊤
 
--- An event that requests that a side be off or observes it: a write of an enable word of the queue without bit 25, a
+-- An event that requests that a side be off or observes it: a write of an enable word of the queue with bit 25 clear, a
 -- register read, or a device step.
 abbrev pub IsAsking : AtPort → Event Block → Type 0
 IsAsking q (event.Write port number word) =

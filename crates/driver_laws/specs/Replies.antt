@@ -1,4 +1,4 @@
--- What the device replies to the accesses of a driver that starts on a queue with both sides off.
+-- The device's replies to a driver that starts on a queue with both sides off.
 use Rattle.std.specs.Prelude.{◌≡◌, ◌⊎◌, IsFalse, true, ℕ}
 use Rattle.driver_laws.specs.StartPrelude.{AtPort, IsNumberOf, RowId, Rxdctl, State, Txdctl, has_bit, is_driven}
 use Rattle.driver_laws.specs.StartPrelude.{reply_to}

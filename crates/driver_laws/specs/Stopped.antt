@@ -5,7 +5,7 @@ use Rattle.driver_laws.specs.{Course.IsHandedInOrder, Course.IsSentInOrder, Life
 use Rattle.driver_laws.specs.{Prelude.TakesOnceOff}
 use Rattle.pmd_driver.specs.{Stopping.StopFails, Stopping.Stops, declared.home.Home.Home}
 
--- After a life, the pass made calls of a stop and no others: none writes the queue's enable words with bit 25.
+-- After a life, the pass made calls of a stop and no others: none writes the queue's enable words with bit 25 set.
 pub record IsStopping (x : Life) (new : List Call) : Type 0 where
   pub ends : Ends x.q x.made new
   pub calls : calls_of x.w.pass x.h ≡ new

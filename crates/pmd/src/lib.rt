@@ -16,9 +16,9 @@
 //! in the meantime. `turns.rt` receives one packet, reports it and sends it again; `driving.rt` is a whole run with the
 //! points at which the worker meets the others.
 //!
-//! The team: `assignment.rt` is what a worker takes to its thread and what comes back, `worker_task.rt` its task there,
-//! `room.rt` the memory allocated before a thread starts, `host.rt` the calling thread's work, `ends.rt` how workers
-//! end, and `team.rt` a whole run.
+//! The team: `assignment.rt` is what a worker takes to its thread and what the thread returns, `worker_task.rt` its
+//! task there, `room.rt` the memory allocated before a thread starts, `host.rt` the calling thread's work, `ends.rt`
+//! how workers end, and `team.rt` a whole run.
 //!
 //! Checks of a driver against a closed history: `before.rt` walks the entries up to the driver's first one.
 //! `beginning.rt` decides which queue a port addresses and whether the driver begins well there. `quiet.rt` checks that

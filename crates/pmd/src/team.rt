@@ -157,7 +157,7 @@ fn run_in<R: Threads + Wait + Sync, G: Gate + Sync, const VFS: u8, const FIFO: u
 /// pass, that leaves the job's queue alone and in which the job's driver begins well. If the outcome has a fault, both
 /// sides of the queue must also be off with no enable request pending just before the driver's first event.
 ///
-/// In order means two things. The packets that its driver handed out are a prefix of those delivered on the queue. The
+/// In order means two facts. The packets that its driver handed out are a prefix of those delivered on the queue. The
 /// frames sent there are a prefix of those that it accepted. Both are counted since the sides were enabled after that
 /// event.
 ///

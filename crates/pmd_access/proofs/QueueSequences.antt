@@ -33,7 +33,7 @@ module _ (q : AtPort) where
       → AreMade q old mid xs → FailsBy f q mid new a → all ≡ xs ++ a ∷ rest → StopsBy f q old new all
   stops_here f old mid new xs rest all a first fails is = (xs, a, rest, mid, is, first, fails)
 
-  -- One more access of a list, and a list that stops at one of its accesses.
+  -- Another access in a list, and a list that stops at one of its accesses.
   pub made_next : (old mid new : List Call) (all : List Access) (i : ℕ) (d : Access) → i < length all
       → AreMade q old mid (take i all) → IsMade q mid new (get_or all i d) → AreMade q old new (take (i + 1) all)
   made_next old mid new all i d below made then =

@@ -16,7 +16,7 @@ pub fn is_frame(frame: u16) -> bool
     SHORTEST_FRAME <= frame && frame <= LONGEST_FRAME
 }
 
-/// The maximum length of a packet in bytes, if a frame has at most `frame` bytes with its check sequence.
+/// The maximum length of a packet in bytes, if a frame is at most `frame` bytes long with its check sequence.
 pub fn packet_limit(frame: u16) -> u16
     requires { is_frame frame ≡ true }
     ensures limit { result ≡ packet_limit frame }

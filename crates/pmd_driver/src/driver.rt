@@ -159,8 +159,8 @@ impl Pmd {
     ///
     /// After that, `DeviceFault` if the device sends a reply that a healthy queue can't send; `Call` if a call was
     /// refused, or if there was no memory for the record. If none of its blocks was lent yet, the packet is returned;
-    /// with `DeviceFault`, the returned packet has blocks with the same numbers. Otherwise it is accepted, and the next
-    /// call continues with it. If the driver isn't running, it returns `DeviceFault` and the packet without any event.
+    /// after `DeviceFault`, its blocks have the same numbers. Otherwise it is accepted, and the next call continues
+    /// with it. If the driver isn't running, it returns `DeviceFault` and the packet without any event.
     pub fn tx<N: Nic>(
         &mut self,
         alloc: Global,
@@ -219,7 +219,7 @@ impl Pmd {
 impl Pmd {
     /// Receives up to `most` packets, the next ones in order. Appends them to `packets` after the tail has passed the
     /// blocks that replace theirs. Returns the number of packets received; it is 0 only if `most` is 0 or the slot
-    /// after those already seen isn't done. How many packets from 1 to `most` it returns isn't promised.
+    /// after those already seen isn't done. It isn't promised how many packets, from 1 to `most`, it returns.
     ///
     /// It fails for the same reasons as `rx`, and only if it returns no packet; the next call continues from there. It
     /// also returns `Call` if there is no memory for the packets. If the driver isn't running, it returns `DeviceFault`

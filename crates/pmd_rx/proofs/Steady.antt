@@ -161,7 +161,7 @@ named_steady l posted seen p q whole more s n blocks (laid, step) lent none is e
       },
     )
 
--- How many of the slots with a block are posted.
+-- The number of slots with a block that are posted.
 pub posted_few : (l : Layout) (posted : ℕ) (seen : List Reported) (p : Packet) (whole : List Packet) (s : Stage)
     → IsSteady l posted seen p whole s → posted ≤ length l.blocks
 posted_few l posted seen p whole s (laid, step) = omega (arith, step.replaced)

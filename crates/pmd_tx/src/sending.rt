@@ -91,8 +91,8 @@ impl TransmitRing {
     ///
     /// After that, `DeviceFault` if the device sends a reply that a healthy queue can't send; `Call` if a call was
     /// refused, or if there was no memory for the record. If none of its blocks was lent yet, the packet is returned;
-    /// with `DeviceFault`, the returned packet has blocks with the same numbers. Otherwise it is accepted, and the next
-    /// call continues with it. Blocks that contain no bytes of an accepted packet return to the arena.
+    /// after `DeviceFault`, its blocks have the same numbers. Otherwise it is accepted, and the next call continues
+    /// with it. Blocks that contain no bytes of an accepted packet return to the arena.
     pub fn send<N: Nic>(
         &mut self,
         alloc: Global,

@@ -170,7 +170,7 @@ module _ (m n : Memory) (v : Sender) (f : ℕ) (l : IsLayout v.layout) (c : IsCo
     pub shows-same : Shows n v f
     shows-same = grind (arith, stays, has_lent-segment)
 
--- A posted slot that is fetched: its segment is staged, the packet goes out if it ends, and the descriptor is done.
+-- A posted slot that is fetched: its segment is staged, the packet is sent if it ends, and the descriptor is done.
 
 abbrev word_of : Segment → ℕ
 word_of x = data_word (length x.part.bytes) x.part.last x.part.whole

@@ -29,7 +29,7 @@ reports_lie s sound queue back reported =
     let aligned = rings_aligned s.registers sound.registers Tx queue in
     grind (arith, reported)
 
--- Blocks that a receive step writes nothing into, also if it writes no byte of a frame.
+-- Blocks into which a receive step writes nothing, even if it writes no byte of a frame.
 
 -- What a reply reports as received is outside a block.
 abbrev pub IsSparedBy : Reply Block → ℕ → Type 0

@@ -77,7 +77,7 @@ pub record Settles (x y : Side) : Type 0 where
 pub not_again : (was is : Bool) → (was ≡ true) ⊎ (is ≡ false) → (not was && is) ≡ false
 not_again was is only = grind arith
 
--- A side that is unchanged, or that is requested to be off, stays settled.
+-- A side that is unchanged, or for which a disable request is made, stays settled.
 pub same_settles : (x y : Side) → y ≡ x → IsSettled x → Settles x y
 same_settles x y same is = grind arith
 

@@ -75,9 +75,9 @@ pub fn life_in_order()
     ensures idle { IdleIsAllSent }
 {}
 
-/// Once both sides of a driver's queue are on, each block that the driver lends over its life comes from the arena
-/// handed to it, and isn't lent by its other half. This holds for the blocks that its start posts and for those that
-/// its calls lend.
+/// Take the blocks that a driver lends over its life once both sides of its queue are on. Each of them comes from the
+/// arena handed to the driver, and isn't lent by its other half. This holds for the blocks that its start posts and for
+/// those that its calls lend.
 pub fn lives_lend_apart()
     ensures { LifeLendsApart }
 {}
@@ -86,8 +86,8 @@ pub fn lives_lend_apart()
 /// `tx_burst` that returns the number of accepted packets doesn't find it at fault either. The premises: the history is
 /// legal, leaves the queue alone and begins well; between the driver's calls, its author may make any harmless calls
 /// through the same pass. Just before the driver's first access, the frames that wait for the queue fit a packet of the
-/// driver. No block of its arena that its pass tries to lend is lent at that point, and no other pass tries to lend any
-/// of these blocks after the pass's first entry.
+/// driver. No block of its arena that its pass tries to lend is lent at that point. No other pass tries to lend any of
+/// these blocks after the pass's first entry.
 pub fn no_call_finds_the_device_at_fault()
     ensures finds { NoCallFindsFault }
     ensures meets { NoBurstMeetsFault }
@@ -150,9 +150,9 @@ pub fn empty_look_leaves_nothing()
 {}
 
 /// Suppose that a driver call in a life ends with a packet outstanding, as a `reap` does that isn't idle. Then its last
-/// event was a poll. Before the call's own first event, not everything that the driver had accepted had been sent,
-/// whatever other passes, or harmless calls of the driver's own pass, did before that event. The same follows from what
-/// the calls of a `pmd_driver::Pmd` return, without any other knowledge of the calls.
+/// event was a poll. Before the call's own first event, not everything that the driver had accepted was sent, whatever
+/// other passes, or harmless calls of the driver's pass, did before it. The same follows from what the calls of a
+/// `pmd_driver::Pmd` return, without any other knowledge of the calls.
 pub fn waiting_look_leaves_some_unsent()
     ensures before { WaitingIsNotAllBefore }
     ensures reported { WaitingIsNotAllAsReported }

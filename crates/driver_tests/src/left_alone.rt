@@ -31,9 +31,9 @@ impl Deed {
 }
 
 /// An event of another pass, the value of GCR_EXT before it, and whether queue 0 is left alone. It is left alone if
-/// others write to other queues, the filter or the global enables of both directions, take blocks that the driver
-/// doesn't lend, or write to such blocks. It isn't left alone if they access a register on which the queue relies,
-/// reset its pool, or access its driver's blocks.
+/// others write other queues, the filter or the global enables of both directions, take blocks that the driver doesn't
+/// lend, or write to such blocks. It isn't left alone if they access a register on which the queue relies, reset its
+/// pool, or access its driver's blocks.
 type Row<'a> = (&'a str, u32, Deed, bool);
 
 #[rattlefmt::skip]

@@ -44,10 +44,10 @@ pub fn other_events_keep_the_agreement()
     ensures enable { EnableStepKeeps }
 {}
 
-/// A receive side that is enabled, with no request to disable it pending, stays so if an event leaves it alone, and
-/// through a step that switches the side, which then changes nothing. If the device and the driver agree, it stays so
-/// through each receive step and each of the driver's own events. It also stays so through each entry of another pass,
-/// and each device step of any pass, that leaves the queue alone.
+/// A side is up if it is enabled and no request to disable it is pending. A receive side that is up stays up if an
+/// event leaves it alone, and through a step that switches the side, which then changes nothing. If the device and the
+/// driver agree, it stays up through each receive step and each of the driver's own events. It also stays up through
+/// each entry of another pass, and each device step of any pass, that leaves the queue alone.
 pub fn queue_up_stays_up()
     ensures leaving { LeavingStaysUp }
     ensures enable { EnableStepChangesNothing }
@@ -64,8 +64,8 @@ pub fn own_event_keeps_the_agreement()
     ensures { OwnEventKeeps }
 {}
 
-/// An entry of another pass, or a device step of any pass, keeps the agreement if it leaves alone the queue and all
-/// blocks that the driver has lent for receiving. In addition, the queue's own transmit side must report into none of
+/// An entry of another pass, or a device step of any pass, keeps the agreement under two conditions. It leaves alone
+/// the queue and all blocks that the driver has lent for receiving. The queue's own transmit side reports into none of
 /// these blocks.
 pub fn foreign_entry_keeps_the_agreement()
     ensures { EntryKeeps }

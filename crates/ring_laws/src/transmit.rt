@@ -71,8 +71,8 @@ pub fn queue_off_stays_off()
     ensures { OffStays }
 {}
 
-/// If device and driver agree, a transmit side that is enabled, with no request to disable it pending, stays so through
-/// each of the driver's moves and through every event that spares the driver.
+/// A side is up if it is enabled and no request to disable it is pending. If device and driver agree, a transmit side
+/// that is up stays up through each of the driver's moves and through every event that spares the driver.
 pub fn queue_up_stays_up()
     ensures { UpStays }
 {}
@@ -93,7 +93,7 @@ pub fn guarded_queue_is_off()
 
 /// Each of the driver's own moves gets the reply of a healthy queue, if the two agree and a block that the move lends
 /// isn't lent yet. The block is lent, its descriptor is written, the tail advances, the oldest descriptor is read, and
-/// the block of a packet that the driver has seen sent is taken back.
+/// the block of a packet that was seen as sent is taken back.
 pub fn own_replies_are_healthy()
     ensures { OwnRepliesAreHealthy }
 {}

@@ -1,10 +1,10 @@
--- The number of ends that the workers return.
+-- The number of outcomes that the workers return.
 use Rattle.std.proofs.Common.{◌≡◌, suc, List, [], ◌∷◌, length, refl, ap}
 use Rattle.pmd.specs.declared.job.Job.{Job}
 use Rattle.pmd.specs.Ends.{AreEnds}
 use Rattle.pmd.specs.declared.ends.WorkerEnd.{WorkerEnd}
 
--- There is one end for each job.
+-- There is one outcome for each job.
 pub ends_count : (jobs : List Job) (ends : List WorkerEnd) → AreEnds jobs ends → length ends ≡ length jobs
 ends_count [] [] are = refl
 ends_count (j ∷ jobs) (e ∷ ends) are = ap suc (ends_count jobs ends are.1)

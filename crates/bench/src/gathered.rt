@@ -17,7 +17,8 @@ pub(crate) struct Gathered {
 }
 
 impl Gathered {
-    /// Adds the result of one worker. Refused if it ended with a fault, or if not all of its blocks are free again.
+    /// Adds the result of one worker. Refused if the worker ended with a fault, or if some of its blocks aren't free
+    /// again.
     fn take(&mut self, end: WorkerEnd) -> Result<(), Refused>
         ensures { OnOk result (vec_len self.new.reports ≡ vec_len self.old.reports + 1) }
     {
@@ -39,7 +40,7 @@ impl Gathered {
     }
 }
 
-/// Collects the results of all workers. Refused if one ended with a fault, or if some frames didn't arrive.
+/// Collects the results of all workers. Refused if a worker ended with a fault, or if some frames didn't arrive.
 pub(crate) fn gather(alloc: Global, ran: Ran, frames: u8) -> Result<Gathered, Refused>
     ensures { IfOk result (λ g. vec_len g.reports ≡ vec_len ran.ends) }
 {

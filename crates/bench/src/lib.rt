@@ -1,7 +1,7 @@
-//! The program `nicbench`: each of its commands, with any reader and writer.
+//! The commands of `nicbench`, for any reader and writer.
 //!
 //! `bench_commands`, which reads the input and writes the answer, is re-exported. With `nicbench threads`, workers
-//! drive queues of one device, each on its own thread. `bench_threads` shares a device, sets it up, lets frames arrive
+//! drive queues of one device, each on its own thread. `bench_threads` shares a device, sets it up, delivers frames
 //! while the workers receive and send them, closes the history, and prints a summary of each queue. The program's
 //! `main` depends on this crate.
 #![tactic(auto)]

@@ -91,7 +91,7 @@ fn drive<R: Threads + Wait + Sync>(
 }
 
 /// Whether a history leaves a worker's queue alone, and the worker's driver starts from a clean state there. Worker `k`
-/// has queue `k` and the pass with the tag `k`, which made no call before the driver's start.
+/// has queue `k` and the pass with tag `k`, which made no call before the driver's start.
 fn has_its_queue(closed: &Closed<0, 64>, worker: u8) -> bool
     ensures { IsTrue result ↔ HasItsQueue worker closed.now.history }
 {
@@ -166,24 +166,24 @@ fn run<R: Threads + Wait + Sync>(
     }
 }
 
-/// Runs workers on a shared device, one on each of the queues from 0 on, while this many frames arrive. The frames
+/// Runs workers on a shared device, one on each queue below `workers`, while this many frames arrive. The frames
 /// alternate between TCP over IPv4 and over IPv6, and RSS distributes them among the queues. Each worker sends back the
 /// packets that it receives. Then a summary is written: for each queue a line with the numbers of packets and bytes
-/// that its worker received, then the number of transmitted frames, then `history legal`. The device's history is
+/// that its worker received; then the number of transmitted frames, then `history legal`. The device's history is
 /// legal. It also leaves each worker's queue alone (`left_alone`), and each worker's driver starts from a clean state
 /// (`begins_well`). The status is then 0.
 ///
 /// The clauses state the format of the output, and that the printed number of transmitted frames is the number in such
-/// a history. No clause says that the packets and bytes in a line are the ones that the worker received in this
-/// history, which frames arrive, or that a worker sends back the packets that it receives. By the clause `order` of
-/// `pmd::run_workers`, the end that it reports for a worker is in order over each such history: its packets are a
-/// prefix of those delivered on its queue, and the frames transmitted there are a prefix of those that its driver
+/// a history. The clauses don't state that the packets and bytes in a line are the ones that the worker received in
+/// this history, which frames arrive, or that a worker sends back the packets that it receives. By the clause `order`
+/// of `pmd::run_workers`, the outcome that it reports for a worker is in order over each such history: its packets are
+/// a prefix of those delivered on its queue, and the frames transmitted there are a prefix of those that its driver
 /// accepted.
 ///
 /// The call waits for locks and for the threads. Nothing is written if something is refused, a worker ends with a
 /// fault, its queue isn't left alone, its driver doesn't start from a clean state, or some frames don't arrive. The
-/// status is then 2, or 4, which is meant for lack of memory and for missing frames. No clause says which of the two it
-/// is. `workers` must be 1 to 8; otherwise the status is 2. If a write fails, the status is 2.
+/// status is then 2, or 4, which is meant for lack of memory and for missing frames. The contract doesn't specify which
+/// of the two is returned. `workers` must be 1 to 8; otherwise the status is 2. If a write fails, the status is 2.
 pub fn bench_threads<R: Threads + Wait + Sync, W: Write>(
     rt: &R,
     alloc: Global,

@@ -60,7 +60,7 @@ module _ (old mid new : Option (List ℕ)) (IsFailed : ℕ → Type 0) where
   ended-given-up request remaining IsUnread Write (Threads workers frames) begun unread read memory write =
       absurd (write refl)
 
--- If memory runs out while reading the words of another request, this is reported, and nothing else is written.
+-- If memory runs out while reading the arguments of another request, this is reported, and nothing else is written.
 pub ended-for-memory : (old new : Option (List ℕ)) (IsFailed : ℕ → Type 0) (request : Request)
     (remaining : Option (List ℕ)) (IsUnread : Type 0) (outcome : Outcome)
     → EndsSaying old new IsFailed no_memory outcome → EndsAs request remaining IsUnread old new IsFailed outcome
@@ -72,7 +72,7 @@ ended-for-memory old new IsFailed request remaining IsUnread (Ended status) (inl
 ended-for-memory old new IsFailed request remaining IsUnread (Ended status) (inr failed) = inr (inr (inr failed))
 ended-for-memory old new IsFailed request remaining IsUnread (Threads workers frames) never = absurd never
 
--- The ending for words that make no request.
+-- The ending for arguments that make no request.
 pub ended-words : (old new : Option (List ℕ)) (IsFailed : ℕ → Type 0) (kinds : Kinds) (e : Error) (outcome : Outcome)
     → HasKind kinds e → EndsOf (kind_of e) old new IsFailed outcome → EndsWords kinds old new IsFailed outcome
 ended-words old new IsFailed kinds e (Ended status) has (inl (is, inl wrote)) = inr (inl (wrote.1, wrote.0))

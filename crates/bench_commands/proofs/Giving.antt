@@ -7,7 +7,7 @@ use Rattle.bench_commands.specs.declared.failure.Failure.TheVariants.{OutOfMemor
 use Rattle.bench_commands.proofs.Appending.{Appends-both, Appends-none}
 
 module _ (old new : Option (List ℕ)) (has_failed : Bool) where
-  -- If an answer is the only right one, and the program gives it or doesn't complete it, the same holds for a right
+  -- If an answer is the only right one, and the program writes it or doesn't complete it, the same holds for a right
   -- answer.
   pub gives-right : (r : Result ℕ Failure) (answer : Answer) (IsRight : Answer → Type 0) → IsRight answer
       → ((other : Answer) → IsRight other → other ≡ answer) → Gives r old new has_failed answer

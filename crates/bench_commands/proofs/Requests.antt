@@ -51,7 +51,7 @@ module _ (old new : Option (List ℕ)) (has_failed : Bool) (r : Result ℕ Failu
         (λ text. IsTextAnswer request text answer) (λ refusal. answer ≡ refusal)))
         (sym is) given
 
-    -- Bytes that are UTF-8 are answered as a text.
+    -- Bytes that are UTF-8 are answered as text.
     pub given-text : (text : List ℕ) → text ≡ bytes → IsUtf8 bytes
         → GivesRight r old new has_failed (IsTextAnswer request text)
         → GivesRight r old new has_failed (IsGivenAnswer (Text request) bytes)

@@ -28,7 +28,7 @@ no_memory = record { text = refusal_line (codes "OutOfMemory") None; status = 4 
 abbrev pub Writes : Option (List ℕ) → Option (List ℕ) → Answer → ℕ → Type 0
 Writes old new answer status = Appends old new answer.text × (status ≡ answer.status)
 
--- The written text is a prefix of this text: nothing, part of it, or all of it.
+-- The written text is a prefix of this text, which may be empty or the whole text.
 pub record WritesBeginning (old new : Option (List ℕ)) (text : List ℕ) : Type 0 where
   pub beginning : List ℕ
   pub rest : List ℕ

@@ -1,4 +1,4 @@
--- The request that words make.
+-- The request that arguments make.
 use Rattle.std.specs.Prelude.{◌≡◌, ℕ, Bool, List, [], ◌∷◌, Option, Some, None, ◌^◌, ◌&&◌, codes, false, length, nat_lt, option_and_then, option_map, if◌then◌else◌}
 use Rattle.std.specs.List.{list_all}
 use Rattle.std.specs.Option.{option_map_or}
@@ -19,12 +19,12 @@ use Rattle.bench_commands.specs.declared.request.TextRequest.TheVariants.{Asm, D
 use Rattle.bench_commands.specs.declared.run_options.RunOptions.{RunOptions}
 use Rattle.bench_commands.specs.declared.threads_options.ThreadsOptions.{ThreadsOptions}
 
--- Whether the text is at least one decimal digit and spells a number below 2^`bits`.
+-- Whether the string consists of decimal digits, at least one, and spells a number below 2^`bits`.
 abbrev pub is_number_of : ℕ → Text → Bool
 is_number_of bits digits = nat_lt 0 (length digits)
     && (list_all (λ d. nat_lt (digit_value d) 10) digits && nat_lt (digits_value 10 digits) (2 ^ bits))
 
--- The number that a text spells, with or without a leading plus sign. Clap accepts no other text.
+-- The number that a string spells, with or without a leading plus sign. Clap accepts no other string.
 abbrev pub number_in : ℕ → Text → ℕ
 number_in bits text = let digits = without_leading_plus text in
     if is_number_of bits digits then digits_value 10 digits else 0
@@ -78,13 +78,13 @@ abbrev pub asked_of : Text → List Row → Option Asked
 asked_of name rows = if bytes_eq name (codes "threads") then Some (Threads (threads_options_of rows))
     else option_map Input (request_of name rows)
 
--- Clap finds no fault in the words, and their command makes this request.
+-- Clap finds no fault in the arguments, and their command makes this request.
 pub record Asks (words : List Text) (what : Asked) : Type 0 where
   pub faultless : fault_of nicbench_app words ≡ []
   pub asked : option_and_then (λ command. asked_of command.0 command.1) (subcommand_of nicbench_app words)
       ≡ Some what
 
--- The kinds of error that clap may return for other words: a refusal, or a request for a text. If clap finds no fault,
--- the command is unknown.
+-- The kinds of error that clap may return for other arguments: a refusal, or a request for the help or the version. If
+-- clap finds no fault, the command is unknown.
 abbrev pub refusal_of : List Text → Kinds
 refusal_of words = or_else (fault_of nicbench_app words) (kind.InvalidSubcommand ∷ [])

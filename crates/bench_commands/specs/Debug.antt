@@ -59,6 +59,6 @@ debug_config_of options = record { vfs = options.vfs; fifo = options.fifo }
 abbrev pub session_of : DebugOptions → List NumberedLine → Answer
 session_of options lines = parted_answer (debug_config_of options) lines (program_before end_of_script lines)
 
--- The answer to a text.
+-- The answer to an input's text.
 abbrev pub debug_answer : DebugOptions → List ℕ → Answer
 debug_answer options text = session_of options (lines_of text)

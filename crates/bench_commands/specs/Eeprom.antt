@@ -14,7 +14,7 @@ use Rattle.nic_device.specs.EepromImage.declared.LoadFault.TheVariants as file
 use Rattle.text_format.specs.Word.{address_text, word_text}
 use Rattle.bench_commands.specs.Answer.{Answer, refused_as, refused_at}
 
--- The refusal of a text that isn't an image.
+-- The refusal of an EEPROM text that doesn't describe an image.
 abbrev pub text_refused : AsmFault → Answer
 text_refused (text.Syntax line) = refused_at (codes "Syntax") line
 text_refused (text.TwoValues index) = refused_at (codes "TwoValues") index
@@ -32,7 +32,7 @@ file_refused file.BadChecksum = refused_as (codes "BadChecksum")
 file_refused file.NotTriples = refused_as (codes "NotTriples")
 file_refused file.OutOfMemory = refused_as (codes "OutOfMemory")
 
--- The answer is the file of the image with this content, or the text's fault.
+-- The answer is the file of the image with this content, or the EEPROM text's fault.
 abbrev pub IsMeantAnswer : Result Content AsmFault → Answer → Type 0
 IsMeantAnswer (Ok content) answer =
     (words : List ℕ) × IsImageOf content words × (answer ≡ record { text = bytes_of words; status = 0 })

@@ -1,4 +1,4 @@
--- The answer to words, and how the program ends.
+-- The answer to arguments, and how the program ends.
 use Rattle.std.specs.Prelude.{◌≡◌, ◌≢◌, ◌⊎◌, ℕ, Bool, List, [], ◌∷◌, ◌++◌, None, IfSome, MatchResult, Option, Result, Ok, Err, codes, true, if◌then◌else◌}
 use Rattle.std.specs.Io.KnownBytes.{Appends}
 use Rattle.clap.specs.Words.{Kinds}
@@ -25,7 +25,7 @@ use Rattle.bench_commands.specs.declared.ending.Outcome.{Outcome}
 use Rattle.bench_commands.specs.declared.ending.Outcome.TheVariants.{Ended, Threads}
 use Rattle.bench_commands.specs.declared.output.Output.{Output}
 
--- The answer is the requested one for a text.
+-- The answer is the requested one for an input's text.
 abbrev pub IsTextAnswer : TextRequest → List ℕ → Answer → Type 0
 IsTextAnswer (Run options) text answer = answer ≡ run_answer options text
 IsTextAnswer (Debug options) text answer = answer ≡ debug_answer options text
@@ -33,7 +33,7 @@ IsTextAnswer Hash text answer = answer ≡ hash_answer text
 IsTextAnswer Asm text answer = answer ≡ asm_answer text
 IsTextAnswer Eeprom text answer = IsImageAnswer text answer
 
--- The answer is the requested one for bytes.
+-- The answer is the requested one for an input's bytes.
 abbrev pub IsBytesAnswer : BytesRequest → List ℕ → Answer → Type 0
 IsBytesAnswer Dis bytes answer = answer ≡ dis_answer bytes
 IsBytesAnswer LoadEeprom bytes answer = IsLoadAnswer bytes answer
@@ -58,7 +58,7 @@ AnswersRequest request remaining old new (Err OutOfMemory) =
 AnswersRequest request remaining old new (Err Read) = Unit {0}
 AnswersRequest request remaining old new (Err Write) = Unit {0}
 
--- The exit status for words: 0 for the help and the version, 3 for refused words.
+-- The exit status for arguments that make no request: 0 for the help and the version, 3 if they are refused.
 abbrev pub words_status : ErrorKind → ℕ
 words_status kind.DisplayHelp = 0
 words_status kind.DisplayVersion = 0
@@ -99,8 +99,8 @@ abbrev pub EndsSaid : ErrorKind → (ℕ → Type 0) → Outcome → Type 0
 EndsSaid kind IsFailed (Ended status) = (status ≡ words_status kind) ⊎ IsFailed status
 EndsSaid kind IsFailed (Threads workers frames) = ⊥
 
--- The program ends because of a clap error. Lack of memory is reported as it is everywhere, and any other error is
--- written as clap phrases it.
+-- The program ends because of a clap error. Lack of memory is reported in the same way as everywhere else; for any
+-- other error, clap's message is written.
 abbrev pub EndsOf : ErrorKind → Option (List ℕ) → Option (List ℕ) → (ℕ → Type 0) → Outcome → Type 0
 EndsOf of old new IsFailed outcome =
     ((of ≡ kind.OutOfMemory) × EndsSaying old new IsFailed no_memory outcome)
@@ -125,8 +125,8 @@ EndsAs request remaining IsUnread old new IsFailed (Ended status) =
     ⊎ IsFailed status))
 EndsAs request remaining IsUnread old new IsFailed (Threads workers frames) = ⊥
 
--- For words that make no request, the program ends in one of three ways: with the status of one of clap's kinds; with 4
--- and a refusal, if memory ran out; or with the status of a failed write.
+-- For arguments that make no request, the program ends in one of three ways: with the status of one of clap's kinds;
+-- with 4 and a refusal, if memory ran out; or with the status of a failed write.
 abbrev pub EndsWords : Kinds → Option (List ℕ) → Option (List ℕ) → (ℕ → Type 0) → Outcome → Type 0
 EndsWords kinds old new IsFailed (Ended status) =
     HasStatusOf kinds status

@@ -61,7 +61,7 @@ abbrev pub lines_answer : List NumberedLine → Answer
 lines_answer [] = refused_at (codes "Syntax") 1
 lines_answer (line ∷ others) = keyed_answer line.number (if_key (bytes_said (words_of line.text))) others
 
--- The answer to a text.
+-- The answer to an input's text.
 abbrev pub hash_answer : List ℕ → Answer
 hash_answer text = lines_answer (lines_of text)
 

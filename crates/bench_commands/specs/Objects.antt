@@ -20,7 +20,7 @@ object_refused (fault.Operand pc) = refused_at (codes "Operand") pc
 object_refused (fault.Target pc) = refused_at (codes "Target") pc
 object_refused fault.OutOfMemory = refused_as (codes "OutOfMemory")
 
--- The object of a text's program, or the refusal of a text that isn't a script.
+-- The object of a script's program, or the refusal of an input that isn't a script.
 abbrev pub object_answer : Result Listing ScriptFault → Answer
 object_answer (Ok program) = record { text = object_of program; status = 0 }
 object_answer (Err fault) = script_refused fault

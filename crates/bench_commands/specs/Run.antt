@@ -47,7 +47,7 @@ abbrev pub program_answer : RunOptions → Listing → Answer
 program_answer options program =
     made_with (config_of options) (machine_answer program (config_of options) options.limit)
 
--- The refusal of a text that isn't a script, with the number of the faulty line if there is one.
+-- The refusal of an input that isn't a script, with the number of the faulty line if there is one.
 abbrev pub script_refused : ScriptFault → Answer
 script_refused (fault.Syntax line) = refused_at (codes "Syntax") line
 script_refused (fault.UnknownName line) = refused_at (codes "UnknownName") line
@@ -57,11 +57,11 @@ script_refused (fault.Range line) = refused_at (codes "Range") line
 script_refused fault.TooLong = refused_as (codes "TooLong")
 script_refused fault.OutOfMemory = refused_as (codes "OutOfMemory")
 
--- The answer of a script's run, or the refusal of a text that isn't a script.
+-- The answer of a script's run, or the refusal of an input that isn't a script.
 abbrev pub script_answer : RunOptions → Result Listing ScriptFault → Answer
 script_answer options (Ok program) = program_answer options program
 script_answer options (Err fault) = script_refused fault
 
--- The answer to a text.
+-- The answer to an input's text.
 abbrev pub run_answer : RunOptions → List ℕ → Answer
 run_answer options text = script_answer options (program_of text)

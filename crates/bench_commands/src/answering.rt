@@ -54,7 +54,7 @@ fn answer_bytes<W: Write>(
     }
 }
 
-/// Answers a request from the bytes that were read, as text if the request needs text.
+/// Answers a request from the bytes that were read, which are decoded as text if the request needs text.
 fn answer_input<W: Write>(
     alloc: Global,
     bytes: &[u8],
@@ -73,19 +73,19 @@ fn answer_input<W: Write>(
     }
 }
 
-/// Reads all input, writes the answer to a request and returns the exit status. No write to the output may have failed
-/// before.
+/// Reads all input, writes the answer to a request and returns the exit status. The caller must pass an output to which
+/// no write has failed.
 ///
 /// The output and the status are the request's answer to all bytes of the input. They depend on the number of bytes, on
 /// whether the bytes are text if the request needs text, and on the contents: a script, debugger commands, hex lines,
 /// an object, an EEPROM text or an image.
 ///
-/// For `debug`, each command prints its refusal, or the machine's view after the number of steps to which the commands
-/// so far lead. For a shown register, it prints what a read would return. Three faults refuse a session before anything
-/// is printed, in this order: a faulty script, a faulty command anywhere or a missing `%`, and a device that can't be
-/// created.
+/// For `debug`, each command prints its refusal, or the machine's state after the number of steps to which the commands
+/// so far lead. A command that shows a register prints what a read would return. Three faults refuse a session before
+/// anything is printed, in this order: a faulty script, a faulty command anywhere or a missing `%`, and a device that
+/// can't be created.
 ///
-/// Errors: `Failure::Read`, only if a read failed, or if a million reads were made of a reader with at least as many
+/// Errors: `Failure::Read`, only if a read failed, or if a million reads were made of a reader with at least a million
 /// bytes; nothing is written. `Failure::OutOfMemory`: a prefix of the answer was written. `Failure::Write`, only if a
 /// write of this call failed; an `Output` writes nothing after a failed write.
 pub fn answer<R: Read, W: Write>(

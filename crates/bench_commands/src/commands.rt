@@ -112,7 +112,7 @@ fn add_line(commands: &mut Vec<Command>, line: Line<'_>) -> Result<(), CommandFa
     Ok(())
 }
 
-/// The commands on the lines. The first line that has words but isn't a command is refused.
+/// The commands on the lines. Refuses the first line that has words but isn't a command.
 pub(crate) fn read_commands(alloc: Global, lines: Lines<'_>) -> Result<Vec<Command>, CommandFault>
     ensures ok { IfOk result (λ commands. commands_of lines.entry ≡ Ok commands.items) }
     ensures syntax { (n : ℕ) → result ≡ Err (CommandFault.Syntax n)

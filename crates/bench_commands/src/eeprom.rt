@@ -16,7 +16,7 @@ use std::alloc::Global;
 use std::io::Write;
 use text_format::{AddressText, WordText};
 
-/// The refusal of a text that isn't an image. `None` if memory ran out.
+/// The refusal of an EEPROM text that doesn't describe an image. `None` if memory ran out.
 fn refusal_of_text(fault: AsmFault) -> Option<Refusal>
     ensures { MatchOption result (fault ≡ AsmFault.OutOfMemory) (λ refusal.
         (fault ≢ AsmFault.OutOfMemory)

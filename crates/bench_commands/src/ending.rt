@@ -1,4 +1,4 @@
-//! The program: from its words to its exit status.
+//! The program: from its arguments to its exit status.
 ghost use Rattle.std.specs.Prelude.{◌≡◌, ◌⊎◌, None, codes, false, map};
 ghost use Rattle.clap.specs.Words.{kind_of};
 ghost use Rattle.bench_commands.specs.Asked.{Asks, refusal_of};
@@ -27,7 +27,8 @@ use std::io::{Read, Write};
 pub enum Outcome {
     /// The program has ended with this exit status: `DONE`, `NOT_ENDED`, `FAILED`, `REFUSED_WORDS` or `NO_MEMORY`.
     Ended(u8),
-    /// The program hasn't ended: the words request `threads`, which the caller has to run. Nothing was read or written.
+    /// The program hasn't ended: the arguments request `threads`, which the caller has to run. Nothing was read or
+    /// written.
     Threads {
         /// The number of workers, 1 to 8.
         workers: u8,
@@ -49,7 +50,7 @@ fn end_saying<W: Write>(output: &mut Output<W>, name: &str, status: u8) -> Outco
     }
 }
 
-/// Ends the program after an answer that wasn't completed.
+/// Ends the program after an incomplete answer.
 fn end_given_up<W: Write>(output: &mut Output<W>, failure: Failure) -> Outcome
     ensures read { failure ≡ Failure.Read → EndsSaying (W.contents output.old.writer)
         (W.contents output.new.writer) (IsUnwritten output.new) (refused_as (codes "Input")) result }
@@ -82,7 +83,7 @@ fn end_request<R: Read, W: Write>(
     }
 }
 
-/// The exit status for words that are refused for this reason.
+/// The exit status for arguments that are refused for this reason.
 fn status_of(kind: ErrorKind) -> u8
     ensures { result ≡ words_status kind }
 {
@@ -93,7 +94,7 @@ fn status_of(kind: ErrorKind) -> u8
     }
 }
 
-/// Writes clap's message about the words and ends with its status.
+/// Writes clap's message about the arguments and ends with its status.
 fn end_words<W: Write>(output: &mut Output<W>, error: &Error) -> Outcome
     ensures { EndsOf (kind_of error.now) (W.contents output.old.writer) (W.contents output.new.writer)
         (IsUnwritten output.new) result }
@@ -108,15 +109,15 @@ fn end_words<W: Write>(output: &mut Output<W>, error: &Error) -> Outcome
     }
 }
 
-/// Reads the words, of which the first is the program's own name, then all input if they request a command that reads
-/// it, and writes all output. No write to the output may have failed before. The words are read before anything else.
-/// If they are refused, no input is read, and the status is one that clap may return: 0 for the help and the version,
-/// otherwise 3.
+/// Reads the arguments, the first of which is the program's own name; reads all input if they request a command that
+/// reads it; and writes all output. The caller must pass an output to which no write has failed. The arguments are read
+/// before anything else. If they are refused, no input is read, and the status is one that clap may return: 0 for the
+/// help and the version, otherwise 3.
 ///
 /// After a failed write nothing more is written, and the status is `NO_MEMORY` (4) if the writer ran out of memory,
-/// otherwise `FAILED` (2). A failed read, or a million reads of a reader with at least as many bytes, is reported as
+/// otherwise `FAILED` (2). A failed read, or a million reads of a reader with at least a million bytes, is reported as
 /// the refusal `Input` with status 2. Lack of memory is reported as the refusal `OutOfMemory` with status 4, after a
-/// prefix of the answer. If the words request `threads`, nothing is read, and nothing is written except for that
+/// prefix of the answer. If the arguments request `threads`, nothing is read, and nothing is written except for that
 /// refusal.
 pub fn bench<'a, R: Read, W: Write, S: AsStr>(
     alloc: Global,

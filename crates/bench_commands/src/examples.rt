@@ -13,8 +13,8 @@ pub fn run_alone()
         (Input (Text (Run (record { vfs = 0; fifo = 64; limit = 100000 })))) }
 {}
 
-/// A value follows its option or a `=` after it, and may have a plus sign or leading zeros: `--vfs 63 --limit=+5 --fifo
-/// 004096` requests 63 functions, 4,096 frames and 5 instructions.
+/// A value is the next argument after its option, or follows a `=` after the option. It may have a plus sign or leading
+/// zeros: `--vfs 63 --limit=+5 --fifo 004096` requests 63 virtual functions, 4,096 frames and 5 instructions.
 pub fn run_with_options()
     ensures { Asks (codes "nicbench" ∷ codes "run" ∷ codes "--vfs" ∷ codes "63"
         ∷ codes "--limit=+5" ∷ codes "--fifo" ∷ codes "004096" ∷ [])
@@ -53,9 +53,9 @@ pub fn threads_with_options()
         ∷ codes "--frames=60" ∷ []) (Threads (record { workers = 8; frames = 60 })) }
 {}
 
-/// `nicbench threads` requires both options, with 1 to 8 workers and at most 60 frames. It refuses 0 workers, it
-/// refuses 9 workers, it refuses 61 frames, and it refuses words without one of the two options. Each refusal has the
-/// kind of error that clap returns for it.
+/// `nicbench threads` requires both options, with 1 to 8 workers and at most 60 frames. It refuses 0 workers, 9
+/// workers, 61 frames, and arguments without one of the two options; each refusal has the kind of error that clap
+/// returns for it.
 pub fn refused_threads()
     ensures no_worker { refusal_of (codes "nicbench" ∷ codes "threads" ∷ codes "--workers"
         ∷ codes "0" ∷ codes "--frames" ∷ codes "1" ∷ []) ≡ kind.ValueValidation ∷ [] }
@@ -65,12 +65,12 @@ pub fn refused_threads()
         ∷ codes "1" ∷ codes "--frames" ∷ codes "61" ∷ []) ≡ kind.ValueValidation ∷ [] }
     ensures without_workers { refusal_of (codes "nicbench" ∷ codes "threads" ∷ codes "--frames"
         ∷ codes "1" ∷ []) ≡ kind.MissingRequiredArgument ∷ [] }
-    // words without `--frames`
+    // arguments without `--frames`
     ensures without_frames { refusal_of (codes "nicbench" ∷ codes "threads" ∷ codes "--workers"
         ∷ codes "1" ∷ []) ≡ kind.MissingRequiredArgument ∷ [] }
 {}
 
-/// Refused words, each with the kind of error that clap returns for them.
+/// Refused arguments, each with the kind of error that clap returns for it.
 pub fn refused_words()
     // `run --vfs 256`, a number too large for the option's type
     ensures beyond { refusal_of (codes "nicbench" ∷ codes "run" ∷ codes "--vfs"
@@ -78,10 +78,10 @@ pub fn refused_words()
     // `run --vfs=1 --vfs=1`, a repeated option
     ensures twice { refusal_of (codes "nicbench" ∷ codes "run" ∷ codes "--vfs=1"
         ∷ codes "--vfs=1" ∷ []) ≡ kind.ArgumentConflict ∷ [] }
-    // an extra word after `run`
+    // an extra argument after `run`
     ensures further { refusal_of (codes "nicbench" ∷ codes "run" ∷ codes "script.nic"
         ∷ []) ≡ kind.UnknownArgument ∷ [] }
-    // an extra word after `hash`
+    // an extra argument after `hash`
     ensures further_than_hash { refusal_of (codes "nicbench" ∷ codes "hash"
         ∷ codes "further" ∷ []) ≡ kind.UnknownArgument ∷ [] }
     // `debug --limit=5`, an option of another command

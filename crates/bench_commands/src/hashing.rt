@@ -25,7 +25,7 @@ const KEY_BYTES: usize = 40;
 /// The maximum size of an input in bytes.
 const INPUT_BYTES: usize = 36;
 
-/// Why a text has no hashes.
+/// Why hashes couldn't be computed.
 #[derive(Clone, Copy, Debug, PartialEq, Eq)]
 enum HashFault {
     /// The line with this number isn't hex data of the right length.
@@ -136,7 +136,7 @@ fn hash_inputs(alloc: Global, key: &Key, lines: Lines<'_>) -> Result<Vec<u32>, H
     Ok(hashes)
 }
 
-/// The hashes of the inputs in a text, with the key on its first line.
+/// The hashes of the inputs on the lines after the first line, which is the key.
 fn hashes_in(alloc: Global, text: &str) -> Result<Vec<u32>, HashFault>
     ensures ok { IfOk result (λ hashes. lines_answer (lines_of text.now)
         ≡ words_answer hashes.items) }
@@ -175,8 +175,8 @@ fn write_hashes<W: Write>(output: &mut Output<W>, hashes: &[u32]) -> Result<u8, 
     Ok(DONE)
 }
 
-/// Reads a 40-byte key from the first line of a text and inputs of at most 36 bytes from the lines after it, all in
-/// hex. Writes the Toeplitz hash of each input with the key. All lines are read before the first hash is written.
+/// Reads a 40-byte key from the first line and inputs of at most 36 bytes from the lines after it, all in hex. Writes
+/// the Toeplitz hash of each input with the key. All lines are parsed before the first hash is written.
 pub(crate) fn hash_lines<W: Write>(
     alloc: Global,
     text: &str,

@@ -59,8 +59,8 @@ impl<W: Write> Output<W> {
         Failure::Write
     }
 
-    /// Writes a text. Returns `Failure::Write` if the write fails or one has failed before. After a failed write,
-    /// nothing is written.
+    /// Writes the text of a value. Fails only with `Failure::Write`: if this write fails, or if an earlier write
+    /// failed. In the second case, nothing is written.
     pub fn write<D: Display + Drop>(&mut self, text: D) -> Result<(), Failure>
         ensures ok { OnOk result (IfSome (D.output text)
             (Appends (W.contents self.old.writer) (W.contents self.new.writer))) }
@@ -77,7 +77,7 @@ impl<W: Write> Output<W> {
         }
     }
 
-    /// Writes these bytes. After a failed write, nothing is written.
+    /// Writes these bytes. If an earlier write failed, nothing is written.
     pub(crate) fn write_bytes(&mut self, bytes: &[u8]) -> Result<(), Failure>
         ensures ok { OnOk result (Appends (W.contents self.old.writer) (W.contents self.new.writer)
             bytes.now) }
@@ -94,9 +94,9 @@ impl<W: Write> Output<W> {
         }
     }
 
-    /// Flushes the writer and returns the exit status: the given one, or if flushing fails the status of that failure,
-    /// 2 or 4. The writer keeps everything written to it. After a failed write nothing is flushed, and the given status
-    /// is returned.
+    /// Flushes the writer and returns the exit status: the given one, or the status of a failed write (2 or 4) if
+    /// flushing fails. The writer keeps everything written to it. If an earlier write failed, nothing is flushed, and
+    /// the given status is returned.
     pub fn flush(&mut self, status: u8) -> u8
         ensures bytes { self.old.has_failed ≡ false
             → Keeps (W.contents self.old.writer) (W.contents self.new.writer) }

@@ -1,4 +1,4 @@
-//! Parsing the words into a request.
+//! Parsing the arguments into a request.
 ghost use Rattle.std.specs.Prelude.{◌≡◌, IfErr, IfOk, map, option_and_then};
 ghost use Rattle.clap.specs.Words.{FailsBy, HasKind, HasMatchesOf, fault_of, found_of, kind_of, rows_of};
 ghost use Rattle.clap.specs.Words.{subcommand_rows_of};
@@ -15,7 +15,7 @@ use clap::{ArgMatches, Command, Error};
 use std::alloc::Global;
 use std::convert::AsStr;
 
-/// Matches the words with clap.
+/// Matches the arguments with clap.
 fn matches_in<'a, S: AsStr>(alloc: Global, words: &'a [S]) -> Result<ArgMatches<'a>, Error>
     ensures matches { IfOk result (HasMatchesOf nicbench_app (map S.text words.entry.now)) }
     ensures faults { FailsBy (fault_of nicbench_app (map S.text words.entry.now)) result }
@@ -98,9 +98,9 @@ fn asked_in(matches: &ArgMatches<'_>) -> Option<Asked>
     }
 }
 
-/// The request that the words make, by clap's definitions of the commands. The first word is the program's own name.
-/// The error contains the text for the user: why the words were refused, or the help or the version that they
-/// requested. Words that make a request are refused only for lack of memory.
+/// Returns the request that the arguments make, according to clap's definitions of the commands. The first argument is
+/// the program's own name. The error contains the message for the user: why the arguments were refused, or the help or
+/// the version that they requested. Arguments that make a request are refused only for lack of memory.
 pub fn asked<'a, S: AsStr>(alloc: Global, words: &'a [S]) -> Result<Asked, Error>
     ensures ok { IfOk result (Asks (map S.text words.entry.now)) }
     ensures refused { IfErr result (HasKind (refusal_of (map S.text words.entry.now))) }

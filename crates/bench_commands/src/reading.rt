@@ -47,7 +47,7 @@ pub fn read_input<R: Read>(alloc: Global, input: &mut Input<R>) -> Result<Vec<u8
     // Only if there are more bytes.
     ensures too_long { result ≡ Err InputFault.TooLong
         → IfSome (R.remaining input.old.reader) (λ bytes. BYTES < length bytes) }
-    // Only if a read failed, or if a million reads were made of a reader with at least as many bytes.
+    // Only if a read failed, or if a million reads were made of a reader with at least a million bytes.
     ensures unread { result ≡ Err InputFault.Unread
         → CouldNotBeRead (R.remaining input.old.reader) input.new }
 {

@@ -19,7 +19,7 @@ enum Part<'a> {
     Number(usize),
     /// A decimal number after the name of its unit.
     Numbered(&'static str, usize),
-    /// A register's word in hex.
+    /// A register's value in hex.
     Word(u32),
     /// The bytes of a frame or of memory in hex.
     Bytes(&'a [u8]),
@@ -112,7 +112,7 @@ fn fault(fault: RingFault) -> Part<'static>
     }
 }
 
-/// The printed number of a queue.
+/// A queue's number, as printed.
 fn queue(queue: u16) -> Part<'static>
     ensures { part_text result ≡ queue_text queue }
 {

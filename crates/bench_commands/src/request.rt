@@ -15,7 +15,7 @@ pub enum Asked {
 /// How to answer the input.
 #[derive(Clone, Copy, Debug, PartialEq, Eq)]
 pub enum Request {
-    /// A command that reads a text.
+    /// A command that reads text.
     Text(TextRequest),
     /// A command that reads bytes.
     Bytes(BytesRequest),

@@ -25,7 +25,7 @@ use text_format::Lines;
 /// The word on the line that ends the script.
 const END_OF_SCRIPT: &str = "%";
 
-/// The number of lines of a text.
+/// The number of lines in a text.
 fn line_count(text: &str) -> usize
     ensures value { result ≡ length (lines_of text.now) }
     ensures bound { result < 2 ^ 63 }
@@ -104,7 +104,7 @@ fn debug_by_lines<W: Write>(
     }
 }
 
-/// Debugs the script at the start of a text, with the commands after the first line that consists of `%` only.
+/// Debugs the script at the start of the input, with the commands after the first line that consists of `%` only.
 pub(crate) fn debug_script<W: Write>(
     alloc: Global,
     text: &str,

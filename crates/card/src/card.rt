@@ -49,7 +49,7 @@ fn note_of(reply: Reply) -> ReplyNote
     }
 }
 
-/// Drops the reply to the lending of a block, and returns true.
+/// Drops the reply to a lend, and returns true.
 fn is_lent_by(reply: Reply) -> bool
     requires { IsFalse (hands_out reply) }
     ensures { result ≡ true }
@@ -89,7 +89,7 @@ fn note_returned(arena: &mut Arena, reply: Reply, room: Vec<u8>) -> ReplyNote
     }
 }
 
-/// Ends lent memory that contains no blocks.
+/// Disposes of lent memory that contains no blocks.
 fn end_memory(memory: LentMemory)
     requires { (number : ℕ) → has_block memory number ≡ false }
 {
@@ -131,7 +131,7 @@ fn close(mut memory: LentMemory, mut arena: Arena)
     }
 }
 
-/// Ends a device that has no lent memory.
+/// Disposes of a device that has no lent memory.
 fn end_device(device: Device)
     requires { device.memory ≡ map.empty }
 {
@@ -149,8 +149,8 @@ fn end_device(device: Device)
 impl Card {
     /// Creates a new device and `blocks` blocks, 1 to 65,536, all free.
     ///
-    /// Errors: `TooManyVfs`, `Fifo` and `OutOfMemory`, as for `Device::new`. A refused configuration allocates nothing,
-    /// although no clause says so.
+    /// Errors: `TooManyVfs`, `Fifo` and `OutOfMemory`, as for `Device::new`. Nothing is allocated for a refused
+    /// configuration; the contract doesn't state this.
     pub fn new(alloc: Global, config: Config, blocks: u32) -> Result<Card, NewFault>
         requires some { 0 < blocks }
         requires few { blocks ≤ 65536 }
@@ -275,8 +275,8 @@ impl Card {
     }
 
     #[tactic(auto, unfolding(crate::specs::Card::lent_below))]
-    /// Lends the free blocks in order. After `AllocError` the blocks below the first block that memory ran out for are
-    /// lent.
+    /// Lends the free blocks in order. After `AllocError`, memory ran out for a block: the free blocks below it have
+    /// been lent, and no others.
     pub fn lend_all(&mut self) -> Result<(), AllocError>
         ensures lent { OnOk result (self.new ≡ lent_below self.old (count_of self.old.arena)) }
         ensures stopped { OnErr result ((block : ℕ) × (block < count_of self.old.arena)

@@ -30,7 +30,7 @@ impl Model for Kept {
     ghost invariant = { λ k. AreShared k.device.memory (blocks_not_lent k.blocks k.device.memory) };
 }
 
-/// Ends an arena whose blocks are all free.
+/// Disposes of an arena whose blocks are all free.
 fn end_arena(arena: Arena)
     requires { IsTrue (are_all_free arena) }
 {
@@ -74,8 +74,8 @@ impl Kept {
     }
 
     /// Puts the kept contents into a card. After `AllocError` nothing has changed. The card keeps its packet memory if
-    /// it has as many blocks and all blocks to be lent are lent already; otherwise it gets new packet memory. No clause
-    /// says which of the two it is.
+    /// it has as many blocks and all blocks to be lent are lent already; otherwise it gets new packet memory. The
+    /// contract doesn't specify which of the two happens.
     pub fn restore(&self, alloc: Global, card: &mut Card) -> Result<(), AllocError>
         ensures restored { OnOk result (card.new ≡ self.now) }
         ensures unchanged { OnErr result (card.new ≡ card.old) }

@@ -30,7 +30,7 @@ pub counts : (p : Listing) (s : MachineState) → is_stopped (machine_step p s).
     → (machine_step p s).state.steps ≡ s.steps + 1
 counts p s going = steps_count.counts p s (going-is (machine_step p s).answer going)
 
--- A step that may take memory doesn't stop.
+-- A step that may need memory doesn't stop.
 either-goes : (b : Bool) (x y : Step) → is_stopped x.answer ≡ false → is_stopped y.answer ≡ false
     → is_stopped (if b then x else y).answer ≡ false
 either-goes true x y first second = first

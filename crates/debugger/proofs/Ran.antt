@@ -61,7 +61,7 @@ module _ (start now : Course) (b : List ℕ) (limit made : ℕ) (ran : RanOn sta
   all-ran is = sym (ap (run_on start.program start.config b now.state.steps)
       (let none : limit - made ≡ 0 = omega arith in none)) ∙ ran.left
 
-  -- If the next step may take memory, it is one of the remaining steps.
+  -- If the next step may need memory, it is one of the remaining steps.
   short : made < limit → StepTakesMemory now.program now.state
       → now.state.steps < run_on start.program start.config b start.state.steps limit
   short within takes =

@@ -59,7 +59,7 @@ command_of s (Show address) = shows s (peeked s Pf address)
 command_of s (ShowVf function offset) = shows s (peeked s (Vf function) offset)
 
 -- Some of the steps to the target session were taken, and nothing else was done. The next step is one of the remaining
--- steps, and may take memory.
+-- steps, and may need memory.
 pub record IsOnTheWay (before after target : Session) : Type 0 where
   pub same : after ≡ at before after.steps
   pub from : before.steps ≤ after.steps
@@ -67,8 +67,8 @@ pub record IsOnTheWay (before after target : Session) : Type 0 where
   pub takes : StepTakesMemory before.program (machine_at before.program before.config after.steps)
 
 -- The session after memory ran out. `Step` and `Continue` have taken some of their steps, and the next step is one of
--- the remaining steps and may take memory. `Back` changed nothing, and the machine has taken at least `count` steps. No
--- other command takes memory.
+-- the remaining steps and may need memory. `Back` changed nothing, and the machine has taken at least `count` steps. No
+-- other command needs memory.
 abbrev pub LeftBy : Session → Command → Session → Type 0
 LeftBy s (Step count) after = IsOnTheWay s after (stepped s count)
 LeftBy s (Back count) after = (count ≤ s.steps) × (after ≡ s)

@@ -19,7 +19,7 @@ pub(crate) fn has_break(breakpoints: &Breakpoints, pc: u32) -> bool
     breakpoints.as_slice().contains(&pc)
 }
 
-/// Sets a breakpoint at an instruction of a program of `count` instructions.
+/// Sets a breakpoint at an instruction of a program with `count` instructions.
 pub(crate) fn set_break(
     breakpoints: &mut Breakpoints,
     count: u16,

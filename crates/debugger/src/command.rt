@@ -13,7 +13,7 @@ pub enum Command {
     /// Runs on for at most this many steps. It ends early if the machine stops or if, after at least one step, the next
     /// instruction has a breakpoint.
     Continue(u64),
-    /// Sets a breakpoint at the instruction with this number. One that is already set stays.
+    /// Sets a breakpoint at the instruction with this number. If it is already set, nothing changes.
     Break(u32),
     /// Removes the breakpoint at the instruction with this number.
     Clear(u32),

@@ -18,9 +18,9 @@ use std::alloc::Global;
 use std::marker::Model;
 use std::mem;
 
-/// A machine with breakpoints. To go back, it keeps its program, its configuration and, if there is memory for them,
-/// snapshots: one at each of the first 64 multiples of 256 steps, and a later one that is replaced as the machine
-/// advances. It can't be dropped: `finish` ends it.
+/// A machine with breakpoints. To be able to go back, it keeps its program, its configuration and, if there is memory
+/// for them, snapshots: one at each of the first 64 multiples of 256 steps, and one later snapshot that is replaced as
+/// the machine advances. It can't be dropped: `finish` ends it.
 pub struct Debugger {
     alloc: Global,
     object: Vec<u8>,
@@ -52,8 +52,8 @@ impl Model for Debugger {
 impl Debugger {
     /// A debugger of a program at step 0, on a new device of this configuration, without breakpoints.
     ///
-    /// Errors: the errors of `Device::new`, each returned exactly if `Device::new` returns it for the configuration:
-    /// `TooManyVfs`, then `Fifo`. Each returns the program.
+    /// Errors: `TooManyVfs` and `Fifo`, each exactly if `Device::new` returns it for the configuration; or
+    /// `OutOfMemory`. The error contains the program, unchanged.
     pub fn new(alloc: Global, program: Program, config: Config) -> Result<Debugger, NewRefused>
         ensures made { IfOk result
             (λ debugger. debugger ≡ record { program = program; config = config; steps = 0; breakpoints = [] }) }
@@ -88,9 +88,9 @@ impl Debugger {
     /// memory runs out.
     ///
     /// After a refusal the debugger is unchanged, with one exception: a `Step` or `Continue` that runs out of memory
-    /// has taken the steps before the refused one, and the next step is one that may take memory. `Back` can run out of
-    /// memory only if at least that many steps were taken. `Break`, `Clear`, `Show` and `ShowVf` never run out of
-    /// memory.
+    /// has taken the steps before the refused one, and the next step is one that may need memory. `Back` can run out of
+    /// memory only if at least as many steps as it goes back were taken. `Break`, `Clear`, `Show` and `ShowVf` never
+    /// run out of memory.
     pub fn exec(&mut self, command: Command) -> Result<View, DebugRefusal>
         ensures answer { result ≢ Err DebugRefusal.OutOfMemory → result ≡ (command_of self.old command).answer }
         ensures session { result ≢ Err DebugRefusal.OutOfMemory → self.new ≡ (command_of self.old command).session }
@@ -166,7 +166,7 @@ impl Debugger {
     }
 
     /// Executes `Command::Back`: runs a new machine from the last snapshot at or before the target step, or from the
-    /// start if there is none. When done, the new machine replaces this one.
+    /// start if there is none. The new machine then replaces this one.
     fn back(&mut self, count: u64) -> Result<View, DebugRefusal>
         ensures { Does self.old (Command.Back count) result self.new }
     {

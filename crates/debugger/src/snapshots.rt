@@ -79,8 +79,8 @@ impl Snapshots {
     }
 }
 
-/// The step at which the next snapshot is due after one at this step. Up to `FIRST_STEPS` it is the next multiple of
-/// `SNAPSHOT_STEPS`. After that it is the last multiple that is at most 1.5 times this step, so that going back from
+/// The step at which the next snapshot is due after one at this step. Up to `FIRST_STEPS`, it is the next multiple of
+/// `SNAPSHOT_STEPS`. After that, it is the last multiple that is at most 1.5 times this step, so that going back from
 /// the furthest step reached replays less than a third of the steps.
 fn next_after(steps: u64) -> u64
     ensures later { steps < 2 ^ 64 - 1 → steps < result }

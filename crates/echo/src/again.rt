@@ -1,4 +1,5 @@
-//! A driver that is started repeatedly, on one device and one arena. The data of each life are freed when it ends.
+//! A driver that is started repeatedly, on one device and one arena. The data of each life, from a start to a stop, is
+//! freed when the life ends.
 
 use nic_device::{Arena, Config, Device, Mode, Parts, Port};
 use pmd::{Direct, Home, Packet, Pmd, PmdFault, Setup, StartRefused, StopRefused, leave};
@@ -24,10 +25,10 @@ type Done = Result<(), Failure>;
 /// How many times the driver is started.
 const LIVES: u32 = 3;
 
-/// How many frames a life sends back.
+/// How many frames the driver sends back in each life.
 const FRAMES: u32 = 5;
 
-/// A frame of 60 bytes to the broadcast address.
+/// A 60-byte frame to the broadcast address.
 const FRAME: [u8; 60] = [0xFF; 60];
 
 /// Accepts frames to any address, all of which go to queue 0.
@@ -58,7 +59,7 @@ pub fn run(rt: &HostRuntime) -> Done {
     away
 }
 
-/// Creates a device that is set up, and the arena for its driver.
+/// Creates a device and sets it up, and creates the arena for its driver.
 fn begin(alloc: Global) -> Result<(Device, Arena), Failure> {
     let made = Device::new(alloc, Config { vfs: 0, fifo: 64 });
     let mut nic = Direct::new(alloc, made.map_err(|_| Failure::NoMemory)?, 0);
@@ -73,7 +74,7 @@ fn begin(alloc: Global) -> Result<(Device, Arena), Failure> {
     }
 }
 
-/// Runs one life of the driver. Its calls are freed at the end; the device and the arena are kept.
+/// Runs one life of the driver. Its recorded calls are then freed; the device and the arena are kept.
 fn live(rt: &HostRuntime, kept: (Device, Arena)) -> Result<(Device, Arena), Failure> {
     let (device, arena) = kept;
     let mut nic = Direct::new(rt.alloc(), device, 0);
@@ -117,7 +118,7 @@ fn drive(rt: &HostRuntime, nic: &mut Direct, arena: Arena) -> Result<Arena, Fail
     }
 }
 
-/// Lets frames arrive one after the other, and sends each back.
+/// Delivers frames one after another, and sends each back.
 fn echo(alloc: Global, nic: &mut Direct, pmd: &mut Pmd, packets: &mut VecDeque<Packet>) -> Done {
     for _frame in 0..FRAMES {
         let _arrived = pmd::arrive(alloc, nic, &FRAME)?;

@@ -90,7 +90,7 @@ fn drive(rt: &HostRuntime, nic: &mut Direct) -> Done {
     echoed
 }
 
-/// Lets a frame arrive, then polls: sends back what was received, and frees the blocks of sent packets.
+/// Delivers a frame, then polls: sends back what was received, and frees the blocks of sent packets.
 fn echo(rt: &HostRuntime, nic: &mut Direct, pmd: &mut Pmd, packets: &mut VecDeque<Packet>) -> Done {
     println!(rt; "started")?;
     let arrived = pmd::arrive(rt.alloc(), nic, FRAME)?;

@@ -8,7 +8,7 @@ mod workers;
 
 use thiserror::Error;
 
-/// Which of them fails, and why.
+/// Which of the programs failed, and why.
 #[derive(Debug, Drop, Error)]
 enum Failure {
     #[error("the driver of one queue: {0}")]

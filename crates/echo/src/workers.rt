@@ -1,4 +1,5 @@
-//! Two workers, each with its own thread and queue, send back what they receive. Then the history is checked for each.
+//! Two workers, each with its own thread and queue, send back what they receive. Then the history is checked for each
+//! worker.
 
 use nic_device::{Arena, Mode, Parts, Port};
 use pmd::{
@@ -55,7 +56,8 @@ pub fn run<R: Print + Threads + Wait + Sync>(rt: &R, alloc: Global) -> Done {
     Ok(println!(rt; "the history left both queues alone")?)
 }
 
-/// Sets up the device through the third pass, through which frames then arrive, and runs a worker with each other pass.
+/// Sets up the device through the third pass, runs a worker with each other pass, and delivers frames through the third
+/// pass while they run.
 fn drive<R: Print + Threads + Wait + Sync>(
     rt: &R,
     alloc: Global,
@@ -105,7 +107,7 @@ fn setup() -> Setup {
     }
 }
 
-/// Creates 40 frames, each of a different flow.
+/// Creates 40 frames, each in a different flow.
 fn frames(alloc: Global) -> Result<Vec<Vec<u8>>, Failure> {
     let mut frames = Vec::new(alloc);
     for port in 0..40u8 {
@@ -123,7 +125,7 @@ fn first_of(number: u8) -> u32 {
     BLOCKS * u32::from(number)
 }
 
-/// Creates a job for each pass: the driver of the queue with the pass's number, looking for a packet 100 times.
+/// Creates a job for each pass: the driver of the queue with the pass's number, polling for packets 100 times.
 fn jobs(alloc: Global, passes: Vec<Pass>) -> Result<Vec<Job>, Failure> {
     let mut jobs = Vec::new(alloc);
     let mut number = 0;

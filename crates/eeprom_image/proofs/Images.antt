@@ -1,4 +1,4 @@
--- The laid-out words of a text without a fault, with their checksum, are the text's image.
+-- The laid-out words of an EEPROM text without a fault, with their checksum, are the text's image.
 use Rattle.std.proofs.Common.{◌≡◌, ◌≢◌, ℕ, ◌%◌, ◌<◌, Bool, true, false, nat_lt, nat_le, ◌==◌, ◌||◌, ◌&&◌, List, length, set, None, refl, sym, ap, ◌∙◌, inl, inr, arith, length-set, get_or-set_same, get_or-set_other}
 use Rattle.std.specs.List.{list_all}
 use Rattle.std.proofs.lemmas.List.{set_past}
@@ -49,7 +49,7 @@ not_checksum end index free at =
     let no : true ≡ false = sym yes ∙ inner.1 in
     cc
 
--- The image of a text without a fault is its words with their checksum.
+-- The image of an EEPROM text without a fault is its words with their checksum.
 pub IsImageOf-laid_out : (content : Content) (words : List ℕ) → IsContent content → content_fault content ≡ None
     → IsLaidOut content words
     → ((index : ℕ) → word_at words index < 65536) → IsImageOf content (with_checksum words)

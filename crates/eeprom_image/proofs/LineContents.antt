@@ -1,4 +1,4 @@
--- A line of a text defines a valid size or numbers that fit.
+-- A line of an EEPROM text defines a valid size or numbers that fit.
 use Rattle.std.proofs.Common.{◌≡◌, ℕ, ◌*◌, ◌%◌, ◌^◌, ◌<◌, Bool, true, false, cond, nat_lt, ◌&&◌, ◌==◌, List, [], ◌∷◌, drop, Option, Some, None, IfSome, Result, Ok, Err, refl, arith, codes}
 use Rattle.std.specs.Result.{result_ok}
 use Rattle.std.specs.Str.{bytes_eq}

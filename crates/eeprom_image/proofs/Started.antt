@@ -1,4 +1,4 @@
--- Lemmas: what a text defines, from its size.
+-- Lemmas: what an EEPROM text defines, from its size.
 use Rattle.std.proofs.Common.{refl, sym, ◌∙◌, ap, ◌≡◌, ℕ, ◌+◌, List, [], ◌∷◌, length, Some, None, Ok, Err}
 use Rattle.text_format.specs.Lines.{NumberedLine, lines_of}
 use Rattle.eeprom_image.specs.Content.{content_of, with_lines, only_size, sized, sized_by, content_after, ◌then◌}
@@ -21,7 +21,7 @@ pub content_of-none : (text : List ℕ) → sized (lines_of text) ≡ Ok None
 unfolding content_of
 content_of-none text is = ap (λ s. s then content_after (length (lines_of text) + 1)) is
 
--- The first line decides.
+-- The first line determines the result.
 pub sized-first : (lines after : List NumberedLine) (line : NumberedLine) (says : TextLine) → lines ≡ line ∷ after
     → text_line line.text ≡ says → sized lines ≡ sized_by says line.number after (sized after)
 unfolding sized

@@ -32,7 +32,7 @@ yielded : (ts us : List (ℕ × ℕ)) (r : Option (ℕ × ℕ))
 yielded ts us None h = rw h.0 refl
 yielded ts us (Some t) h = rw h refl
 
--- The first triple in the words from three times an index on.
+-- The first triple in the words that start at three times an index.
 pub got_triple : (words : List ℕ) (index : ℕ) (us : List (ℕ × ℕ)) (r : Option (ℕ × ℕ)) (ts : List (ℕ × ℕ))
     → ts ≡ triples_in (take (length words - 3 * index) (drop (3 * index) words))
     → MatchOption r ((ts ≡ []) × (us ≡ [])) (λ t. ts ≡ t ∷ us) → r ≡ slice_get (triples_in words) index

@@ -49,7 +49,7 @@ sized_by (Word index value) number lines later = Err (Syntax number)
 sized_by (Csr offset value) number lines later = Err (Syntax number)
 sized_by Malformed number lines later = Err (Syntax number)
 
--- The size of a text with these lines, if one of them is nonempty.
+-- The size in an EEPROM text with these lines, if one of them is nonempty.
 unfoldable pub sized : List NumberedLine → Result Sized AsmFault
 sized [] = Ok None
 sized (line ∷ lines) = sized_by (text_line line.text) line.number lines (sized lines)
@@ -59,6 +59,6 @@ abbrev pub content_after : ℕ → Sized → Result Content AsmFault
 content_after past None = Err (Syntax past)
 content_after past (Some start) = with_lines (only_size start.0) start.1
 
--- What a text defines, or its first faulty line.
+-- What an EEPROM text defines, or its first faulty line.
 unfoldable pub content_of : List ℕ → Result Content AsmFault
 content_of text = sized (lines_of text) then content_after (length (lines_of text) + 1)

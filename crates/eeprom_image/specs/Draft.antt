@@ -1,4 +1,4 @@
--- The code's representation of a text's content.
+-- The code's representation of an EEPROM text's content.
 use Rattle.eeprom_image.specs.Content.{Content}
 use Rattle.eeprom_image.specs.declared.draft.Draft.{Draft}
 

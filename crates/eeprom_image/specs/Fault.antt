@@ -1,4 +1,4 @@
--- The faults in what a text defines.
+-- The faults in what an EEPROM text defines.
 use Rattle.std.specs.Prelude.{ℕ, ◌+◌, ◌-◌, ◌*◌, ◌/◌, ◌%◌, Bool, not, ◌||◌, ◌&&◌, ◌==◌, nat_lt, nat_le, if◌then◌else◌, List, [], ◌∷◌, length, map, filter, fold, min, get_or, Option, Some, None}
 use Rattle.std.specs.List.{list_all, list_any, flat_map}
 use Rattle.eeprom_image.specs.Section.{is_unused, word_count}
@@ -31,7 +31,7 @@ abbrev pub section_end : List (ℕ × ℕ) → ℕ
 section_end [] = 0x40
 section_end (triple ∷ triples) = 0x41 + 3 * length (triple ∷ triples)
 
--- Whether a text must not define the word: 0x0D, 0x3F, or one in the CSR section.
+-- Whether an EEPROM text must not define the word: 0x0D, 0x3F, or one in the CSR section.
 abbrev pub is_reserved : ℕ → ℕ → Bool
 is_reserved end index = (index == 0x0D) || (index == 0x3F) || (nat_le 0x40 index && nat_lt index end)
 
@@ -65,7 +65,7 @@ plain_word content index =
     then get_or (csr_section content.triples) (index - 0x40) 0xFFFF else
     given_word content.words index
 
--- Whether the pointer is unused, or points from 0x40 on to a section inside the image.
+-- Whether the pointer is unused, or points to a section that starts at 0x40 or above and is inside the image.
 abbrev pub is_right_pointer : Content → ℕ → Bool
 is_right_pointer content pointer =
     is_unused pointer || (nat_le 0x40 pointer

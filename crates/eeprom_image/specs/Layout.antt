@@ -1,4 +1,4 @@
--- The words that a text defines, and their checksum.
+-- The words that an EEPROM text defines, and their checksum.
 use Rattle.std.specs.Prelude.{◌≡◌, ◌≢◌, ℕ, ◌+◌, ◌-◌, ◌%◌, ◌<◌, List, [], ◌∷◌, ◌++◌, length, take, drop, slice_set}
 use Rattle.eeprom_image.specs.Bytes.{word_at}
 use Rattle.eeprom_image.specs.Checksum.{checked_sum}
@@ -9,7 +9,7 @@ use Rattle.eeprom_image.specs.Fault.{plain_word, csr_section}
 abbrev pub put_word : List ℕ → ℕ × ℕ → List ℕ
 put_word words given = slice_set words given.0 given.1
 
--- The words after a section is written from 0x40 on.
+-- The words after a section is written starting at 0x40.
 abbrev pub with_section : List ℕ → List ℕ → List ℕ
 with_section words section = take 64 words ++ (section ++ drop (64 + length section) words)
 
@@ -18,7 +18,7 @@ abbrev pub with_csr : List ℕ → List (ℕ × ℕ) → List ℕ
 with_csr words [] = slice_set words 0x0D 0xFFFF
 with_csr words (triple ∷ triples) = with_section (slice_set words 0x0D 0x40) (csr_section (triple ∷ triples))
 
--- The words of a text, with 0 as the checksum.
+-- The words that an EEPROM text defines, with 0 as the checksum.
 pub record IsLaidOut (content : Content) (words : List ℕ) : Type 0 where
   pub size : length words ≡ content.size
   pub plain : (index : ℕ) → index < content.size → index ≢ 63 → word_at words index ≡ plain_word content index

@@ -30,7 +30,7 @@ abbrev pub size_line : Option ℕ → TextLine
 size_line None = Malformed
 size_line (Some count) = if is_size count then Size count else Malformed
 
--- An index and a value of 16 bits.
+-- An index and a 16-bit value.
 abbrev pub word_line : Option (ℕ × ℕ) → TextLine
 word_line None = Malformed
 word_line (Some given) = if nat_lt given.1 65536 then Word given.0 given.1 else Malformed

@@ -10,7 +10,7 @@ is_unused word = (word == 0) || (word == 0xFFFF)
 abbrev pub word_count : ℕ → ℕ
 word_count word = if is_unused word then 0 else word
 
--- The words of the section after its first word, as many as that word counts.
+-- The words of the section after its first word, as many as the first word says.
 abbrev pub section_at : List ℕ → ℕ → List ℕ
 section_at words pointer =
     if is_unused pointer then [] else take (word_count (word_at words pointer)) (drop (pointer + 1) words)

@@ -1,4 +1,4 @@
--- The image that a text describes.
+-- The image that an EEPROM text describes.
 use Rattle.std.specs.Prelude.{◌≡◌, ℕ, ◌<◌, Bool, ◌||◌, nat_le, IsTrue, IsFalse, List, [], length, filter, Option, Some, None, Result, Ok, Err}
 use Rattle.std.specs.List.{list_all}
 use Rattle.eeprom_image.specs.Bytes.{word_at}
@@ -10,11 +10,11 @@ use Rattle.eeprom_image.specs.Fault.{indexes, given_again, is_reserved, section_
 use Rattle.eeprom_image.specs.declared.text.AsmFault.{AsmFault}
 use Rattle.eeprom_image.specs.declared.text.AsmFault.TheVariants.{Syntax, TwoValues, Reserved, DoesNotFit, PointerOutside, OutOfMemory}
 
--- Whether the pointer is unused or points from 0x40 on.
+-- Whether the pointer is unused or points to 0x40 or above.
 abbrev pub is_past : ℕ → Bool
 is_past pointer = is_unused pointer || nat_le 0x40 pointer
 
--- The words are an image that contains what a text defines, and 0xFFFF in each word that is neither defined nor
+-- The words are an image that contains what an EEPROM text defines, and 0xFFFF in each word that is neither defined nor
 -- reserved.
 pub record IsImageOf (content : Content) (words : List ℕ) : Type 0 where
   -- Each index is defined only once, none is reserved, and everything is inside the image.
@@ -37,7 +37,7 @@ abbrev pub checked_by : Content → Option AsmFault → Result Content AsmFault
 checked_by content None = Ok content
 checked_by content (Some fault) = Err fault
 
--- What a text defines if it has no fault. Otherwise its first faulty line, or its first other fault.
+-- What an EEPROM text defines if it has no fault. Otherwise its first faulty line, or its first other fault.
 unfoldable pub sound_content : List ℕ → Result Content AsmFault
 sound_content text = content_of text then λ content. checked_by content (content_fault content)
 

@@ -73,7 +73,7 @@ impl Draft {
     }
 }
 
-/// Returns what a text defines, or its first faulty line.
+/// Returns what an EEPROM text defines, or its first faulty line.
 pub(crate) fn read(alloc: Global, text: &str) -> Result<Draft, AsmFault>
     ensures { Gives content_in result (content_of text.now) }
 {

@@ -1,4 +1,4 @@
-//! Finds faults in what a text defines, except faults of its pointers.
+//! Finds faults in what an EEPROM text defines, except faults of its pointers.
 
 ghost use Rattle.std.specs.Prelude.{◌≡◌, ℕ, ◌==◌, ◌||◌, nat_lt, filter, IfOk, OnOk};
 ghost use Rattle.std.specs.List.{list_all};

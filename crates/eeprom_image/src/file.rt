@@ -80,9 +80,9 @@ fn words_in(alloc: Global, bytes: &[u8]) -> Result<Vec<u16>, AllocError>
 
 /// Loads an image from the bytes of its file, or returns their first fault in the order of `LoadFault`.
 ///
-/// The accepted bytes are exactly the file of the returned image. The file of each image is accepted if there is enough
+/// The accepted bytes are exactly the file of the returned image. Every image's file is accepted if there is enough
 /// memory. `OutOfMemory` is returned only if there is no other fault. The call takes time linear in the number of
-/// bytes, which no clause says.
+/// bytes; the contract doesn't state this.
 pub fn load(alloc: Global, bytes: &[u8]) -> Result<Image, LoadFault>
     ensures file { IfOk result (λ image. IsImage image × (bytes.now ≡ bytes_of image)) }
     ensures each_file { (words : List ℕ) → IsImage words → bytes.now ≡ bytes_of words →

@@ -52,7 +52,7 @@ impl Image {
         Image { words }
     }
 
-    /// Returns the blank image, which the text `size 64` describes: 63 words 0xFFFF, then the checksum. Returns
+    /// Returns the blank image, which the EEPROM text `size 64` describes: 63 words 0xFFFF, then the checksum. Returns
     /// `AllocError` if there isn't enough memory for it.
     pub fn blank(alloc: Global) -> Result<Image, AllocError>
         ensures words { IfOk result (λ image. image ≡ blank) }

@@ -1,4 +1,4 @@
-//! Lays out the words of an image from what a text defines.
+//! Lays out the words of an image from what an EEPROM text defines.
 
 ghost use Rattle.std.specs.Prelude.{◌≡◌, ◌+◌, ◌*◌, ◌<◌, ◌≤◌, ◌++◌, fold, length, replicate, vec_len, nat_lt, IsTrue, IfOk, OnOk};
 ghost use Rattle.std.specs.List.{list_all};
@@ -49,7 +49,7 @@ fn csr_section(alloc: Global, triples: &[(u32, u32)]) -> Result<Vec<u16>, AllocE
     Ok(section)
 }
 
-/// Writes a section from index 0x40 on.
+/// Writes a section starting at index 0x40.
 fn put_section(words: &mut [u16], section: &[u16])
     requires { 64 + length section.now ≤ length words.old }
     ensures { words.new ≡ with_section words.old section.now }
@@ -75,7 +75,7 @@ fn put_csr(alloc: Global, words: &mut [u16], triples: &[(u32, u32)]) -> Result<(
     Ok(())
 }
 
-/// Writes everything that a text defines over words 0xFFFF, with 0 as the checksum.
+/// Writes everything that an EEPROM text defines over words that are 0xFFFF, with 0 as the checksum.
 fn lay_into(alloc: Global, words: &mut [u16], draft: &Draft) -> Result<(), AllocError>
     requires blank { words.old ≡ replicate draft.now.size 0xFFFF }
     requires long { 64 ≤ draft.now.size }

@@ -1,10 +1,10 @@
 //! EEPROM images of the 82599: the text form that is assembled into an image, the file form that is loaded and stored,
 //! and the words and register writes in an image.
 //!
-//! An [`Image`] is a list of 64 to 16,384 words of 16 bits. Its sections are inside it, and its checksum is correct.
-//! [`assemble`] returns the one image that a text describes, and [`load`] the image whose file has the given bytes.
-//! Otherwise each returns the first fault in its list. The device reads an image with `word` and, at a reset, with
-//! `triples`.
+//! An [`Image`] is a list of 64 to 16,384 16-bit words. Its sections are inside it, and its checksum is correct.
+//! [`assemble`] returns the one image that an EEPROM text describes, and [`load`] the image whose file has the given
+//! bytes. Otherwise, each call returns the first fault in the order of its list. The device reads an image with `word`
+//! and, at a reset, with `triples`.
 #![tactic(auto)]
 
 mod draft;

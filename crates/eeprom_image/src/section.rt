@@ -82,7 +82,7 @@ pub(crate) fn section(words: &[u16], pointer: u16) -> &[u16]
     &words[first..first + count]
 }
 
-/// Returns the sum of at most `count` words from index `first` on, ignoring words past the end.
+/// Returns the sum of at most `count` words starting at index `first`, ignoring words past the end.
 fn sum_from<W: Words>(words: &W, first: usize, count: u16) -> u64
     requires { first < 2 ^ 32 }
     ensures sum { result ≡ sum (take count (drop first (W.words words.now))) }

@@ -15,7 +15,7 @@ use crate::section::are_inside;
 use std::alloc::{AllocError, AllocFailed, Global};
 use thiserror::Error;
 
-/// Why a text describes no image. If several faults apply, the first in this list is returned.
+/// Why an EEPROM text describes no image. If several faults apply, the first in this list is returned.
 #[derive(Clone, Copy, Debug, PartialEq, Eq, Error)]
 pub enum AsmFault {
     /// The line with this number, counted from 1, has none of the forms or is out of place. It is the first such line.
@@ -64,7 +64,7 @@ impl<T: Drop> From<AllocFailed<T>> for AsmFault {
 impl Draft {
     ghost use Rattle.eeprom_image.specs.Fault.{points_inside};
 
-    /// Whether each pointer is valid, in words that are laid out as the text defines them.
+    /// Whether each pointer is valid, in words that are laid out as the EEPROM text defines them.
     fn points_inside(&self, words: &[u16]) -> bool
         requires long { 64 ≤ self.now.size }
         requires words { IsLaidOut (content_in self.now) words.now }
@@ -74,7 +74,7 @@ impl Draft {
     }
 }
 
-/// Returns the words of a text without a fault, with 0 as the checksum; otherwise its first fault in the list.
+/// Returns the words that an EEPROM text defines, with 0 as the checksum, or its first fault in the order of the list.
 #[tactic(auto, unfolding(crate::specs::Fault::content_fault))]
 fn plain_words(alloc: Global, draft: &Draft) -> Result<Vec<u16>, AsmFault>
     requires long { 64 ≤ draft.now.size }
@@ -100,16 +100,16 @@ fn plain_words(alloc: Global, draft: &Draft) -> Result<Vec<u16>, AsmFault>
     Ok(words)
 }
 
-/// Assembles the image that an EEPROM text describes, or returns the first fault of the text.
+/// Assembles the image that an EEPROM text describes, or returns the text's first fault.
 ///
-/// A text consists of a line `size N`, then lines `word INDEX VALUE` and `csr OFFSET DATA` in any order. The image is
-/// the only one of N words with the following properties. It has the defined words, and the register writes in the
-/// order of their lines. Word 0x3F is the checksum. Word 0x0D points to the CSR section at 0x40, or is 0xFFFF if no
+/// An EEPROM text consists of a line `size N`, then lines `word INDEX VALUE` and `csr OFFSET DATA` in any order. The
+/// image is the only one of N words with the following properties. It has the defined words, and the register writes in
+/// the order of their lines. Word 0x3F is the checksum. Word 0x0D points to the CSR section at 0x40, or is 0xFFFF if no
 /// register write is defined. Every word that isn't defined, 0x0D, 0x3F or in the CSR section is 0xFFFF. Every other
-/// pointer is unused or points from 0x40 on.
+/// pointer is unused or points to 0x40 or above.
 ///
 /// The first faulty line is reported before any other fault. Of the other faults, the first in the order of `AsmFault`
-/// is reported. `OutOfMemory` may replace any other result.
+/// is reported. `OutOfMemory` may be returned in place of any other result.
 #[tactic(auto, unfolding(crate::specs::Text::sound_content))]
 pub fn assemble(alloc: Global, text: &str) -> Result<Image, AsmFault>
     ensures image { IfOk result (λ image. IsOkAnd (sound_content text.now) (λ content. IsImageOf content image)) }
@@ -120,7 +120,7 @@ pub fn assemble(alloc: Global, text: &str) -> Result<Image, AsmFault>
     Ok(Image::of(with_checksum(words)))
 }
 
-/// A text without a fault describes exactly one image. Content with a fault describes no image.
+/// An EEPROM text without a fault describes exactly one image. Content with a fault describes no image.
 pub fn one_image()
     ensures one { (text : List ℕ) (content : Content) → sound_content text ≡ Ok content →
         (words : List ℕ) × IsImageOf content words

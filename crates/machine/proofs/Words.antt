@@ -3,7 +3,7 @@ use Rattle.std.proofs.Common.{◌≡◌, ℕ, ◌+◌, ◌-◌, ◌*◌, ◌^◌
 use Rattle.std.proofs.lemmas.List.{get_or-drop, take_all}
 use Rattle.byteorder.specs.Endian.{little_number}
 
--- The little-endian word in the four bytes from an index on.
+-- The little-endian word in the four bytes that start at an index.
 little_number-drop : (bytes : List ℕ) (n : ℕ) → little_number 4 (drop n bytes)
     ≡ slice_index bytes n + 2 ^ 8 * slice_index bytes (n + 1) + 2 ^ 16 * slice_index bytes (n + 2)
     + 2 ^ 24 * slice_index bytes (n + 3)

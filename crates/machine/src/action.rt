@@ -49,7 +49,7 @@ pub(crate) enum Action {
     Local(LocalAction),
 }
 
-/// The bytes of a data string of 16 bytes.
+/// The bytes of a 16-byte data string.
 fn sixteen(string: &[u8]) -> [u8; 16]
     requires { length string.now ≡ 16 }
     ensures { result ≡ string.now }

@@ -7,7 +7,8 @@ pub fn steps_count()
     ensures { StepsCount }
 {}
 
-/// A machine that has ended or failed stops. A running machine executes its next instruction, up to 2^64 - 1 of them.
+/// A machine that has ended or failed stops. A running machine executes its next instruction, up to 2^64 - 1
+/// instructions in all.
 pub fn running_machines_step()
     ensures { RunningMachinesStep }
 {}

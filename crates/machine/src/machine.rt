@@ -84,8 +84,8 @@ impl Model for Machine {
 impl Machine {
     /// A machine before its first step, on a new device of this configuration, with all 256 blocks free.
     ///
-    /// Errors: the errors of `Device::new`, each returned exactly if `Device::new` returns it for the configuration:
-    /// `TooManyVfs`, then `Fifo`. Each returns the program.
+    /// Errors: `TooManyVfs` and `Fifo`, each exactly if `Device::new` returns it for the configuration; or
+    /// `OutOfMemory`. The error contains the program, unchanged.
     pub fn new(alloc: Global, program: Program, config: Config) -> Result<Machine, NewRefused>
         ensures made { IfOk result
             (λ machine. machine ≡ record { program = program; config = config; state = start_of program config }) }
@@ -107,10 +107,10 @@ impl Machine {
         })
     }
 
-    /// Executes one instruction. It runs a device event and stores the value in the reply, or acts without an event, or
-    /// reports that the block to lend isn't free. A machine that isn't running, or has counted 2^64 - 1 steps, returns
-    /// `Stopped`, counts no step and stays unchanged. After `OutOfMemory` the machine is unchanged, and you can try the
-    /// step again. Only four steps can run out of memory: lending a free block, taking one back, an arrival, and a
+    /// Executes one instruction: runs a device event and stores the value in the reply, acts without an event, or
+    /// reports that the block to lend isn't free. If the machine isn't running, or has counted 2^64 - 1 steps, returns
+    /// `Stopped`, counts no step and changes nothing. After `OutOfMemory` the machine is unchanged, and you can retry
+    /// the step. Only four steps can run out of memory: lending a free block, taking one back, an arrival, and a
     /// transmit step of a queue below 128 that isn't idle.
     pub fn step(&mut self) -> Result<StepAnswer, OutOfMemory>
         ensures answer { IfOk result (λ answer. answer ≡ (machine_step self.old.program self.old.state).answer) }
@@ -139,7 +139,7 @@ impl Machine {
     }
 
     /// The accumulator: the last value that was read or peeked, even if the read reached no register, with each later
-    /// `and` applied. It is 0 before the first.
+    /// `and` applied. It is 0 before the first read or peek.
     pub fn acc(&self) -> u32
         ensures { result ≡ self.now.state.acc }
     {

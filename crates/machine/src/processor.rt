@@ -248,7 +248,7 @@ impl Processor {
         Ok(StepAnswer::Made(reply))
     }
 
-    /// Lets a copy of a data string arrive as a frame and advances.
+    /// Delivers a copy of a data string as a frame and advances.
     fn arrive(&mut self, program: &Program, number: u16) -> Result<StepAnswer, OutOfMemory>
         requires inside { self.old.pc < 4096 }
         requires counts { self.old.steps < 2 ^ 64 - 1 }

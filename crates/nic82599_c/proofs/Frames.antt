@@ -20,7 +20,7 @@ pub frame_fits : (s : State) (queue : ℕ) (bytes : List ℕ) → reply_to s eve
 unfolding step_of
 frame_fits s queue bytes e = oldest_fits s s.out queue bytes e
 
--- The frame fits if the room is at least as long.
+-- The frame fits if the caller's buffer is at least as long.
 pub room_fits : (s : State) (r : Reply Block) (queue next : ℕ) (bytes all room : List ℕ) → r ≡ reply_to s event.Collect
     → r ≡ Frame queue bytes → all ≡ bytes → next ≡ next_out_of s.out → next ≤ length room
     → length (take (length all) room) ≡ length all

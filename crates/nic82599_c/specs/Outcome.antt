@@ -128,7 +128,7 @@ fields_of other = nothing
 abbrev pub outcome_of : Reply Block → Outcome
 outcome_of r = record (fields_of r) { status = status_of r }
 
--- The room with the frame of a reply at its start.
+-- The caller's buffer, with a reply's frame at its start.
 abbrev pub with_frame : List ℕ → Reply Block → List ℕ
 with_frame room (reply.Frame queue bytes) = bytes ++ drop (length bytes) room
 with_frame room other = room

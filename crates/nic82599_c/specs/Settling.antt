@@ -110,8 +110,8 @@ settled queues room card = rounds room room (round_of queues) (record { card = c
 abbrev pub course : Holdings → List Outcome → ℕ → ℕ → Course
 course card outcome count ended = record { card = card; outcome = take count outcome; ended = ended }
 
--- A walk stops because memory ran out. The steps before one that takes memory have run; that step and the later ones
--- haven't.
+-- A pass through the steps stops because memory ran out. The steps before one that needs memory have run; that step and
+-- the later ones haven't.
 pub record Stops (room : ℕ) (steps : List Step) (before after : Course) : Type 0 where
   pub done : List Step
   pub step : Step

@@ -9,7 +9,7 @@ use crate::handle::Handle;
 use crate::status::{DONE, NOT_LENT};
 
 /// Reads bytes of packet memory, starting at a bus address. The range may span blocks. Returns DONE, or NOT_LENT if one
-/// of the bytes isn't lent; `bytes` is then unchanged.
+/// of the bytes isn't lent; in that case `bytes` is unchanged.
 #[unsafe(no_mangle)]
 pub extern "C" fn nic_dma_read(nic: &mut Handle, bus: u64, bytes: &mut [u8]) -> u8
     ensures status { result ≡ bus_status (is_lent nic.old.card.device.memory bus (length bytes.old)) }
@@ -25,7 +25,7 @@ pub extern "C" fn nic_dma_read(nic: &mut Handle, bus: u64, bytes: &mut [u8]) -> 
 }
 
 /// Writes bytes of packet memory, starting at a bus address. The range may span blocks. Returns DONE, or NOT_LENT if
-/// one of the bytes isn't lent; nothing is written then.
+/// one of the bytes isn't lent; in that case nothing is written.
 #[unsafe(no_mangle)]
 pub extern "C" fn nic_dma_write(nic: &mut Handle, bus: u64, bytes: &[u8]) -> u8
     ensures status { result ≡ bus_status (is_lent nic.old.card.device.memory bus (length bytes.now)) }

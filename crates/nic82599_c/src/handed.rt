@@ -17,8 +17,8 @@ use card::{Card, Kept};
 use std::alloc::Global;
 use std::marker::Model;
 
-/// The place where C receives a handle's pointer; it is initially empty. In C it is a struct with one pointer, or that
-/// pointer. A handle still in it is leaked when another one is stored.
+/// The place where C receives a handle's pointer; it is initially empty. In C it is a struct with one pointer, or just
+/// the pointer. Storing another handle leaks the one that is still in it.
 #[repr(C)]
 #[derive(Drop)]
 pub struct HandleOut {
@@ -45,7 +45,7 @@ impl Model for KeptHandleOut {
 }
 
 impl HandleOut {
-    /// Creates an out-parameter with the handle of the card in a box with these parts.
+    /// Creates an out-parameter that contains the handle of the card in a box with these parts.
     pub fn of(parts: Parts<Card, Global>) -> HandleOut
         ensures { result.card ≡ Some parts.value }
     {
@@ -58,7 +58,7 @@ impl HandleOut {
 }
 
 impl KeptHandleOut {
-    /// Creates an out-parameter with the handle of the kept card in a box with these parts.
+    /// Creates an out-parameter that contains the handle of the kept card in a box with these parts.
     pub fn of(parts: Parts<Kept, Global>) -> KeptHandleOut
         ensures { result.kept ≡ Some parts.value }
     {

@@ -9,7 +9,7 @@ use nic_device::{Key, hash};
 /// The maximum number of bytes that can be hashed.
 const INPUT_BYTES: usize = 36;
 
-/// The 40 bytes of an RSS key, as RSSRK holds them.
+/// The 40 bytes of an RSS key, as stored in RSSRK.
 #[repr(C)]
 #[derive(Drop)]
 pub struct KeyBytes {
@@ -18,7 +18,7 @@ pub struct KeyBytes {
 }
 
 /// Computes the RSS hash, with a key, of an input of at most 36 bytes. Returns DONE, or NO_ROOM if the input is longer;
-/// `word` is then unchanged.
+/// in that case `word` is unchanged.
 #[unsafe(no_mangle)]
 pub extern "C" fn nic_hash(key: &KeyBytes, input: &[u8], word: &mut u32) -> u8
     ensures done { length input.now ≤ 36 → result ≡ DONE }

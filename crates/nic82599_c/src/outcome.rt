@@ -164,7 +164,7 @@ pub(crate) fn status_of(reply: &ReplyNote) -> u8
     }
 }
 
-/// Returns a report of a descriptor's index in a queue's ring, and a length.
+/// Returns a report with a queue's number, a descriptor's index in its ring, and a length.
 fn placed(queue: u16, slot: u16, len: usize) -> Outcome
     ensures { result ≡ record nothing { queue = queue; slot = slot; len = len } }
 {

@@ -37,8 +37,8 @@ pub extern "C" fn nic_take(nic: &mut Handle, block: u32) -> u8
     }
 }
 
-/// Lends all free blocks, in order. Returns DONE, or OUT_OF_MEMORY: the blocks below the first one that memory ran out
-/// for are then lent.
+/// Lends all free blocks, in order. Returns DONE, or OUT_OF_MEMORY if memory ran out for a block: the free blocks below
+/// it have then been lent, and no others.
 #[unsafe(no_mangle)]
 pub extern "C" fn nic_lend_all(nic: &mut Handle) -> u8
     ensures status { result ≢ OUT_OF_MEMORY → result ≡ DONE }

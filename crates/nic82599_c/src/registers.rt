@@ -76,7 +76,7 @@ pub extern "C" fn nic_write32(nic: &mut Handle, address: u32, word: u32) -> u8
 }
 
 /// Reads a register of a virtual function by its byte offset, with the read's side effects. Returns DONE and the value,
-/// or STRAY and the value that a driver would read, even for a function that doesn't exist; a stray read changes
+/// or STRAY and the value that a driver would read, even if there is no such virtual function; a stray read changes
 /// nothing.
 #[unsafe(no_mangle)]
 pub extern "C" fn nic_vf_read32(nic: &mut Handle, vf: u8, offset: u32, word: &mut u32) -> u8
@@ -123,8 +123,9 @@ pub extern "C" fn nic_vf_peek32(nic: &mut Handle, vf: u8, offset: u32, word: &mu
 
 /// Finds the physical function's address of the register that virtual function `vf` has at an offset, in the mode that
 /// a value of GCR_EXT selects. Address and offset are in bytes. Returns DONE and the address; STRAY if the function has
-/// no register there; or NO_GROUP if the mode has no pool for the function or its number is above 62. The last two
-/// leave `address` unchanged. No controller is involved: whether one has the function doesn't matter.
+/// no register there; or NO_GROUP if the mode has no pool for the function or the function's number is above 62. STRAY
+/// and NO_GROUP leave `address` unchanged. No controller is involved, so it doesn't matter whether one has this virtual
+/// function.
 #[unsafe(no_mangle)]
 pub extern "C" fn nic_vf_address(gcr_ext: u32, vf: u8, offset: u32, address: &mut u32) -> u8
     ensures status { result ≡ map_status (mapped (mode_of gcr_ext) 63 vf offset) }

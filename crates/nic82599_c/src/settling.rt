@@ -126,8 +126,8 @@ fn make(card: &mut Card, step: Step, outcome: &mut [Outcome], count: &mut usize)
     }
 }
 
-/// Runs steps in order while there is room for their reports. Returns OUT_OF_MEMORY at the first step that memory runs
-/// out for.
+/// Runs steps in order while there is room for their reports. Returns OUT_OF_MEMORY at the first step for which memory
+/// runs out.
 fn walk(card: &mut Card, steps: &[Step], outcome: &mut [Outcome], count: &mut usize) -> u8
     requires { count.old ≤ length outcome.old }
     ensures room { length outcome.new ≡ length outcome.old }
@@ -180,9 +180,9 @@ fn rounds(card: &mut Card, steps: &[Step], outcome: &mut [Outcome], count: &mut 
 /// receive step; and an interrupt step for each group. The first `count` entries of `outcome` report what happened.
 ///
 /// Returns DONE after a round that did nothing. Returns MORE if the array is full; there may be more to do. Returns
-/// OUT_OF_MEMORY if memory ran out for a transmit step: the steps before it ran and are reported, but it didn't run.
-/// Returns NO_QUEUE if `queues` is above 128; nothing is done then, and `count` is 0. No clause says what the entries
-/// from `count` on are, except that NO_QUEUE leaves all entries unchanged.
+/// OUT_OF_MEMORY if memory ran out for a transmit step: the steps before it ran and are reported, but the transmit step
+/// itself didn't run. Returns NO_QUEUE if `queues` is above 128; in that case nothing is done, and `count` is 0. The
+/// contract doesn't specify the entries at index `count` and above, except that NO_QUEUE leaves all entries unchanged.
 #[unsafe(no_mangle)]
 pub extern "C" fn nic_settle(
     nic: &mut Handle,
@@ -194,8 +194,8 @@ pub extern "C" fn nic_settle(
     ensures count { count.new ≤ length outcome.new }
     ensures settled { queues ≤ 128 → result ≢ OUT_OF_MEMORY → course nic.new.card outcome.new count.new result
         ≡ settled queues (length outcome.old) nic.old.card }
-    // After OUT_OF_MEMORY, the steps before one that takes memory have run, in order, and no earlier round was the
-    // last.
+    // After OUT_OF_MEMORY, all steps before one that needs memory have run, in order, and no earlier round was the last
+    // one.
     ensures stopped { queues ≤ 128 → result ≡ OUT_OF_MEMORY → StopsIn (length outcome.old) (length outcome.old)
         (round_of queues) (course nic.old.card outcome.old 0 0) (course nic.new.card outcome.new count.new 0) }
     ensures no_queue { 128 < queues → result ≡ NO_QUEUE }

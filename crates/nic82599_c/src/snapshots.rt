@@ -33,14 +33,14 @@ pub extern "C" fn nic_snapshot(alloc: Global, nic: &mut Handle, kept: &mut KeptH
 
 /// Returns the card to the snapshot's state. The snapshot is kept, and may be of another card. The card keeps its
 /// packet memory if it has as many blocks as the snapshot and all blocks lent in the snapshot are lent now. Otherwise
-/// its packet memory is replaced. No clause says which of the two it is.
+/// its packet memory is replaced. The contract doesn't specify which of the two happens.
 ///
 /// Returns DONE, or OUT_OF_MEMORY, which leaves the card unchanged.
 #[unsafe(no_mangle)]
 pub extern "C" fn nic_restore(alloc: Global, nic: &mut Handle, kept: &mut KeptHandle) -> u8
     ensures status { result ≢ OUT_OF_MEMORY → result ≡ DONE }
-    // The device, the lent blocks with their bytes, and which blocks are free match the snapshot. So from then on every
-    // call is answered as it was after the snapshot.
+    // The device, the lent blocks with their bytes, and which blocks are free match the snapshot. So every later call
+    // is answered as it was after the snapshot was taken.
     ensures restored { result ≢ OUT_OF_MEMORY → nic.new.card ≡ kept.old.kept }
     ensures unchanged { result ≡ OUT_OF_MEMORY → nic.new.card ≡ nic.old.card }
     ensures kept { kept.new.kept ≡ kept.old.kept }

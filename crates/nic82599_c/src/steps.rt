@@ -42,7 +42,7 @@ pub extern "C" fn nic_rx_step(nic: &mut Handle, outcome: &mut Outcome) -> u8
 }
 
 /// Runs a transmit step: fetches one descriptor of a queue, 0 to 127. Returns ADVANCED, SENT, FAULT, IDLE or NO_QUEUE;
-/// `outcome` has the details. Or returns OUT_OF_MEMORY, which changes nothing; only a step that takes memory can return
+/// `outcome` has the details. Or returns OUT_OF_MEMORY, which changes nothing; only a step that needs memory can return
 /// it.
 #[unsafe(no_mangle)]
 pub extern "C" fn nic_tx_step(nic: &mut Handle, queue: u16, outcome: &mut Outcome) -> u8
@@ -56,8 +56,8 @@ pub extern "C" fn nic_tx_step(nic: &mut Handle, queue: u16, outcome: &mut Outcom
     tell(nic.lend(), Event::TxStep(queue), outcome)
 }
 
-/// Runs an enable step: enables or disables a side of a queue as its enable bit requests. It is the transmit side, or
-/// the receive side if `transmit` is false. Returns DONE, IDLE or NO_QUEUE; `outcome` has the details.
+/// Runs an enable step: enables or disables a side of a queue as its enable bit requests. The side is the transmit side
+/// if `transmit` is true, otherwise the receive side. Returns DONE, IDLE or NO_QUEUE; `outcome` has the details.
 #[unsafe(no_mangle)]
 pub extern "C" fn nic_queue_step(
     nic: &mut Handle,

@@ -15,7 +15,8 @@ use nic_device::{Event, Octets, Reply};
 use std::alloc::Global;
 
 /// A frame, without its frame check sequence, arrives from the link. Returns DONE if it joins the receive list, or
-/// DROPPED; `outcome` has the details. Or returns OUT_OF_MEMORY, which changes nothing; no clause says when.
+/// DROPPED; `outcome` has the details. Or returns OUT_OF_MEMORY, which changes nothing; the contract doesn't specify
+/// when.
 #[unsafe(no_mangle)]
 pub extern "C" fn nic_arrive(
     alloc: Global,
@@ -47,7 +48,7 @@ pub extern "C" fn nic_next_out(nic: &mut Handle) -> usize
     nic.lend().next_out()
 }
 
-/// Collects the oldest transmitted frame, if the room is large enough.
+/// Collects the oldest transmitted frame, if `room` is large enough.
 #[tactic(auto, using(crate::proofs::Frames::frame_fits))]
 fn collect(card: &mut Card, room: &mut [u8], outcome: &mut Outcome) -> u8
     ensures fits { next_out_of card.old.device.out ≤ length room.old

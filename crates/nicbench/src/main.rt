@@ -22,7 +22,7 @@ fn main(rt: HostRuntime) -> ExitCode {
     ExitCode::from(status)
 }
 
-/// Reports that memory ran out for the words or the writer, and returns the exit status.
+/// Reports that memory ran out for the arguments or the writer, and returns the exit status.
 fn refused_for_memory<R: Print>(rt: &R) -> u8 {
     match println!(rt; "refused OutOfMemory") {
         Ok(()) => NO_MEMORY,
@@ -30,8 +30,8 @@ fn refused_for_memory<R: Print>(rt: &R) -> u8 {
     }
 }
 
-/// Runs the bench on the process's words, standard input and standard output, and returns how it ended. After a failed
-/// write nothing more is written, not even buffered output.
+/// Runs the bench on the process's arguments, standard input and standard output, and returns how it ended. After a
+/// failed write nothing more is written, not even buffered output.
 fn run(rt: &HostRuntime) -> io::Result<Outcome> {
     let alloc = rt.alloc();
     let words: Vec<String> = env::args(rt)?.collect(alloc)?;

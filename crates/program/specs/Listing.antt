@@ -28,9 +28,8 @@ IsGroup Pf = ⊤
 IsGroup (Vf function) = IsFunction function
 
 -- Everything that the instruction refers to exists among these data strings and this many instructions. A poked data
--- string has 16 bytes, an arriving data string exists, and a peek selects one of four words. Virtual functions are
--- below
--- 63. A jump's target is an instruction or the end. Block and queue numbers are below 65,536.
+-- string is 16 bytes long, an arriving data string exists, and a peek selects one of four words. Virtual functions are
+-- below 63. A jump's target is an instruction or the end. Block and queue numbers are below 65,536.
 abbrev pub IsSound : List (List ℕ) → ℕ → Instruction ℕ ℕ → Type 0
 IsSound strings count (Write address word) = ⊤
 IsSound strings count (Read address) = ⊤
@@ -55,7 +54,7 @@ IsSound strings count (JumpUnlessEqual word target) = target ≤ count
 IsSound strings count (Jump target) = target ≤ count
 IsSound strings count Halt = ⊤
 
--- A data string has 1 to 16,384 bytes.
+-- A data string is 1 to 16,384 bytes long.
 pub record IsDataString (string : List ℕ) : Type 0 where
   pub some : 1 ≤ length string
   pub short : length string ≤ 16384

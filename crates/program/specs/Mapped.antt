@@ -15,7 +15,7 @@ abbrev pub ◌then◌ : {A B E : Type 0} → Result A E → (A → Result B E) �
 Ok x then f = f x
 Err e then f = Err e
 
--- A call returns the value of the given function at its referenced argument.
+-- A call returns the given function's value for the argument that it is passed by reference.
 abbrev pub AnswersBy : {F X R : Type 0} → Once F (Bor X × Unit {0}) R → F → (X → R) → Type 0
 AnswersBy {X = X} {R = R} calls f given = (x : X) (r : R) → FnOnceReturnsAt calls f x r → r ≡ given x
 

@@ -50,7 +50,7 @@ pub record Fits (bytes : List ℕ) (h : Header) : Type 0 where
   pub few_strings : h.strings ≤ 1024
   pub inside : 16 + 12 * h.count ≤ length bytes
 
--- The counts of instructions and data strings, if the header and the instructions fit the bytes.
+-- The counts of instructions and data strings, if the header and the instructions fit in the bytes.
 abbrev pub counts_in : List ℕ → Result Header ObjectFault
 counts_in bytes =
     if nat_le 16 (length bytes) && number16_at bytes 10 == 0 && number32_at bytes 12 == length bytes
@@ -103,7 +103,7 @@ abbrev pub before_instructions : Instruction ℕ ℕ → Result (List (Instructi
     Result (List (Instruction ℕ ℕ)) ObjectFault
 before_instructions instruction more = more then λ instructions. Ok (instruction ∷ instructions)
 
--- The instructions that the fields encode, numbered from `pc` on. The first fault decides.
+-- The instructions that the fields encode, numbered starting at `pc`, or the first fault.
 unfoldable pub meanings : List (List ℕ) → ℕ → ℕ → List Fields → Result (List (Instruction ℕ ℕ)) ObjectFault
 meanings strings count pc [] = Ok []
 meanings strings count pc (f ∷ more) =

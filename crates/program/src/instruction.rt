@@ -7,14 +7,14 @@ use dma_ring::Dir;
 use intr_unit::Group;
 use std::alloc::AllocError;
 
-/// One instruction of a program, or of a script text during assembly.
+/// One instruction of a program, or of a script during assembly.
 ///
 /// `L` is the type of a jump's target, and `D` the type of a data string. In a program both are numbers, counted from
-/// 0: of an instruction and of a data string. Addresses and words have 32 bits; block and queue numbers have 16. Reads
-/// and peeks load a word into the accumulator `acc`, which starts as 0.
+/// 0: of an instruction and of a data string. Addresses and words are 32 bits wide; block and queue numbers are 16 bits
+/// wide. Reads and peeks load a word into the accumulator `acc`, which starts as 0.
 #[derive(Copy, Debug, Drop, PartialEq, Eq)]
 pub enum Instruction<L = u16, D = u16> {
-    /// `w`: writes a register through the physical function. The operands are its address and the new word.
+    /// `w`: writes a register through the physical function. The operands are its address and the new value.
     Write(u32, u32),
     /// `r`: reads the register at an address through the physical function into `acc`.
     Read(u32),
@@ -38,7 +38,7 @@ pub enum Instruction<L = u16, D = u16> {
     Lend(u16),
     /// `unlend`: takes the block with this number back from the device and returns it to the arena.
     Unlend(u16),
-    /// `poke`: writes 16 bytes of lent memory. The operands are the bus address and a data string of 16 bytes.
+    /// `poke`: writes 16 bytes of lent memory. The operands are the bus address and a 16-byte data string.
     Poke(u32, D),
     /// `peek`: reads 16 bytes of lent memory at a bus address. The second operand, 0 to 3, selects the word that goes
     /// into `acc`.
@@ -51,7 +51,7 @@ pub enum Instruction<L = u16, D = u16> {
     TxStep(u16),
     /// `int`: sends the next message of an interrupt group: the physical function's, or a virtual function's (0 to 62).
     IntStep(Group),
-    /// `qstep`: switches one side of a queue on or off, as its enable bit requests.
+    /// `qstep`: enables or disables one side of a queue, as its enable bit requests.
     QueueStep(Dir, u16),
     /// `eestep`: completes the EEPROM read that EERD requests.
     EepromStep,

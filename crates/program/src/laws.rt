@@ -2,7 +2,8 @@
 
 ghost use Rattle.program.specs.Laws.{InstructionsDecide, FirstFaultDecides, ObjectsReadBack};
 
-/// An object laid out from any fields and data strings within the limits has no fault other than an instruction's.
+/// An object laid out from any fields and data strings within the limits has no faults except faults of its
+/// instructions.
 pub fn instructions_decide()
     ensures { InstructionsDecide }
 {}

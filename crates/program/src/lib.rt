@@ -1,9 +1,9 @@
-//! Programs of the register-script language: instructions and data strings, and their byte form.
+//! Programs of the register-script language: instructions and data strings, and their encoding as bytes.
 //!
-//! An [`Instruction`] is generic over jump targets and data strings: a script text has names for both, a program has
+//! An [`Instruction`] is generic over jump targets and data strings: a script has names for both, a program has
 //! numbers. Contracts see a [`Program`] as a `Listing`. `IsListing` states the facts about every program: its limits,
-//! and that everything an instruction refers to exists. `script_asm` assembles programs from texts, and `machine` runs
-//! them. An object is a program's byte form: [`Program::to_bytes`] writes it, and [`read`] reads it.
+//! and that everything an instruction refers to exists. `script_asm` assembles programs from scripts, and `machine`
+//! runs them. An object is a program encoded as bytes: [`Program::to_bytes`] writes it, and [`read`] reads it.
 #![tactic(auto)]
 
 mod fault;

@@ -22,8 +22,8 @@ pub const DATA_BYTES: usize = 16384;
 /// A program: its data strings and its instructions, both in order.
 ///
 /// It has at most 4,096 instructions, and at most 1,024 data strings of 1 to 16,384 bytes. Everything that an
-/// instruction refers to exists: its data string, which has 16 bytes if it is poked; its virtual function, below 63;
-/// its word, one of four; and its jump target, an instruction or the end.
+/// instruction refers to exists: its data string, which is 16 bytes long if it is poked; its virtual function, below
+/// 63; its word, one of four; and its jump target, an instruction or the end.
 #[derive(Debug, Drop)]
 pub struct Program {
     strings: Vec<Octets>,

@@ -35,7 +35,7 @@ pub(crate) struct Header {
     strings: u16,
 }
 
-/// The counts in the header, if the header and the instructions fit the bytes.
+/// The counts in the header, if the header and the instructions fit in the bytes.
 fn counts_in(bytes: &[u8]) -> Result<Header, ObjectFault>
     ensures value { result ≡ counts_in bytes.now }
     ensures fits { IfOk result (Fits bytes.now) }
@@ -188,7 +188,7 @@ fn instructions_after(
 /// Decodes an object into the program that it encodes, or returns its first fault.
 ///
 /// The call accepts only the exact object of the program that it returns, with unused fields 0. It takes time linear in
-/// the number of bytes, which no clause says. `OutOfMemory` may be returned in place of any other result.
+/// the number of bytes; the contract doesn't state this. `OutOfMemory` may be returned in place of any other result.
 #[tactic(auto, unfolding(crate::specs::Object::read_of))]
 pub fn read(alloc: Global, bytes: &[u8]) -> Result<Program, ObjectFault>
     ensures exact { Gives (λ program. program) result (read_of bytes.now) }

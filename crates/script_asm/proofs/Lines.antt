@@ -22,7 +22,7 @@ unfolding with_lines
 with_lines-added before after lines line more first e =
     rw first (kept (with_line before line) after (λ o. with_lines o more) e)
 
--- A faulty line decides the result.
+-- A faulty line determines the result.
 pub with_lines-stopped : (before : Outline) (fault : ScriptFault) (lines : List NumberedLine) (line : NumberedLine)
     (more : List NumberedLine) → lines ≡ line ∷ more
     → with_line before line ≡ Err fault → with_lines before lines ≡ Err fault

@@ -1,4 +1,4 @@
--- The statements of a program's text fit, and the names in it have the program's places.
+-- The statements of a program's source fit, and the names in it have the program's places.
 use Rattle.std.proofs.Common.{◌≡◌, refl, sym, ◌∙◌, ap, ℕ, ◌+◌, ◌<◌, ◌≤◌, Bool, true, false, List, [], ◌∷◌, ◌++◌, length, map, append-nil, Some, arith, inl, inr}
 use Rattle.program.specs.declared.instruction.Instruction.{Instruction as Step}
 use Rattle.script_asm.specs.Prelude.{IsListing, Listing, bytes_eq}

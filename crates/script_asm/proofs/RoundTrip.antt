@@ -1,4 +1,4 @@
--- A program's text means that program.
+-- A program's source means that program.
 use Rattle.std.proofs.Common.{◌≡◌, refl, sym, ◌∙◌, ℕ, zero, suc, ◌==◌, ◌<◌, Bool, true, false, ◌||◌, List, [], ◌∷◌, length, map, arith, eq-eqb}
 use Rattle.std.specs.Str.Lines.{lines}
 use Rattle.program.specs.declared.instruction.Instruction.{Instruction as Step}
@@ -39,7 +39,7 @@ all_targets (i ∷ more) = (
   more_targets i more more (all_targets more),
 )
 
--- A data string of 16 bytes exists.
+-- A 16-byte data string exists.
 there : (strings : List (List ℕ)) (number : ℕ) → length (string_at strings number) ≡ 16 → number < length strings
 there [] number long = absurd (omega (arith, long))
 there (string ∷ more) zero long = omega arith

@@ -1,4 +1,4 @@
--- The lines of a program's text read back as its statements.
+-- The lines of a program's source read back as its statements.
 use Rattle.std.proofs.Common.{◌≡◌, refl, sym, ◌∙◌, ap, subst, ℕ, zero, suc, ◌+◌, ◌/◌, ◌%◌, ◌<◌, ◌≤◌, true, false, cond, ◌==◌, List, [], ◌∷◌, ◌++◌, length, map, get_or, slice_index, append_assoc, Result, Ok, Err, Some, arith}
 use Rattle.std.specs.Prelude.{codes, decimal}
 use Rattle.std.specs.Str.Lines.{lines}

@@ -1,4 +1,4 @@
--- The text of a program.
+-- The source of a program.
 use Rattle.std.specs.Prelude.{ℕ, ◌+◌, ◌==◌, ◌++◌, Bool, false, List, [], ◌∷◌, codes, decimal, if◌then◌else◌}
 use Rattle.program.specs.declared.instruction.Instruction.TheVariants.{JumpIfEqual, JumpUnlessEqual, Jump}
 use Rattle.script_asm.specs.Prelude.{Instruction, Listing, bytes_text, list_any}
@@ -8,7 +8,7 @@ use Rattle.script_asm.specs.Printing.{instruction_text}
 abbrev pub data_line : ℕ → List ℕ → List ℕ
 data_line number string = codes "data d" ++ (decimal number ++ (codes " " ++ (bytes_text string ++ 10 ∷ [])))
 
--- The lines of data strings, numbered from `number` on.
+-- The lines of data strings, numbered starting at `number`.
 unfoldable pub data_lines : ℕ → List (List ℕ) → List ℕ
 data_lines number [] = []
 data_lines number (string ∷ more) = data_line number string ++ data_lines (number + 1) more
@@ -36,11 +36,11 @@ label_line_at code pc = if is_target code pc then label_line pc else []
 abbrev pub code_line : List (Instruction ℕ ℕ) → ℕ → Instruction ℕ ℕ → List ℕ
 code_line code pc instruction = label_line_at code pc ++ (instruction_text instruction ++ 10 ∷ [])
 
--- The instructions numbered from `pc` on, and the label after the last one.
+-- The instructions, numbered starting at `pc`, and the label after the last one.
 unfoldable pub code_lines : List (Instruction ℕ ℕ) → ℕ → List (Instruction ℕ ℕ) → List ℕ
 code_lines code pc [] = label_line_at code pc
 code_lines code pc (instruction ∷ more) = code_line code pc instruction ++ code_lines code (pc + 1) more
 
--- The text of a program: its data strings, then its instructions.
+-- The source of a program: its data strings, then its instructions.
 unfoldable pub text_of : Listing → List ℕ
 text_of program = data_lines 0 program.strings ++ code_lines program.instructions 0 program.instructions

@@ -46,7 +46,7 @@ drafts_in (Label name ∷ more) = drafts_in more
 drafts_in (Data name string ∷ more) = drafts_in more
 drafts_in (Instruction draft ∷ more) = draft ∷ drafts_in more
 
--- The place of the first label with this name among statements, if instructions are numbered from `first` on.
+-- The place of the first label with this name among statements, if instructions are numbered starting at `first`.
 abbrev pub label_from : ℕ → List Statement → List ℕ → Option ℕ
 label_from first [] name = None
 label_from first (Empty ∷ more) name = label_from first more name
@@ -54,7 +54,8 @@ label_from first (Label label ∷ more) name = if bytes_eq label name then Some 
 label_from first (Data other string ∷ more) name = label_from first more name
 label_from first (Instruction draft ∷ more) name = label_from (first + 1) more name
 
--- The number of the first data string with this name among statements, if data strings are numbered from `first` on.
+-- The number of the first data string with this name among statements, if data strings are numbered starting at
+-- `first`.
 abbrev pub data_from : ℕ → List Statement → List ℕ → Option ℕ
 data_from first [] name = None
 data_from first (Empty ∷ more) name = data_from first more name
@@ -63,8 +64,9 @@ data_from first (Data other string ∷ more) name =
     if bytes_eq other name then Some first else data_from (first + 1) more name
 data_from first (Instruction draft ∷ more) name = data_from first more name
 
--- A statement fits after others. A label's name is new among labels, and a data name among data names. A data string
--- has at most 16,384 bytes and follows fewer than 1,024 others. An instruction follows fewer than 4,096 others.
+-- A statement fits after others. A label's name is new among labels, and a data name among data names. A data string is
+-- at most 16,384 bytes long and is preceded by fewer than 1,024 others. An instruction is preceded by fewer than 4,096
+-- others.
 abbrev pub FitsAfter : List Statement → Statement → Type 0
 FitsAfter before Empty = ⊤
 FitsAfter before (Label name) = label_from 0 before name ≡ None
@@ -78,7 +80,7 @@ Fit before [] = ⊤
 Fit before (statement ∷ more) = FitsAfter before statement × Fit (before ++ statement ∷ []) more
 
 -- The program's instruction for a line's instruction. A label becomes its place, and a data name becomes its number.
--- Both must be defined, and poked data must have 16 bytes.
+-- Both must be defined, and poked data must be 16 bytes long.
 abbrev pub Means : (List ℕ → Option ℕ) → (List ℕ → Option ℕ) → List (List ℕ) → Draft → Step ℕ ℕ → Type 0
 Means labels names strings (Write address word) i = i ≡ Write address word
 Means labels names strings (Read address) i = i ≡ Read address
@@ -113,7 +115,7 @@ Mean labels names strings (draft ∷ drafts) [] = ⊥
 Mean labels names strings (draft ∷ drafts) (i ∷ is) = Means labels names strings draft i
     × Mean labels names strings drafts is
 
--- The statements of the text's lines fit and form the program.
+-- The statements of the source's lines fit and form the program.
 pub record IsSaid (text : List ℕ) (program : Listing) : Type 0 where
   pub statements : List Statement
   pub say : Say (lines_of text) statements
@@ -122,7 +124,7 @@ pub record IsSaid (text : List ℕ) (program : Listing) : Type 0 where
   pub mean : Mean (label_from 0 statements) (data_from 0 statements) (strings_in statements) (drafts_in statements)
       program.instructions
 
--- A text means a program exactly if each of its lines is a statement, the statements fit, and they form the program.
+-- A source means a program exactly if each of its lines is a statement, the statements fit, and they form the program.
 abbrev pub ProgramIsWhatLinesSay : Type 0
 ProgramIsWhatLinesSay = (text : List ℕ) (program : Listing) → (program_of text ≡ Ok program) ↔ IsSaid text program
 
@@ -143,7 +145,7 @@ pub record NamesHaveTheirPlaces : Type 0 where
       → (before : List Statement) × (string : List ℕ) × (after : List Statement)
       × (statements ≡ before ++ Data name string ∷ after)
 
--- The first fault of a text is reported.
+-- The first fault of a source is reported.
 pub record FirstFaultDecides : Type 0 where
   -- If all lines before it are read without a fault, a faulty line's fault is reported.
   pub lines : (text : List ℕ) (front : List NumberedLine) (line : NumberedLine) (back : List NumberedLine)

@@ -23,7 +23,7 @@ label_named outline line name = ok_or (place_of outline.labels name) (UnknownLab
 abbrev pub data_named : Outline → ℕ → List ℕ → Result ℕ ScriptFault
 data_named outline line name = ok_or (place_of outline.data_numbers name) (UnknownLabel line)
 
--- The instruction, unless it pokes data of other than 16 bytes.
+-- The instruction, unless it pokes data that isn't 16 bytes long.
 abbrev pub fitting : Outline → ℕ → Instruction ℕ ℕ → Result (Instruction ℕ ℕ) ScriptFault
 fitting outline line (Poke address number) =
     if length (string_at outline.strings number) == 16 then Ok (Poke address number) else Err (Range line)
@@ -34,7 +34,7 @@ abbrev pub resolved : Outline → ℕ → Draft → Result (Instruction ℕ ℕ)
 resolved outline line draft =
     try_map (label_named outline line) (data_named outline line) draft then fitting outline line
 
--- The instructions in `before`, followed by these. The first line that can't be resolved decides.
+-- The instructions in `before`, followed by these. If a line can't be resolved, the first such line's fault.
 unfoldable pub with_resolved : Outline → List (Instruction ℕ ℕ) → List DraftLine
     → Result (List (Instruction ℕ ℕ)) ScriptFault
 with_resolved outline before [] = Ok before

@@ -1,4 +1,4 @@
--- The program that a text means.
+-- The program that a source means.
 use Rattle.std.specs.Prelude.{ℕ, ◌&&◌, List, [], ◌∷◌, ◌++◌, length, is_some, Result, Ok, Err, nat_le, nat_lt}
 use Rattle.std.specs.Prelude.{if◌then◌else◌}
 use Rattle.script_asm.specs.Prelude.{Listing, NumberedLine, lines_of, words_of}
@@ -50,7 +50,7 @@ abbrev pub with_line : Outline → NumberedLine → Result Outline ScriptFault
 with_line before line = at_line line.number (statement_of (words_of line.text))
     then λ statement. with_statement before line.number statement
 
--- Adds these lines. The first faulty line decides.
+-- Adds these lines. The first faulty line determines the fault.
 unfoldable pub with_lines : Outline → List NumberedLine → Result Outline ScriptFault
 with_lines before [] = Ok before
 with_lines before (line ∷ more) = with_line before line then λ after. with_lines after more
@@ -65,6 +65,6 @@ program_in outline =
 abbrev pub program_of_lines : List NumberedLine → Result Listing ScriptFault
 program_of_lines lines = with_lines blank lines then program_in
 
--- The program of a text, or its fault.
+-- The program of a source, or its fault.
 unfoldable pub program_of : List ℕ → Result Listing ScriptFault
 program_of text = program_of_lines (lines_of text)

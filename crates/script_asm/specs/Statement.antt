@@ -25,8 +25,8 @@ data_in (a ∷ []) = Err Syntax
 data_in (a ∷ b ∷ []) = both (name_in a) (bytes_in b) then λ found. Ok (Data found.0 found.1)
 data_in (a ∷ b ∷ c ∷ more) = Err Syntax
 
--- The statement after its first word was checked for a final colon. A word with a colon is a label; any other starts an
--- instruction.
+-- The statement, given whether its first word ends in a colon. A word with a final colon is a label; any other word
+-- starts an instruction.
 abbrev pub label_or_instruction : List ℕ → Option (List ℕ) → List (List ℕ) → Result Statement LineFault
 label_or_instruction word (Some name) operands = label_in name operands
 label_or_instruction word None operands = instruction_in word operands then λ instruction. Ok (Instruction instruction)

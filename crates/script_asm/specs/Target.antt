@@ -17,7 +17,7 @@ number_in word = elim (number_of word) [ Ok number ↦ Ok number | Err fault ↦
 abbrev pub number_below : ℕ → List ℕ → Result ℕ LineFault
 number_below limit word = number_in word then λ number. if nat_lt number limit then Ok number else Err Range
 
--- The word as a name, which has at most 32 bytes.
+-- The word as a name, which is at most 32 bytes long.
 abbrev pub name_in : List ℕ → Result (List ℕ) LineFault
 name_in word = if is_name word then (if nat_le (length word) 32 then Ok word else Err TooLong) else Err Syntax
 

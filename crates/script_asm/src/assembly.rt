@@ -1,4 +1,4 @@
-//! Assembles a text into its program.
+//! Assembles a script's source into its program.
 
 ghost use Rattle.std.specs.Prelude.{◌≡◌, ◌≢◌, IfOk, IfErr, IfSome, IsOk, None, Ok, Err, false, true};
 ghost use Rattle.std.specs.List.{after_first, before_first, list_any};
@@ -25,7 +25,7 @@ fn add_line<'a>(alloc: Global, sheet: &mut Sheet<'a>, line: Line<'a>) -> Result<
     sheet.add(number, statement)
 }
 
-/// Reads all lines of a text, before names are looked up.
+/// Reads all lines of a script, before names are looked up.
 fn read_sheet(alloc: Global, text: &str) -> Result<Sheet<'_>, ScriptFault>
     ensures { Gives (λ sheet. sheet) result (with_lines blank (lines_of text.now)) }
 {
@@ -36,12 +36,12 @@ fn read_sheet(alloc: Global, text: &str) -> Result<Sheet<'_>, ScriptFault>
     Ok(sheet)
 }
 
-/// Assembles a text into its program, or returns its fault.
+/// Assembles a script into its program, or returns its fault.
 ///
 /// The first line with `Syntax`, `UnknownName`, `Range`, `TwoLabels` or `TooLong` is reported. If that line has several
-/// of these faults, the first in this list is reported. If there is no such line, the first line is reported that uses
-/// a name which no line defines (`UnknownLabel`), or that pokes data of other than 16 bytes (`Range`). `OutOfMemory`
-/// may be returned in place of any other result.
+/// of these faults, the first in this list is reported. Otherwise, the first line that uses an undefined name
+/// (`UnknownLabel`), or that pokes data that isn't 16 bytes long (`Range`), is reported. `OutOfMemory` may be returned
+/// in place of any other result.
 #[tactic(auto, unfolding(crate::specs::Script::program_of))]
 pub fn assemble(alloc: Global, text: &str) -> Result<Program, ScriptFault>
     ensures program { IfOk result (λ program. program_of text.now ≡ Ok program) }
@@ -51,7 +51,7 @@ pub fn assemble(alloc: Global, text: &str) -> Result<Program, ScriptFault>
     sheet.into_program(alloc)
 }
 
-/// Whether the line consists of this word only.
+/// Whether the line consists only of this word.
 fn is_only(word: &str, line: &str) -> bool
     ensures { result ≡ is_only word.now (words_of line.now) }
 {
@@ -83,8 +83,8 @@ fn read_before<'a>(
     Ok((sheet, false))
 }
 
-/// Assembles the lines before the first line that consists of the word `end` only. The lines after that one aren't
-/// read. Returns `None` if there is no `end` line and all lines form a script.
+/// Assembles the lines before the first line that consists only of the word `end`. The lines after it aren't read.
+/// Returns `None` if there is no `end` line and all lines form a script.
 ///
 /// Faults are reported as by `assemble`. `OutOfMemory` may be returned in place of any other result.
 pub fn assemble_before(

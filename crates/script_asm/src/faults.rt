@@ -1,4 +1,4 @@
-//! Why a text isn't a script.
+//! Why an input isn't a script.
 
 ghost use Rattle.std.specs.Prelude.{◌≡◌};
 ghost use Rattle.script_asm.specs.Fault.{both, reported_first, fault_at};
@@ -7,7 +7,7 @@ use std::alloc::{AllocError, AllocFailed};
 use text_format::NumberFault;
 use thiserror::Error;
 
-/// Why a text isn't a script. The number in a variant is the line, counted from 1.
+/// Why an input isn't a script. The number in a variant is the line, counted from 1.
 ///
 /// The first line with `Syntax`, `UnknownName`, `Range`, `TwoLabels` or `TooLong` is reported. If that line has several
 /// of these faults, the first in this list is reported. Labels and data are looked up only if no line has one of these
@@ -27,7 +27,7 @@ pub enum ScriptFault {
     #[error("line {0}: a name given twice")]
     TwoLabels(usize),
     /// A number is out of its range, or an index isn't below its row's count. If no line has a fault of its own, this
-    /// is also reported for a line that pokes data of other than 16 bytes.
+    /// is also reported for a line that pokes data that isn't 16 bytes long.
     #[error("line {0}: a number out of range")]
     Range(usize),
     /// A limit is exceeded: 4,096 instructions, 1,024 data strings, 16,384 bytes in a data string, or 32 bytes in the
@@ -71,7 +71,7 @@ pub enum LineFault {
     /// A number is out of its range.
     #[error("a number out of range")]
     Range,
-    /// A name has more than 32 bytes.
+    /// A name is longer than 32 bytes.
     #[error("a name of more than 32 bytes")]
     TooLong,
 }

@@ -4,22 +4,22 @@ ghost use Rattle.script_asm.specs.Laws.{ProgramIsWhatLinesSay, FirstFaultDecides
 ghost use Rattle.script_asm.specs.Laws.{NamesHaveTheirPlaces};
 ghost use Rattle.script_asm.specs.ReadBack.{TextsReadBack};
 
-/// A text is a program exactly if each of its lines is a statement that fits the lines before it. The statements form
-/// the program, in order. To fit, a name must be new among labels, or among data; a data string must have at most
-/// 16,384 bytes and follow fewer than 1,024 others; and an instruction must follow fewer than 4,096 others. A line with
-/// a name of more than 32 bytes isn't a statement.
+/// A source is a program exactly if each of its lines is a statement that fits the lines before it. The statements form
+/// the program, in order. To fit, a name must be new among labels, or among data; a data string must be at most 16,384
+/// bytes long and be preceded by fewer than 1,024 others; and an instruction must be preceded by fewer than 4,096
+/// others. A line with a name longer than 32 bytes isn't a statement.
 pub fn program_is_what_lines_say()
     ensures { ProgramIsWhatLinesSay }
 {}
 
-/// The first faulty line of a text is reported. If no line is faulty, the first instruction that uses a missing label
-/// or data name, or that pokes data of other than 16 bytes, is reported with its line.
+/// The first faulty line is reported. If no line is faulty, the first instruction that uses a missing label or data
+/// name, or that pokes data that isn't 16 bytes long, is reported with its line.
 pub fn first_fault_decides()
     ensures { FirstFaultDecides }
 {}
 
 /// If two operands are faulty, the fault that comes first in the order of a line's faults is reported. A line's own
-/// fault is reported before a name that is defined twice, and such a name before an exceeded limit.
+/// fault is reported before a name that is defined twice, and a name that is defined twice before an exceeded limit.
 pub fn faults_come_in_order()
     ensures { FaultsComeInOrder }
 {}
@@ -30,7 +30,7 @@ pub fn names_have_their_places()
     ensures { NamesHaveTheirPlaces }
 {}
 
-/// A program's disassembled text assembles to the same program.
+/// A program's disassembled source assembles to the same program.
 pub fn texts_read_back()
     ensures { TextsReadBack }
 {}

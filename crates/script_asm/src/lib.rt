@@ -1,9 +1,9 @@
-//! Register scripts: programs, their texts and objects, and the machine that runs them.
+//! Register scripts: programs, their source and their objects, and the machine that runs them.
 //!
-//! `assemble` turns a text into a `Program`, and `disassemble` turns a program into its text. Two crates are
+//! `assemble` turns a source into a `Program`, and `disassemble` turns a program into its source. Two crates are
 //! re-exported: `program`, with programs and their objects, and `machine`, which runs a program on a device.
 //!
-//! `program_of` defines the program that a text means, line by line, and `text_of` defines the text of a program.
+//! `program_of` defines the program that a source means, line by line, and `text_of` defines the source of a program.
 //! `nicbench` and the debugger depend on this crate.
 #![tactic(auto)]
 

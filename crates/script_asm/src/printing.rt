@@ -1,4 +1,4 @@
-//! Prints instructions as lines of a text.
+//! Prints instructions as lines of a script.
 
 ghost use Rattle.std.specs.Prelude.{◌≡◌, Some};
 ghost use Rattle.script_asm.specs.Printing.{target_text, place_text, place_first_at, group_text, direction_text};

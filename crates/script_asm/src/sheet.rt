@@ -24,7 +24,7 @@ pub(crate) struct DraftLine<'a> {
 }
 
 /// The places of the labels, the numbers of the data strings by name, and the strings and the instructions in the order
-/// of their lines. Empty lines take no room.
+/// of their lines. Empty lines take no space.
 #[derive(Drop)]
 pub(crate) struct Sheet<'a> {
     labels: Places<'a>,
@@ -147,7 +147,7 @@ impl<'a> Sheet<'a> {
         }
     }
 
-    /// The instruction, unless it pokes data of other than 16 bytes.
+    /// The instruction, unless it pokes data that isn't 16 bytes long.
     fn fitting(&self, line: usize, instruction: Instruction) -> Result<Instruction, ScriptFault>
         ensures { result ≡ fitting self.now line instruction }
     {
@@ -190,7 +190,7 @@ impl<'a> Sheet<'a> {
         Ok(())
     }
 
-    /// Converts these instructions to ones with numbers in place of names.
+    /// Converts these instructions to instructions with numbers in place of names.
     fn all_resolved(
         &self,
         alloc: Global,
@@ -205,7 +205,7 @@ impl<'a> Sheet<'a> {
         Ok(instructions)
     }
 
-    /// Converts all instructions to ones with numbers in place of names.
+    /// Converts all instructions to instructions with numbers in place of names.
     fn instructions(&self, alloc: Global) -> Result<Vec<Instruction>, ScriptFault>
         ensures gives { Gives (λ instructions. instructions.items) result (with_resolved self.now [] self.now.drafts) }
         ensures few { length self.now.drafts ≤ 4096 }

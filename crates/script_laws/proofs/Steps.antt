@@ -28,7 +28,7 @@ stepped : (program : Listing) (s : MachineState) (i : Instruction ℕ ℕ) → I
 unfolding machine_step
 stepped program s i next = ap (executed_if_some program s) next
 
--- What is kept in the accumulator of a reply to a read, and of a reply to a peek.
+-- The part of a reply to a read, and of a reply to a peek, that is kept in the accumulator.
 same_read : (r : Reply Block) (acc : ℕ) → word_read r acc ≡ acc_read r acc
 same_read (reply.Word w) acc = refl
 same_read other acc = refl
@@ -37,7 +37,7 @@ same_seen : (i : ℕ) (r : Reply Block) (acc : ℕ) → word_peeked i r acc ≡ 
 same_seen i (reply.Bytes bytes) acc = refl
 same_seen i other acc = refl
 
--- A block that it returns is free again.
+-- A block that a reply returns is free again.
 same_freed : (r : Reply Block) (blocks : Numbers) → arena_after blocks r ≡ freed r blocks
 same_freed (reply.Buf block) blocks = refl
 same_freed (reply.Twice block) blocks = refl
@@ -58,7 +58,7 @@ all_made program s blocks acc outcome = record {
 }
 
 module _ (program : Listing) (s : MachineState) where
-  -- A step whose event is made, while these blocks are free.
+  -- A step whose event is run, while these blocks are free.
   made_by : (i : Instruction ℕ ℕ) (e : Event Block) (acc : Reply Block → ℕ → ℕ) (blocks : Numbers)
       → IsNext program s i
       → executed_if_some program s (Some i)
@@ -75,7 +75,7 @@ module _ (program : Listing) (s : MachineState) where
         steps = refl;
       })
 
-  -- An event of whose reply nothing is kept.
+  -- An event whose reply isn't kept.
   plain : (i : Instruction ℕ ℕ) (e : Event Block) → IsNext program s i
       → executed_if_some program s (Some i) ≡ all_made program s s.arena s.acc (step_of s.device e)
       → Makes program s e as_it_was

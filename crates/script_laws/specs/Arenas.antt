@@ -2,8 +2,8 @@
 use Rattle.std.specs.Prelude.{◌≡◌, ◌↔◌, ◌+◌, ◌<◌, ◌&&◌, ℕ, nat_le, nat_lt}
 use Rattle.dma_arena.specs.Numbers.{all_free, is_own, numbers_below, numbers_from, IsInside}
 
--- An arena of `count` blocks is split at each of its numbers except the first, and at no other. The lower numbers are
--- in the first half, and the number itself is the first of the second.
+-- An arena of `count` blocks can be split at each of its block numbers except the first, and at no other number. Blocks
+-- with lower numbers are then in the first part; the block with this number is the first one in the second part.
 pub record IsSplit (first count at : ℕ) : Type 0 where
   pub inside : IsInside (all_free first count) at ↔ ((first < at) × (at < first + count))
   pub below : first < at → (n : ℕ) →

@@ -26,8 +26,8 @@ pub record IsRefused (s : Session) (command : Command) (refusal : DebugRefusal) 
   pub answer : (command_of s command).answer ≡ Err refusal
   pub session : (command_of s command).session ≡ s
 
--- A breakpoint is set at an instruction of the program. A breakpoint that is already set stays, even if 32 are set. A
--- new one becomes the last, and a 33rd is refused.
+-- A breakpoint is set at an instruction of the program. Setting one that is already set has no effect, even if 32 are
+-- set. A new one becomes the last, and a 33rd is refused.
 pub record BreaksAreSet (s : Session) (pc : ℕ) : Type 0 where
   pub outside : length s.program.instructions ≤ pc → IsRefused s (Break pc) NoSuchPc
   pub again : pc < length s.program.instructions → is_set s pc ≡ true → IsDone s (Break pc) s
@@ -36,13 +36,13 @@ pub record BreaksAreSet (s : Session) (pc : ℕ) : Type 0 where
   pub full : pc < length s.program.instructions → is_set s pc ≡ false → 32 ≤ length s.breakpoints →
       IsRefused s (Break pc) TooManyBreaks
 
--- A breakpoint that is set is cleared, and no other.
+-- A breakpoint that is set is cleared, and only that one.
 pub record BreaksAreCleared (s : Session) (pc : ℕ) : Type 0 where
   pub set : is_set s pc ≡ true →
       IsDone s (Clear pc) (record s { breakpoints = filter (λ other. not (other == pc)) s.breakpoints })
   pub none : is_set s pc ≡ false → IsRefused s (Clear pc) NoSuchPc
 
--- A session goes back as far as its first step.
+-- A session can go back as far as its first step.
 pub record GoesBack (s : Session) (count : ℕ) : Type 0 where
   pub back : count ≤ s.steps → IsDone s (Back count) (record s { steps = s.steps - count })
   pub refused : s.steps < count → IsRefused s (Back count) AtStart
@@ -57,8 +57,7 @@ one_on s = record s { steps = suc s.steps }
 abbrev pub is_met : Session → Bool
 is_met s = is_set s (machine_at s.program s.config (suc s.steps)).pc
 
--- Steps are taken one after the other, whatever instructions have breakpoints: as many as requested, or fewer if the
--- machine stops.
+-- Steps are taken one after the other, regardless of breakpoints: as many as requested, or fewer if the machine stops.
 pub record StepsAreMade (s : Session) (more : ℕ) : Type 0 where
   pub none : IsDone s (Step 0) s
   pub stopped : next_answer s ≡ Stopped → IsDone s (Step (suc more)) s

@@ -10,7 +10,7 @@ use Rattle.program.specs.declared.fault.ObjectFault.TheVariants.{Magic, Version,
 use Rattle.program.specs.declared.instruction.Instruction.{Instruction}
 use Rattle.program.specs.declared.instruction.Instruction.TheVariants as instr
 
--- The operation, its kind, one number of 16 bits and two of 32, each with the low byte first.
+-- The operation, its kind, one 16-bit number and two 32-bit numbers, each with the low byte first.
 abbrev pub bytes : (op sub x a b : ℕ) → List ℕ
 bytes op sub x a b =
     op ∷ sub ∷ x % 256 ∷ x / 0x100 % 256
@@ -48,7 +48,7 @@ pub record InstructionsAreBytes : Type 0 where
   pub jump : (target : ℕ) → bytes_of (instr.Jump target) ≡ bytes 21 0 target 0 0
   pub halt : bytes_of instr.Halt ≡ 22 ∷ 0 ∷ 0 ∷ 0 ∷ 0 ∷ 0 ∷ 0 ∷ 0 ∷ 0 ∷ 0 ∷ 0 ∷ 0 ∷ []
 
--- The object of two instructions, `arrive` of a data string of three bytes and `halt`: 45 bytes.
+-- The object of two instructions, an `arrive` with a three-byte data string and a `halt`: 45 bytes.
 abbrev pub ObjectsAreBytes : Type 0
 ObjectsAreBytes =
     object_of
@@ -76,7 +76,7 @@ abbrev pub one : List ℕ → List ℕ
 one instruction = head 1 0 28 ++ instruction
 
 -- A fault in the header comes first: its first four bytes, the next two, and then each of its numbers. Missing bytes
--- are wrong.
+-- count as wrong ones.
 pub record HeadersAreFirst : Type 0 where
   pub none : IsRefused [] Magic
   pub three : IsRefused (take 3 (head 0 0 16)) Magic
@@ -98,8 +98,8 @@ pub record HeadersAreFirst : Type 0 where
   pub short_string : IsRefused (head 1 1 32 ++ code 23 0 0 0 0 ++ 3 ∷ 0 ∷ 1 ∷ 2 ∷ []) Length
   pub more : IsRefused (head 1 0 29 ++ code 23 0 0 0 0 ++ 0 ∷ []) Length
 
--- Next, the first faulty instruction decides, with its number: by its operation, then by an unused field that isn't 0
--- or a number out of its range, and then by its target.
+-- Next, the first faulty instruction is reported with its number: for its operation, then for an unused field that
+-- isn't 0 or a number out of its range, and then for its target.
 pub record InstructionsAreNext : Type 0 where
   pub none : IsRefused (one (code 0 0 0 0 0)) (Opcode 0)
   pub after_all : IsRefused (one (code 23 0 0 0 0)) (Opcode 0)

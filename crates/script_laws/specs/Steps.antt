@@ -43,7 +43,7 @@ freed (Buf block) blocks = with_free blocks block.number true
 freed (Twice block) blocks = with_free blocks block.number true
 freed other blocks = blocks
 
--- A step that makes an event while these blocks are free: the device takes its step, its reply is returned, and `kept`
+-- A step that runs an event while these blocks are free: the device takes its step, its reply is returned, and `kept`
 -- of the reply is in the accumulator.
 pub record Made (program : Listing) (s : MachineState) (step : Step) (e : Event Block) (kept : Reply Block → ℕ → ℕ)
     (blocks : Numbers) : Type 0 where
@@ -55,7 +55,7 @@ pub record Made (program : Listing) (s : MachineState) (step : Step) (e : Event 
   pub status : step.state.status ≡ status_after program (s.pc + 1)
   pub steps : step.state.steps ≡ s.steps + 1
 
--- A step that makes no event: the device and the blocks are unchanged, the accumulator contains `word`, and instruction
+-- A step that runs no event: the device and the blocks are unchanged, the accumulator contains `word`, and instruction
 -- `next` is next.
 pub record Acted (s : MachineState) (step : Step) (word next : ℕ) (now : Status) : Type 0 where
   pub answer : step.answer ≡ answer.Local
@@ -66,7 +66,7 @@ pub record Acted (s : MachineState) (step : Step) (word next : ℕ) (now : Statu
   pub status : step.state.status ≡ now
   pub steps : step.state.steps ≡ s.steps + 1
 
--- If the block to lend isn't free, no event is made.
+-- If the block to lend isn't free, no event is run.
 pub record LentNone (program : Listing) (s : MachineState) (step : Step) : Type 0 where
   pub answer : step.answer ≡ answer.NoBlock
   pub device : step.state.device ≡ s.device
@@ -90,7 +90,7 @@ IsNext program s i = next_instruction program s ≡ Some i
 abbrev pub as_it_was : Reply Block → ℕ → ℕ
 as_it_was reply acc = acc
 
--- Each instruction makes its event. A lent block is no longer free.
+-- Each instruction runs its event. A lent block is no longer free.
 pub record EventsAreMade (program : Listing) (s : MachineState) : Type 0 where
   pub write : (address word : ℕ) → IsNext program s (instr.Write address word) →
       Makes program s (event.Write Pf address word) as_it_was

@@ -1,5 +1,5 @@
-//! Objects, the machine, the debugger, arenas and devices, a second time: each byte of an instruction, what each
-//! instruction does, breakpoints, the last block's number and how large a device can be. They are written by hand and
+//! A second description of objects, the machine, the debugger, arenas and devices: each byte of an instruction, what
+//! each instruction does, breakpoints, the last block's number and how large a device can be. It is written by hand,
 //! independently of the definitions that the contracts of the crates below cite.
 //!
 //! Each law is the contract of a function that does nothing, or that calls one function with numbers.
@@ -16,32 +16,32 @@ use dma_arena::{Arena, ArenaFault};
 use nic_device::{Config, Device, NewFault};
 use std::alloc::Global;
 
-/// An instruction is twelve bytes in an object: the operation, 1 to 22, its kind, 16 bits for a block, queue, function,
-/// data string or target, and two words of 32 bits, each with the low byte first. The fields that an operation doesn't
-/// use are 0. The object of `arrive` with a data string of three bytes and of `halt` is these 45 bytes: 4e 42 53 43,
-/// version 1, two instructions, one data string, 0, and 45, the total number of bytes; then both instructions, and the
-/// string after its length.
+/// An instruction is twelve bytes long in an object: the operation, 1 to 22, its kind, 16 bits for a block, queue,
+/// function, data string or target, and two 32-bit words, each with the low byte first. The fields that an operation
+/// doesn't use are 0. The object of an `arrive` with a three-byte data string, followed by a `halt`, consists of these
+/// 45 bytes: 4e 42 53 43, version 1, two instructions, one data string, 0, and 45, the total number of bytes; then both
+/// instructions, and the string after its length.
 #[tactic(auto, using(crate::proofs::Objects::instructions, crate::proofs::Objects::objects))]
 pub fn instructions_are_bytes()
     ensures each { InstructionsAreBytes }
     ensures object { ObjectsAreBytes }
 {}
 
-/// Bytes that aren't an object have the first of these faults, as 37 lists of bytes show, next to three that are
-/// objects. The fault is in their first four bytes, in the version, in the numbers of the header or the parts, or,
-/// reported with its number, in the first faulty instruction. That instruction has its first fault too: its operation,
-/// then an operand that is out of its range, or unused but not 0, and then its target. Missing bytes of the header
-/// count as wrong ones.
+/// Bytes that aren't an object are refused with their first fault. 37 lists of bytes show this, and three more lists
+/// are objects. A fault is in the first four bytes, then in the version, then in the numbers of the header or the
+/// parts, then in the first faulty instruction, whose number is reported. That instruction's first fault is reported:
+/// its operation, then an operand that is out of its range, or unused but not 0, and then its target. Missing bytes of
+/// the header count as wrong ones.
 #[tactic(auto, using(crate::proofs::Objects::faults))]
 pub fn objects_have_an_order_of_faults()
     ensures { ObjectsHaveFaults }
 {}
 
-/// A step of a running machine performs the event of its next instruction, with that instruction's operands, and
-/// returns the device's reply. A read leaves its word in the accumulator, even the word of a stray access. A peek at 16
-/// bytes leaves the word that it names, the low byte first. No other event changes the accumulator. A block that the
-/// step lends is no longer free, and a block that a reply returns is free again. If the block to lend isn't free, no
-/// event is made. The next instruction is the one after it, and after the last instruction the machine has ended.
+/// A step of a running machine runs the event of its next instruction, with that instruction's operands, and returns
+/// the device's reply. A read leaves the value in the accumulator, even the value of a stray access. A peek at 16 bytes
+/// leaves the word that its operand selects, the low byte first. No other event changes the accumulator. A block that
+/// the step lends is no longer free, and a block that a reply returns is free again. If the block to lend isn't free,
+/// no event is run. The next instruction is the one after it, and after the last instruction the machine has ended.
 #[tactic(auto, using(crate::proofs::Steps::make))]
 pub fn instructions_make_events()
     ensures { InstructionsMakeEvents }
@@ -56,19 +56,19 @@ pub fn instructions_act()
     ensures { InstructionsAct }
 {}
 
-/// A breakpoint is set at an instruction of the program. A breakpoint that is already set stays, even if 32 are set.
-/// One more is then refused with `TooManyBreaks`. A breakpoint after the last instruction is refused with `NoSuchPc`,
-/// as is clearing one that isn't set. Going back reduces the number of steps by the number requested; going back before
-/// the first step is refused with `AtStart`.
+/// A breakpoint is set at an instruction of the program. Setting one that is already set has no effect, even if 32 are
+/// set. If 32 are set, another one is refused with `TooManyBreaks`. A breakpoint after the last instruction is refused
+/// with `NoSuchPc`, as is clearing one that isn't set. Going back reduces the number of steps by the number requested;
+/// going back before the first step is refused with `AtStart`.
 #[tactic(auto, using(crate::proofs::Commands::breakpoints, crate::proofs::Commands::back))]
 pub fn breakpoints_are_bounded()
     ensures breaks { BreakpointsAreBounded }
     ensures back { SessionsGoBack }
 {}
 
-/// A debugger's `Step` takes as many steps as requested, whatever instructions have breakpoints, or as many as the
-/// machine takes. `Continue` ends earlier, after a step with a breakpoint at its next instruction. It takes at least
-/// one step if it can, even from an instruction with a breakpoint. With a count of 0, neither takes a step.
+/// A debugger's `Step` takes as many steps as requested, regardless of breakpoints, or fewer if the machine stops.
+/// `Continue` also ends after a step if the next instruction has a breakpoint. It takes at least one step if it can,
+/// even from an instruction with a breakpoint. With a count of 0, neither takes a step.
 pub fn breakpoints_hold_runs()
     ensures { BreakpointsHoldRuns }
 {}
@@ -81,8 +81,8 @@ pub fn last_block_is_there(alloc: Global) -> Result<Arena, ArenaFault>
     Arena::new(alloc, 65_535, 1)
 }
 
-/// An arena is split at each of its numbers except the first, and at no other. The lower numbers are in the first half,
-/// and the number itself is the first of the second.
+/// An arena can be split at each of its block numbers except the first, and at no other number. Blocks with lower
+/// numbers are then in the first part; the block with this number is the first one in the second part.
 #[tactic(auto, using(crate::proofs::Arenas::split_so))]
 pub fn arenas_are_split_inside()
     ensures { ArenasAreSplit }
@@ -129,7 +129,7 @@ pub fn no_receive_list_is_longer(alloc: Global) -> Result<Device, NewFault>
     )
 }
 
-/// An arena of no blocks is refused as `Empty`; in this example, with the first number 70,000, which no block has.
+/// An arena of no blocks is refused as `Empty`; in this example, with the first number 70,000, which no block can have.
 pub fn no_arena_is_empty(alloc: Global) -> Result<Arena, ArenaFault>
     ensures { result ≡ Err ArenaFault.Empty }
 {

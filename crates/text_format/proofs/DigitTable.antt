@@ -3,7 +3,7 @@ use Rattle.std.proofs.Common.{◌≡◌, ℕ, suc, zero, ◌+◌, ◌<◌, ◌==
 use Rattle.std.specs.Char.{digit_value}
 use Rattle.std.proofs.lemmas.Bool.{and_parts, eqb-true}
 
--- Each entry, from this index on, is the digit value of its index.
+-- Each entry at this index or above is the digit value of its index.
 abbrev pub has_values : ℕ → List ℕ → Bool
 has_values first [] = true
 has_values first (value ∷ values) = (value == digit_value first) && has_values (first + 1) values

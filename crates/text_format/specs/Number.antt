@@ -10,7 +10,8 @@ use Rattle.text_format.specs.declared.numbers.NumberFault.TheVariants.{Malformed
 abbrev pub is_numeral : ℕ → List ℕ → Bool
 is_numeral radix word = not (length word == 0) && list_all (λ byte. is_digit byte radix) word
 
--- The number that the digits represent. `Malformed` if the word isn't digits of the radix, `TooLarge` from 2^32 on.
+-- The number that the digits represent. `Malformed` if the word isn't digits of the radix, `TooLarge` if it is 2^32 or
+-- more.
 abbrev pub numeral_of : ℕ → List ℕ → Result ℕ NumberFault
 numeral_of radix word =
     if is_numeral radix word then

@@ -14,7 +14,7 @@ ends_word byte = byte == 35 || is_blank byte
 abbrev pub before_comment : List ℕ → List ℕ
 before_comment line = before_first (λ byte. byte == 35) line
 
--- The nonempty parts of a text between its blanks.
+-- The nonempty parts of a string between its blanks.
 unfoldable pub words_between_blanks : List ℕ → List (List ℕ)
 words_between_blanks text = filter (λ part. not (length part == 0)) (slice_split is_blank text)
 

@@ -32,7 +32,8 @@ fn fault_of(error: FromHexError) -> HexFault
 
 /// Returns the bytes that a word spells in hex: two digits of either case per byte, the high digit first.
 ///
-/// Returns `Malformed` exactly when the word isn't whole bytes of hex; `OutOfMemory` may replace any result.
+/// Returns `Malformed` exactly if the word isn't whole bytes of hex. `OutOfMemory` may be returned in place of any
+/// result.
 pub fn hex_bytes(alloc: Global, word: &str) -> Result<Vec<u8>, HexFault>
     ensures ok { IfOk result (λ bytes. hex_bytes_of word.now ≡ Some bytes.items) }
     ensures malformed { result ≡ Err HexFault.Malformed → hex_bytes_of word.now ≡ None }

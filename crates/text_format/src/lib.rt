@@ -1,7 +1,8 @@
-//! The elements of all texts of the bench: register scripts, EEPROM texts, debugger commands, hash lines, and output.
+//! The elements of everything that the bench reads or prints as text: register scripts, EEPROM texts, debugger
+//! commands, lines to hash, and output.
 //!
 //! The crate parses lines, words, numbers, names and hex data. Each call works on one line or word, and only hex data
-//! allocates. It prints words, addresses and bytes: each type prints its definition's text (`word_text`,
+//! allocates. It prints words, addresses and bytes: each type prints the text in its definition (`word_text`,
 //! `address_text`, `bytes_text`), without allocating.
 #![tactic(auto)]
 

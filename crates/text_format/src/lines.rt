@@ -10,7 +10,7 @@ use std::marker::Model;
 /// A line of a text, without its line end.
 #[derive(Clone, Copy, Debug, PartialEq, Eq)]
 pub struct Line<'a> {
-    /// The line's number in the text, counted from 1.
+    /// The line's number, counted from 1.
     pub number: usize,
     /// The text of the line, comments included.
     pub text: &'a str,

@@ -112,10 +112,10 @@ fn numeral(radix: u8, word: &str) -> Result<u32, NumberFault>
     }
 }
 
-/// Returns the number that a word spells: decimal digits, or `0x` and hex digits of either case. Any number of digits
-/// is accepted; a sign, `_` and `0X` aren't.
+/// Returns the number that a word spells: decimal digits, or `0x` and hex digits of either case. Accepts any number of
+/// digits, but no sign, no `_` and no `0X`.
 ///
-/// Returns `Malformed` for any other form, and `TooLarge` for a number from 2^32 on.
+/// Returns `Malformed` for any other word, and `TooLarge` for 2^32 or more.
 #[tactic(auto, unfolding(crate::specs::Number::number_of))]
 pub fn number(word: &str) -> Result<u32, NumberFault>
     ensures { result ≡ number_of word.now }

@@ -73,7 +73,7 @@ fn word_length(bytes: &[u8]) -> usize
     }
 }
 
-/// Returns a text without its leading blanks.
+/// Returns a string without its leading blanks.
 fn after_blanks(text: &str) -> &str
     ensures { result.now ≡ drop (position_or_len (λ byte. not (is_blank byte)) text.now) text.now }
 {
@@ -81,7 +81,7 @@ fn after_blanks(text: &str) -> &str
     &text[blanks..]
 }
 
-/// Splits a text at the first byte that ends a word.
+/// Splits a string at the first byte that ends a word.
 fn split_at_end(text: &str) -> (&str, &str)
     ensures word { result.0.now ≡ take (position_or_len ends_word text.now) text.now }
     ensures after { result.1.now ≡ drop (position_or_len ends_word text.now) text.now }
@@ -90,7 +90,7 @@ fn split_at_end(text: &str) -> (&str, &str)
     (&text[..end], &text[end..])
 }
 
-/// Returns the first word of a text, and the rest after it.
+/// Returns the first word of a string, and the rest of the string after it.
 fn split_word(text: &str) -> Option<(&str, &str)>
     ensures { MatchOption result (words_of text.now ≡ [])
         (λ parts. words_of text.now ≡ parts.0.now ∷ words_of parts.1.now) }

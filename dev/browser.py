@@ -74,7 +74,7 @@ class Browser(abc.ABC):
             self.open(url)
 
     def type(self, text: str) -> None:
-        """Types a text letter by letter."""
+        """Types a string letter by letter."""
         for letter in text:
             self.press("Enter" if letter == "\n" else letter)
 
@@ -134,7 +134,7 @@ class Chromium(Browser):
     def _message(self) -> dict[str, Any]:
         while b"\0" not in self.rest:
             more = os.read(self.read, 1 << 20)
-            assert more, "Chromium ended"
+            assert more, "Chromium exited"
             self.rest += more
         text, _, self.rest = self.rest.partition(b"\0")
         message = json.loads(text)

@@ -61,7 +61,7 @@ def controller() -> Files:
         for words in (compiled, [eraser, "--controller", ROOT, out]):
             made = subprocess.run(words, capture_output=True, text=True, check=False)
             if made.returncode:
-                raise Unpacked(f"{words[0]} ends with status {made.returncode}: {made.stderr.strip()}")
+                raise Unpacked(f"{words[0]} exited with status {made.returncode}: {made.stderr.strip()}")
         return {str(it.relative_to(out)): it.read_bytes() for it in sorted(out.rglob("*")) if it.is_file()}
 
 

@@ -73,7 +73,7 @@ def text_of(name: str) -> str:
 
 
 def packed(text: str) -> bytes:
-    """Compresses a text as gzip -9n does."""
+    """Compresses a string as gzip -9n does."""
     return gzip.compress(text.encode(), 9, mtime=0)
 
 

@@ -3,7 +3,7 @@
 python/nic82599/descriptor_fields.py and rust/nic82599/src/desc/fields.rs.
 
     dev/descriptor_fields.py            rewrites the files
-    dev/descriptor_fields.py --check    names the stale files, and ends with status 1 if there are any
+    dev/descriptor_fields.py --check    names the stale files, and exits with status 1 if there are any
 
 The fields that the device reads and writes back come from dev/descriptor_tables.py, which reads the definitions. From
 the datasheet, this script adds the fields that drivers set for the card and that have no effect in the bench.

@@ -3,7 +3,7 @@
 addresses for that crate's tests. It also writes the names that the explorer prints (c/explore/engine/names.inc).
 
     dev/driver_tables.py            rewrites the files
-    dev/driver_tables.py --check    names the stale files, and ends with status 1 if there are any
+    dev/driver_tables.py --check    names the stale files, and exits with status 1 if there are any
 
 The text around the tables is part of each file. Names and addresses come from python/nic82599/tools/tables.py, fields
 from fields.py next to it, and the offsets of virtual functions from dev/vf_map_table.py.

@@ -78,7 +78,7 @@ class WebSocket:
             if kind == PING:
                 self.send(data, PONG)
             elif kind == CLOSE:
-                raise ConnectionError("Firefox ended")
+                raise ConnectionError("Firefox exited")
             elif kind != PONG:
                 whole += data
                 if first & LAST:
@@ -87,7 +87,7 @@ class WebSocket:
     def _read(self, count: int) -> bytes:
         data = self.file.read(count)
         if len(data) < count:
-            raise ConnectionError("Firefox ended")
+            raise ConnectionError("Firefox exited")
         return data
 
 
@@ -112,7 +112,7 @@ class Firefox(Browser):
         Path(self.folder, "user.js").write_text("".join(lines))
         flags = ["--headless", "--no-remote", "--profile", self.folder, "--remote-debugging-port", "0"]
         flags += ["--remote-allow-system-access", "about:blank"]
-        # (the browser ends with the check, however the check ends)
+        # (the browser exits when the check does, however the check exits)
         command = ["setpriv", "--pdeathsig", "TERM", found, *flags]
         self.process = subprocess.Popen(command, stdout=subprocess.DEVNULL, stderr=subprocess.DEVNULL)
         self.count, self.errors = 0, []
@@ -130,7 +130,7 @@ class Firefox(Browser):
                 it = json.loads(text)
                 return it["ws_host"], it["ws_port"]
             time.sleep(0.05)
-        raise ConnectionError("Firefox didn't begin to listen")
+        raise ConnectionError("Firefox didn't start listening")
 
     def _contexts(self, words: dict[str, Any]) -> list[str]:
         return [it["context"] for it in self.ask("browsingContext.getTree", {"maxDepth": 0, **words})["contexts"]]

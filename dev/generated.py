@@ -63,10 +63,10 @@ def table(heads: list[str], rows: Iterable[list[str]]) -> str:
 
 
 def replaced(text: str, begin: str, new: str, end: str) -> str:
-    """Returns a text with new content between the line `begin`, which occurs once, and the next line `end`."""
+    """Returns a page with new content between the line `begin`, which occurs once, and the next line `end`."""
     before, *rest = text.split(begin)
     if len(rest) != 1 or end not in rest[0]:
-        sys.exit(f"dev/{Path(sys.argv[0]).name}: the line '{begin.strip()}' with its end isn't once on its page")
+        sys.exit(f"dev/{Path(sys.argv[0]).name}: the page must contain '{begin.strip()}' with its end exactly once")
     return before + begin + new + end + rest[0].partition(end)[2]
 
 
@@ -77,7 +77,7 @@ def report(faults: list[str]) -> int:
 
 
 def with_each_macro_once(text: str) -> str:
-    """Returns a C text, after checking that no macro is defined twice."""
+    """Returns a C source, after checking that no macro is defined twice."""
     names = re.findall(r"#define (\w+)", text)
     assert len(names) == len(set(names)), sorted(name for name in names if names.count(name) > 1)
     return text
@@ -106,7 +106,7 @@ def keep(
     texts: Callable[[], dict[Path, str]],
     left: Callable[[dict[Path, str]], list[Path]] = lambda _: [],
 ) -> None:
-    """Runs a whole script: rewrites its files, or with --check, ends with status 1 if one is stale or left over."""
+    """Runs a whole script: rewrites its files, or with --check, exits with status 1 if one is stale or left over."""
     parser = argparse.ArgumentParser(description=page, formatter_class=argparse.RawDescriptionHelpFormatter)
     parser.add_argument("--check", action="store_true")
     only_check, made = parser.parse_args().check, texts()

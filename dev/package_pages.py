@@ -154,7 +154,7 @@ def texts(files: Iterable[str]) -> Iterator[tuple[str, bytes]]:
 
 
 def blanked(text: str) -> str:
-    """Returns a text without code."""
+    """Returns a page without code."""
     for pattern in (FENCE, CODE):
         text = pattern.sub(lambda found: re.sub(r"[^\n]", "x", found[0]), text)
     return text

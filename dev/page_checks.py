@@ -16,7 +16,7 @@ TROUBLE = ("failed", "fault", "dropped", "refused")
 
 
 def words(selector: str) -> str:
-    """Returns an expression for the texts of the elements that a selector finds."""
+    """Returns an expression for the text of each element that a selector finds."""
     return f"[...document.querySelectorAll({selector!r})].map((one) => one.textContent)"
 
 
@@ -91,7 +91,7 @@ def check_finding(look: Look) -> None:
     shown = look.browser.value("document.getElementById('finding').innerText")
     look.expect(found["words"] in shown and found["outcome"] in shown, f"the finding isn't on top: {shown}")
     title = look.browser.value("document.getElementById('now-title').innerText")
-    look.expect("task poll" in title, f"the title doesn't say who acts: {title}")
+    look.expect("task poll" in title, f"the title doesn't name the actor: {title}")
     look.browser.load(look.file, "#start")
     look.browser.value("document.querySelector('#finding button').click()")
     look.is_at(found["step"], "the finding's button")
@@ -128,10 +128,10 @@ def has_comment(line: str) -> bool:
 
 
 def check_words(look: Look) -> None:
-    """Checks that buttons, the key and the help have texts, and that comments wrap and can be hidden."""
+    """Checks that buttons, the key and the help have text, and that comments wrap and can be hidden."""
     browser = look.browser
     look.expect([one.strip() for one in browser.value(words("[data-next]"))]
-                == ["Next fault", "Next message", "Next idle", "Next warning"], "the buttons' words")  # fmt: skip
+                == ["Next fault", "Next message", "Next idle", "Next warning"], "the buttons' labels")  # fmt: skip
     look.expect("Key:" in browser.value(words(".legend b")), "the key has no title")
     look.expect({"Keys", "Rings"} <= set(browser.value(words("#keys h2"))), "the help has no titles")
     wide = "[...document.querySelectorAll('#lines .said')].filter((one) => one.scrollWidth > one.clientWidth).length"
@@ -183,9 +183,10 @@ def check_when(look: Look) -> None:
         look.expect(when == {f"after step {number}"}, f"step {number}: its panels say {when}")
         why, conditions = browser.value(words("#now > p:has(+ .why)")), browser.value(words("#now .why li"))
         look.expect(not conditions or why == ["Before this step:"], f"step {number}: its conditions are under {why}")
-        counts = [found[1] for one in conditions if (found := re.match(r"(\w+) frames? (?:is|are) waiting\b", one))]
-        said = f"step {number}: {counts} frames are waiting before it; expected {before}"
-        look.expect(counts in ([], [str(before or "no")]), said)
+        counts = [found[1] for one in conditions if (found := re.match(r"(\w+) frames? waits?\b", one))]
+        look.expect(
+            counts in ([], [str(before or "no")]), f"step {number}: {counts} frames waiting before; expected {before}"
+        )
         panel = f"{(browser.value(words('#frames > p')) or [''])[0]};"
         parts = re.match(r"(\w+) frames? (?:is|are) waiting to be received[^;]*;(?: before this step (\w+))?", panel)
         shown = (parts[1], parts[2]) if parts else ("No", None)
@@ -211,7 +212,7 @@ def check_slots(look: Look, number: int, wanted: list[str]) -> None:
 
 
 def check_warnings(look: Look, warned: dict[int, str]) -> None:
-    """Checks that exactly these steps have a warning: a marker at the line, a mark on the bar, and a text."""
+    """Checks that exactly these steps have a warning: a marker at the line, a mark on the bar, and a message."""
     browser = look.browser
     browser.size(1_280, 800, False)
     browser.load(look.file, "#start")

@@ -2,7 +2,7 @@
 """Writes the program excerpts on the pages, from the sources that the gate runs.
 
     dev/page_excerpts.py            rewrites the pages
-    dev/page_excerpts.py --check    names the stale pages, and ends with status 1 if there are any
+    dev/page_excerpts.py --check    names the stale pages, and exits with status 1 if there are any
 
 The pages are README.md, c/README.md, drivers/common/README.md and those of docs/. An excerpt is the indented block
 after a line '<!-- FILE: ITEM ITEM .. -->', where FILE is a file of the repository and ITEM one of these:

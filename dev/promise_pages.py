@@ -2,15 +2,15 @@
 """Writes the pages of docs/promises from the comments of the sources: each public contract with its sentences.
 
     dev/promise_pages.py            rewrites what is below the line MARK on each page of the list PAGES
-    dev/promise_pages.py --check    names the stale pages, and ends with status 1 if there are any
+    dev/promise_pages.py --check    names the stale pages, and exits with status 1 if there are any
 
 A row of a page is a public function with its `ensures` clauses, which may be a law, or a public type with its
 invariants. It shows the doc comment, and for each clause its comment and the comment of the definition that it applies,
 in full. If clauses of several contracts on a page apply the same definition, its comment has a separate row at the end
 of the page.
 
-Both forms also end with status 1, and name the place, in these cases: a public contract has no doc comment, or has more
-clauses than its comments have statements (each ends with '.', ';' or ':'); a public contract is on no page; the
+Both forms also exit with status 1, and name the place, in these cases: a public contract has no doc comment, or has
+more clauses than its comments have statements (each ends with '.', ';' or ':'); a public contract is on no page; the
 handwritten part of a page names a contract or a clause that doesn't exist.
 """
 
@@ -269,7 +269,7 @@ def faults_by_hand(crates: dict[str, Crate]) -> Iterator[str]:
 
 
 def missing(crate: Crate, path: str, rest: str, clauses: list[str]) -> Iterator[str]:
-    """Yields the contract or the clauses that a text names but the crate lacks."""
+    """Yields the contract or the clauses that a page names but the crate lacks."""
     found = [it for it in crate.all if rest == it.path or rest.endswith(f"::{it.path}")]
     if not found and rest not in crate.types | {it.module for it in crate.all}:
         yield f"no `{path}`"

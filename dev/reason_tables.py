@@ -2,9 +2,9 @@
 """Writes the reasons why nothing happens, for the C library's nic_why (c/why/reasons.inc).
 
     dev/reason_tables.py            rewrites the file
-    dev/reason_tables.py --check    says whether it is stale, and ends with status 1 if it is
+    dev/reason_tables.py --check    says whether it is stale, and exits with status 1 if it is
 
-The reasons are in python/nic82599/tools/reasons.txt, which describes how to write them. reason_table.py beside it
+The reasons are in python/nic82599/tools/reasons.txt, which describes how to write them. reason_table.py next to it
 parses them, for this script and for the tools over runs.
 """
 
@@ -123,7 +123,7 @@ def place_of(place: str) -> tuple[str, list[str]]:
 
 
 def lines_of(pieces: list[str]) -> list[str]:
-    """Joins the parts of a text to lines of limited width."""
+    """Joins the parts of a message into lines of limited width."""
     lines = [""]
     for piece in pieces:
         if len(lines[-1]) + len(piece) > WIDE and lines[-1]:
@@ -133,13 +133,13 @@ def lines_of(pieces: list[str]) -> list[str]:
 
 
 def filled(given: list[str]) -> list[str]:
-    """Joins arguments to lines of limited width."""
+    """Joins arguments into lines of limited width."""
     pieces = [f"{one}, " for one in given]
     return [line.rstrip(", ") for line in lines_of(pieces)] if pieces else []
 
 
 def pieces_of(text: str) -> Iterator[tuple[str, bool]]:
-    """Yields a text's words with the blanks after them, and its placeholders."""
+    """Yields a message's words with the blanks after them, and its placeholders."""
     at = 0
     for found in PLACE.finditer(text):
         yield from ((word, False) for word in re.findall(r"\S+ ?| ", text[at : found.start()]))
@@ -149,7 +149,7 @@ def pieces_of(text: str) -> Iterator[tuple[str, bool]]:
 
 
 def format_of(text: str) -> tuple[str, list[str]]:
-    """Returns a text as a format string, on one or several lines, and its arguments."""
+    """Returns a message as a format string, on one or several lines, and its arguments."""
     pieces: list[str] = []
     given: list[str] = []
     for piece, is_place in pieces_of(text):

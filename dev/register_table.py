@@ -2,7 +2,7 @@
 """Writes the register table to every file that contains it, from the list in python/nic82599/tools/tables.py.
 
     dev/register_table.py            rewrites the files
-    dev/register_table.py --check    names the stale files, and ends with status 1 if there are any
+    dev/register_table.py --check    names the stale files, and exits with status 1 if there are any
 
 Each register is one line of TABLE. Run the script after you change that list. It writes the table of docs/REGISTERS.md,
 and whole files of crates/reg_table and crates/register_file; the first line of each says that it is generated.
@@ -984,7 +984,7 @@ registers_of a =
 
 
 def outputs() -> dict[Path, str]:
-    """Returns the generated files with their texts."""
+    """Returns the generated files with their contents."""
     check_table()
     registers = ROOT / "crates/register_file"
     crate, dispatch = ROOT / "crates/reg_table", Dispatch()

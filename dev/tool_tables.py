@@ -4,7 +4,7 @@ python/nic82599/tools/known.py, so that the package doesn't depend on a clone. F
 bench lacks, c/library/absent.inc.
 
     dev/tool_tables.py            rewrites the files
-    dev/tool_tables.py --check    names the stale files, and ends with status 1 if there are any
+    dev/tool_tables.py --check    names the stale files, and exits with status 1 if there are any
 
 The offsets of virtual functions come from dev/vf_map_table.py, and the registers that the bench lacks from
 docs/CARD.md.

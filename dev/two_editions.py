@@ -57,7 +57,7 @@ def plain_made(what: str) -> Path:
     if made.returncode:
         # (2: there is no rustc)
         fault = Missing if made.returncode == 2 else Broken
-        raise fault(f"dev/plain {what} ended with status {made.returncode}")
+        raise fault(f"dev/plain {what} exited with status {made.returncode}")
     return Path(made.stdout.strip())
 
 
@@ -113,11 +113,11 @@ def difference(words: list[str], data: bytes, one: Answer, other: Answer) -> str
         at = next(it for it, (left, right) in enumerate(itertools.zip_longest(*lines)) if left != right)
         left, right = (it[at][:100] if at < len(it) else b"(the end)" for it in lines)
         where = f"{name}, line {at + 1}: {left!r}, not {right!r}"
-    return f"nicbench {' '.join(words)!r} of {len(data)} bytes ({data[:60].hex()}): {where}"
+    return f"nicbench {' '.join(words)!r} with {len(data)} input bytes ({data[:60].hex()}): {where}"
 
 
 def compared(pair: Programs, batch: list[Input]) -> tuple[int, list[str], list[Input]]:
-    """Returns the number of inputs compared, a text for each difference, and the inputs that caused them."""
+    """Returns the number of inputs compared, a message for each difference, and the inputs that caused them."""
     found, inputs = [], []
     for words, data in batch:
         one, other = (answer_of(it, words, data) for it in pair)

@@ -61,7 +61,7 @@ ENDS = {
     "slot.nic": (0, RECEIVES.format(**SLOT) + "poke 16 slot\nr RDH[0]\n"),
     # A frame overwrites the ring, because of a slot that was poked earlier.
     "over.nic": (0, RECEIVES.format(**OVER) + "r RDH[0]\n"),
-    # A frame that arrived earlier is received, and another one waits.
+    # A frame that arrived earlier is received, and another one is waiting.
     "second.nic": (0, RECEIVES.format(**SLOT).replace("rx\n", "arrive frame\nrx\n")),
     # A counter that was assigned to a queue earlier counts, and a read clears it.
     "counted.nic": (0, "w RQSMR[0] 3\n" + RECEIVES.format(**SLOT) + "r QPRC[3]\nr QPRC[3]\n"),

@@ -459,7 +459,7 @@ def check_widths(browser: Browser, expect: Expect) -> None:
 
 
 def check_buttons(browser: Browser, folder: Path, expect: Expect) -> None:
-    """Checks the buttons of a guest's card, and hostile texts in a recording and in the card's replies."""
+    """Checks the buttons of a guest's card, and hostile strings in a recording and in the card's replies."""
     path, file = folder / "control", folder / "card.rec"
     busy_recording(file, 2)
     with open(file, "ab") as to:

@@ -3,7 +3,7 @@
 // module trapped. Arguments, input and output are in base64.
 //
 //     node dev/wasm_runs.mjs MODULE
-//     node dev/wasm_runs.mjs MODULE --stop     requests a text that the module doesn't have, which is a fault, and
+//     node dev/wasm_runs.mjs MODULE --stop     requests a string that the module doesn't have, which is a fault, and
 //                                              prints what Fault reports
 
 import { readFileSync } from "node:fs";

@@ -152,7 +152,7 @@ def all_examples(page: Page) -> None:
 
 
 def all_lessons(page: Page) -> None:
-    """Checks with the button that each lesson's start isn't solved and its answer is."""
+    """Clicks the check button to verify that each lesson's answer solves it and its initial script doesn't."""
     for number in range(1, page.value("given.lessons.length") + 1):
         page.value(f"openLesson({number}), 0")
         for name, wanted in (("start", False), ("answer", True)):

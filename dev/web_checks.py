@@ -85,7 +85,7 @@ def made_page(given: argparse.Namespace, folder: Path) -> Made:
         words = [*make, path, "--module", ROOT / "VERSION"]
         made = subprocess.run(words, capture_output=True, text=True, check=False)
     if made.returncode:
-        raise Failed(f"web/make ended with status {made.returncode}\n{made.stderr.strip()}")
+        raise Failed(f"web/make exited with status {made.returncode}\n{made.stderr.strip()}")
     return Made(path, why)
 
 
@@ -104,7 +104,7 @@ def asked_in_node(page: Made, messages: list[tuple[str, list[Any]]]) -> list[dic
     made = subprocess.run(command, input=lines, capture_output=True, text=True, check=False)
     answers = made.stdout.split("\n")[:-1]
     if made.returncode or len(answers) != len(messages):
-        raise Failed(f"node ended with status {made.returncode} after {len(answers)} replies\n{made.stderr.strip()}")
+        raise Failed(f"node exited with status {made.returncode} after {len(answers)} replies\n{made.stderr.strip()}")
     return [json.loads(it) for it in answers]
 
 
@@ -133,12 +133,12 @@ def compared(checks: Checks, what: str, inputs: list[Input], got: Iterable[tuple
     for (words, data), (status, out) in zip(inputs, got, strict=True):
         want = answer_of(checks.program, words, data)
         if (status, out) != (want.status, want.out):
-            faults.append(f"nicbench {' '.join(words)} of {len(data)} bytes: {status} {out[-80:]!r}, and {want}")
+            faults.append(f"nicbench {' '.join(words)} on {len(data)} bytes: {status} {out[-80:]!r}; expected {want}")
     checks.tell(what, len(inputs), faults)
 
 
 def speed(checks: Checks) -> None:
-    """Checks that 4,096 lines run quickly after the page's code has been compiled. It uses the least CPU time of some
+    """Checks that 4,096 lines run quickly after the page's code has been compiled. It uses the least CPU time of six
     runs, because other processes are running too."""
     lines = "".join(f"w RDT[{k % 128}] {k % 8}\n" for k in range(LIMIT))
     found = asked_in_node(checks.page, [("answers", ["it.nic", lines, {}])] * 6)
@@ -386,9 +386,9 @@ def arguments(doc: str) -> argparse.Namespace:
     parser.add_argument("--draw", action="store_true")
     given = parser.parse_args()
     if unknown := set(given.parts) - set(PARTS):
-        parser.error(f"no part {' '.join(sorted(unknown))}: {', '.join(PARTS)}")
+        parser.error(f"no part named {' '.join(sorted(unknown))}; the parts are {', '.join(PARTS)}")
     if given.browser and not fetched(given.browser):
-        raise Failed(f"there is no {BROWSERS[given.browser]}")
+        raise Failed(f"{BROWSERS[given.browser]} isn't installed and can't be fetched")
     given.browser = given.browser or "chromium"
     return given
 

@@ -4,7 +4,7 @@
 #include <string.h>
 
 enum { BLOCKS = 40, QUEUES = 4, SLOTS = 8, MOST_PLANNED = 512, SESSION = 4000 };
-/* where rings and buffers are: a queue's rings in block 0, and the buffers from block 2 on */
+/* where rings and buffers are: a queue's rings in block 0, and the buffers starting at block 2 */
 enum { RX_RING = 0, TX_RING = 1024, RING_BYTES = 16 * SLOTS, BUFFERS = 2 * 2048 };
 
 const uint32_t chance_addresses[] = {
@@ -415,7 +415,7 @@ static void put_text(struct event *event)
     }
 }
 
-/* Writes an image of 64 words, usually with a valid checksum. */
+/* Writes a 64-word image, usually with a valid checksum. */
 static void put_image(struct event *event)
 {
     uint16_t sum = 0xBABA;

@@ -5,9 +5,9 @@
    FOLDER is an empty folder for recordings. From event FROM on, each event is printed; 0 prints none. With only one
    library, the program prints a digest of its answers: equal digests on two machines mean equal answers.
 
-   For some calls, one library is refused each of its memory requests, one after another. Each refusal must be reported
-   and change nothing. The other library gets all its memory, and must return what the first one finally returns. The
-   order in which the two request memory doesn't matter; the program prints how often it was equal.
+   For some calls, each memory request of one library fails in turn. Each failure must be reported and change nothing.
+   No request of the other library fails, and it must return what the first one finally returns. The order in which the
+   two request memory doesn't matter; the program prints how often it was the same.
 
    Status 0: nothing differs; 1: the first difference is printed; 2: the arguments or a library are invalid. */
 #define _GNU_SOURCE
@@ -53,7 +53,7 @@ static void differ(const char *what)
         printf(" library %zu:\n", k + 1);
         event_print_answer(&event, &answers[k]);
     }
-    printf("to see what came before: the same words with FROM %llu\n",
+    printf("to print the events before it, run the same command with FROM %llu\n",
            (unsigned long long)(number > 40 ? number - 40 : 1));
     exit(1);
 }
@@ -61,7 +61,7 @@ static void differ(const char *what)
 static void died(int signal)
 {
     refuse_end();
-    printf("library %d ended with signal %d\n", (int)acting + 1, signal);
+    printf("the call to library %d was killed by signal %d\n", (int)acting + 1, signal);
     print_place("no result");
     fflush(stdout);
     _exit(1);
@@ -79,7 +79,7 @@ static struct asked make(size_t k, const struct event *of, struct answer *answer
     return asked;
 }
 
-/* Whether an answer reports that a call was refused memory. */
+/* Whether an answer reports that a memory request of the call failed. */
 static bool is_refusal(const struct answer *answer)
 {
     event_refused(&event, NIC_OUT_OF_MEMORY, &wanted);
@@ -102,13 +102,13 @@ static void make_refused(size_t k)
             return;
         }
         if (!is_refusal(&answers[k]))
-            differ("a refused call has the wrong status, or changed something");
+            differ("a call whose memory request failed has the wrong status, or changed something");
         if (at == MOST_REFUSED)
             differ("the memory requests don't end");
     }
 }
 
-/* The steps that nic_settle ran before it was refused memory remain, so the other library runs as many steps. */
+/* The steps that nic_settle ran before its memory request failed remain, so the other library runs as many steps. */
 static bool settle_refused(size_t k)
 {
     struct asked asked = make(k, &event, &answers[k], 1 + (long)chance_below(3));
@@ -137,7 +137,7 @@ static void why_refused(size_t k)
         length >= sizeof end - 1 && memcmp(answers[k].bytes + length - (sizeof end - 1), end, sizeof end - 1) == 0;
     seen.refusals += asked.is_refused;
     if (asked.is_refused && !is_said && event.card != NOT_OPEN)
-        differ("nic_why was refused memory, but doesn't report it");
+        differ("a memory request of nic_why failed, but it doesn't report this");
     make(k, &event, &answers[k], 0);
 }
 
@@ -370,7 +370,7 @@ static void print_seen(void)
     printf("%llu events, %llu registers, %llu bytes of memory and %llu recordings compared; ",
            (unsigned long long)number, (unsigned long long)seen.registers, (unsigned long long)seen.bytes,
            (unsigned long long)seen.recordings);
-    printf("%llu requests for memory refused, %llu of them without effect", (unsigned long long)seen.refusals,
+    printf("%llu memory requests made to fail, %llu of them without effect", (unsigned long long)seen.refusals,
            (unsigned long long)seen.unneeded);
     if (side_count == 2)
         printf("; %llu of %llu calls requested the same memory in the same order from both",

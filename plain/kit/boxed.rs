@@ -1,4 +1,4 @@
-//! `Box`: a value on the heap, with an allocation that may be refused. It wraps Rust's box, but allocates differently.
+//! `Box`: a value on the heap, whose allocation may fail. It wraps Rust's box, but allocates differently.
 
 use super::alloc::{AllocFailed, Global};
 use super::raw;

@@ -284,7 +284,7 @@ impl<'a> Command<'a> {
         Ok(self)
     }
 
-    /// Creates a refusal with a text from the caller.
+    /// Creates a refusal with a message from the caller.
     pub fn error(&mut self, kind: ErrorKind, text: &str) -> Result<Error, Error> {
         let place = Place { command: self, path: self.name };
         Ok(place.refusal(kind, format_args!("{text}"), Some(&[]))?)

@@ -1,4 +1,4 @@
-//! `std::collections`: a double-ended queue, a map and a set, with allocations that may be refused.
+//! `std::collections`: a double-ended queue, a map and a set, whose allocations may fail.
 
 pub use super::maps::{BTreeMap, BTreeSet};
 

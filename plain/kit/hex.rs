@@ -3,7 +3,7 @@
 use super::alloc::{AllocError, Global};
 use super::vec::Vec;
 
-/// Why a text can't be decoded to whole bytes, or why there is no room for them.
+/// Why a string can't be decoded to whole bytes, or why there is no room for them.
 #[derive(Clone, Copy, Debug, PartialEq, Eq)]
 pub enum FromHexError {
     InvalidHexCharacter { c: char, index: usize },
@@ -18,7 +18,7 @@ impl From<AllocError> for FromHexError {
     }
 }
 
-/// Decodes a text of hexadecimal digits.
+/// Decodes a string of hexadecimal digits.
 pub fn decode(alloc: Global, text: &str) -> Result<Vec<u8>, FromHexError> {
     let digits = text.as_bytes();
     if digits.len() % 2 != 0 {

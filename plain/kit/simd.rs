@@ -1,12 +1,12 @@
-//! `std::simd`: the only vector type that is used, 64 bytes that are compared in parallel, as eight words.
+//! `std::simd`: the only vector type that is used. Its 64 bytes are compared in parallel, as eight words.
 
 pub mod prelude {
-    /// A vector of 64 bytes.
+    /// A 64-byte vector.
     #[allow(non_camel_case_types)]
     #[derive(Clone, Copy, Debug, PartialEq, Eq)]
     pub struct u8x64([u64; 8]);
 
-    /// A mask of 64 bytes: a nonzero byte means true.
+    /// A 64-byte mask: a nonzero byte means true.
     #[derive(Clone, Copy, Debug, PartialEq, Eq)]
     pub struct Mask([u64; 8]);
 
@@ -14,7 +14,7 @@ pub mod prelude {
     const ONES: u64 = 0x0101_0101_0101_0101;
 
     impl u8x64 {
-        /// Loads the first 64 bytes of a slice, which must have that many.
+        /// Loads the first 64 bytes of a slice, which must be at least that long.
         #[inline(always)]
         pub fn from_slice(bytes: &[u8]) -> Self {
             let mut words = [0; 8];

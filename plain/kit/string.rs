@@ -1,4 +1,4 @@
-//! `String`: a text with allocations that may be refused. It wraps Rust's string, and grows it with fallible calls.
+//! `String`: a string whose allocations may fail. It wraps Rust's string, and grows it with fallible calls.
 
 use super::alloc::{AllocError, Global};
 use super::vec::Vec;
@@ -38,14 +38,14 @@ impl String {
         Ok(made)
     }
 
-    /// Copies a text.
+    /// Copies a string.
     pub fn from_str(alloc: Global, text: &str) -> Result<Self, AllocError> {
         let mut made = String::with_capacity(alloc, text.len())?;
         made.0.push_str(text);
         Ok(made)
     }
 
-    /// Converts bytes to a text, in the same memory.
+    /// Converts bytes to a string, in the same memory.
     pub fn from_utf8(bytes: Vec<u8>) -> Result<Self, FromUtf8Error> {
         Text::from_utf8(bytes.into_std()).map(String).map_err(|refused| {
             let error = refused.utf8_error();
@@ -53,7 +53,7 @@ impl String {
         })
     }
 
-    /// Converts the text to bytes, in the same memory.
+    /// Converts the string to bytes, in the same memory.
     pub fn into_bytes(self) -> Vec<u8> {
         Vec::of_std(self.0.into_bytes())
     }
@@ -113,7 +113,7 @@ impl fmt::Display for String {
     }
 }
 
-/// Replaces each occurrence of one text in another.
+/// Replaces each occurrence of a substring.
 pub trait ReplaceIn {
     fn replace_in(&self, alloc: Global, from: &str, to: &str) -> Result<String, AllocError>;
 }
@@ -138,7 +138,7 @@ pub fn formatted(alloc: Global, text: fmt::Arguments<'_>) -> Result<String, Allo
     Ok(made)
 }
 
-/// `format!` with an allocator, which may refuse memory: `format_in!(in alloc; "{word}")?`.
+/// `format!` with an allocator, whose allocations may fail: `format_in!(in alloc; "{word}")?`.
 #[macro_export]
 macro_rules! format_in {
     (in $alloc:expr; $($all:tt)*) => { $crate::kit::string::formatted($alloc, format_args!($($all)*)) };

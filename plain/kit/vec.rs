@@ -1,5 +1,5 @@
-//! `Vec`: a vector with allocations that may be refused. It wraps Rust's vector, and grows it with fallible calls that
-//! request the same sizes as Rattle's.
+//! `Vec`: a vector whose allocations may fail. It wraps Rust's vector, and grows it with fallible calls that request
+//! the same sizes as Rattle's.
 
 use super::alloc::{AllocError, AllocFailed, Global};
 use super::raw;
@@ -252,7 +252,8 @@ impl<'a, T> IntoIterator for &'a mut Vec<T> {
     }
 }
 
-/// `vec!` with an allocator, which may refuse memory: `vec_in![in alloc; value; count]?`, `vec_in![in alloc; a, b]?`.
+/// `vec!` with an allocator, whose allocations may fail: `vec_in![in alloc; value; count]?`, `vec_in![in alloc; a,
+/// b]?`.
 #[macro_export]
 macro_rules! vec_in {
     (in $alloc:expr; $value:expr; $count:expr) => {

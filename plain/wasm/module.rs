@@ -1,11 +1,11 @@
 //! The program `nicbench` as a WebAssembly module, based on the plain edition: it takes the command-line arguments and
 //! the input, and returns the output and the status. `nicbench.mjs` is the JavaScript interface.
 //!
-//! Each text has a number: 0 is the arguments, each terminated by a 0 byte; 1 the input; 2 the output; 3 the fault that
-//! ended the program. The host calls `room` for the first two, writes them at the returned addresses, calls `run`, and
-//! reads the other texts, of `length` bytes at `address`. If a call doesn't return, the program hit a fault that the
-//! proofs rule out: the last text then describes it, and no other call is allowed. Each run has a fresh instance, so
-//! nothing remains from another run.
+//! Each string has a number: 0 is the arguments, each terminated by a 0 byte; 1 the input; 2 the output; 3 the fault
+//! that ended the program. The host calls `room` for the first two, writes them at the returned addresses, calls `run`,
+//! and reads the other strings, of `length` bytes at `address`. If a call doesn't return, the program hit a fault that
+//! the proofs rule out: the last string then describes it, and no other call is allowed. Each run has a fresh instance,
+//! so nothing remains from another run.
 
 #![deny(unsafe_code)]
 
@@ -36,7 +36,7 @@ fn text(number: usize) -> MutexGuard<'static, Vec<u8>> {
 mod calls {
     use super::*;
 
-    /// Makes room for a text of this many bytes, and returns its address; 0 if memory runs out. The host calls this
+    /// Makes room for a string of this many bytes, and returns its address; 0 if memory runs out. The host calls this
     /// first.
     #[no_mangle]
     extern "C" fn room(number: usize, length: usize) -> usize {
@@ -50,13 +50,13 @@ mod calls {
         text.as_ptr() as usize
     }
 
-    /// Returns the address of a text's bytes.
+    /// Returns the address of a string's bytes.
     #[no_mangle]
     extern "C" fn address(number: usize) -> usize {
         text(number).as_ptr() as usize
     }
 
-    /// Returns a text's length in bytes.
+    /// Returns a string's length in bytes.
     #[no_mangle]
     extern "C" fn length(number: usize) -> usize {
         text(number).len()
@@ -88,7 +88,7 @@ fn words() -> Result<Items<String>, u8> {
     Ok(words)
 }
 
-/// A writer that appends to the text of the output.
+/// A writer that appends to the output.
 struct Printed;
 
 impl Write for Printed {

@@ -53,7 +53,7 @@ export class Calls {
         try {
             return call();
         } catch (error) {
-            // (a stack overflow leaves no text)
+            // (a stack overflow leaves no message)
             const text = decoder.decode(this.read(FAULT)) || error.message;
             throw new Fault(`nicbench met a fault in itself, not in its input: ${text}`, { cause: error });
         }
@@ -83,9 +83,9 @@ class Bench {
         this.#module = module;
     }
 
-    // Runs `nicbench WORDS..` on an input, a text or bytes. The result contains the program's exit status, and its
-    // output as `bytes` and as `text`. The page is blocked until the program ends; to keep it responsive, use a worker.
-    // Each run starts with fresh memory, so it can't see another run's data.
+    // Runs `nicbench WORDS..` on an input, which is a string or bytes. The result contains the program's exit status,
+    // and its output as `bytes` and as `text`. The page is blocked until the program ends; to keep it responsive, use a
+    // worker. Each run starts with fresh memory, so it can't see another run's data.
     async run(words, input = "") {
         const calls = new Calls(await WebAssembly.instantiate(this.#module));
         calls.write(WORDS, lineOf(["nicbench", ...words]));

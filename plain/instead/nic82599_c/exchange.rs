@@ -1,4 +1,4 @@
-//! Packet memory that belongs to the caller: exchanges the memory of a lent block for 2,048 bytes of the caller's.
+//! Packet memory that belongs to the caller: exchanges a lent block's memory for 2,048 bytes of the caller's memory.
 //!
 //! C passes the memory as a pointer, and gets it back with another exchange. Between two calls C may read and write
 //! everything that a controller owns: a call works with the bytes that it finds. In Rattle the handles are pointers;
@@ -10,8 +10,8 @@ use crate::nic82599_c::handle::Handle;
 use crate::nic82599_c::status::{DONE, NOT_LENT};
 use crate::nic_device::BLOCK_BYTES;
 
-/// A handle of a block's 2,048 bytes. In C it is a struct with one pointer. This may also point to the caller's memory:
-/// the C library ignores requests to free such memory.
+/// A handle to a block's 2,048 bytes. In C it is a struct with one pointer, which may also point to the caller's
+/// memory: the C library ignores requests to free such memory.
 #[repr(C)]
 pub struct BlockHandle {
     bytes: Box<[u8; BLOCK_BYTES]>,

@@ -21,14 +21,14 @@ pub struct KeptHandleOut {
 }
 
 impl HandleOut {
-    /// Creates an out-parameter with the handle of the card in a box with these parts.
+    /// Creates an out-parameter that contains the handle of the card in a box with these parts.
     pub fn of(parts: Parts<Card>) -> HandleOut {
         HandleOut { card: ManuallyDrop::new(Some(parts.into_box())) }
     }
 }
 
 impl KeptHandleOut {
-    /// Creates an out-parameter with the handle of the kept card in a box with these parts.
+    /// Creates an out-parameter that contains the handle of the kept card in a box with these parts.
     pub fn of(parts: Parts<Kept>) -> KeptHandleOut {
         KeptHandleOut { kept: ManuallyDrop::new(Some(parts.into_box())) }
     }

@@ -185,7 +185,7 @@ impl<'c, 'a> Parser<'c, 'a> {
         )?)
     }
 
-    /// Returns the number in a text, or its refusal.
+    /// Returns the number that a string spells, or its refusal.
     fn number(&self, option: &Arg<'_>, text: &str) -> Result<i128, Error> {
         let numbers = option.numbers;
         let read =

@@ -1,4 +1,4 @@
-//! Tests of types that allocate no memory: inline vectors, bits, numbers in bytes, and vectors of 64 bytes.
+//! Tests of types that allocate no memory: inline vectors, bits, numbers in bytes, and 64-byte vectors.
 
 use super::super::arrayvec::{ArrayVec, CapacityError};
 use super::super::bitflags::Flags;

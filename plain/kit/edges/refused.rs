@@ -1,4 +1,4 @@
-//! Tests the results of calls that are refused memory, and that these calls change nothing.
+//! Tests the results of calls whose allocations fail, and that these calls change nothing.
 
 use super::super::alloc::{AllocError, AllocFailed};
 use super::super::boxed::Box as KitBox;

@@ -5,8 +5,8 @@ use super::super::io::{BufWriter, Error, ErrorKind, Read, Result, Write};
 use super::super::vec::Vec as Items;
 use super::*;
 
-/// A writer that accepts a limited number of bytes per call, is interrupted before each write, and fails from some byte
-/// on.
+/// A writer that accepts a limited number of bytes per call, is interrupted before each write, and fails after a
+/// certain byte.
 struct Slow {
     most: usize,
     fails_at: usize,

@@ -1,4 +1,4 @@
-//! Tests of texts, and of bytes as digits.
+//! Tests of strings, and of bytes as digits.
 
 use super::super::hex::{decode, encode_to_slice, FromHexError};
 use super::super::string::{ReplaceIn, String as Text};

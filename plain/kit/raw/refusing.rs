@@ -1,4 +1,4 @@
-//! A heap for tests that refuses a thread's memory requests from a given request on.
+//! A heap for tests that refuses a thread's memory requests, starting with a given one.
 
 use core::alloc::{GlobalAlloc, Layout};
 use core::cell::Cell;

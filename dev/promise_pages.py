@@ -98,7 +98,7 @@ script.md
     The debugger: debugger
     Objects, instructions and commands, a second time: script_laws
     What the program writes: bench_commands
-    The words of the command line: bench_commands/examples bench_commands/parse
+    The arguments of the command line: bench_commands/examples bench_commands/parse
     `nicbench threads`: bench
 c.md
     The calls of C: nic82599_c

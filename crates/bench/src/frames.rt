@@ -15,7 +15,7 @@ pub const OVER_IPV6: &[u8] =
 \x25\x01\x02\x00\x00\x03\x00\x00\x00\x00\x00\x00\x00\x01\x0a\xea\x06\xe6\x00\x00\
 \x00\x00\x00\x00\x00\x00\x50\x10\x00\x00\x00\x00\x00\x00";
 
-/// `count` frames, alternating between IPv4 and IPv6.
+/// Returns `count` frames, alternating between IPv4 and IPv6.
 pub(crate) fn frames(alloc: Global, count: u8) -> Result<Vec<Vec<u8>>, AllocError> {
     let mut frames = Vec::with_capacity(alloc, usize::from(count))?;
     for number in 0..count {

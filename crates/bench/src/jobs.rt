@@ -27,7 +27,8 @@ const SIZE: u16 = 64;
 /// The longest frame in bytes, including the frame check sequence.
 pub(crate) const FRAME: u16 = 1518;
 
-/// A promiscuous device without pools. Entry i of the redirection table sends a TCP segment to queue i mod `workers`.
+/// Returns the setup of a promiscuous device without pools. Entry i of the redirection table sends a TCP segment to
+/// queue i mod `workers`.
 pub(crate) fn setup(workers: u8) -> Setup {
     let mut reta = [0; 128];
     for entry in 0..128u8 {
@@ -43,7 +44,7 @@ pub(crate) fn setup(workers: u8) -> Setup {
     }
 }
 
-/// The job of a worker, on the queue with the worker's number. It polls twice per frame, plus two more times.
+/// Returns a worker's job on the queue with the worker's number. The job polls twice per frame, plus two more times.
 fn job(alloc: Global, pass: Pass, worker: u8, frames: u8) -> Result<Job, AllocError> {
     let Ok(arena) = Arena::new(alloc, BLOCKS * u32::from(worker), BLOCKS) else {
         return Err(AllocError);
@@ -60,7 +61,7 @@ fn job(alloc: Global, pass: Pass, worker: u8, frames: u8) -> Result<Job, AllocEr
     })
 }
 
-/// A job for each pass, in order.
+/// Returns a job for each pass, in order.
 pub(crate) fn jobs(alloc: Global, passes: Vec<Pass>, frames: u8) -> Result<Vec<Job>, Refused>
     requires { vec_len passes ≤ 8 }
     ensures { IfOk result (λ jobs. vec_len jobs ≡ vec_len passes) }

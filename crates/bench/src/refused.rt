@@ -17,7 +17,7 @@ pub(crate) enum Refused {
 }
 
 impl Refused {
-    /// The exit status after this refusal.
+    /// Returns the exit status after this refusal.
     pub(crate) fn status(self) -> u8
         ensures { result ≡ status_of self }
     {

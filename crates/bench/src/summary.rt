@@ -19,7 +19,7 @@ pub(crate) struct Summary {
     pub(crate) sent: usize,
 }
 
-/// The number of bytes in the packets of reports.
+/// Returns the number of bytes in the packets of reports.
 fn byte_count(reports: &[Report]) -> u128
     ensures { result ≡ byte_count reports.now }
 {
@@ -37,7 +37,7 @@ fn is_sent(entry: &Entry) -> bool
     matches!(entry.reply, ReplyNote::Sent { .. })
 }
 
-/// The number of frames transmitted in a history.
+/// Returns the number of frames transmitted in a history.
 pub(crate) fn sent_in(history: &[Entry]) -> usize
     ensures { result ≡ sent_in history.now }
 {

@@ -11,7 +11,7 @@ use clap::error::ErrorKind;
 use clap::{Arg, ArgAction, Command, Error, value_parser};
 use std::alloc::Global;
 
-/// An option that takes a number, with a default.
+/// Returns an option that takes a number, with a default.
 fn number<'a>(
     alloc: Global,
     name: &'a str,
@@ -30,7 +30,7 @@ fn number<'a>(
         .default_value(default)
 }
 
-/// An option that takes a number and is required.
+/// Returns an option that takes a number and is required.
 fn needed<'a>(
     alloc: Global,
     name: &'a str,
@@ -99,7 +99,7 @@ fn frames<'a>(alloc: Global) -> Arg<'a>
     needed(alloc, "frames", "N", help, ValueParser::signed(0, 60))
 }
 
-/// A command without options.
+/// Returns a command without options.
 fn alone<'a>(alloc: Global, name: &'a str, about: &'a str) -> Command<'a>
     ensures app { app_of result ≡ new_app name.entry.now }
     ensures local { (fields_of result).has_globals ≡ false }
@@ -107,7 +107,7 @@ fn alone<'a>(alloc: Global, name: &'a str, about: &'a str) -> Command<'a>
     Command::new(alloc, name).about(about)
 }
 
-/// A command with one more option.
+/// Returns a command with one more option.
 fn with_option<'a>(command: Command<'a>, option: Arg<'a>) -> Result<Command<'a>, Error>
     requires command { (fields_of command).has_globals ≡ false }
     requires option { option.global ≡ false }
@@ -119,7 +119,7 @@ fn with_option<'a>(command: Command<'a>, option: Arg<'a>) -> Result<Command<'a>,
     Ok(command)
 }
 
-/// A command with one more subcommand. Returns the error of either, if there is one.
+/// Returns a command with one more subcommand, or the error of either, if there is one.
 fn with_command<'a>(
     command: Result<Command<'a>, Error>,
     more: Result<Command<'a>, Error>,
@@ -211,7 +211,7 @@ const ENDS: &str = "Exit status:
 
 Documentation: `man nicbench` of an installed package; README.md and docs/ of the repository.";
 
-/// The command `nicbench`, without its subcommands.
+/// Returns the command `nicbench`, without its subcommands.
 fn bare<'a>(alloc: Global) -> Command<'a>
     ensures app { app_of result ≡ bare_app }
     ensures local { (fields_of result).has_globals ≡ false }

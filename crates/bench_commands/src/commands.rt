@@ -30,21 +30,21 @@ impl<T: Drop> From<AllocFailed<T>> for CommandFault {
     }
 }
 
-/// The number that a word spells. `None` if it isn't a number.
+/// Returns the number that a word spells, or `None` if it isn't a number.
 fn number(word: &str) -> Option<u32>
     ensures { result ≡ number_said word.now }
 {
     text_format::number(word).ok()
 }
 
-/// The address that a word names, as in scripts.
+/// Returns the address that a word names, as in scripts.
 fn address(word: &str) -> Option<u32>
     ensures { result ≡ target_said word.now }
 {
     target(word).ok()
 }
 
-/// The number of a virtual function, 0 to 62.
+/// Returns the number of a virtual function, 0 to 62.
 fn function(word: &str) -> Option<u8>
     ensures { result ≡ option_and_then if_function (number_said word.now) }
 {
@@ -56,7 +56,7 @@ fn function(word: &str) -> Option<u8>
     }
 }
 
-/// The command with this name and one operand.
+/// Returns the command with this name and one operand.
 fn with_one(name: &str, a: &str) -> Option<Command>
     ensures { result ≡ looked_up name.now (table_of_one a.now) }
 {
@@ -71,7 +71,7 @@ fn with_one(name: &str, a: &str) -> Option<Command>
     }
 }
 
-/// The command with this name and two operands.
+/// Returns the command with this name and two operands.
 fn with_two(name: &str, a: &str, b: &str) -> Option<Command>
     ensures { result ≡ looked_up name.now (table_of_two a.now b.now) }
 {
@@ -81,7 +81,7 @@ fn with_two(name: &str, a: &str, b: &str) -> Option<Command>
     }
 }
 
-/// The command that a line's words spell.
+/// Returns the command that a line's words spell.
 fn read_command(mut words: Words<'_>) -> Option<Command>
     ensures { result ≡ command_said words.entry }
 {
@@ -112,7 +112,7 @@ fn add_line(commands: &mut Vec<Command>, line: Line<'_>) -> Result<(), CommandFa
     Ok(())
 }
 
-/// The commands on the lines. Refuses the first line that has words but isn't a command.
+/// Returns the commands on the lines, or refuses the first line that has words but isn't a command.
 pub(crate) fn read_commands(alloc: Global, lines: Lines<'_>) -> Result<Vec<Command>, CommandFault>
     ensures ok { IfOk result (λ commands. commands_of lines.entry ≡ Ok commands.items) }
     ensures syntax { (n : ℕ) → result ≡ Err (CommandFault.Syntax n)

@@ -16,7 +16,7 @@ use std::alloc::Global;
 use std::io::Write;
 use text_format::{AddressText, WordText};
 
-/// The refusal of an EEPROM text that doesn't describe an image. `None` if memory ran out.
+/// Returns the refusal of an EEPROM text that doesn't describe an image, or `None` if memory ran out.
 fn refusal_of_text(fault: AsmFault) -> Option<Refusal>
     ensures { MatchOption result (fault ≡ AsmFault.OutOfMemory) (λ refusal.
         (fault ≢ AsmFault.OutOfMemory)
@@ -32,7 +32,7 @@ fn refusal_of_text(fault: AsmFault) -> Option<Refusal>
     }
 }
 
-/// The refusal of bytes that aren't an image. `None` if memory ran out.
+/// Returns the refusal of bytes that aren't an image, or `None` if memory ran out.
 fn refusal_of_file(fault: LoadFault) -> Option<Refusal>
     ensures { MatchOption result (fault ≡ LoadFault.OutOfMemory) (λ refusal.
         (fault ≢ LoadFault.OutOfMemory)

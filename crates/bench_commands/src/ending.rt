@@ -83,7 +83,7 @@ fn end_request<R: Read, W: Write>(
     }
 }
 
-/// The exit status for arguments that are refused for this reason.
+/// Returns the exit status for arguments that are refused for this reason.
 fn status_of(kind: ErrorKind) -> u8
     ensures { result ≡ words_status kind }
 {

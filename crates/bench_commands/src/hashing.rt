@@ -45,7 +45,7 @@ impl<T: Drop> From<AllocFailed<T>> for HashFault {
 }
 
 impl HashFault {
-    /// The fault of the line with this number.
+    /// Returns the fault of the line with this number.
     fn of(number: usize, fault: HexFault) -> HashFault
         ensures malformed { (n : ℕ) → result ≡ HashFault.Syntax n
             → (n ≡ number) × (fault ≡ HexFault.Malformed) }
@@ -57,7 +57,7 @@ impl HashFault {
     }
 }
 
-/// The bytes that a single word spells in hex.
+/// Returns the bytes that a single word spells in hex.
 fn read_bytes(alloc: Global, mut words: Words<'_>) -> Result<Vec<u8>, HexFault>
     ensures ok { IfOk result (λ bytes. bytes_said words.entry ≡ Some bytes.items) }
     ensures malformed { result ≡ Err HexFault.Malformed → bytes_said words.entry ≡ None }
@@ -71,7 +71,7 @@ fn read_bytes(alloc: Global, mut words: Words<'_>) -> Result<Vec<u8>, HexFault>
     }
 }
 
-/// The key that the words spell.
+/// Returns the key that the words spell.
 fn read_key(alloc: Global, words: Words<'_>) -> Result<Key, HexFault>
     ensures ok { IfOk result (λ key. if_key (bytes_said words.entry) ≡ Some key.0) }
     ensures malformed { result ≡ Err HexFault.Malformed
@@ -84,7 +84,7 @@ fn read_key(alloc: Global, words: Words<'_>) -> Result<Key, HexFault>
     }
 }
 
-/// The hash of the input that the words spell.
+/// Returns the hash of the input that the words spell.
 fn hash_input(alloc: Global, key: &Key, words: Words<'_>) -> Result<u32, HexFault>
     ensures ok { IfOk result (λ hash. option_map (toeplitz_hash key.now.0)
         (if_input (bytes_said words.entry)) ≡ Some hash) }
@@ -122,7 +122,7 @@ fn add_line(
     Ok(())
 }
 
-/// The hashes of the inputs on the lines after the key.
+/// Returns the hashes of the inputs on the lines after the key.
 fn hash_inputs(alloc: Global, key: &Key, lines: Lines<'_>) -> Result<Vec<u32>, HashFault>
     ensures ok { IfOk result (λ hashes. hashed key.now.0 [] (inputs_of lines.entry)
         ≡ Ok hashes.items) }
@@ -136,7 +136,7 @@ fn hash_inputs(alloc: Global, key: &Key, lines: Lines<'_>) -> Result<Vec<u32>, H
     Ok(hashes)
 }
 
-/// The hashes of the inputs on the lines after the first line, which is the key.
+/// Returns the hashes of the inputs on the lines after the first line, which is the key.
 fn hashes_in(alloc: Global, text: &str) -> Result<Vec<u32>, HashFault>
     ensures ok { IfOk result (λ hashes. lines_answer (lines_of text.now)
         ≡ words_answer hashes.items) }

@@ -17,7 +17,7 @@ pub struct Input<R> {
 }
 
 impl<R: Read> Input<R> {
-    /// A reader that hasn't been read yet.
+    /// Wraps a reader. No read has been counted or has failed.
     pub fn of(reader: R) -> Input<R>
         ensures { result ≡ record { reader = reader; reads = 0; has_failed = false } }
     {

@@ -13,7 +13,7 @@ use script_asm::{assemble, disassemble};
 use std::alloc::Global;
 use std::io::Write;
 
-/// The refusal of bytes that aren't an object. `None` if memory ran out.
+/// Returns the refusal of bytes that aren't an object, or `None` if memory ran out.
 fn refusal_of_object(fault: ObjectFault) -> Option<Refusal>
     ensures { MatchOption result (fault ≡ ObjectFault.OutOfMemory) (λ refusal.
         (fault ≢ ObjectFault.OutOfMemory)

@@ -19,7 +19,7 @@ pub struct Output<W> {
 }
 
 impl<W: Write> Output<W> {
-    /// A writer without a failed write.
+    /// Wraps a writer. No write has failed.
     pub fn of(writer: W) -> Output<W>
         ensures { result ≡ record { writer = writer; has_failed = false; lacked_memory = false } }
     {
@@ -38,7 +38,8 @@ impl<W: Write> Output<W> {
         *has_failed
     }
 
-    /// The exit status after a failed write: `NO_MEMORY` if the writer's error is `OutOfMemory`, otherwise `FAILED`.
+    /// Returns the exit status after a failed write: `NO_MEMORY` if the writer's error is `OutOfMemory`, otherwise
+    /// `FAILED`.
     pub fn failed_status(&self) -> u8
         ensures value { result ≡ unwritten_status self.now.lacked_memory }
         // 4 or 2

@@ -24,7 +24,7 @@ fn matches_in<'a, S: AsStr>(alloc: Global, words: &'a [S]) -> Result<ArgMatches<
     command.try_get_matches_from(words)
 }
 
-/// The refusal of an unknown command, with the usage of this one.
+/// Returns the refusal of an unknown command, with the usage of this one.
 fn no_such_command(command: &mut Command<'_>) -> Result<Error, Error>
     ensures ok { IfOk result (λ e. kind_of e ≡ ErrorKind.InvalidSubcommand) }
     ensures err { IfErr result (λ e. kind_of e ≡ ErrorKind.OutOfMemory) }
@@ -33,7 +33,7 @@ fn no_such_command(command: &mut Command<'_>) -> Result<Error, Error>
     Ok(refusal)
 }
 
-/// The refusal of an unknown command of `nicbench`.
+/// Returns the refusal of an unknown command of `nicbench`.
 fn unknown_command(alloc: Global) -> Result<Error, Error>
     ensures ok { IfOk result (λ e. kind_of e ≡ ErrorKind.InvalidSubcommand) }
     ensures err { IfErr result (λ e. kind_of e ≡ ErrorKind.OutOfMemory) }
@@ -41,7 +41,7 @@ fn unknown_command(alloc: Global) -> Result<Error, Error>
     no_such_command(&mut nicbench(alloc)?)
 }
 
-/// The request in the matches of `eeprom`.
+/// Returns the request in the matches of `eeprom`.
 fn eeprom_in(matches: &ArgMatches<'_>) -> Request
     ensures { result ≡ eeprom_of (rows_of (found_of matches.now)) }
 {
@@ -53,7 +53,7 @@ fn eeprom_in(matches: &ArgMatches<'_>) -> Request
     }
 }
 
-/// The request of the command with this name and these matches. `None` if it reads no input.
+/// Returns the request of the command with this name and these matches, or `None` if it reads no input.
 fn request_named(name: &str, matches: &ArgMatches<'_>) -> Option<Request>
     ensures { result ≡ request_of name.now (rows_of (found_of matches.now)) }
 {
@@ -74,7 +74,7 @@ fn request_named(name: &str, matches: &ArgMatches<'_>) -> Option<Request>
     }
 }
 
-/// The request of the command with this name and these matches, whether or not it reads input.
+/// Returns the request of the command with this name and these matches, whether or not it reads input.
 fn asked_named(name: &str, matches: &ArgMatches<'_>) -> Option<Asked>
     ensures { result ≡ asked_of name.now (rows_of (found_of matches.now)) }
 {
@@ -87,7 +87,7 @@ fn asked_named(name: &str, matches: &ArgMatches<'_>) -> Option<Asked>
     }
 }
 
-/// The request of the command in the matches.
+/// Returns the request of the command in the matches.
 fn asked_in(matches: &ArgMatches<'_>) -> Option<Asked>
     ensures { result ≡ option_and_then (λ command. asked_of command.0 command.1)
         (subcommand_rows_of matches.now) }

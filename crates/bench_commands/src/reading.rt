@@ -33,7 +33,7 @@ impl From<AllocError> for InputFault {
     }
 }
 
-/// A buffer for one read.
+/// Returns a buffer for one read.
 fn buffer(alloc: Global) -> Result<Vec<u8>, AllocError>
     ensures { IfOk result (λ v. 0 < vec_len v) }
 {

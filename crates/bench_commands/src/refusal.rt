@@ -16,7 +16,7 @@ pub struct Refusal {
 }
 
 impl Refusal {
-    /// A refusal with only a name.
+    /// Returns a refusal with only a name.
     pub(crate) fn named(name: &'static str) -> Refusal
         ensures name { result.name.now ≡ name.now }
         ensures number { result.number ≡ None }
@@ -24,7 +24,7 @@ impl Refusal {
         Refusal { name, number: None }
     }
 
-    /// A refusal with the number of a line, a word or an instruction.
+    /// Returns a refusal with the number of a line, a word or an instruction.
     pub(crate) fn numbered(name: &'static str, number: usize) -> Refusal
         ensures name { result.name.now ≡ name.now }
         ensures number { result.number ≡ Some number }

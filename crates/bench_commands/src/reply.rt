@@ -78,7 +78,7 @@ impl fmt::Display for Line<'_> {
     }
 }
 
-/// The printed reason why a frame was dropped.
+/// Returns the printed reason why a frame was dropped.
 fn why(why: Why) -> &'static str
     ensures { result.now ≡ why_text why }
 {
@@ -96,7 +96,7 @@ fn why(why: Why) -> &'static str
     }
 }
 
-/// The printed reason why a descriptor couldn't be processed.
+/// Returns the printed reason why a descriptor couldn't be processed.
 fn fault(fault: RingFault) -> Part<'static>
     ensures { part_text result ≡ fault_text fault }
 {
@@ -112,21 +112,21 @@ fn fault(fault: RingFault) -> Part<'static>
     }
 }
 
-/// A queue's number, as printed.
+/// Returns a queue's number, as printed.
 fn queue(queue: u16) -> Part<'static>
     ensures { part_text result ≡ queue_text queue }
 {
     Numbered("queue", usize::from(queue))
 }
 
-/// The printed keyword for whether a frame ended.
+/// Returns the printed keyword for whether a frame ended.
 fn end(end: bool) -> &'static str
     ensures { result.now ≡ end_text end }
 {
     if end { "end" } else { "more" }
 }
 
-/// The printed interrupt group.
+/// Returns the printed interrupt group.
 fn group(group: Group) -> Part<'static>
     ensures { part_text result ≡ group_text group }
 {
@@ -136,7 +136,7 @@ fn group(group: Group) -> Part<'static>
     }
 }
 
-/// The parts of a reply's line, ready to print.
+/// Returns the parts of a reply's line, ready to print.
 fn line_of(reply: &ReplyNote) -> Line<'_>
     ensures { line_text result ≡ reply_text reply.now }
 {

@@ -16,7 +16,7 @@ pub struct RunOptions {
     pub limit: u64,
 }
 
-/// The options in the matches of `run`.
+/// Returns the options in the matches of `run`.
 pub(crate) fn options_in(matches: &ArgMatches<'_>) -> RunOptions
     ensures { result ≡ options_of (rows_of (found_of matches.now)) }
 {

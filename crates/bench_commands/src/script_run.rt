@@ -15,7 +15,7 @@ use script_asm::{ScriptFault, assemble};
 use std::alloc::Global;
 use std::io::Write;
 
-/// The refusal of an input that isn't a script. `None` if memory ran out.
+/// Returns the refusal of an input that isn't a script, or `None` if memory ran out.
 pub(crate) fn refusal_of_script(fault: ScriptFault) -> Option<Refusal>
     ensures { MatchOption result (fault ≡ ScriptFault.OutOfMemory) (λ refusal.
         (fault ≢ ScriptFault.OutOfMemory)

@@ -25,7 +25,7 @@ use text_format::Lines;
 /// The word on the line that ends the script.
 const END_OF_SCRIPT: &str = "%";
 
-/// The number of lines in a text.
+/// Returns the number of lines in a text.
 fn line_count(text: &str) -> usize
     ensures value { result ≡ length (lines_of text.now) }
     ensures bound { result < 2 ^ 63 }

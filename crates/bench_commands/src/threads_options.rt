@@ -14,7 +14,7 @@ pub struct ThreadsOptions {
     pub frames: u8,
 }
 
-/// The options in the matches of `threads`.
+/// Returns the options in the matches of `threads`.
 pub(crate) fn threads_options_in(matches: &ArgMatches<'_>) -> ThreadsOptions
     ensures { result ≡ threads_options_of (rows_of (found_of matches.now)) }
 {

@@ -94,7 +94,7 @@ pub(crate) fn write_done<W: Write>(
     }
 }
 
-/// The printed refusal of a command: its name, without a number.
+/// Returns the printed refusal of a command: its name, without a number.
 fn refusal_of(refusal: DebugRefusal) -> Refusal
     ensures name { result.name.now ≡ refusal_name refusal }
     ensures number { result.number ≡ None }

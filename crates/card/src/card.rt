@@ -288,7 +288,8 @@ impl Card {
         Ok(())
     }
 
-    /// Returns what a read of a register would return, without the read's side effects. `None` if there is no register.
+    /// Returns what a read of a register would return, without the read's side effects, or `None` if there is no
+    /// register.
     pub fn peek(&self, port: Port, number: u32) -> Option<u32>
         ensures { result ≡ reported_word (reply_to self.now.device (Event.Read port number)) }
     {

@@ -41,7 +41,7 @@ fn end_arena(arena: Arena)
 }
 
 impl Card {
-    /// Returns a copy of the card as plain data; the card is unchanged. `AllocError` if there is no memory for it.
+    /// Returns a copy of the card as plain data, or `AllocError` if there is no memory for it. The card is unchanged.
     pub fn keep(&self) -> Result<Kept, AllocError>
         ensures { IfOk result (λ kept. kept ≡ self.now) }
     {
@@ -56,7 +56,8 @@ impl Card {
 }
 
 impl Kept {
-    /// Creates a card with the kept contents and its own packet memory. `AllocError` if there is no memory for it.
+    /// Creates a card with the kept contents and its own packet memory. Fails with `AllocError` if there is no memory
+    /// for it.
     pub fn card(&self, alloc: Global) -> Result<Card, AllocError>
         ensures { IfOk result (λ card. card ≡ self.now) }
     {

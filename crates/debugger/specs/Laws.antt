@@ -28,8 +28,8 @@ pub record CommandsShowTheirPosition : Type 0 where
 abbrev pub IsCounted : Session → Type 0
 IsCounted s = (machine_of s).steps ≡ s.steps
 
--- The machine of a session has counted all steps at the start. If it has done so before a command, it has done so after
--- the command.
+-- At the start, a session's machine has counted all of the session's steps. If this holds before a command, it holds
+-- after the command.
 pub record PositionsAreCounted : Type 0 where
   pub new : (program : Listing) (config : Config) (breakpoints : List ℕ)
       → IsCounted (record { program = program; config = config; steps = 0; breakpoints = breakpoints })

@@ -50,7 +50,7 @@ impl Model for Debugger {
 }
 
 impl Debugger {
-    /// A debugger of a program at step 0, on a new device of this configuration, without breakpoints.
+    /// Creates a debugger of a program at step 0, on a new device of this configuration, without breakpoints.
     ///
     /// Errors: `TooManyVfs` and `Fifo`, each exactly if `Device::new` returns it for the configuration; or
     /// `OutOfMemory`. The error contains the program, unchanged.
@@ -122,7 +122,7 @@ impl Debugger {
         machine.finish();
     }
 
-    /// The state of the machine, with a shown word.
+    /// Returns the state of the machine, with a shown word.
     fn view(&self, shown: Option<u32>) -> View
         ensures { result ≡ view_of self.now shown }
     {

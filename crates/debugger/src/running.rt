@@ -63,7 +63,7 @@ pub(crate) fn run_on(
     Ok(())
 }
 
-/// A machine before its first step, of a configuration that a device supports.
+/// Creates a machine before its first step, with a configuration that a device supports.
 fn start(alloc: Global, program: Program, config: Config) -> Result<Machine, OutOfMemory>
     requires { CanBeMade config }
     ensures { IfOk result (λ machine.
@@ -78,8 +78,8 @@ fn start(alloc: Global, program: Program, config: Config) -> Result<Machine, Out
     }
 }
 
-/// A machine at or before this step: restored from the last snapshot that isn't later, or a new one before its first
-/// step.
+/// Returns a machine at or before this step: restored from the last snapshot that isn't later, or a new one before its
+/// first step.
 fn early(
     alloc: Global,
     object: &[u8],
@@ -109,8 +109,8 @@ fn early(
     }
 }
 
-/// The machine of an object's program after this many steps, or fewer if it stops. It runs from the last snapshot at or
-/// before that step, or from the start if there is none.
+/// Returns the machine of an object's program after this many steps, or fewer if it stops. It runs from the last
+/// snapshot at or before that step, or from the start if there is none.
 pub(crate) fn replay(
     alloc: Global,
     object: &[u8],

@@ -25,7 +25,7 @@ pub(crate) struct Snapshots {
 }
 
 impl Snapshots {
-    /// An empty list of snapshots. The first is due at the first multiple of `SNAPSHOT_STEPS`.
+    /// Returns an empty list of snapshots. The first is due at the first multiple of `SNAPSHOT_STEPS`.
     pub(crate) fn new(alloc: Global) -> Snapshots
         ensures { result.kept.items ≡ [] }
     {
@@ -35,7 +35,7 @@ impl Snapshots {
         }
     }
 
-    /// An empty list of snapshots, with none due before the last step that a machine counts.
+    /// Returns an empty list of snapshots, with none due before the last step that a machine counts.
     pub(crate) fn none(alloc: Global) -> Snapshots
         ensures { result.kept.items ≡ [] }
     {
@@ -61,7 +61,7 @@ impl Snapshots {
         let _ = self.kept.push(snapshot);
     }
 
-    /// The last snapshot at or before this step.
+    /// Returns the last snapshot at or before this step.
     pub(crate) fn before(&self, steps: u64) -> Option<&MachineSnapshot>
         ensures { IfSome result (λ snapshot. (machine : Course) →
             AreOf machine self.now.kept.items → IsBefore machine snapshot.now steps) }
@@ -79,9 +79,9 @@ impl Snapshots {
     }
 }
 
-/// The step at which the next snapshot is due after one at this step. Up to `FIRST_STEPS`, it is the next multiple of
-/// `SNAPSHOT_STEPS`. After that, it is the last multiple that is at most 1.5 times this step, so that going back from
-/// the furthest step reached replays less than a third of the steps.
+/// Returns the step at which the next snapshot is due after one at this step. Up to `FIRST_STEPS`, it is the next
+/// multiple of `SNAPSHOT_STEPS`. After that, it is the last multiple that is at most 1.5 times this step, so that going
+/// back from the furthest step reached replays less than a third of the steps.
 fn next_after(steps: u64) -> u64
     ensures later { steps < 2 ^ 64 - 1 → steps < result }
     ensures near { FIRST_STEPS ≤ steps → 2 * result ≤ 3 * steps }

@@ -6,7 +6,7 @@ ghost use Rattle.program.specs.Object.{read_of};
 use program::{ObjectFault, OutOfMemory, Program, read};
 use std::alloc::Global;
 
-/// The object of the debugger's program.
+/// Returns the object of the debugger's program.
 pub(crate) fn object_of(alloc: Global, program: &Program) -> Result<Vec<u8>, OutOfMemory>
     ensures { IfOk result (λ object. read_of object.items ≡ Ok program.now) }
 {
@@ -16,7 +16,7 @@ pub(crate) fn object_of(alloc: Global, program: &Program) -> Result<Vec<u8>, Out
     }
 }
 
-/// The program that an object encodes.
+/// Returns the program that an object encodes.
 pub(crate) fn program_of(alloc: Global, object: &[u8]) -> Result<Program, OutOfMemory>
     requires { IsOk (read_of object.now) }
     ensures { IfOk result (λ program. read_of object.now ≡ Ok program) }

@@ -120,7 +120,7 @@ fn frames(alloc: Global) -> Result<Vec<Vec<u8>>, Failure> {
     Ok(frames)
 }
 
-/// The first block of the worker with this number.
+/// Returns the first block of the worker with this number.
 fn first_of(number: u8) -> u32 {
     BLOCKS * u32::from(number)
 }

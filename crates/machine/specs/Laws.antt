@@ -17,8 +17,8 @@ pub record StepsCount : Type 0 where
   pub counts : (program : Listing) (s : MachineState) → (machine_step program s).answer ≢ Stopped
       → (machine_step program s).state.steps ≡ s.steps + 1
 
--- A machine that isn't running stops. A running machine that has counted fewer than 2^64 - 1 steps executes its next
--- instruction.
+-- A step of a machine that isn't running returns `Stopped`. A running machine that has counted fewer than 2^64 - 1
+-- steps executes its next instruction.
 pub record RunningMachinesStep : Type 0 where
   pub stops : (program : Listing) (s : MachineState) → s.status ≢ Running → (machine_step program s).answer ≡ Stopped
   pub steps : (program : Listing) (config : Config) (n : ℕ) → IsListing program

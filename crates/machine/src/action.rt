@@ -49,7 +49,7 @@ pub(crate) enum Action {
     Local(LocalAction),
 }
 
-/// The bytes of a 16-byte data string.
+/// Returns the bytes of a 16-byte data string.
 fn sixteen(string: &[u8]) -> [u8; 16]
     requires { length string.now ≡ 16 }
     ensures { result ≡ string.now }
@@ -59,7 +59,7 @@ fn sixteen(string: &[u8]) -> [u8; 16]
     bytes
 }
 
-/// The action of this instruction of the program.
+/// Returns the action of this instruction of the program.
 pub(crate) fn action_of(program: &Program, instruction: Instruction) -> Action
     requires { IsSound program.now.strings (length program.now.instructions) instruction }
     ensures action { result ≡ action_of program.now instruction }

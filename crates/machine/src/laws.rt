@@ -7,8 +7,8 @@ pub fn steps_count()
     ensures { StepsCount }
 {}
 
-/// A machine that has ended or failed stops. A running machine executes its next instruction, up to 2^64 - 1
-/// instructions in all.
+/// A step of a machine that has ended or failed returns `Stopped`. A running machine executes its next instruction, up
+/// to 2^64 - 1 instructions in all.
 pub fn running_machines_step()
     ensures { RunningMachinesStep }
 {}

@@ -25,7 +25,7 @@ pub enum Status {
     Ended,
     /// An `expect` instruction found a different value in `acc`.
     Failed {
-        /// The number of the `expect` instruction, from 0.
+        /// The number of the `expect` instruction, counted from 0.
         pc: u16,
         /// The value in `acc`, limited to the bits of the mask.
         have: u32,
@@ -82,7 +82,7 @@ impl Model for Machine {
 }
 
 impl Machine {
-    /// A machine before its first step, on a new device of this configuration, with all 256 blocks free.
+    /// Creates a machine before its first step, on a new device of this configuration, with all 256 blocks free.
     ///
     /// Errors: `TooManyVfs` and `Fifo`, each exactly if `Device::new` returns it for the configuration; or
     /// `OutOfMemory`. The error contains the program, unchanged.
@@ -122,7 +122,8 @@ impl Machine {
         self.processor.step(&self.program)
     }
 
-    /// The number of counted steps. The machine is in its state after this many steps of its program on a new device.
+    /// Returns the number of counted steps. The machine is in its state after this many steps of its program on a new
+    /// device.
     pub fn steps(&self) -> u64
         ensures count { result ≡ self.now.state.steps }
         ensures at { self.now.state ≡ machine_at self.now.program self.now.config result }
@@ -130,16 +131,16 @@ impl Machine {
         self.processor.steps
     }
 
-    /// The number of the next instruction, from 0; the number of instructions if the machine is at the end. `halt` and
-    /// a failing `expect` don't advance it.
+    /// Returns the number of the next instruction, counted from 0, or the number of instructions if the machine is at
+    /// the end. `halt` and a failing `expect` don't advance it.
     pub fn pc(&self) -> u16
         ensures { result ≡ self.now.state.pc }
     {
         self.processor.pc
     }
 
-    /// The accumulator: the last value that was read or peeked, even if the read reached no register, with each later
-    /// `and` applied. It is 0 before the first read or peek.
+    /// Returns the accumulator: the last value that was read or peeked, even if the read reached no register, with each
+    /// later `and` applied. It is 0 before the first read or peek.
     pub fn acc(&self) -> u32
         ensures { result ≡ self.now.state.acc }
     {
@@ -153,23 +154,23 @@ impl Machine {
         self.processor.status
     }
 
-    /// The result of a read of this address through the physical function, without the read's side effects. `None` if
-    /// there is no register.
+    /// Returns the result of a read of this address through the physical function, without the read's side effects, or
+    /// `None` if there is no register.
     pub fn peek_register(&self, address: u32) -> Option<u32>
         ensures { result ≡ reported_word (step_of self.now.state.device (Event.Read Port.Pf address)).reply }
     {
         self.processor.card.peek(Port::Pf, address)
     }
 
-    /// The result of a read of this offset through a virtual function, without the read's side effects. `None` if there
-    /// is no register.
+    /// Returns the result of a read of this offset through a virtual function, without the read's side effects, or
+    /// `None` if there is no register.
     pub fn peek_vf(&self, function: u8, offset: u32) -> Option<u32>
         ensures { result ≡ reported_word (step_of self.now.state.device (Event.Read (Port.Vf function) offset)).reply }
     {
         self.processor.card.peek(Port::Vf(function), offset)
     }
 
-    /// The program that the machine runs.
+    /// Returns the program that the machine runs.
     pub fn program(&self) -> &Program
         ensures { result.now ≡ self.now.program }
     {

@@ -25,7 +25,7 @@ pub(crate) struct Processor {
     pub(crate) steps: u64,
 }
 
-/// The value in `acc` after a read.
+/// Returns the value in `acc` after a read.
 fn word_read(reply: &ReplyNote, acc: u32) -> u32
     ensures { result ≡ word_read reply.now acc }
 {
@@ -35,7 +35,7 @@ fn word_read(reply: &ReplyNote, acc: u32) -> u32
     }
 }
 
-/// One of the four little-endian words of 16 bytes.
+/// Returns one of the four little-endian words of 16 bytes.
 fn word_in(bytes: &[u8; 16], word: u8) -> u32
     requires { word < 4 }
     ensures { result ≡ word_in bytes.now word }
@@ -43,7 +43,7 @@ fn word_in(bytes: &[u8; 16], word: u8) -> u32
     LittleEndian::read_u32(&bytes[4 * usize::from(word)..])
 }
 
-/// The value in `acc` after a peek.
+/// Returns the value in `acc` after a peek.
 fn word_peeked(word: u8, reply: &ReplyNote, acc: u32) -> u32
     requires { word < 4 }
     ensures { result ≡ word_peeked word reply.now acc }
@@ -54,7 +54,7 @@ fn word_peeked(word: u8, reply: &ReplyNote, acc: u32) -> u32
     }
 }
 
-/// The value in `acc` after this part of a reply is stored.
+/// Returns the value in `acc` after this part of a reply is stored.
 fn acc_after(kept: Kept, reply: &ReplyNote, acc: u32) -> u32
     requires { IsPart kept }
     ensures { result ≡ acc_after kept reply.now acc }
@@ -66,7 +66,7 @@ fn acc_after(kept: Kept, reply: &ReplyNote, acc: u32) -> u32
     }
 }
 
-/// The machine's status when this instruction is next.
+/// Returns the machine's status when this instruction is next.
 fn status_at(program: &Program, pc: u16) -> Status
     ensures { result ≡ status_at program.now pc }
 {
@@ -78,7 +78,7 @@ fn status_at(program: &Program, pc: u16) -> Status
 }
 
 impl Processor {
-    /// The state before the first step of a program.
+    /// Returns the state before the first step of a program.
     pub(crate) fn new(alloc: Global, card: Card, program: &Program) -> Processor
         ensures { state_of result ≡ state_with card 0 0 (status_at program.now 0) 0 }
     {
@@ -92,7 +92,7 @@ impl Processor {
         }
     }
 
-    /// The next instruction, if the machine runs and can count another step.
+    /// Returns the next instruction, if the machine runs and can count another step.
     fn next_instruction(&self, program: &Program) -> Option<Instruction>
         ensures next { result ≡ next_instruction program.now (state_of self.now) }
         ensures inside { IsSome result → self.now.pc < 4096 }

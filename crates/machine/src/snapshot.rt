@@ -47,8 +47,8 @@ impl Model for MachineSnapshot {
 }
 
 impl MachineSnapshot {
-    /// The number of steps that the machine had counted when the snapshot was taken. The snapshot holds the machine's
-    /// state after that many steps.
+    /// Returns the number of steps that the machine had counted when the snapshot was taken. The snapshot contains the
+    /// machine's state after that many steps.
     pub fn steps(&self) -> u64
         ensures count { result ≡ self.now.state.steps }
         ensures at { self.now.state ≡ machine_at self.now.program self.now.config result }
@@ -58,7 +58,7 @@ impl MachineSnapshot {
 }
 
 impl Machine {
-    /// A snapshot of the machine, which stays unchanged. `OutOfMemory` if there is no memory for it.
+    /// Returns a snapshot of the machine, or `OutOfMemory` if there is no memory for it. The machine is unchanged.
     pub fn snapshot(&self) -> Result<MachineSnapshot, OutOfMemory>
         ensures { IfOk result (λ snapshot. snapshot ≡ self.now) }
     {
@@ -81,7 +81,8 @@ impl Machine {
         })
     }
 
-    /// A machine in the snapshot's state, with its own packet memory. `OutOfMemory` if there is no memory for it.
+    /// Creates a machine in the snapshot's state, with its own packet memory. Fails with `OutOfMemory` if there is no
+    /// memory for it.
     pub fn restore(snapshot: &MachineSnapshot) -> Result<Machine, OutOfMemory>
         ensures { IfOk result (λ machine. machine ≡ snapshot.now) }
     {

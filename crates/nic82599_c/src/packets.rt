@@ -9,7 +9,7 @@ use crate::handle::Handle;
 use crate::status::{DONE, NO_BLOCK, NOT_LENT, OUT_OF_MEMORY};
 
 /// Lends a free block to the device, with all bytes 0. Returns DONE; NO_BLOCK if and only if no block with this number
-/// is free; or OUT_OF_MEMORY. The last two change nothing.
+/// is free; or OUT_OF_MEMORY. NO_BLOCK and OUT_OF_MEMORY change nothing.
 #[unsafe(no_mangle)]
 pub extern "C" fn nic_lend(nic: &mut Handle, block: u32) -> u8
     ensures status { result ≢ OUT_OF_MEMORY → result ≡ lend_status nic.old.card block }

@@ -14,7 +14,7 @@ use card::Card;
 use nic_device::{Event, Octets, Reply};
 use std::alloc::Global;
 
-/// A frame, without its frame check sequence, arrives from the link. Returns DONE if it joins the receive list, or
+/// Delivers a frame from the link, without its frame check sequence. Returns DONE if it joins the receive list, or
 /// DROPPED; `outcome` has the details. Or returns OUT_OF_MEMORY, which changes nothing; the contract doesn't specify
 /// when.
 #[unsafe(no_mangle)]
@@ -98,7 +98,7 @@ pub extern "C" fn nic_collect(nic: &mut Handle, room: &mut [u8], outcome: &mut O
     collect(nic.lend(), room, outcome)
 }
 
-/// Sets the link up or down. Returns DONE, or IDLE if it already is.
+/// Sets the link up or down. Returns DONE, or IDLE if it is already in that state.
 #[unsafe(no_mangle)]
 pub extern "C" fn nic_link(nic: &mut Handle, up: bool) -> u8
     ensures status { result ≡ status_of (reply_to nic.old.card.device (Event.Link up)) }

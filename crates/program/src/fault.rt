@@ -57,7 +57,7 @@ impl<T: Drop> From<AllocFailed<T>> for ObjectFault {
 }
 
 impl FieldFault {
-    /// The object's fault, given this fault of its instruction number `pc`.
+    /// Returns the object's fault, given this fault of its instruction number `pc`.
     pub(crate) fn at(self, pc: u16) -> ObjectFault
         ensures { result ≡ fault_at pc self }
     {

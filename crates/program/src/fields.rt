@@ -28,7 +28,7 @@ pub(crate) struct Fields {
     pub(crate) b: u32,
 }
 
-/// The fields of an operation with a variant and one short number.
+/// Returns the fields of an operation with a variant and one short number.
 fn of_kind(op: u8, sub: u8, x: u16) -> Fields
     ensures { result ≡ record { op = op; sub = sub; x = x; a = 0; b = 0 } }
 {
@@ -41,7 +41,7 @@ fn of_kind(op: u8, sub: u8, x: u16) -> Fields
     }
 }
 
-/// The fields of an operation with one short number and two words.
+/// Returns the fields of an operation with one short number and two words.
 fn of_words(op: u8, x: u16, a: u32, b: u32) -> Fields
     ensures { result ≡ record { op = op; sub = 0; x = x; a = a; b = b } }
 {
@@ -55,7 +55,7 @@ fn of_words(op: u8, x: u16, a: u32, b: u32) -> Fields
 }
 
 impl Fields {
-    /// The fields of an instruction: the encoding table of the operations.
+    /// Returns the fields of an instruction, according to the encoding table of the operations.
     pub(crate) fn of(instruction: Instruction) -> Fields
         ensures fields { result ≡ fields_of instruction }
         ensures widths { HaveWidths (fields_of instruction) }

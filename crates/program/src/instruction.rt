@@ -91,8 +91,8 @@ impl<L: Copy, D: Copy> Clone for Instruction<L, D> {
 }
 
 impl<L, D> Instruction<L, D> {
-    /// The instruction with `label` applied to its jump target and `string` applied to its data string, or the error
-    /// that one of them returns. A function without a matching operand has no effect on the result.
+    /// Returns the instruction with `label` applied to its jump target and `string` applied to its data string, or the
+    /// error that one of them returns. A function without a matching operand has no effect on the result.
     pub fn try_map<M, N, E, F, G>(&self, label: F, string: G) -> Result<Instruction<M, N>, E>
     where
         F: FnOnce(&L) -> Result<M, E> + Drop,

@@ -22,14 +22,14 @@ pub(crate) enum FieldFault {
     Target,
 }
 
-/// The lower 8 bits of a short number.
+/// Returns the lower 8 bits of a short number.
 fn low_byte(x: u16) -> u8
     ensures { result ≡ low_byte x }
 {
     (x % 256) as u8
 }
 
-/// The group of interrupts with this kind and number.
+/// Returns the group of interrupts with this kind and number.
 fn group_of(sub: u8, x: u16) -> Group
     ensures { result ≡ group_of sub x }
 {
@@ -40,14 +40,14 @@ fn group_of(sub: u8, x: u16) -> Group
     }
 }
 
-/// The side of a queue with this kind.
+/// Returns the side of a queue with this kind.
 fn direction_of(sub: u8) -> Dir
     ensures { result ≡ direction_of sub }
 {
     if sub == 0 { Dir::Rx } else { Dir::Tx }
 }
 
-/// The instruction with this operation and the fields that it uses. `None` if the operation is unknown.
+/// Returns the instruction with this operation and the fields that it uses, or `None` if the operation is unknown.
 fn instruction_in(fields: Fields) -> Option<Instruction>
     ensures { result ≡ instruction_in fields }
 {
@@ -86,14 +86,14 @@ fn instruction_in(fields: Fields) -> Option<Instruction>
     }
 }
 
-/// The fault, unless the condition holds.
+/// Returns the fault, unless the condition holds.
 fn unless(fits: bool, fault: FieldFault) -> Option<FieldFault>
     ensures { result ≡ unless fits fault }
 {
     if fits { None } else { Some(fault) }
 }
 
-/// The length in bytes of the data string with this number; 0 if there is none.
+/// Returns the length in bytes of the data string with this number; 0 if there is none.
 fn bytes_of(strings: &[Octets], number: u16) -> usize
     ensures { result ≡ length (string_at strings.now number) }
 {
@@ -103,7 +103,7 @@ fn bytes_of(strings: &[Octets], number: u16) -> usize
     }
 }
 
-/// The fault if the instruction refers to something missing, among these data strings and `count` instructions.
+/// Returns the fault if the instruction refers to something missing, among these data strings and `count` instructions.
 fn fault_in(strings: &[Octets], count: u16, instruction: Instruction) -> Option<FieldFault>
     ensures { result ≡ fault_in strings.now count instruction }
 {
@@ -139,7 +139,7 @@ fn fault_in(strings: &[Octets], count: u16, instruction: Instruction) -> Option<
     }
 }
 
-/// The instruction that the fields encode, among these data strings and `count` instructions.
+/// Returns the instruction that the fields encode, among these data strings and `count` instructions.
 pub(crate) fn meaning(
     strings: &[Octets],
     count: u16,

@@ -3,7 +3,7 @@
 ghost use Rattle.std.specs.Prelude.{◌≡◌, ◌+◌, ◌≤◌, length};
 ghost use Rattle.program.specs.Bytes.{number16_at, number32_at};
 
-/// The 16-bit number at an index.
+/// Returns the 16-bit number at an index.
 pub(crate) fn number16_at(bytes: &[u8], at: usize) -> u16
     requires { at + 2 ≤ length bytes.now }
     ensures { result ≡ number16_at bytes.now at }
@@ -11,7 +11,7 @@ pub(crate) fn number16_at(bytes: &[u8], at: usize) -> u16
     u16::from_le_bytes([bytes[at], bytes[at + 1]])
 }
 
-/// The 32-bit number at an index.
+/// Returns the 32-bit number at an index.
 pub(crate) fn number32_at(bytes: &[u8], at: usize) -> u32
     requires { at + 4 ≤ length bytes.now }
     ensures { result ≡ number32_at bytes.now at }

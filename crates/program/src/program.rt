@@ -41,7 +41,7 @@ impl Model for Program {
 }
 
 impl Program {
-    /// The program with these data strings and instructions.
+    /// Creates a program with these data strings and instructions.
     pub fn new(strings: Vec<Octets>, instructions: Vec<Instruction>) -> Program
         requires { IsListing (record { strings = strings.items; instructions = instructions.items }) }
         ensures { result ≡ record { strings = strings.items; instructions = instructions.items } }
@@ -52,7 +52,7 @@ impl Program {
         }
     }
 
-    /// A copy of the program. `AllocError` if there is no memory for it.
+    /// Returns a copy of the program, or `AllocError` if there is no memory for it.
     pub fn copy(&self, alloc: Global) -> Result<Program, AllocError>
         ensures { IfOk result (λ program. program ≡ self.now) }
     {
@@ -64,7 +64,7 @@ impl Program {
         })
     }
 
-    /// The number of instructions.
+    /// Returns the number of instructions.
     pub fn instructions(&self) -> u16
         ensures count { result ≡ length self.now.instructions }
         // At most 4,096.
@@ -73,7 +73,8 @@ impl Program {
         self.instructions.len() as u16
     }
 
-    /// The instruction with this number, from 0. `None` if the number isn't below the number of instructions.
+    /// Returns the instruction with this number, counted from 0, or `None` if the number isn't below the number of
+    /// instructions.
     pub fn instruction(&self, pc: u16) -> Option<Instruction>
         ensures found { result ≡ slice_get self.now.instructions pc }
         ensures sound { IfSome result (IsSound self.now.strings (length self.now.instructions)) }
@@ -81,7 +82,7 @@ impl Program {
         self.instructions.get(usize::from(pc)).copied()
     }
 
-    /// The instructions, in order.
+    /// Returns the instructions, in order.
     pub fn code(&self) -> &[Instruction]
         ensures code { result.now ≡ self.now.instructions }
         // At most 4,096.
@@ -90,7 +91,7 @@ impl Program {
         &self.instructions
     }
 
-    /// The data strings, in order.
+    /// Returns the data strings, in order.
     pub fn strings(&self) -> &[Octets]
         ensures strings { result.now ≡ self.now.strings }
         ensures listing { IsListing self.now }
@@ -98,8 +99,8 @@ impl Program {
         &self.strings
     }
 
-    /// The bytes of the data string with this number, from 0. Empty if the number isn't below the number of data
-    /// strings.
+    /// Returns the bytes of the data string with this number, counted from 0; none if the number isn't below the number
+    /// of data strings.
     pub fn string(&self, number: u16) -> &[u8]
         ensures { result.now ≡ string_at self.now.strings number }
     {
@@ -109,9 +110,9 @@ impl Program {
         }
     }
 
-    /// The object of the program: its header, then its instructions in twelve bytes each, then its data strings, each
-    /// preceded by its length. Numbers are little-endian. [`read`] reads it back as the same program. `AllocError` if
-    /// there is no memory for it.
+    /// Returns the object of the program: its header, then its instructions in twelve bytes each, then its data
+    /// strings, each preceded by its length. Numbers are little-endian. [`read`] reads it back as the same program.
+    /// Fails with `AllocError` if there is no memory for it.
     pub fn to_bytes(&self, alloc: Global) -> Result<Vec<u8>, AllocError>
         ensures exact { IfOk result (λ bytes. bytes.items ≡ object_of self.now) }
         ensures reads_back { IfOk result (λ bytes. read_of bytes.items ≡ Ok self.now) }
@@ -120,7 +121,7 @@ impl Program {
     }
 }
 
-/// Copies of data strings.
+/// Returns copies of data strings.
 fn copied(alloc: Global, strings: &[Octets]) -> Result<Vec<Octets>, AllocError>
     ensures { IfOk result (λ copies. copies.items ≡ strings.now) }
 {

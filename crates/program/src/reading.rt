@@ -35,7 +35,7 @@ pub(crate) struct Header {
     strings: u16,
 }
 
-/// The counts in the header, if the header and the instructions fit in the bytes.
+/// Returns the counts in the header, if the header and the instructions fit in the bytes.
 fn counts_in(bytes: &[u8]) -> Result<Header, ObjectFault>
     ensures value { result ≡ counts_in bytes.now }
     ensures fits { IfOk result (Fits bytes.now) }
@@ -58,7 +58,7 @@ fn counts_in(bytes: &[u8]) -> Result<Header, ObjectFault>
     }
 }
 
-/// The counts in the header, or its first fault.
+/// Returns the counts in the header, or its first fault.
 #[tactic(auto, unfolding(crate::specs::Object::header_in))]
 fn header_in(bytes: &[u8]) -> Result<Header, ObjectFault>
     ensures value { result ≡ header_in bytes.now }
@@ -73,8 +73,8 @@ fn header_in(bytes: &[u8]) -> Result<Header, ObjectFault>
     counts_in(bytes)
 }
 
-/// The first data string, and the bytes after it. `None` unless the bytes start with a data string of 1 to 16,384
-/// bytes.
+/// Returns the first data string, and the bytes after it. Returns `None` unless the bytes start with a data string of 1
+/// to 16,384 bytes.
 #[tactic(auto, unfolding(crate::specs::Object::string_in))]
 fn split_string(bytes: &[u8]) -> Option<(&[u8], &[u8])>
     ensures { option_map (λ split. (split.0.now, split.1.now)) result ≡ string_in bytes.now }
@@ -89,7 +89,7 @@ fn split_string(bytes: &[u8]) -> Option<(&[u8], &[u8])>
     Some(bytes[2..].split_at(size))
 }
 
-/// A copy of a data string.
+/// Returns a copy of a data string.
 fn copy_of(alloc: Global, string: &[u8]) -> Result<Octets, ObjectFault>
     ensures { Gives (λ octets. octets) result (Ok string.now) }
 {
@@ -158,7 +158,7 @@ fn instructions_in(
     Ok(instructions)
 }
 
-/// The data strings after the instructions.
+/// Returns the data strings after the instructions.
 fn strings_after(alloc: Global, bytes: &[u8], header: Header) -> Result<Vec<Octets>, ObjectFault>
     requires { 16 + 12 * header.count ≤ length bytes.now }
     ensures { Gives (λ strings. strings.items) result (strings_after header.count header.strings bytes.now) }
@@ -168,7 +168,7 @@ fn strings_after(alloc: Global, bytes: &[u8], header: Header) -> Result<Vec<Octe
     strings_in(alloc, header.strings, after)
 }
 
-/// The instructions after the header.
+/// Returns the instructions after the header.
 fn instructions_after(
     alloc: Global,
     bytes: &[u8],

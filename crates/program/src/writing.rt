@@ -76,7 +76,7 @@ fn body(
     Ok(body)
 }
 
-/// The object of these data strings and instructions, which must form a program.
+/// Returns the object of these data strings and instructions, which must form a program.
 #[tactic(auto, unfolding(crate::specs::Object::laid_out))]
 pub(crate) fn object(
     alloc: Global,

@@ -160,10 +160,11 @@ fn have_widths(code: &[Instruction])
     }
 }
 
-/// The source of a program: its data strings with the names `d0`, `d1` and so on, then its instructions. Each jump
-/// target is preceded by its label: `L` and its number. If the address of `w` or `r` is a register's first address, it
-/// is printed as the register's name, with the index if the row has several registers. All other numeric operands are
-/// printed as eight hex digits. The source assembles to the same program. `OutOfMemory` if there is no memory for it.
+/// Returns the source of a program: its data strings with the names `d0`, `d1` and so on, then its instructions. Each
+/// jump target is preceded by its label: `L` and its number. If the address of `w` or `r` is a register's first
+/// address, it is printed as the register's name, with the index if the row has several registers. All other numeric
+/// operands are printed as eight hex digits. The source assembles to the same program. Fails with `OutOfMemory` if
+/// there is no memory for it.
 pub fn disassemble(alloc: Global, program: &Program) -> Result<String, OutOfMemory>
     ensures text { IfOk result (λ text. string_bytes text ≡ text_of program.now) }
     ensures means { IfOk result (λ text. program_of (string_bytes text) ≡ Ok program.now) }

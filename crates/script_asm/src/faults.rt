@@ -90,7 +90,7 @@ impl From<NumberFault> for LineFault {
 }
 
 impl LineFault {
-    /// The fault that is reported if a line has these two.
+    /// Returns the fault that is reported if a line has these two.
     fn reported_first(self, other: LineFault) -> LineFault
         ensures { result ≡ reported_first self other }
     {
@@ -102,7 +102,7 @@ impl LineFault {
         }
     }
 
-    /// The script's fault, given this fault of the line with this number.
+    /// Returns the script's fault, given this fault of the line with this number.
     pub(crate) fn at(self, number: usize) -> ScriptFault
         ensures { result ≡ fault_at number self }
     {
@@ -115,7 +115,7 @@ impl LineFault {
     }
 }
 
-/// Two operands of a line. If both are faulty, returns the fault that is reported first.
+/// Returns two operands of a line, or the fault that is reported first if one or both are faulty.
 pub(crate) fn both<A: Drop, B: Drop>(
     a: Result<A, LineFault>,
     b: Result<B, LineFault>,

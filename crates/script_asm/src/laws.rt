@@ -5,9 +5,9 @@ ghost use Rattle.script_asm.specs.Laws.{NamesHaveTheirPlaces};
 ghost use Rattle.script_asm.specs.ReadBack.{TextsReadBack};
 
 /// A source is a program exactly if each of its lines is a statement that fits the lines before it. The statements form
-/// the program, in order. To fit, a name must be new among labels, or among data; a data string must be at most 16,384
-/// bytes long and be preceded by fewer than 1,024 others; and an instruction must be preceded by fewer than 4,096
-/// others. A line with a name longer than 32 bytes isn't a statement.
+/// the program, in order. To fit, a label's name must be new among labels, and a data name among data names; a data
+/// string must be at most 16,384 bytes long and be preceded by fewer than 1,024 others; and an instruction must be
+/// preceded by fewer than 4,096 others. A line with a name longer than 32 bytes isn't a statement.
 pub fn program_is_what_lines_say()
     ensures { ProgramIsWhatLinesSay }
 {}

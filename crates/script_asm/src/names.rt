@@ -35,7 +35,7 @@ impl<'a> Name<'a> {
         Ok(Name { text: word })
     }
 
-    /// The name as text.
+    /// Returns the name as text.
     pub(crate) fn as_str(&self) -> &'a str
         ensures { result.now ≡ self.now }
     {

@@ -14,7 +14,7 @@ use text_format::Words;
 /// An instruction as written in its line, with labels and data by name.
 pub(crate) type Draft<'a> = Instruction<Name<'a>, Name<'a>>;
 
-/// The queue side that a word names: `rx` or `tx`.
+/// Returns the queue side that a word names: `rx` or `tx`.
 fn direction(word: &str) -> Result<Dir, LineFault>
     ensures { result ≡ direction_in word.now }
 {
@@ -25,7 +25,7 @@ fn direction(word: &str) -> Result<Dir, LineFault>
     }
 }
 
-/// The link state that a word names: `up` or `down`.
+/// Returns the link state that a word names: `up` or `down`.
 fn link(word: &str) -> Result<bool, LineFault>
     ensures { result ≡ link_in word.now }
 {
@@ -36,7 +36,7 @@ fn link(word: &str) -> Result<bool, LineFault>
     }
 }
 
-/// The number of a virtual function, 0 to 62.
+/// Returns the number of a virtual function, 0 to 62.
 fn function(word: &str) -> Result<u8, LineFault>
     ensures { result ≡ number_below 63 word.now }
 {
@@ -44,7 +44,7 @@ fn function(word: &str) -> Result<u8, LineFault>
     Ok(number as u8)
 }
 
-/// The interrupt group that a word names.
+/// Returns the interrupt group that a word names.
 fn group(word: &str) -> Result<Group, LineFault>
     ensures { result ≡ group_in word.now }
 {
@@ -57,7 +57,7 @@ fn group(word: &str) -> Result<Group, LineFault>
     }
 }
 
-/// The 16-bit number of a block or a queue.
+/// Returns the 16-bit number of a block or a queue.
 fn number16(word: &str) -> Result<u16, LineFault>
     ensures { result ≡ number16_in word.now }
 {
@@ -65,7 +65,7 @@ fn number16(word: &str) -> Result<u16, LineFault>
     Ok(number as u16)
 }
 
-/// The index of one of four words, 0 to 3.
+/// Returns the index of one of four words, 0 to 3.
 fn word_number(word: &str) -> Result<u8, LineFault>
     ensures { result ≡ number_below 4 word.now }
 {
@@ -73,7 +73,7 @@ fn word_number(word: &str) -> Result<u8, LineFault>
     Ok(number as u8)
 }
 
-/// The operation with this name and no operands.
+/// Returns the operation with this name and no operands.
 fn alone<'a>(name: &str) -> Result<Draft<'a>, LineFault>
     ensures { result ≡ looked_up name.now table_alone }
 {
@@ -86,7 +86,7 @@ fn alone<'a>(name: &str) -> Result<Draft<'a>, LineFault>
     }
 }
 
-/// The operation with this name and one operand.
+/// Returns the operation with this name and one operand.
 fn with_one<'a>(name: &str, a: &'a str) -> Result<Draft<'a>, LineFault>
     ensures { result ≡ looked_up name.now (table_of_one a.now) }
 {
@@ -111,7 +111,7 @@ fn with_one<'a>(name: &str, a: &'a str) -> Result<Draft<'a>, LineFault>
     }
 }
 
-/// The operation with this name and two operands.
+/// Returns the operation with this name and two operands.
 fn with_two<'a>(name: &str, a: &'a str, b: &'a str) -> Result<Draft<'a>, LineFault>
     ensures { result ≡ looked_up name.now (table_of_two a.now b.now) }
 {
@@ -152,7 +152,7 @@ fn with_two<'a>(name: &str, a: &'a str, b: &'a str) -> Result<Draft<'a>, LineFau
     }
 }
 
-/// The operation with this name and three operands.
+/// Returns the operation with this name and three operands.
 fn with_three<'a>(name: &str, a: &str, b: &str, c: &str) -> Result<Draft<'a>, LineFault>
     ensures { result ≡ looked_up name.now (table_of_three a.now b.now c.now) }
 {
@@ -169,7 +169,7 @@ fn with_three<'a>(name: &str, a: &str, b: &str, c: &str) -> Result<Draft<'a>, Li
     }
 }
 
-/// The instruction with this operation's name and these operands.
+/// Returns the instruction with this operation's name and these operands.
 pub(crate) fn read_instruction<'a>(
     name: &str,
     mut operands: Words<'a>,

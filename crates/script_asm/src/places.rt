@@ -28,7 +28,7 @@ impl<'a> Model for Places<'a> {
 }
 
 impl<'a> Places<'a> {
-    /// An empty list of names.
+    /// Returns an empty list of names.
     pub(crate) fn new(alloc: Global) -> Places<'a>
         ensures { result ≡ nowhere }
     {
@@ -37,7 +37,7 @@ impl<'a> Places<'a> {
         }
     }
 
-    /// The number of a name. `None` if the name isn't defined.
+    /// Returns the number of a name, or `None` if the name isn't defined.
     pub(crate) fn place_of(&self, name: &Name<'_>) -> Option<u16>
         ensures { result ≡ place_of self.now name.now }
     {

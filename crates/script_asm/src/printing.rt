@@ -30,7 +30,7 @@ impl fmt::Display for PlaceText {
     }
 }
 
-/// The register that has this first address.
+/// Returns the register that has this first address.
 fn place_first_at(address: u32) -> Option<Place>
     ensures { result ≡ place_first_at address }
 {
@@ -117,14 +117,14 @@ impl fmt::Display for Line {
     }
 }
 
-/// The operand for a number of 8 or 16 bits.
+/// Returns the operand for a number of 8 or 16 bits.
 fn number(number: u16) -> Operand
     ensures { result ≡ Operand.Word number }
 {
     Operand::Word(u32::from(number))
 }
 
-/// The operand for a group of interrupts.
+/// Returns the operand for a group of interrupts.
 fn group(group: Group) -> Operand
     ensures { operand_text result ≡ group_text group }
 {
@@ -134,7 +134,7 @@ fn group(group: Group) -> Operand
     }
 }
 
-/// The operand for a side of a queue.
+/// Returns the operand for a side of a queue.
 fn direction(direction: Dir) -> Operand
     ensures { operand_text result ≡ direction_text direction }
 {
@@ -144,14 +144,14 @@ fn direction(direction: Dir) -> Operand
     }
 }
 
-/// The operand for the link's state: `up` or `down`.
+/// Returns the operand for the link's state: `up` or `down`.
 fn link(up: bool) -> Operand
     ensures { operand_text result ≡ link_text up }
 {
     Operand::Named(if up { "up" } else { "down" })
 }
 
-/// The parts of an instruction's line, ready to print.
+/// Returns the parts of an instruction's line, ready to print.
 fn line_of(instruction: &Instruction) -> Line
     ensures { line_text result ≡ instruction_text instruction.now }
 {

@@ -59,7 +59,7 @@ impl<'a> Model for Sheet<'a> {
 }
 
 impl<'a> Sheet<'a> {
-    /// The sheet before the first line.
+    /// Returns the sheet before the first line.
     pub(crate) fn new(alloc: Global) -> Sheet<'a>
         ensures { result ≡ blank }
     {
@@ -119,7 +119,7 @@ impl<'a> Sheet<'a> {
         }
     }
 
-    /// The number of the instruction at the label that a line jumps to.
+    /// Returns the number of the instruction at the label that a line jumps to.
     fn label_named(&self, line: usize, name: &Name<'_>) -> Result<u16, ScriptFault>
         ensures { result ≡ label_named self.now line name.now }
     {
@@ -128,7 +128,7 @@ impl<'a> Sheet<'a> {
             .ok_or(ScriptFault::UnknownLabel(line))
     }
 
-    /// The number of the data string that a line uses.
+    /// Returns the number of the data string that a line uses.
     fn data_named(&self, line: usize, name: &Name<'_>) -> Result<u16, ScriptFault>
         ensures { result ≡ data_named self.now line name.now }
     {
@@ -137,7 +137,7 @@ impl<'a> Sheet<'a> {
             .ok_or(ScriptFault::UnknownLabel(line))
     }
 
-    /// The length in bytes of a data string.
+    /// Returns the length in bytes of a data string.
     fn bytes_of(&self, number: u16) -> usize
         ensures { result ≡ length (string_at self.now.strings number) }
     {
@@ -147,7 +147,7 @@ impl<'a> Sheet<'a> {
         }
     }
 
-    /// The instruction, unless it pokes data that isn't 16 bytes long.
+    /// Returns the instruction, unless it pokes data that isn't 16 bytes long.
     fn fitting(&self, line: usize, instruction: Instruction) -> Result<Instruction, ScriptFault>
         ensures { result ≡ fitting self.now line instruction }
     {
@@ -161,7 +161,7 @@ impl<'a> Sheet<'a> {
         }
     }
 
-    /// The instruction with numbers in place of names.
+    /// Returns the instruction with numbers in place of names.
     fn resolved(&self, line: usize, draft: &Draft<'a>) -> Result<Instruction, ScriptFault>
         ensures { result ≡ resolved self.now line draft.now }
     {
@@ -213,7 +213,7 @@ impl<'a> Sheet<'a> {
         self.all_resolved(alloc, &self.drafts)
     }
 
-    /// The program of all lines that were read.
+    /// Returns the program of all lines that were read.
     pub(crate) fn into_program(self, alloc: Global) -> Result<Program, ScriptFault>
         requires { IsReady self }
         ensures { Gives (λ program. program) result (program_in self.entry) }

@@ -27,7 +27,7 @@ pub(crate) enum Statement<'a> {
     Instruction(Draft<'a>),
 }
 
-/// The bytes that a word spells in hex.
+/// Returns the bytes that a word spells in hex.
 fn read_bytes(alloc: Global, number: usize, word: &str) -> Result<Octets, ScriptFault>
     ensures { Gives (λ bytes. bytes) result (at_line number (bytes_in word.now)) }
 {
@@ -39,7 +39,7 @@ fn read_bytes(alloc: Global, number: usize, word: &str) -> Result<Octets, Script
     }
 }
 
-/// A data line: a name and its bytes.
+/// Returns the statement of a data line: a name and its bytes.
 fn read_data<'a>(
     alloc: Global,
     number: usize,
@@ -59,14 +59,14 @@ fn read_data<'a>(
     }
 }
 
-/// The part of a word before a final colon.
+/// Returns the part of a word before a final colon.
 fn before_colon(word: &str) -> Option<&str>
     ensures { option_copied result ≡ before_last_byte 58 word.now }
 {
     word.strip_suffix(':')
 }
 
-/// A label, which must be alone on its line.
+/// Returns a label, which must be alone on its line.
 fn read_label<'a>(name: &'a str, mut operands: Words<'a>) -> Result<Statement<'a>, LineFault>
     ensures { result ≡ label_in name.now operands.entry }
 {
@@ -77,7 +77,7 @@ fn read_label<'a>(name: &'a str, mut operands: Words<'a>) -> Result<Statement<'a
     Ok(Statement::Label(name))
 }
 
-/// A label or an instruction, depending on the line's first word.
+/// Returns a label or an instruction, depending on the line's first word.
 fn read_other<'a>(first: &'a str, operands: Words<'a>) -> Result<Statement<'a>, LineFault>
     ensures { result ≡ label_or_instruction first.now (before_last_byte 58 first.now) operands.entry }
 {

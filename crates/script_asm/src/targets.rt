@@ -10,7 +10,7 @@ use crate::faults::{LineFault, both};
 use reg_table::{Place, RowId, addr_of, count_of, row_named};
 use text_format::is_name;
 
-/// The 32-bit number that a word spells.
+/// Returns the 32-bit number that a word spells.
 pub(crate) fn number(word: &str) -> Result<u32, LineFault>
     ensures { result ≡ number_in word.now }
 {
@@ -18,7 +18,7 @@ pub(crate) fn number(word: &str) -> Result<u32, LineFault>
     Ok(number)
 }
 
-/// The number that a word spells, if it is below a limit.
+/// Returns the number that a word spells, if it is below a limit.
 pub(crate) fn number_below(limit: u32, word: &str) -> Result<u32, LineFault>
     ensures { result ≡ number_below limit word.now }
 {
@@ -30,14 +30,14 @@ pub(crate) fn number_below(limit: u32, word: &str) -> Result<u32, LineFault>
     }
 }
 
-/// The row with this name.
+/// Returns the row with this name.
 fn row(name: &str) -> Result<RowId, LineFault>
     ensures { result ≡ row_in name.now }
 {
     row_named(name).ok_or(LineFault::UnknownName)
 }
 
-/// The first address of a row's register with this index.
+/// Returns the first address of a row's register with this index.
 fn register_address(row: RowId, index: u32) -> Result<u32, LineFault>
     ensures { result ≡ register_address row index }
 {
@@ -49,7 +49,7 @@ fn register_address(row: RowId, index: u32) -> Result<u32, LineFault>
     }
 }
 
-/// The address of a row and an index, either of which may be faulty.
+/// Returns the address of a row and an index, either of which may be faulty.
 fn address(row: Result<RowId, LineFault>, index: Result<u32, LineFault>) -> Result<u32, LineFault>
     ensures { result ≡ address_in row index }
 {
@@ -57,18 +57,18 @@ fn address(row: Result<RowId, LineFault>, index: Result<u32, LineFault>) -> Resu
     register_address(row, index)
 }
 
-/// The part of a word before a final bracket.
+/// Returns the part of a word before a final bracket.
 fn before_bracket(word: &str) -> Option<&str>
     ensures { option_copied result ≡ before_last_byte 93 word.now }
 {
     word.strip_suffix(']')
 }
 
-/// The address in bytes that a word names: `ROW[INDEX]`, the first address of that register; `ROW`, for its index 0; or
-/// a number.
+/// Returns the address in bytes that a word names: `ROW[INDEX]`, the first address of that register; `ROW`, for its
+/// index 0; or a number.
 ///
-/// Errors: `Syntax` if the word has another form, then `UnknownName` if there is no such row, then `Range` for a number
-/// that isn't below 2^32 or an index that isn't below the row's count.
+/// Errors: `Syntax` if the word has none of these forms, then `UnknownName` if there is no such row, then `Range` for a
+/// number that isn't below 2^32 or an index that isn't below the row's count.
 #[tactic(auto, unfolding(crate::specs::Target::target_of))]
 pub fn target(word: &str) -> Result<u32, LineFault>
     ensures { result ≡ target_of word.now }

@@ -28,10 +28,10 @@ pub fn instructions_are_bytes()
 {}
 
 /// Bytes that aren't an object are refused with their first fault. 37 lists of bytes show this, and three more lists
-/// are objects. A fault is in the first four bytes, then in the version, then in the numbers of the header or the
-/// parts, then in the first faulty instruction, whose number is reported. That instruction's first fault is reported:
-/// its operation, then an operand that is out of its range, or unused but not 0, and then its target. Missing bytes of
-/// the header count as wrong ones.
+/// are objects. Faults are reported in this order: the first four bytes, the version, the numbers of the header or the
+/// parts, and the first faulty instruction, with its number. Within an instruction, the order is its operation, an
+/// operand that is out of its range or unused but not 0, and its target. Missing bytes of the header count as wrong
+/// ones.
 #[tactic(auto, using(crate::proofs::Objects::faults))]
 pub fn objects_have_an_order_of_faults()
     ensures { ObjectsHaveFaults }

@@ -195,7 +195,7 @@ def check_who(folder: Path, expect: Expect) -> None:
             others.settimeout(2)
             outside = [it for it in addresses() if not it.startswith("127.")]
             for address in outside:
-                expect(others.connect_ex((address, it.port)) != 0, f"live: it also listens at {address}")
+                expect(others.connect_ex((address, it.port)) != 0, f"live: nicview also listens at {address}")
 
 
 def addresses() -> list[str]:
@@ -235,8 +235,8 @@ def check_hostile(folder: Path, expect: Expect) -> None:
         with open(file, "ab") as to:
             to.writelines(b"x" * 1_000_000 for _ in range(30))
         said = it.until(lambda it: it["said"] != "")["said"]
-        expect("recording lines are at most" in said, f"live: an endless line: {said!r}")
-        expect(it.peak() < 200, f"live: it used {it.peak()} MiB")
+        expect("a line of a recording has at most" in said, f"live: an endless line: {said!r}")
+        expect(it.peak() < 200, f"live: nicview used {it.peak()} MiB")
         status, seconds, _ = it.end()
         expect(status == 0 and seconds < 20, f"live: ctrl-C: status {status} after {seconds:.0f} s")
 

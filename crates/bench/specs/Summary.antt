@@ -32,7 +32,7 @@ abbrev pub queue_line : ℕ → List Report → List ℕ
 queue_line queue reports = codes "queue " ++ (decimal queue ++ (codes " packets " ++ (decimal (length reports)
     ++ (codes " bytes " ++ (decimal (byte_count reports) ++ codes "\n")))))
 
--- The lines of queues, numbered from `queue` on.
+-- The lines of queues, numbered starting at `queue`.
 abbrev pub queue_lines : ℕ → List (List Report) → List ℕ
 queue_lines queue [] = []
 queue_lines queue (reports ∷ rest) = queue_line queue reports ++ queue_lines (suc queue) rest

@@ -1,7 +1,7 @@
 //! Out-parameters through which C receives the pointers to a new card and to a snapshot.
 //!
-//! A struct with type parameters can't be passed to C, so each type has its own struct. Each owns nothing, or what a
-//! box of its value owns. One proof covers all such structs (`proofs/HandleForm.antt`).
+//! A struct with type parameters can't be passed to C, so each type has its own struct. Each is empty and owns nothing,
+//! or owns what a box of its value owns. One proof covers all such structs (`proofs/HandleForm.antt`).
 
 ghost use Rattle.std.specs.Coded.{coded_option};
 ghost use Rattle.std.specs.Prelude.{◌≡◌, Option, Some};

@@ -149,7 +149,7 @@ def first_sentence(group: Group) -> str:
 
 
 def values(group: Group) -> str:
-    """Returns the meaning of each status that the comment names, and of the one for a controller that isn't open."""
+    """Returns the meaning of each status that the comment names, and of the status for a controller that isn't open."""
     means, wanted = statuses(), re.findall(r"\b[A-Z][A-Z_]{3,}\b", group.comment)
     if "NIC_IMAGE_.." in group.comment:
         wanted += [name for name in means if name.startswith(("IMAGE_", "TEXT_"))]

@@ -86,7 +86,7 @@ def model(files: list[str]) -> Files:
     written = dict(controller())
     modules, root = written.pop("modules.rs").decode(), packed["src/lib.rs"].decode()
     if root.count(INCLUDED) != 1:
-        raise Unpacked(f"{MODEL}/src/lib.rs doesn't include {INCLUDED.strip()} once")
+        raise Unpacked(f"{MODEL}/src/lib.rs must contain {INCLUDED.strip()} exactly once")
     packed["src/lib.rs"] = root.replace(INCLUDED, modules).encode()
     packed |= {f"src/{name}": data for name, data in written.items()}
     return packed | {"LICENSE": (ROOT / "LICENSE").read_bytes()}

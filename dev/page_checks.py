@@ -89,7 +89,7 @@ def check_finding(look: Look) -> None:
     look.browser.load(look.file)
     look.is_at(found["step"], "opening a finding")
     shown = look.browser.value("document.getElementById('finding').innerText")
-    look.expect(found["words"] in shown and found["outcome"] in shown, f"the finding isn't on top: {shown}")
+    look.expect(found["words"] in shown and found["outcome"] in shown, f"the finding isn't at the top: {shown}")
     title = look.browser.value("document.getElementById('now-title').innerText")
     look.expect("task poll" in title, f"the title doesn't name the actor: {title}")
     look.browser.load(look.file, "#start")

@@ -67,7 +67,7 @@ def written(node: ast.expr) -> str:
             return f"({written(node.test)} ? {written(node.body)} : {written(node.orelse)})"
         case ast.Call(func=ast.Name()):
             return f"nicl_why_{node.func.id}({', '.join(['it', *map(bare, node.args)])})"
-    raise Bad(f"what is this: {ast.unparse(node)}")
+    raise Bad(f"unsupported expression: {ast.unparse(node)}")
 
 
 def bare(node: ast.expr) -> str:

@@ -63,7 +63,7 @@ __attribute__((destructor)) static void finish(void)
     tell = -1;
 }
 
-/* A program with threads ends with this call, which runs no exit handlers. */
+/* A program with threads exits through this call, which runs no exit handlers. */
 __attribute__((noreturn)) void _exit(int status)
 {
     finish();

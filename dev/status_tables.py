@@ -103,7 +103,7 @@ def lists() -> dict[str, Numbers]:
         taken = {mine[it] for it in AROUND & mine.keys()} & set(other.values())
         assert not taken, f"{CRATE} also uses {taken}"
     named = set(re.findall(r"case NIC_(\w+): return", text_of(HEADER)))
-    assert named == found["nic_status"].keys() - {"IMAGE", "TEXT"}, "nic_status_name names other statuses than the enum"
+    assert named == found["nic_status"].keys() - {"IMAGE", "TEXT"}, "nic_status_name and the enum differ"
     for name, function in WORDS.values():
         words = words_of(function)
         assert sorted(found[name].values()) == [k for k, word in enumerate(words) if word], f"{function} differs"

@@ -104,7 +104,7 @@ static void make_refused(size_t k)
         if (!is_refusal(&answers[k]))
             differ("a call whose memory request failed has the wrong status, or changed something");
         if (at == MOST_REFUSED)
-            differ("the memory requests don't end");
+            differ("the call never stops requesting memory");
     }
 }
 

@@ -4,7 +4,7 @@ use denote.RattleType.{RattleType}
 use denote.Ref.{MutBor}
 use denote.Follow.{follows}
 
--- When the borrow r ends, the handle after h, of the row H, has the value that was last written through r.
+-- When the borrow r ends, the handle that follows h, of type H, contains the value that was last written through r.
 abbrev pub lends :
     (H R : RattleType) → (H.Denot → R.Denot → H.Denot) → MutBor H.Denot → MutBor R.Denot → Fml
 lends H R with_value h r = follows H R h.ghost_name r.ghost_name (with_value h.now)

@@ -102,7 +102,7 @@ rounds zero room steps c = record c { ended = 38 }
 rounds (suc more) room steps c =
     if is_last c (walked room c steps) then walked room c steps else rounds more room steps (walked room c steps)
 
--- A settling with an array of this many entries. Each round but the last fills at least one.
+-- A settling with an array of this many entries. Each round except the last fills at least one entry.
 abbrev pub settled : ℕ → ℕ → Holdings → Course
 settled queues room card = rounds room room (round_of queues) (record { card = card; outcome = []; ended = 0 })
 

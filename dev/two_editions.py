@@ -143,7 +143,7 @@ def compare_all(pair: Programs, what: str, every: Iterable[Input], jobs: int) ->
     for line in found[:SHOWN]:
         print(f"  {line}")
     if kept:
-        print(f"  the input of the first one: {keep(kept[0])}")
+        print(f"  the input of the first difference: {keep(kept[0])}")
     return len(found)
 
 

@@ -318,4 +318,4 @@ def check_fits(look: Look) -> None:
         most, where = max((most, where), (end, number))
         cards = max(cards, browser.value("document.querySelectorAll('#grid .line').length"))
     look.expect(cards == 32, f"{cards} rings are shown; sixteen queues have 32")
-    look.expect(most <= 800, f"the rings end at pixel {most} at step {where}; only 800 are allowed")
+    look.expect(most <= 800, f"the rings end at pixel {most} at step {where}; at most 800 are allowed")

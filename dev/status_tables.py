@@ -81,7 +81,7 @@ def constants(file: str) -> Numbers:
 
 
 def of_crate() -> tuple[Numbers, Numbers, Numbers]:
-    """Returns the crate's statuses, reasons to drop and faults."""
+    """Returns the crate's statuses, drop reasons and faults."""
     statuses = {name: it for name, it in constants("status.rt").items() if name not in UNANSWERED}
     images, base = text_of(f"{CRATE}/images.rt"), constants("images.rt")
     of_image = re.findall(r"(?:Load|Asm)Fault::(\w+)(?:\(_\))? => (IMAGE|TEXT) \+ (\d+),", images)

@@ -32,7 +32,7 @@ REFUSALS = {
     "# a list\nreceive-one 0\n": ":2: malformed line: ",
     "receive-one 1001\n": ":1: malformed line: ",
     "receive-one 1 2\n": ":1: malformed line: ",
-    "receive-one\nsend-one\nreceive-one 3\n": ":3: row twice: receive-one is already in line 1",
+    "receive-one\nsend-one\nreceive-one 3\n": ":3: duplicate row: receive-one is already on line 1",
     "# nothing\n\n": ": no rows: ",
     "\x1b]0;title\x07\n": r":1: malformed line: .*\\x1b",
 }

@@ -66,7 +66,7 @@ WRONG = {
     "ExitsInReceive": ("receive-one", "check: SystemExit: 0"),
     "EndsTheProcess": ("receive-one", "crash: the process exited with status 0"),
     "AbortsInClose": ("open-close", "crash: the process was killed by signal 6"),
-    "PieceLeft": ("open-close", "1 allocation of nicd_alloc wasn't freed"),
+    "PieceLeft": ("open-close", "1 nicd_alloc allocation wasn't freed"),
     "FromAThread": ("receive-one", "a call comes from a thread that the driver created itself"),
     "StateLeft": ("receive-wrap", "misuse: begin doesn't initialize all of the driver's state"),
 }

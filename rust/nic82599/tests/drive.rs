@@ -464,7 +464,7 @@ fn what_is_wrong_is_reported(folder: &Path) {
         (FRAME_TOO_LONG, "receive-one", "check: a 9725-byte frame is delivered from queue 0"),
         (ABORT_IN_CLOSE, "open-close", "crash: the process was killed by signal 6"),
         (EXIT_IN_RECEIVE, "receive-one", "crash: the process exited with status 0"),
-        (OWN_LEFT, "open-close", "1 allocation of nicd_alloc wasn't freed"),
+        (OWN_LEFT, "open-close", "1 nicd_alloc allocation wasn't freed"),
         (GUARD_OVER_A_CALL, "both-ways", "already borrowed"),
     ];
     for (fault, name, words) in faults {

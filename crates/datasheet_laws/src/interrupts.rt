@@ -40,9 +40,9 @@ pub fn causes_are_set()
 {}
 
 /// A write to EICR or PVTEICR clears the causes of the bits written as 1, and no others. A read clears all causes; a
-/// read of EICR while GPIE bit 5 is 1 clears only bits 29 to 16. While the auto-mask acts on accesses, a write also
-/// clears the masks of the bits that are written as 1 and that EIAM or PVTEIAM contains. A read then clears the masks
-/// of all bits that EIAM or PVTEIAM contains. Neither access changes another bit or another group.
+/// read of EICR while GPIE bit 5 is 1 clears only bits 29 to 16. While the auto-mask acts on accesses, both also clear
+/// masks: a write those of the bits that are written as 1 and that EIAM or PVTEIAM contains, and a read those of all
+/// bits that EIAM or PVTEIAM contains. Neither access changes another bit or another group.
 #[tactic(auto, using(crate::proofs::Causes::causes_clear, crate::proofs::Causes::read_clears))]
 pub fn causes_are_cleared()
     ensures write { WriteOfCausesClears }

@@ -116,8 +116,8 @@ pub fn pool_resets_take_the_pools_registers()
     ensures { PoolResetsTake }
 {}
 
-/// A unicast frame passes the filter if and only if bit 9 of FCTRL, at 0x05080, is 1 or a receive address, out of 128,
-/// is its destination, byte by byte. Bytes 0 to 3 are in bits 7 to 0, 15 to 8, 23 to 16 and 31 to 24 of 0x0A200 + 8i;
+/// A unicast frame passes the filter if and only if FCTRL bit 9, at 0x05080, is 1, or its destination is one of the 128
+/// receive addresses, byte by byte. Bytes 0 to 3 are in bits 7 to 0, 15 to 8, 23 to 16 and 31 to 24 of 0x0A200 + 8i;
 /// bytes 4 and 5 are in bits 7 to 0 and 15 to 8 of 0x0A204 + 8i, and its bit 31 marks the address as valid. A multicast
 /// frame passes if and only if bit 8 is 1, a receive address is its destination, or it is listed in MTA. It is listed
 /// if bit 2 of MCSTCTRL, at 0x05090, and the frame's bit of MTA are 1. MTA begins at 0x05200. A broadcast frame passes
@@ -210,7 +210,7 @@ pub fn hash_is_of_the_key()
 /// bit 2 is 1, MAXFRS bits 31 to 16, at 0x04268, minus 4. Bit 5 of GPIE, at 0x00898, determines whether a read of EICR
 /// clears only bits 29 to 16, and bit 30 whether the auto-mask is only for messages. SRRCTL[q] bit 28 drops frames for
 /// which there is no descriptor. If TDWBAL[q] bit 0 is 1, the head is written to the address in TDWBAH[q] and TDWBAL[q]
-/// bits 31 to 2. A clear-on-read counter is incremented by one each time, and saturates at 0xFFFFFFFF.
+/// bits 31 to 2. Each increment adds one to a clear-on-read counter, which saturates at 0xFFFFFFFF.
 pub fn settings_are_bits()
     ensures device { DevicesAreSet }
     ensures queue { QueuesAreSet }
@@ -231,11 +231,11 @@ pub fn images_are_by_number()
     ensures writes { WritesAreByNumber }
 {}
 
-/// In an image assembled from source, each of words 0x03 to 0x0E points to nothing or to a word at 0x40 or above. That
-/// word is in the image, and so are all words that follow it. So a value of 5 is refused in each of them, but not in
-/// words 0x02 and 0x0F. Register write k of the source is in words 0x41 + 3k to 0x43 + 3k of its image, in the order of
-/// the source. Word 0x40 says how many words follow it, and word 0x0D is 0x40. Without register writes, word 0x0D is
-/// 0xFFFF.
+/// In an image assembled from source, each of words 0x03 to 0x0E points to nothing or to a word at 0x40 or above. The
+/// word pointed to is in the image, and so are all words that follow it. So a value of 5 is refused in each of words
+/// 0x03 to 0x0E, but not in words 0x02 and 0x0F. Register write k of the source is in words 0x41 + 3k to 0x43 + 3k of
+/// its image, in the order of the source. Word 0x40 says how many words follow it, and word 0x0D is 0x40. Without
+/// register writes, word 0x0D is 0xFFFF.
 #[tactic(auto, using(crate::proofs::Eeprom::point, crate::proofs::Eeprom::words_point, crate::proofs::Eeprom::texts))]
 pub fn texts_are_laid_out()
     ensures pointers { TextsPoint }

@@ -19,8 +19,9 @@ HasOneMore image more offset value = triples_of more ≡ triples_of image ++ (of
 abbrev pub IsWritten : ℕ → Type 0
 IsWritten offset = (p : Place) → Names offset p → (p.row ≢ Ctrl) × (p.row ≢ Eerd)
 
--- If an image has one more write at its end, to neither CTRL nor EERD, a reset leads to the state without this write,
--- and then performs it like any other write. So a write that follows one without effect is also performed.
+-- Suppose that an image has one more write at its end, to neither CTRL nor EERD. Then a reset leads to the same state
+-- as with the image without this write, followed by this write as by any other. So a write that follows one without
+-- effect is also performed.
 abbrev pub LastWriteIsMade : Type 0
 LastWriteIsMade =
     (s : State) (image : List ℕ) (offset value : ℕ) → HasOneMore s.image image offset value → IsWritten offset →

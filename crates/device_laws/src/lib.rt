@@ -76,8 +76,8 @@ pub fn let_in_frame_is_counted()
 /// MPC counts frames that find the receive list full, RUC frames that are too short, ROC frames that are too long, GPRC
 /// accepted frames, and GPTC transmitted frames. QPRC, QPRDC and QPTC count the frames of queues in the counters that
 /// RQSMR and TQSM assign: QPRC counts completely written frames, QPRDC frames dropped because no descriptor was free,
-/// and QPTC transmitted frames. All these counters saturate at 0xFFFFFFFF. Apart from counting, only a read of the
-/// counter or a reset changes a counter.
+/// and QPTC transmitted frames. All these counters saturate at 0xFFFFFFFF. Apart from counting, only a read of a
+/// counter or a reset changes it.
 #[tactic(auto, using(crate::proofs::Counts::events_count))]
 pub fn events_count()
     ensures { EventsCount }
@@ -292,11 +292,11 @@ pub fn vf_access_is_the_physical_functions()
 {}
 
 /// A virtual function's access changes only what belongs to its pool, and the bits that signal the physical function:
-/// two bits of PFMBICR, and EICR bit 19. The pool consists of its registers, including its mailbox and the mailbox's
-/// memory, its enable requests, reported bits and staged bytes, and the frames in the receive list for its queues. The
-/// frames of other pools keep their order. Memory, transmitted frames, the link, the image and the configuration are
-/// unchanged. The access changes staged bytes and frames, even of its own pool, only if it requests a pool reset with
-/// PVFCTRL bit 26.
+/// two bits of PFMBICR, and EICR bit 19. These belong to the pool: its registers, including its mailbox and the
+/// mailbox's memory; its enable requests, reported bits and staged bytes; and the frames in the receive list for its
+/// queues. The frames of other pools keep their order. Memory, transmitted frames, the link, the image and the
+/// configuration are unchanged. The access changes staged bytes and frames, even of its own pool, only if it requests a
+/// pool reset with PVFCTRL bit 26.
 ///
 /// Suppose that two devices agree on what belongs to the pool, on the number of functions, on GCR_EXT, on CTRL bit 2
 /// and on the link. Then they reply to the access in the same way, and still agree afterwards.

@@ -73,7 +73,7 @@ EachQueueHasOnePool =
 
 -- The registers of a function's queue are at offsets given by the queue's index `x` among the function's queues. The
 -- receive registers are at 0x1000 + 0x40 * x and the transmit registers at 0x2000 + 0x40 * x, with the same distances
--- as in the device. Each pair of queues has one vector register; the first is at 0x120.
+-- as in the device. Each pair of queues has one vector register: that of pair `y` is at 0x120 + 4 * y.
 pub record QueueRegistersAreThere : Type 0 where
   pub receive : (mode : Mode) (vfs v first count x : ℕ) (row : RowId) → v < vfs →
       queues_of mode v ≡ Some (first, count) → x < count → IsTrue (is_receive row) →

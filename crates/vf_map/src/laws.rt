@@ -39,7 +39,7 @@ pub fn each_queue_has_one_pool()
 
 /// The registers of a function's queue are at offsets given by the queue's index `x` among the function's queues. The
 /// receive registers are at 0x1000 + 0x40 * x and the transmit registers at 0x2000 + 0x40 * x, with the same distances
-/// as in the device. Each pair of queues has one vector register; the first is at 0x120.
+/// as in the device. Each pair of queues has one vector register: that of pair `y` is at 0x120 + 4 * y.
 pub fn queue_registers_are_there()
     ensures { QueueRegistersAreThere }
 {}

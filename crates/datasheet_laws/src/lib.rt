@@ -244,10 +244,10 @@ pub fn texts_are_laid_out()
 {}
 
 /// A source that sets words has the first of these faults, as 21 sources just inside and just outside the limits show.
-/// First, an index with two values: the lowest such index is reported. Second, a reserved index: 0x0D, 0x3F, and 0x40
-/// to 0x40 + 3k of a source with k register writes; the lowest such index is reported. Third, an index, or the last of
-/// the reserved words, that isn't below the size: 21 register writes fit into 128 words, and 22 don't. Last, a pointer
-/// that points outside.
+/// First, an index that is set twice, with the same value or not: the lowest such index is reported. Second, a reserved
+/// index: 0x0D, 0x3F, and, if the source has k register writes and k is above 0, 0x40 to 0x40 + 3k; the lowest such
+/// index is reported. Third, an index, or the last of the reserved words, that isn't below the size: 21 register writes
+/// fit into 128 words, and 22 don't. Last, a pointer that points outside.
 #[tactic(auto, using(crate::proofs::Eeprom::faults))]
 pub fn texts_have_an_order_of_faults()
     ensures { TextsHaveFaults }

@@ -106,8 +106,8 @@ impl Run {
 }
 
 impl Arena {
-    /// Returns the lowest number, `from` or higher, at which `count` consecutive blocks are free; `count` must be at
-    /// most 8. Returns `None` if and only if there is no such number. `from` must not be below the arena's numbers.
+    /// Returns the arena's lowest number, `from` or higher, that begins a run of `count` free blocks; `count` must be
+    /// at most 8. Returns `None` if and only if there is no such number. `from` must not be below the arena's numbers.
     pub fn find_run(&self, from: u32, count: u32) -> Option<u32>
         requires from { self.now.first ≤ from }
         requires few { count ≤ 8 }

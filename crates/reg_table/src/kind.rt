@@ -1,4 +1,4 @@
-/// What reads and writes to a register do.
+/// What reads and writes of a register do.
 #[derive(Clone, Copy, PartialEq, Eq, Debug)]
 pub enum Kind {
     /// Read-write. A read returns the word. A write replaces the bits in the row's mask.

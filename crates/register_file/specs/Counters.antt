@@ -20,6 +20,6 @@ abbrev pub mapping_row : Dir → RowId
 mapping_row Rx = Rqsmr
 mapping_row Tx = Tqsm
 
--- The counter, 0 to 15, that counts the frames on a side of a queue.
+-- The number, 0 to 15, of the counter that is assigned to a side of a queue.
 abbrev pub counter_of : Registers → Dir → ℕ → ℕ
 counter_of r dir queue = word_of r (mapping_row dir) (queue / 4) / 2 ^ (8 * (queue % 4)) % 16

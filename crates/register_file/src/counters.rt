@@ -40,8 +40,8 @@ impl RegisterFile {
         self.set_word(row, index, word.wrapping_add(1));
     }
 
-    /// Returns the number of the counter, 0 to 15, that counts the frames on a side of a queue below `QUEUES`. RQSMR
-    /// names the counter for a receive side, TQSM for a transmit side.
+    /// Returns the number, 0 to 15, of the counter that is assigned to a side of a queue below `QUEUES`. RQSMR names
+    /// the counter for a receive side, TQSM for a transmit side.
     pub fn counter(&self, dir: Dir, queue: u16) -> u16
         requires { queue < 128 }
         ensures counter { result ≡ counter_of self.now dir queue }

@@ -63,12 +63,13 @@ PoolResetKeepsAgreement =
     (mode : Mode) (v : ℕ) (a b : Registers) → HasShape a → HasShape b → AgreeWithin (pool_agrees mode v) a b →
     AgreeWithin (pool_agrees mode v) (pool_reset mode v a) (pool_reset mode v b)
 
--- The bit that accesses to either of two pools may change: the physical function's mailbox cause, EICR bit 19.
+-- The bit that accesses to one pool and accesses to another may both change: the physical function's mailbox cause,
+-- EICR bit 19.
 abbrev pub IsShared : Place → ℕ → Type 0
 IsShared p bit = IsTrue (is_mail_cause p bit)
 
--- The only bit that accesses to either of the pools may change is the physical function's mailbox cause. What accesses
--- to one pool may change has nothing in common with what must agree for the other.
+-- The only bit that accesses to one pool and accesses to the other may both change is the physical function's mailbox
+-- cause. What accesses to one pool may change has nothing in common with what must agree for the other.
 pub record ArePoolsApart (mode : Mode) (v w : ℕ) : Type 0 where
   pub bits : (p : Place) (bit : ℕ) → IsTrue ((pool_changes mode v).bits p bit)
       → IsTrue ((pool_changes mode w).bits p bit) → IsShared p bit

@@ -98,7 +98,7 @@ EnableReadTellsOn =
     (r : Registers) (dir : Dir) (queue : ℕ) (around : Surroundings) →
     has_bit 25 (read_word (row_of (enable_row dir)).kind r around (place (enable_row dir) queue)) ≡ is_on r dir queue
 
--- After a side is shut, it is disabled, its enable request is withdrawn, and the rest of the side is unchanged.
+-- After a side is shut, it is disabled and has no enable request, and the rest of the side is unchanged.
 abbrev pub ShutIsOffReceive : Type 0
 ShutIsOffReceive =
     (r : Registers) → HasShape r → (queue : ℕ) → queue < 128 →
@@ -332,7 +332,7 @@ pub record SettingsStand (f : Footprint) (old new : Registers) : Type 0 where
 abbrev pub MissedSettingsStand : Type 0
 MissedSettingsStand = (f : Footprint) (old new : Registers) → ChangesWithin f old new → SettingsStand f old new
 
--- Registers are sound after a reset and after every change.
+-- Registers are sound after a reset and stay sound through every change.
 abbrev pub ResetIsSound : Type 0
 ResetIsSound = AreSound reset_registers
 

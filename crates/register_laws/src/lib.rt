@@ -142,7 +142,7 @@ pub fn switched_side_is_as_wanted()
     ensures stays { SwitchedSideStays }
 {}
 
-/// After a side is shut, it is disabled, its enable request is withdrawn, and the rest of the side is unchanged.
+/// After a side is shut, it is disabled and has no enable request, and the rest of the side is unchanged.
 pub fn shut_side_is_off()
     ensures receive { ShutIsOffReceive }
     ensures transmit { ShutIsOffTransmit }
@@ -195,8 +195,8 @@ pub fn eeprom_answer_is_read()
     ensures { EepromAnswerIsRead }
 {}
 
-/// A change to the interrupts of a group below 64 is stored in the group's registers: causes, masks and reported bits,
-/// each of which has its cause and mask at 1. The auto-clear and the auto-mask are unchanged.
+/// A change to the interrupts of a group below 64 is stored in the group's registers: causes, masks and reported bits.
+/// Each reported bit has its cause and mask at 1. The auto-clear and the auto-mask are unchanged.
 pub fn interrupts_stand()
     ensures { InterruptsStand }
 {}
@@ -233,9 +233,9 @@ pub fn pool_accesses_tell_of_the_pool()
     ensures reset { PoolResetKeepsAgreement }
 {}
 
-/// The only bit that accesses to either of two pools can change is EICR bit 19. What accesses to one pool can change
-/// has nothing in common with what must agree for the other. Register files that agree in a part still agree after any
-/// changes within a footprint that has nothing in common with it.
+/// For two different pools, the only bit that accesses to one and accesses to the other can both change is EICR bit 19.
+/// What accesses to one pool can change has nothing in common with what must agree for the other. Register files that
+/// agree in a part still agree after any changes within a footprint that has nothing in common with it.
 pub fn pools_have_nothing_in_common()
     ensures apart { PoolsHaveNothingInCommon }
     ensures stands { MissedAgreementStands }

@@ -66,11 +66,11 @@ pub fn functions_get_theirs()
     ensures { FunctionsGetTheirs }
 {}
 
-/// MRQC and GCR_EXT determine the queue that receives a frame. With MRQC's code for hashing alone, the queue is the
-/// frame's entry: bits 3 to 0 of the RETA byte that the low seven bits of its hash select, or 0 if its RSS type is 0.
-/// If VT_CTL bit 0 is 1 and MRQC has a code for pools, it is a queue of the frame's pool p. If GCR_EXT selects 16
-/// pools, it is 8p + entry mod 8 with hashing, and 8p without. Otherwise it is 4p + entry mod 4 with 32 pools, 2p +
-/// entry mod 2 with 64 pools and hashing, and 2p with 64 pools alone.
+/// The queue that receives a frame depends on the mode. With MRQC's code for hashing alone, the queue is the frame's
+/// entry: bits 3 to 0 of the RETA byte that the low seven bits of its hash select, or 0 if its RSS type is 0. If VT_CTL
+/// bit 0 is 1 and MRQC has a code for pools, it is a queue of the frame's pool p. If GCR_EXT selects 16 pools, it is
+/// 8p + entry mod 8 with hashing, and 8p without. Otherwise it is 4p + entry mod 4 with 32 pools, 2p + entry mod 2 with
+/// 64 pools and hashing, and 2p with 64 pools alone.
 pub fn queue_is_by_the_mode()
     ensures { QueuesByMode }
 {}

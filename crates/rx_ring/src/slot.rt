@@ -12,10 +12,10 @@ use crate::item::Item;
 use dma_arena::LentMemory;
 use dma_ring::{Ring, RingFault, buffer_address, done_word, first_half, of_halves};
 
-/// Fills the slot at the head of a receive ring. It writes as many of the item's remaining bytes as fit to the buffer
-/// that the slot's descriptor names, and then writes the descriptor back. It allocates nothing. If the head and the
-/// tail are in the ring, the device must own at least one of its slots. The ring must have at most 65,536 slots, and
-/// the item's offset must be at most the length of its frame.
+/// Fills the slot at the head of a receive ring. It writes the item's next bytes, as many as fit, to the buffer that
+/// the slot's descriptor names, and then writes the descriptor back. It allocates nothing. If the head and the tail are
+/// in the ring, the device must own at least one of its slots. The ring must have at most 65,536 slots, and the item's
+/// offset must be at most the length of its frame.
 ///
 /// `srrctl` is the word of the queue's SRRCTL. Errors, in the order of the tests: `Outside` if the head or the tail
 /// isn't a slot; `DescType` if the descriptor type isn't 1, the advanced one with one buffer; `NoBufferSize` if the

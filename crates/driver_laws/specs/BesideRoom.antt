@@ -4,8 +4,9 @@ use Rattle.driver_laws.specs.StartPrelude.{AtPort, Call, Numbers, Packet, parts_
 use Rattle.driver_laws.specs.{Beside.IsReportedBy, Reported.Drove, Reported.Moment, Reported.last}
 use Rattle.driver_laws.specs.FullRing.{AcceptsNone, TellsFull, outstanding}
 
--- If a call to `tx` reports that the ring is full, fewer parts are outstanding than the driver's start was given
--- descriptors. Together with the parts of the packet passed to `tx`, there are at least as many parts as descriptors.
+-- If a call to `tx` reports that the ring is full, fewer parts are outstanding than the ring has descriptors (the
+-- number given to the driver's start). Together with the parts of the packet passed to `tx`, there are at least as many
+-- parts as descriptors.
 abbrev pub FullHasNoRoom : Type 0
 FullHasNoRoom =
     (q : AtPort) (size frame : ℕ) (old : List Call) (a : Numbers) (m : Moment) (later : List Moment)

@@ -15,9 +15,9 @@ abbrev pub outstanding : Rings → ℕ
 outstanding (Up r) = length r.transmit.outstanding
 outstanding (Down h) = 0
 
--- Fewer parts are outstanding than the driver's start was given descriptors. Together with the parts of the packet
--- passed to `tx`, there are at least as many parts as descriptors. So if that packet has one part, all slots except one
--- are taken.
+-- Fewer parts are outstanding than the ring has descriptors (the number given to the driver's start). Together with the
+-- parts of the packet passed to `tx`, there are at least as many parts as descriptors. So if that packet has one part,
+-- all slots except one are taken.
 abbrev pub FullHasNoRoom : Type 0
 FullHasNoRoom =
     (q : AtPort) (size frame : ℕ) (old : List Call) (a : Numbers) (m : Moment) (later : List Moment) (n : Moment)

@@ -73,7 +73,7 @@ pub record IsHistoryAtLock (vfs fifo tag queue : ℕ) (h : List Entry) (calls : 
 
 -- The calls through a `ThroughLock`, at any time, form a history up to each place where its pass had made exactly these
 -- calls. The premise: `left_alone` is true for its tag and the queue. If the pass is among those that closed the
--- history, with these calls and perhaps more after them, there is a place of this kind that ends with the last of these
+-- history, with these calls and perhaps more after them, there is a place of this kind right after the last of these
 -- calls (`CallsStand`).
 abbrev pub ClosedIsHistory : Type 0
 ClosedIsHistory =

@@ -64,7 +64,7 @@ LaysOn q l (c ∷ cs) last = (m : Laid) × Lays q l c.event m × LaysOn q m cs l
 
 -- Over a legal history that leaves the queue alone, take a call of its pass before which port and queue name it and its
 -- transmit side is off. If that call and the pass's calls after it lay out the ring in this way, nothing is sent on the
--- queue since that call.
+-- queue from that call on.
 abbrev pub LaidQueueIsSilent : Type 0
 LaidQueueIsSilent =
     (w : Watched) (q : AtPort) (frame : ℕ) (origin : State) (h done rest : List Entry) (e : Entry) (last : Laid) →

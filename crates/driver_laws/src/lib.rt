@@ -124,10 +124,10 @@ pub fn calls_keep_the_books()
 {}
 
 /// Suppose that a `start` returned a driver, its calls followed, and then `tx` reports that the ring is full. Then the
-/// outstanding packets have fewer parts than the start was given descriptors. Together with the parts of the packet
-/// passed to `tx`, there are at least as many parts as descriptors; if that packet has one part, all slots except one
-/// are taken. The same holds after a call to `tx_burst` that returns 0, with the parts of the first packet that it
-/// leaves.
+/// outstanding packets have fewer parts than the ring has descriptors (the number given to the start). Together with
+/// the parts of the packet passed to `tx`, there are at least as many parts as descriptors; if that packet has one
+/// part, all slots except one are taken. The same holds after a call to `tx_burst` that returns 0, with the parts of
+/// the first packet that it leaves.
 pub fn full_ring_has_no_room()
     ensures reported { FullHasNoRoom }
     ensures none { NoneHasNoRoom }
@@ -197,10 +197,10 @@ pub fn driver_among_any_calls_in_order()
 {}
 
 /// No call of a driver as in `driver_among_any_calls_in_order` finds the device at fault, provided that two conditions
-/// hold. Neither another pass nor the driver's author tries to lend a block of its arena that the driver tries to lend.
-/// Just before the driver's first access, none of these blocks is lent and the frames that wait for its queue fit its
-/// packets. The blocks that it has out are lent to the device. Each block that it tries to lend and that is lent to the
-/// device is out. Each block is in one place.
+/// hold. Neither another pass nor the driver's author, in calls alongside it, tries to lend a block of the driver's
+/// arena that the driver tries to lend. Just before the driver's first access, none of these blocks is lent and the
+/// frames that wait for its queue fit its packets. The blocks that it has out are lent to the device. Each block that
+/// it tries to lend and that is lent to the device is out. Each block is in one place.
 pub fn driver_among_any_calls_keeps_its_blocks()
     ensures finds { apart.NoCallFindsFault }
     ensures meets { apart.NoBurstMeetsFault }

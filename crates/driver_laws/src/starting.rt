@@ -222,10 +222,10 @@ pub fn calls_lead_both_halves()
 /// both halves. At that place, the receive side has just been enabled, and no request to disable it is pending. From
 /// there on, the pass makes the calls of the halves, and calls that leave the queue alone. The packets that the driver
 /// returned are a prefix of those delivered since. If the next poll finds none, each of them was returned, or is
-/// complete and returned when the tail advances. If none is complete, all were returned. For each earlier place since
-/// which none was returned, all those delivered before that place were returned by then. The frames sent since are a
-/// prefix of those that the driver accepted, and all of them if none is outstanding. If the transmit side is enabled at
-/// that place, all of these are counted since it was enabled.
+/// complete and returned when the tail advances. If none is complete, all were returned; and if none was returned since
+/// an earlier place, all those delivered before that place were returned by then. The frames sent since are a prefix of
+/// those that the driver accepted, and all of them if none is outstanding. If the transmit side is enabled at that
+/// place, all of these are counted since it was enabled.
 pub fn both_sides_in_order()
     ensures handed { HandedIsPrefix }
     ensures taken { NoneIsAllTaken }
@@ -276,9 +276,9 @@ pub fn waiting_packets_are_not_all_sent()
 /// Take a history of any sound device, and a place in it, as in `both_sides_in_order`. From that place on, each call of
 /// either half gets a reply that a healthy queue sends, under these conditions at that place. The frames of the receive
 /// list for the queue fit as many blocks as the driver takes for a packet, as do those that are accepted. Of the blocks
-/// of the driver's arena, only those that the driver has lent are lent, and no other pass tries to lend any of them
-/// from there on. The halves lend as the clause `drives` of a driver's calls says: only blocks of the arena, and none
-/// that the other half has lent.
+/// of the driver's arena, only those that the driver has lent are lent, and no other pass tries to lend any block of
+/// the arena from there on. The halves lend as the clause `drives` of a driver's calls says: only blocks of the arena,
+/// and none that the other half has lent.
 #[tactic(auto, using(crate::proofs::Healthy::own_replies_are_healthy))]
 pub fn own_replies_are_healthy()
     ensures { OwnRepliesAreHealthy }

@@ -73,9 +73,9 @@ impl Calls {
         (self.made.as_slice(), self.rested)
     }
 
-    /// Runs the device steps of a queue only if the queue is at rest: each step is then idle and changes nothing. It
-    /// may run none even if the queue is at rest; no clause states when. Records the calls if the steps ran, and
-    /// returns whether they did. It allocates nothing.
+    /// Runs the device steps of a queue only if the queue is at rest: each step is then idle and leaves the device
+    /// unchanged. It may run none even if the queue is at rest; no clause states when. Records the calls if the steps
+    /// ran, and returns whether they did. It allocates nothing.
     pub fn rest(&mut self, device: &Device, queue: u16) -> bool
         ensures made { result ≡ true → self.new ≡ self.old ++ idle_calls (steps_of_queue queue) }
         ensures idle { result ≡ true → Rests device.now queue }

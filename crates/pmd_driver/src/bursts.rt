@@ -46,7 +46,7 @@ impl Running {
         // the same numbers. The tail is advanced only after all accepted packets are queued. Without a fault, the tail
         // has passed everything outstanding. The burst stops only if no packet is left, the ring has no room for the
         // next packet, that packet is refused before any event, or a call met a fault during its events. If the first
-        // packet is refused, no event occurs.
+        // packet is refused, no event occurs after room was made.
         ensures sent { IsSendBurst vacant packets.old.items packets.new.items result (N.made nic.old) self.old
             (N.made nic.new) self.new }
         ensures blocks { KeepsUp self.old (numbers_of_all packets.old.items) self.new

@@ -177,7 +177,7 @@ pub record EntrySpares (w : Watched) (h before : List Entry) (e : Entry) : Type 
   pub blocks : e.pass ≢ w.pass → LeavesBlocks (lent_by w.pass h) e.event
   pub step : WritesOutside w.queue (lent_by w.pass h) e.reply
 
--- For a history, this is required only of the entries after the first entry of the driver's pass.
+-- A history leaves the queue alone if each entry after the first entry of the driver's pass does so.
 abbrev pub SparingIsEnough : Type 0
 SparingIsEnough =
     (w : Watched) (h : List Entry) →

@@ -140,7 +140,7 @@ pub record Did (queue : ℕ) (mine : Blocks) (s : State) (e : Event Block) : Typ
 abbrev pub LeftDid : Type 0
 LeftDid = (w : Watched) (mine : Blocks) (s : State) (e : Event Block) → IsLeft w mine s e → Did w.queue mine s e
 
--- What an event does to a side, if it leaves the side alone or is a step of that side.
+-- What an event does to a side, if it leaves the side unchanged or is a step of that side.
 abbrev pub SidesDo : Type 0
 SidesDo =
     (dir : Dir) (queue : ℕ) (s : State) (e : Event Block) → IsSound s → queue < 128 →

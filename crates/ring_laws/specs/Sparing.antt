@@ -26,8 +26,8 @@ pub record Spares (queue : ℕ) (v : Sender) (s : State) (e : Event Block) : Typ
   pub blocks :
       IsFalse (is_transmit_of queue e) → (number : ℕ) → IsTrue (has_lent v number) → LeavesBlock number s (after s e)
 
--- What the driver's receive half must ensure for a step: a piece isn't empty, and a piece on the driver's own queue is
--- outside the blocks that the sender has lent.
+-- What the driver's receive half must ensure for a step: a piece isn't empty, and a piece on the driver's own queue and
+-- its descriptor are outside the blocks that the sender has lent.
 abbrev pub ReceiveOwes : ℕ → Sender → Reply Block → Type 0
 ReceiveOwes queue v (Wrote on slot end desc at len) =
     (0 < len) × (on ≡ queue → (number : ℕ) → IsTrue (has_lent v number) → Avoids number desc 16 × Avoids number at len)

@@ -55,8 +55,8 @@ pub fn only_known_blocks_are_lent()
 /// side because of a fault. It enables or disables the side as requested. Or it does nothing to the side. If it takes
 /// no slot of a side, it receives or sends nothing on that side. If it takes no slot of either side, it leaves each of
 /// the blocks unchanged. The frame limit, and how the queues are separated, are unchanged. For a sound device, it is
-/// enough that the event leaves one side alone or is a step of that side: it then does one of the four things to that
-/// side.
+/// enough that the event leaves one side unchanged or is a step of that side: it then does one of the four things to
+/// that side.
 pub fn events_take_shut_or_switch_a_side()
     ensures left { LeftDid }
     ensures side { SidesDo }

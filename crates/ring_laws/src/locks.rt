@@ -27,7 +27,7 @@ pub fn other_events_leave_queues_alone()
     ensures nothing_else { NothingElseCounts }
 {}
 
-/// A history up to the first entry of a driver's pass leaves its queue alone. After that entry, a single other entry is
+/// A history up to the first entry of a driver's pass leaves its queue alone. After that entry, a single entry is
 /// enough to violate this. It may be a write of another pass, or another pass's access to a block, that doesn't leave
 /// the queue alone. It may also be a step of another queue, by any pass, that writes into a block of the driver's pass.
 /// A history with none of these leaves the queue alone.

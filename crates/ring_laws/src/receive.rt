@@ -45,9 +45,9 @@ pub fn other_events_keep_the_agreement()
 {}
 
 /// A side is up if it is enabled and no request to disable it is pending. A receive side that is up stays up if an
-/// event leaves it alone, and through a step that switches the side, which then changes nothing. If the device and the
-/// driver agree, it stays up through each receive step and each of the driver's own events. It also stays up through
-/// each entry of another pass, and each device step of any pass, that leaves the queue alone.
+/// event leaves it unchanged, and through a step that switches the side, which then changes nothing. If the device and
+/// the driver agree, it stays up through each receive step and each of the driver's own events. It also stays up
+/// through each entry of another pass, and each device step of any pass, that leaves the queue alone.
 pub fn queue_up_stays_up()
     ensures leaving { LeavingStaysUp }
     ensures enable { EnableStepChangesNothing }

@@ -27,8 +27,8 @@ pub fn sparing_events_keep()
 {}
 
 /// An event spares the driver if it leaves alone the queue and all blocks that its driver has lent for sending, by the
-/// clauses that judge a closed history. If the event is a receive step, the piece that it writes must also be nonempty,
-/// and a piece on the queue itself must be outside these blocks.
+/// clauses that judge a closed history. If the event is a receive step that writes a piece, the piece must also be
+/// nonempty; if it is on the queue itself, the piece and its descriptor must be outside these blocks.
 pub fn left_alone_is_spared()
     ensures { LeftAloneIsSpared }
 {}

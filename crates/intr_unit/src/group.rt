@@ -59,8 +59,8 @@ impl Group {
         }
     }
 
-    /// Whether the auto-mask acts on reads and writes of the cause register and on writes to the set register. For the
-    /// PF it acts while GPIE bit 30 (EIAME, the argument `eiame`) is 0. For a VF it always acts, as this project's
+    /// Whether the auto-mask acts on reads of and writes to the cause register, and on writes to the set register. For
+    /// the PF it acts while GPIE bit 30 (EIAME, the argument `eiame`) is 0. For a VF it always acts, as this project's
     /// profile defines.
     #[inline(always)]
     pub fn auto_mask_acts(self, eiame: bool) -> bool

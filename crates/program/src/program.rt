@@ -99,8 +99,8 @@ impl Program {
         &self.strings
     }
 
-    /// Returns the bytes of the data string with this number, counted from 0; none if the number isn't below the number
-    /// of data strings.
+    /// Returns the bytes of the data string with this number, counted from 0, or no bytes if the number isn't below the
+    /// number of data strings.
     pub fn string(&self, number: u16) -> &[u8]
         ensures { result.now ≡ string_at self.now.strings number }
     {

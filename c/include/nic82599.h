@@ -5,19 +5,19 @@
 
    How to use it: nic_open makes a controller. Read and write registers by address (NIC_RXDCTL(3), or a number). Lend
    blocks of packet memory to the device; it touches no other memory. Frames arrive from the link and are collected from
-   it. Nothing happens on its own: the device acts in steps, and each step is a call, so a race is an order of calls.
+   it. Nothing happens by itself: the device acts in steps, and each step is a call, so a race is an order of calls.
    nic_settle runs all steps that have work to do.
 
-   Threads: handles aren't thread-safe. Use each from one thread, or take your own lock around each call. Two handles
-   share nothing, so each may have its own thread. No call waits or calls back. Don't call the library from the handler
-   of a signal that can arrive during a call. The handler of a fault raised by the driver's own load or store may call
-   it on the faulting thread.
+   Threads: handles aren't thread-safe. Use each handle from one thread only, or take your own lock around each call.
+   Two handles share nothing, so each may have its own thread. No call waits or calls back. Don't call the library from
+   the handler of a signal that can arrive during a call. The handler of a fault that the driver's own load or store
+   raised may call the library on the faulting thread.
 
    Pointers: none may be null, even for a buffer of length 0. Each points to what its type says. A buffer has as many
    bytes or items as the length argument after it says, and buffers don't overlap. If a controller was closed by
-   nic_close or never opened ({0}), each call with it returns CLOSED. The same holds for a snapshot that was dropped or
-   never made. Closing one copy of the struct doesn't change the other copies, so don't use them any longer. Every other
-   argument may have any value: the call checks it and returns a status. */
+   nic_close or never opened ({0}), every call with it returns CLOSED. The same holds for a snapshot that was dropped or
+   never taken. Closing one copy of the struct doesn't change the other copies, so don't use them any longer. Every
+   other argument may have any value: the call checks it and returns a status. */
 #ifndef NIC82599_H
 #define NIC82599_H
 
@@ -62,9 +62,9 @@ enum nic_status {
     NIC_NOT_LENT = 16, /* the block with this number, or a block at these bus addresses, isn't lent */
     NIC_NO_QUEUE = 18, /* the queue isn't below 128 */
     NIC_NO_GROUP = 19, /* there is no such virtual function, or the mode has no pool for it */
-    /* refusals: nothing changes, not even what the pointers point to, except *count, which is then 0, and *line. Two
-       calls can stop halfway and keep what they did: nic_settle with MORE or OUT_OF_MEMORY, and nic_lend_all with
-       OUT_OF_MEMORY */
+    /* refusals: nothing changes, not even what the pointers point to. Exceptions are *count, which is then 0, and
+       *line. Two calls can stop halfway and keep what they did: nic_settle with MORE or OUT_OF_MEMORY, and nic_lend_all
+       with OUT_OF_MEMORY */
     NIC_OUT_OF_MEMORY = 32,
     NIC_NO_ROOM = 33,      /* nic_collect: the buffer is too small, so the frame stays; nic_hash: input too long */
     NIC_TOO_MANY_VFS = 34, /* nic_new: `vfs` is above 63 */
@@ -74,11 +74,12 @@ enum nic_status {
     NIC_MORE = 38,         /* nic_settle: the array is full, so steps may remain; nic_next_step: a step ran */
     NIC_BAD_MEMORY = 39,   /* nic_lend_memory: not a multiple of 2,048, or bytes already lent to this controller */
     NIC_CLOSED = 40,       /* the controller or the snapshot isn't open: it was closed or never opened */
-    NIC_BROKEN = 41,       /* the library hit an internal fault, which it names on standard error, and this controller
-                              may be half changed: all later calls return this status. nic_unlend_memory still takes
-                              the caller's memory back, and nic_close ends the controller. A proved library has no such
-                              fault */
-    /* an EEPROM image or text is invalid, for the first of these reasons that applies; the previous image stays */
+    NIC_BROKEN = 41,       /* the library hit an internal fault, which it names on standard error, and may have changed
+                              this controller only in part: all later calls return this status. nic_unlend_memory still
+                              takes the caller's memory back, and nic_close closes the controller. A proved library has
+                              no such fault */
+    /* an EEPROM image or its textual description is invalid, for the first of these reasons that applies; the previous
+       image stays */
     NIC_IMAGE = 64, /* base of the following statuses */
     NIC_IMAGE_ODD_LENGTH = 65,
     NIC_IMAGE_BAD_SIZE = 66,        /* not 64, 128, .. 16,384 words */
@@ -88,7 +89,7 @@ enum nic_status {
     NIC_TEXT = 96,                  /* base of the following statuses */
     NIC_TEXT_SYNTAX = 97,           /* at this line, counted from 1 */
     NIC_TEXT_TWO_VALUES = 98,       /* two lines set the word with this index */
-    NIC_TEXT_RESERVED = 99,         /* the text can't set the word with this index */
+    NIC_TEXT_RESERVED = 99,         /* the description can't set the word with this index */
     NIC_TEXT_DOES_NOT_FIT = 100,    /* an index or the CSR section exceeds the size */
     NIC_TEXT_POINTER_OUTSIDE = 101, /* a pointer is below 0x40, or its section is outside the image */
     NIC_TEXT_NOT_UTF8 = 102
@@ -168,53 +169,54 @@ const char *nic_edition(void);
 
 /* If the environment variable NIC82599_TELL is set (for example NIC82599_TELL=1), the library reports faults, drops and
    stray accesses of all controllers on standard error when they happen. It prints the first of each kind with its
-   reason; then the 10th, the 100th and so on; and the total when the controller or the process ends. The variable is
-   read when the first controller is made. */
+   reason, then the 10th, the 100th and so on. It prints the total when the controller is closed or the process ends.
+   The variable is read when the first controller is made. */
 
 /* --- recordings --- */
 
-/* Records each controller made from now on. When a call returns, the event is written to a file as a line of the script
-   language, with its reply as a comment, so a crash loses no completed call. The first controller is recorded in the
-   file with this name, the next ones in NAME.2, NAME.3 and so on; %p in the name stands for the process ID. View a
-   recording with `tools/nicview FILE` (docs/views.md). Null ends all recordings. Returns false if the file can't be
-   written: a line on standard error says so, and nothing is recorded. If you don't call this function, the environment
-   variable NIC82599_RECORD sets the name. Recording serializes the calls of all recorded controllers. A child of fork
-   records the controllers that it makes itself, if the name contains %p. */
+/* Records each controller created after this call. Whenever a call returns, its event is written to a file as a line of
+   the script language, with the reply as a comment, so a crash loses no completed call. The first controller is
+   recorded in the file with this name, the next ones in NAME.2, NAME.3 and so on; %p in the name stands for the process
+   ID. View a recording with `tools/nicview FILE` (docs/views.md). Null ends all recordings. Returns false if the file
+   can't be written: then a line on standard error says so, and nothing is recorded. If you don't call this function,
+   the environment variable NIC82599_RECORD sets the name. Recording serializes the calls of all recorded controllers. A
+   child of fork records the controllers that it creates itself, if the name contains %p. */
 bool nic_record(const char *path);
 
 /* Writes a comment into this controller's recording, in front of the next event, for information that the events don't
-   show, such as the purpose of a block. `tools/nicview` shows it beside the next step. The text is truncated to 200
+   show, such as the purpose of a block. `tools/nicview` shows it next to the next step. The comment is truncated to 200
    bytes; a byte that isn't printable ASCII is written as `?`. Returns DONE, even if the controller isn't recorded. */
 uint8_t nic_note(nic *n, const char *text);
 
 /* --- creation and end --- */
 
-/* Makes a controller in its power-up state: `vfs` virtual functions (at most 63), room for `fifo` frames waiting to be
-   received (1 to 4,096), and `blocks` blocks of packet memory (1 to 65,536), numbered from 0 and none of them lent.
+/* Creates a controller in its power-up state: `vfs` virtual functions (at most 63), room for `fifo` frames waiting to
+   be received (1 to 4,096), and `blocks` blocks of packet memory (1 to 65,536), numbered from 0 and none of them lent.
    Returns DONE and stores the controller in *device, or BAD_BLOCKS, TOO_MANY_VFS, BAD_FIFO (the first that applies) or
-   OUT_OF_MEMORY. End the controller with nic_free. nic_open, below, does the same with a struct. */
+   OUT_OF_MEMORY. Close the controller with nic_free. nic_open, below, does the same with a struct. */
 uint8_t nic_new(uint8_t vfs, uint16_t fifo, uint32_t blocks, void **device);
 
-/* Ends a controller and frees its memory and its frames. It must come from nic_new and still be open. A null `device`
-   is a no-op. */
+/* Closes a controller and frees its memory and its frames. The controller must come from nic_new and still be open. A
+   null `device` is a no-op. */
 void nic_free(nic n);
 
 /* --- snapshots --- */
 
 /* Saves the controller's whole state: registers, lent blocks with their bytes, frames waiting to be received, bytes
    staged for sending, sent frames not yet collected, the link, the EEPROM image, and which blocks aren't lent. A
-   restored controller answers every call as this one would from here on. The controller itself doesn't change. Returns
-   DONE and stores the snapshot in *kept, or OUT_OF_MEMORY, which leaves *kept unchanged. Free the snapshot with
-   nic_drop_snapshot. A snapshot takes 2,048 bytes for each lent block, and none for the others. */
+   restored controller answers every call as this controller would have answered it after the snapshot. The controller
+   itself doesn't change. Returns DONE and stores the snapshot in *kept, or OUT_OF_MEMORY, which leaves *kept unchanged.
+   Free the snapshot with nic_drop_snapshot. A snapshot takes 2,048 bytes for each lent block, and none for other
+   blocks. */
 uint8_t nic_snapshot(nic *n, nic_kept *kept);
 
 /* Restores a snapshot into the controller that it was taken from or into any other. The controller then has the
-   snapshot's number of blocks and virtual functions. Returns DONE if the snapshot replaced the controller's former
+   snapshot's number of blocks and virtual functions. Returns DONE if the snapshot replaced the controller's previous
    state, or OUT_OF_MEMORY if the controller is unchanged. Either way the snapshot stays and can be restored again. The
-   snapshot's state is copied before the former state is freed. The controller keeps its packet memory if it has as many
-   blocks as the snapshot and all blocks lent in the snapshot are lent now. Otherwise it gets new packet memory. No
-   contract says which of the two happens, or how much memory the call takes. Like a handle, a snapshot isn't
-   thread-safe. */
+   snapshot's state is copied before the previous state is freed. The controller keeps its packet memory if it has as
+   many blocks as the snapshot and all blocks lent in the snapshot are lent now. Otherwise it gets new packet memory.
+   Don't rely on which of the two happens, or on how much memory the call takes: no contract specifies it. Like a
+   handle, a snapshot isn't thread-safe. */
 uint8_t nic_restore(nic *n, const nic_kept *kept);
 
 /* Frees a snapshot that was made by nic_snapshot and isn't freed yet. A null `kept` is a no-op. No controller is
@@ -225,7 +227,7 @@ void nic_free_snapshot(nic_kept kept);
 
 /* Reads and writes a register of the physical function by its address, with all side effects of the access. Returns
    DONE with the word, or STRAY if there is no register at the address (or if it isn't a multiple of 4). For STRAY, the
-   word is what a driver would see, and nothing changes. */
+   word is the value that a driver would see, and nothing changes. */
 uint8_t nic_read32(nic *n, uint32_t address, uint32_t *word);
 uint8_t nic_write32(nic *n, uint32_t address, uint32_t word);
 
@@ -235,13 +237,13 @@ uint8_t nic_write32(nic *n, uint32_t address, uint32_t word);
 uint8_t nic_vf_read32(nic *n, uint8_t vf, uint32_t offset, uint32_t *word);
 uint8_t nic_vf_write32(nic *n, uint8_t vf, uint32_t offset, uint32_t word);
 
-/* Returns what a read would return, but without its side effects: it clears no counter and no cause. STRAY leaves *word
-   unchanged. */
+/* Returns what a read would return, but without the read's side effects: no counter and no cause is cleared. STRAY
+   leaves *word unchanged. */
 uint8_t nic_peek32(nic *n, uint32_t address, uint32_t *word);
 uint8_t nic_vf_peek32(nic *n, uint8_t vf, uint32_t offset, uint32_t *word);
 
 /* Looks up the physical function's address of the register that virtual function `vf` has at an offset, in the mode
-   that bits 1:0 of a GCR_EXT value select. For example, in mode 3, with 64 pools, VFRDT(1) of function 3 is RDT[7], at
+   selected by bits 1:0 of a GCR_EXT value. For example, in mode 3, with 64 pools, VFRDT(1) of function 3 is RDT[7], at
    0x011D8. Returns DONE; STRAY if the function has no register at the offset (or if it isn't a multiple of 4); NO_GROUP
    if the mode has no pool for the function, or its number is above 62. Only DONE changes *address. The call doesn't
    involve a controller, so it doesn't matter whether yours has the function. */
@@ -250,8 +252,8 @@ uint8_t nic_vf_address(uint32_t gcr_ext, uint8_t vf, uint32_t offset, uint32_t *
 /* --- packet memory --- */
 
 /* Packet memory is what the device reads and writes by bus address. Bus address a is byte a % 2048 of block a / 2048,
-   so b blocks have the addresses below 2048 * b. The device accesses only lent blocks; if it needs any other block,
-   that is a fault. */
+   so b blocks have the addresses below 2048 * b. The device accesses only lent blocks; if it needs any other block, it
+   reports a fault. */
 #define NIC_BLOCK_BYTES 2048u
 
 /* Lends a block, filled with zeros. Returns DONE, NO_BLOCK (it is already lent or doesn't exist) or OUT_OF_MEMORY. */
@@ -264,41 +266,43 @@ uint8_t nic_lend_all(nic *n);
 
 /* Lends the caller's own memory, which the device then reads and writes in place: bus address bus + i is the byte at
    memory + i, for each i below `bytes`. `bus` and `bytes` are multiples of 2,048; `memory` may be any address. Returns
-   DONE, without changing any byte. The other statuses change nothing: BAD_MEMORY (not a multiple of 2,048, or one of
-   these bytes is already lent to this controller), NO_BLOCK (a block is already lent or doesn't exist), OUT_OF_MEMORY.
-   Between two calls you read and write the memory directly, as a driver does; to the device, your stores are like
-   nic_dma_write. Don't store into the memory during a call, whether from another thread, a signal handler or another
-   process. Don't lend the same memory through two mappings. Don't free it while it is lent: it is lent until
-   nic_unlend_memory or nic_take takes it back, or nic_close ends the controller. These calls leave its bytes unchanged.
-   nic_snapshot saves its bytes, and nic_restore writes the snapshot's bytes into it. If a block isn't lent in the
-   snapshot, nic_restore takes its memory back. You may lend the same memory to two controllers if you never call one
-   during a call of the other. After fork, the memory is lent in the child as in the parent; if they share it, only one
-   of them may continue to make calls. */
+   DONE, without changing any byte. The other statuses change nothing: BAD_MEMORY (`bus` or `bytes` isn't a multiple of
+   2,048, or one of these bytes is already lent to this controller), NO_BLOCK (a block is already lent or doesn't
+   exist), OUT_OF_MEMORY. Between two calls you read and write the memory directly, as a driver does; to the device,
+   your stores are like nic_dma_write. Don't store into the memory during a call, whether from another thread, a signal
+   handler or another process. Don't lend the same memory through two mappings. Don't free it while it is lent: it is
+   lent until nic_unlend_memory or nic_take takes it back, or nic_close closes the controller. These calls leave its
+   bytes unchanged. nic_snapshot saves its bytes, and nic_restore writes the snapshot's bytes into it. If a block isn't
+   lent in the snapshot, nic_restore takes its memory back. You may lend the same memory to two controllers if calls to
+   the two never overlap. After fork, the memory is lent in the child as in the parent; if they share it, only one of
+   them may continue to make calls. */
 uint8_t nic_lend_memory(nic *n, uint64_t bus, void *memory, size_t bytes);
-/* Takes memory lent by nic_lend_memory back, or part of it. Returns DONE; BAD_MEMORY if `bus` or `bytes` isn't a
-   multiple of 2,048; NOT_LENT if any of these blocks isn't the caller's memory; then none is taken back. */
+/* Takes back all or part of the memory lent by nic_lend_memory. Returns DONE; BAD_MEMORY if `bus` or `bytes` isn't a
+   multiple of 2,048; NOT_LENT if any of these blocks isn't the caller's memory. Then no block is taken back. */
 uint8_t nic_unlend_memory(nic *n, uint64_t bus, size_t bytes);
 
-/* Reads and writes lent memory as the driver does: `length` bytes from any bus address on, even across blocks. Returns
-   DONE, or NOT_LENT if one of the bytes isn't lent: then nothing is read or written. */
+/* Reads and writes lent memory as the driver does: `length` bytes starting at any bus address, even across blocks.
+   Returns DONE, or NOT_LENT if one of the bytes isn't lent: then nothing is read or written. */
 uint8_t nic_dma_read(nic *n, uint64_t bus, uint8_t *bytes, size_t length);
 uint8_t nic_dma_write(nic *n, uint64_t bus, const uint8_t *bytes, size_t length);
 
 /* --- the link; frames have no frame check sequence --- */
 
-/* Puts a frame on the link. Returns DONE if the frame now waits for receive steps, DROPPED (`why`) or OUT_OF_MEMORY. */
+/* Puts a frame on the link. Returns DONE if the frame is now waiting for receive steps, DROPPED (`why`) or
+   OUT_OF_MEMORY. */
 uint8_t nic_arrive(nic *n, const uint8_t *frame, size_t length, nic_outcome *outcome);
-/* Returns the length of the oldest sent frame not yet collected; 0 if there is none, or the controller isn't open. */
+/* Returns the length of the oldest sent frame not yet collected; 0 if there is no such frame or the controller isn't
+   open. */
 size_t nic_next_out(nic *n);
-/* Collects that frame into a buffer. Returns FRAME (`queue`, `len`), IDLE if there is none, or NO_ROOM if it is longer
-   than `length`; then it stays. */
+/* Copies that frame into a buffer and removes it. Returns FRAME (`queue`, `len`), IDLE if there is no such frame, or
+   NO_ROOM if the frame is longer than `length`; then it stays. */
 uint8_t nic_collect(nic *n, uint8_t *room, size_t length, nic_outcome *outcome);
 /* Sets the link up or down. Returns DONE, or IDLE if the link already is in that state. Initially it is up. */
 uint8_t nic_link(nic *n, bool up);
 
-/* --- the steps of the device; a step is IDLE if it has nothing to do, and while CTRL bit 2 is 1 --- */
+/* --- the device's steps; a step returns IDLE if it has nothing to do, and while CTRL bit 2 is 1 --- */
 
-/* Writes one buffer's worth of the oldest waiting frame. Returns WROTE, DROPPED, FAULT or IDLE. */
+/* Writes one buffer's worth of the oldest waiting frame to memory. Returns WROTE, DROPPED, FAULT or IDLE. */
 uint8_t nic_rx_step(nic *n, nic_outcome *outcome);
 /* Fetches one descriptor of a transmit queue. Returns ADVANCED, SENT, FAULT, IDLE, NO_QUEUE or OUT_OF_MEMORY. */
 uint8_t nic_tx_step(nic *n, uint16_t queue, nic_outcome *outcome);
@@ -313,12 +317,12 @@ uint8_t nic_int_step(nic *n, uint8_t group, nic_outcome *outcome);
 /* Runs steps in rounds until none has anything to do. A round is: for each queue below `queues`, its receive enable,
    then its transmit enable; the EEPROM; one transmit step of each of these queues; one receive step; one message of
    each group. The first `*count` entries of `outcome` report what happened, each with its `status`, `step` and `of`.
-   Returns DONE after a round that did nothing. MORE means that the array filled up before that (immediately if `length`
-   is 0); another call begins a new round. OUT_OF_MEMORY means that a transmit step found no memory and didn't run; the
-   steps before it are reported. NO_QUEUE means that `queues` is above 128. */
+   Returns DONE after a round in which no step did anything. MORE means that the array filled up before such a round
+   (immediately if `length` is 0); another call begins a new round. OUT_OF_MEMORY means that a transmit step found no
+   memory and didn't run; the steps before it are reported. NO_QUEUE means that `queues` is above 128. */
 uint8_t nic_settle(nic *n, uint16_t queues, nic_outcome *outcome, size_t length, size_t *count);
 
-/* The position of nic_next_step in its rounds. `nic_settling where = {4, 0};` begins a round of the queues below 4. */
+/* The position of nic_next_step in its rounds. `nic_settling where = {4, 0};` begins a round for the queues below 4. */
 typedef struct nic_settling {
     uint16_t queues;
     uint16_t at; /* position of the next step in the round; initially 0 */
@@ -331,10 +335,10 @@ typedef struct nic_settling {
            if (event.status == NIC_MESSAGE)
                handle(event.vector);
 
-   MORE: a step ran, and `outcome` reports it with its `status`, `step` and `of`. DONE: no step of a whole round had
+   MORE: a step ran, and `outcome` reports it with its `status`, `step` and `of`. DONE: no step in a whole round had
    anything to do; the next call begins a new round. OUT_OF_MEMORY: a transmit step found no memory; the next call tries
-   it again. NO_QUEUE: `queues` is above 128. If you make no other call in between, the steps and their order are those
-   of nic_settle. */
+   the step again. NO_QUEUE: `queues` is above 128. If you make no other call in between, the steps and their order are
+   those of nic_settle. */
 uint8_t nic_next_step(nic *n, nic_settling *where, nic_outcome *outcome);
 
 /* --- why nothing happens --- */
@@ -342,24 +346,24 @@ uint8_t nic_next_step(nic *n, nic_settling *where, nic_outcome *outcome);
 /* Explains why nothing happens, in lines of text that end with '\n'. There is a line for each waiting frame, each queue
    that isn't at rest, each cause without a message, and a pending EEPROM read. A line names registers and bits with
    their values, as tools/niclint --trace does: "rx 3: RDH[3] 0, RDT[3] 0: head and tail meet, so the device owns no
-   slot until the driver advances the tail". Empty text means that nothing waits and nothing was dropped. Sent frames
-   don't wait. Dropped frames are counted by the reason for the drop, since the controller was made or a snapshot was
-   restored into it. A queue switched off by a fault keeps its reason as long as the slot is still there. A transmit
-   ring at rest has a line if its last descriptor is a context descriptor with EOP, or if no descriptor has RS. If an
-   address isn't lent, but is a pointer into memory that the caller has lent, the text says which bus address that
-   memory has. Like snprintf, the call writes at most `size` bytes, including the terminating 0, and returns the length
-   of the whole text without it. It writes only whole lines, up to the first that doesn't fit. `size` may be 0. For a
-   closed controller the text is empty. The call changes nothing. Registers don't show which frames wait, what was
-   requested of a queue, and what was reported. The call determines this on a copy of the controller. Until it returns,
-   the copy takes as much memory as a snapshot and a restored controller: 4,096 bytes for each lent block. If there
-   isn't enough memory, the last line says so, and the lines that need the copy are missing. */
+   slot until the driver advances the tail". No lines means that nothing is waiting and nothing was dropped. Sent frames
+   don't count as waiting. Dropped frames are counted by the reason for the drop, since the controller was created or a
+   snapshot was restored into it. A queue switched off by a fault keeps its reason as long as the slot is still there. A
+   transmit ring at rest has a line if its last descriptor is a context descriptor with EOP, or if no descriptor has RS.
+   If an address isn't lent, but is a pointer into memory that the caller has lent, the line names the bus address of
+   that memory. Like snprintf, the call writes at most `size` bytes, including the terminating 0, and returns the length
+   of all lines without it. It writes only whole lines, up to the first that doesn't fit. `size` may be 0. For a closed
+   controller there are no lines. The call changes nothing. Registers don't show which frames are waiting, which enable
+   requests of queues are pending, or which causes were reported. The call determines this on a copy of the controller.
+   Until it returns, the copy takes as much memory as a snapshot and a restored controller: 4,096 bytes for each lent
+   block. If there isn't enough memory, the last line says so, and the lines that need the copy are missing. */
 size_t nic_why(nic *n, char *text, size_t size);
 
 /* --- the EEPROM --- */
 
-/* Installs an EEPROM image, from the image's bytes or from a text (docs/script.md, "An EEPROM image"). Returns DONE, a
-   NIC_IMAGE_.. or NIC_TEXT_.. status, or OUT_OF_MEMORY. *line is the line or index that a NIC_TEXT_.. status reports,
-   and 0 for DONE or CLOSED. Ignore it after OUT_OF_MEMORY. */
+/* Installs an EEPROM image, from the image's bytes or from its textual description (docs/script.md, "An EEPROM image").
+   Returns DONE, a NIC_IMAGE_.. or NIC_TEXT_.. status, or OUT_OF_MEMORY. *line is the line or index that a NIC_TEXT_..
+   status reports, and 0 for DONE or CLOSED. Ignore it after OUT_OF_MEMORY. */
 uint8_t nic_install_image(nic *n, const uint8_t *bytes, size_t length);
 uint8_t nic_install_text(nic *n, const uint8_t *text, size_t length, uint64_t *line);
 
@@ -393,7 +397,7 @@ static inline void nic_drop_snapshot(nic_kept *kept)
     kept->kept = NULL;
 }
 
-/* Returns the word that a driver sees, whatever the status. */
+/* Returns the word that a driver sees, regardless of the status. */
 static inline uint32_t nic_get(nic *n, uint32_t address)
 {
     uint32_t word = 0;
@@ -410,7 +414,7 @@ static inline uint32_t nic_pool_queues(uint32_t gcr_ext)
     return (first - NIC_RDBAL(0)) / (NIC_RDBAL(1) - NIC_RDBAL(0));
 }
 
-/* Reads and writes 64-bit numbers in lent memory, low byte first as the device stores them. */
+/* Reads and writes 64-bit numbers in lent memory, low byte first, as the device stores them. */
 static inline uint8_t nic_put64(nic *n, uint64_t bus, uint64_t value)
 {
     uint8_t bytes[8];

@@ -1,6 +1,6 @@
 /* A report card for a driver. You name your driver's functions in a struct, and the card runs them in its own
-   scenarios. It runs each scenario under many orders of steps (nic82599_explore.h), and judges it by what the device
-   did. docs/report-card.md begins with an example.
+   scenarios. It runs each scenario under many orders of steps (nic82599_explore.h), and judges the driver by what the
+   device did. docs/report-card.md begins with an example.
 
        static const nicd_driver driver = {.name = "mine", .open = my_open, .close = my_close, ..};
 
@@ -43,13 +43,14 @@ enum {
 /* What the card requests from `open`. */
 typedef struct nicd_setup {
     uint8_t port;       /* 0: the physical function; v + 1: virtual function v, of 64 */
-    uint16_t queues;    /* use receive and transmit queues 0 .. queues - 1 of that port; 1 to NICD_QUEUES */
+    uint16_t queues;    /* the driver uses receive and transmit queues 0 .. queues - 1 of that port; 1 to NICD_QUEUES */
     uint16_t slots;     /* descriptors per ring: 8, 16, .. 64 */
     uint32_t frame;     /* bytes of the longest frame: 1,514 to NICD_FRAME_MOST */
     bool interrupts;    /* whether `interrupt` will be called; if not, the driver leaves all causes masked */
-    uint8_t address[6]; /* the port's address, as its EEPROM or its host provides it */
-    /* for port 0: the number of virtual functions that it hosts, 0 or 2. A host configures 64 pools of queues
-       (GCR_EXT.VT_MODE 3) and reports to the functions that the device is ready (CTRL_EXT.PFRSTD) */
+    uint8_t address[6]; /* the port's address, as provided by the EEPROM or by the PF's driver */
+    /* for port 0: the number of virtual functions that the driver serves, 0 or 2. If there are any, it configures 64
+       pools of queues (GCR_EXT.VT_MODE 3) and reports to the virtual functions that the device is ready
+       (CTRL_EXT.PFRSTD) */
     uint8_t functions;
 } nicd_setup;
 
@@ -83,7 +84,7 @@ typedef struct nicd_rss {
 enum nicd_can {
     NICD_SHARED_SEND = 1, /* several threads may call `send` for one queue concurrently */
     NICD_FUNCTIONS = 2,   /* `open` supports the port of a virtual function */
-    NICD_HOST = 8,        /* `open` supports functions above 0 */
+    NICD_HOST = 8,        /* `open` supports values of `functions` above 0 */
     /* `open` and `close` don't change what the setup doesn't use, and don't reset the device */
     NICD_SHARED_DEVICE = 4,
 
@@ -93,7 +94,7 @@ enum nicd_can {
     NICD_NO_HEADS = 32,      /* it writes neither RDH nor TDH */
     NICD_ONE_VECTOR = 64,    /* all queues share one vector */
     NICD_ONE_BUFFER = 128,   /* each frame has one descriptor, however long it is */
-    NICD_NO_ADDRESS = 256,   /* it writes no receive address: it accepts all frames, or its host sets the address */
+    NICD_NO_ADDRESS = 256,   /* it writes no receive address: it accepts all frames, or the PF's driver sets it */
 
     NICD_CAN = 511 /* all of these bits */
 };
@@ -117,7 +118,7 @@ typedef struct nicd_driver {
     /* Resets the driver's state when a schedule begins. It must not access the device. May be null. */
     void (*begin)(void);
     /* Sets up the controller, from power-up or from the state that `close` left, and returns true when frames can be
-       received and sent. Returns false if it fails, for example because memory is refused. In that case it has freed
+       received and sent. Returns false if it fails, for example because an allocation failed. In that case it has freed
        everything that it allocated, and may be called again. */
     bool (*open)(const nicd_setup *setup);
     /* Shuts down. On return the device accesses none of the driver's memory and sends no message, and the driver has
@@ -128,8 +129,9 @@ typedef struct nicd_driver {
        driver delivers frames from its own threads, call nicd_deliver in them and leave `receive` null. Then the card
        always opens the driver with interrupts, if it has `interrupt`. */
     bool (*receive)(uint16_t queue, nicd_frame *frame);
-    /* Sends a frame of 60 bytes up to the setup's `frame`. Returns true if it is accepted: the caller may then reuse
-       `bytes`. Returns false if the ring has no room now, or the frame is longer than the setup allows. */
+    /* Sends a frame that is 60 bytes to the setup's `frame` bytes long. Returns true if the frame is accepted: the
+       caller may then reuse `bytes`. Returns false if the ring has no room now, or the frame is longer than the setup
+       allows. */
     bool (*send)(uint16_t queue, const uint8_t *bytes, uint32_t length);
     /* Reclaims sent frames. Returns how many frames of the queue are still unsent, as far as the driver knows. */
     uint32_t (*reclaim)(uint16_t queue);
@@ -139,7 +141,7 @@ typedef struct nicd_driver {
     uint32_t (*interrupt)(uint8_t vector);
     void (*rearm)(uint16_t queue);
 
-    /* The driver's own threads, 0 .. threads - 1 (at most 4). They run from `open` on and may wait forever. */
+    /* The driver's own threads, 0 .. threads - 1 (at most 4). They start when `open` is called and may wait forever. */
     uint32_t threads;
     void (*thread)(uint32_t number);
 
@@ -158,13 +160,13 @@ typedef struct nicd_driver {
        call it concurrently with all other calls */
     bool (*link)(void);
 
-    /* The mailbox, as a host (port 0, to function vf) or as a function (its own mailbox; vf is 0). mailbox_send writes
-       1 to NICD_WORDS words for the other side; it returns false if the mailbox isn't free now. mailbox_receive reads
-       and acknowledges a message from the other side; it returns false if there is none. */
+    /* The mailbox: of virtual function vf for port 0, or the virtual function's own mailbox (vf is then 0).
+       mailbox_send writes 1 to NICD_WORDS words for the other side; it returns false if the mailbox isn't free now.
+       mailbox_receive reads and acknowledges a message from the other side; it returns false if there is none. */
     bool (*mailbox_send)(uint8_t vf, const uint32_t *words, uint32_t count);
     bool (*mailbox_receive)(uint8_t vf, uint32_t words[NICD_WORDS]);
-    /* For a function: returns whether the device is ready because its host has set it up (RSTD is set, or the host was
-       already up). */
+    /* For a virtual function: returns whether the device is ready, because the PF's driver has set it up (RSTD is set,
+       or the PF's driver was already up). */
     bool (*mailbox_ready)(void);
 
     /* Stores the counts since `open`. Any thread may call it concurrently with all other calls. The frames and bytes of
@@ -177,27 +179,28 @@ typedef struct nicd_driver {
 
 /* Allocates DMA memory of 1 to 524,288 zeroed bytes. Returns the bus address of its first byte, a multiple of 128. The
    memory after it isn't lent, so any access there by the driver or the device is reported. Returns 0 if memory has run
-   out, or if the scenario refuses it. There is room for 123 allocations of 2 KB, or for one of 503,808 bytes. The card
-   opens at most two queues of 16 slots, four of 8, or two of the fewest slots that the driver supports. Two queues of
-   64 slots, with 2 KB for each slot in both directions, don't fit. */
+   out, or if the scenario makes the allocation fail. There is room for 123 allocations of 2 KB, or for a single one of
+   503,808 bytes. The card opens at most two queues of 16 slots, four of 8, or two of the fewest slots that the driver
+   supports. Two queues of 64 slots, with 2 KB for each slot in both directions, don't fit. */
 uint64_t nicd_dma_alloc(size_t bytes);
 /* Frees DMA memory by its first address. The device must no longer use it. */
 void nicd_dma_free(uint64_t bus);
 
 /* Returns a pointer to the byte at bus address `bus` in memory from nicd_dma_alloc, for a driver that accesses its
    memory through pointers. Memory of one nicd_dma_alloc is contiguous, and pointers are valid until nicd_dma_free. What
-   the device writes is visible immediately. What the driver stores reaches the device before the driver's next call of
-   nic82599_explore.h, barriers included: each run of changed bytes is written at a point, as nicx_dma_write does. Loads
-   aren't points, so a loop that only waits for memory must call nicx_pause. A store past the end of an allocation, or
-   into freed memory, fails the schedule at that call; with -fsanitize=address it is reported at the store. If
-   nicd_dma_alloc didn't allocate the byte, the schedule fails and the result is null. This call isn't a point. */
+   the device writes is visible immediately. What the driver stores reaches the device before the driver's next
+   nic82599_explore.h call, barriers included: each run of changed bytes is written at a point, as nicx_dma_write does.
+   Loads aren't points, so a loop that only waits for a value in memory must call nicx_pause. A store past the end of an
+   allocation, or into freed memory, fails the schedule at that call; with -fsanitize=address it is reported at the
+   store. If nicd_dma_alloc didn't allocate the byte, the schedule fails and the result is null. This call isn't a
+   point. */
 void *nicd_dma_pointer(uint64_t bus);
 
-/* Allocates memory for the driver itself, zeroed as by calloc. Returns null if it is refused. */
+/* Allocates memory for the driver itself, zeroed as by calloc. Returns null if the allocation fails. */
 void *nicd_alloc(size_t bytes);
 void nicd_free(void *memory);
 
-/* Delivers a frame of a queue from one of the driver's own threads, if `receive` is null. */
+/* Delivers a queue's frame to the card from one of the driver's own threads, if `receive` is null. */
 void nicd_deliver(uint16_t queue, const uint8_t *bytes, uint32_t length);
 
 /* --- the program --- */

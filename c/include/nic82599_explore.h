@@ -6,8 +6,8 @@
 
    This part is tested, not proved. One process runs its schedules one after the other on one thread; each task has its
    own stack. Make the calls below only in the scenario's functions, in tasks and in handlers. A task that is still
-   running when its schedule ends doesn't finish, so memory that it got from malloc leaks. So make your driver's state
-   static, and set it up in `begin`.
+   running when its schedule ends doesn't finish, so memory that it got from malloc leaks. Therefore make your driver's
+   state static, and set it up in `begin`.
 
    Other threads of the process may use their own controllers while a search runs. A controller that the scenario's
    functions open begins each schedule in its state after the bring-up, and is closed by nicx_close. In these functions,
@@ -45,25 +45,26 @@ typedef struct nicx_scenario {
     const char *name; /* letters, digits, '-' and '_', at most 63; the base name of the files written */
 
     /* The device, with the arguments that nic_new takes. `blocks` is at most 65,536. A script has only 256 blocks, so
-       none is written for a scenario with more. */
+       no script is written for a scenario with more. */
     uint8_t vfs;
     uint16_t fifo;
     uint32_t blocks;
-    /* The device runs the enable and transmit steps of queues 0 .. queues - 1 (1 to 128). The receive step, the
-       EEPROM's step, and the messages of the physical function and of each virtual function can always run. */
+    /* The device runs the enable and transmit steps of queues 0 .. queues - 1 only (1 to 128). The receive step, the
+       EEPROM step, and the messages of the physical function and of each virtual function can always run. */
     uint16_t queues;
 
     /* Runs once in each process. Sets the device up with nicx_ calls, which aren't points here. Returns null, or why it
-       failed. Every schedule starts from the device's state when it returns. A wait or a pause here lets the device run
-       its steps, and so does a loop that keeps reading the same value. */
+       failed. Every schedule starts from the device's state at this function's return. During a wait or a pause here
+       the device runs its steps, and also during a loop that keeps reading the same value. */
     const char *(*bring_up)(void);
     /* Runs before each schedule. Initializes the driver's state, and names its tasks, its handlers, and the frames and
-       link changes to come. Accesses happen immediately; waits work as in bring_up. */
+       link changes to come. Accesses take effect immediately; waits work as in bring_up. */
     void (*begin)(void);
     /* Runs after each step; may be null. Returns null, or what is wrong. It may look at the device through
-       nicx_device(), with calls without effects (nic_peek32, nic_dma_read); a call that acts fails as misuse. */
+       nicx_device(), with calls that have no effects (nic_peek32, nic_dma_read); a call that has an effect fails as
+       misuse. */
     const char *(*always)(void);
-    /* Runs when all is at rest: no task, handler or step of the device can continue. Returns null, or what is wrong. */
+    /* Runs when all is at rest: no task, handler or device step can continue. Returns null, or what is wrong. */
     const char *(*end)(void);
 
     uint32_t points;  /* a longer schedule fails as endless; 0 means 2,000 */
@@ -92,35 +93,35 @@ enum {
 
 /* Names a task: a thread of the driver, or a processor. Returns its number, counted from 0. Names are unique. */
 int nicx_task(const char *name, void (*function)(void *), void *argument);
-/* Names a task that may wait forever, such as a loop that serves interrupts. If it still waits at the end, that isn't a
-   deadlock. */
+/* Names a task that may wait forever, such as a loop that serves interrupts. A schedule that ends while it is still
+   waiting isn't a deadlock. */
 int nicx_service(const char *name, void (*function)(void *), void *argument);
 
 /* Names the handler that a message of this group (0 for the physical function, v + 1 for virtual function v) and vector
    starts. `where` is NICX_ANYWHERE, NICX_BESIDE, or the number of a task, which continues only after the handler has
-   returned. Messages that arrive before the handler starts start it once. A message that arrives while it runs starts
-   it again afterwards. A message without a handler starts nothing. */
+   returned. If several messages arrive before the handler starts, they start it only once. A message that arrives while
+   it runs starts it again afterwards. A message without a handler starts nothing. */
 void nicx_handler(const char *name, uint16_t group, uint8_t vector, void (*function)(void *), void *argument,
                   int where);
 
 /* Names a timer. When it fires, it starts the function beside all tasks, as a message starts a handler. It counts as
    one of the handlers, and fires once each time it is armed. `within` is NICX_AT_REST, to fire when no other actor can
-   run, or a number of points, at least 1. The timer then fires at any of that many points after the point that armed
-   it; at the last of them it runs before all other actors. Returns its number for nicx_arm. */
+   run, or a number of points N, at least 1. In that case the timer fires at one of the N points after the point that
+   armed it, at the latest at the last one, before any other actor acts there. Returns its number for nicx_arm. */
 int nicx_timer(const char *name, void (*function)(void *), void *argument, uint32_t within);
 
-/* Names a frame of at most 16,384 bytes, which arrives after the frames already named. The bytes are copied. */
+/* Names a frame of at most 16,384 bytes, which will arrive after the frames already named. The bytes are copied. */
 void nicx_frame(const uint8_t *frame, size_t length);
 /* Names a link change, down or up. Link changes happen in the order of these calls, independently of frames. */
 void nicx_link_change(bool up);
 /* Returns the number of frames that have arrived so far, including dropped ones. Shrinking leaves frames out of a
-   failure, so let `end` compare with this number instead of the number of frames named. */
+   failure, so have `end` compare with this number instead of the number of frames named. */
 uint32_t nicx_came(void);
 
 /* --- in tasks and handlers: each of these is a point --- */
 
 /* These work like the calls of nic82599.h with the same names. */
-uint32_t nicx_read32(uint32_t address); /* the word as a driver sees it, also for a stray access */
+uint32_t nicx_read32(uint32_t address); /* the word as a driver sees it, even for a stray access */
 uint8_t nicx_write32(uint32_t address, uint32_t word);
 uint32_t nicx_vf_read32(uint8_t vf, uint32_t offset);
 uint8_t nicx_vf_write32(uint8_t vf, uint32_t offset, uint32_t word);
@@ -136,16 +137,16 @@ void nicx_point(void);
 
 /* Waits until another actor has run: while (!ready) nicx_wait(); */
 void nicx_wait(void);
-/* Waits until a condition on the driver's own memory holds. The condition makes none of these calls. This is one point,
-   while a loop of nicx_wait is a point after each step of another actor. */
+/* Waits until a condition on the driver's own memory holds. The condition may make none of these calls. The whole wait
+   is one point, whereas a loop of nicx_wait is a point after each step of another actor. */
 void nicx_wait_until(bool (*condition)(void *), void *argument);
 /* A condition for nicx_wait_until: whether a flag, a bool, is set. */
 static inline bool nicx_is_set(void *flag)
 {
     return *(const bool *)flag;
 }
-/* Lets other actors run before this task continues; if none can, it continues immediately. For loops that poll a
-   bounded number of times. */
+/* Gives other actors the chance to run before this task continues; if none can, the task continues immediately. For
+   loops that poll a bounded number of times. */
 void nicx_pause(void);
 
 /* A lock in the driver's memory. {0} is a free lock, and all locks are free when a schedule starts. If its holder takes
@@ -161,7 +162,8 @@ void nicx_unlock(nicx_mutex *lock);
 /* Arms the timer with this number, or arms it again. Also allowed in `begin`, where it isn't a point. A number that
    nicx_timer didn't return is misuse. */
 void nicx_arm(int timer);
-/* Disarms a timer, and returns whether it was armed. Doesn't wait for a function that has already started. */
+/* Disarms a timer, and returns whether it was armed. Doesn't wait for the timer's function if that has already
+   started. */
 bool nicx_disarm(int timer);
 
 /* Barriers of weak memory; with strong memory they are no-ops and aren't points. When nicx_wmb returns, all earlier
@@ -187,7 +189,7 @@ void nicx_interrupts_on(void);
    one before it. Also allowed in `begin`; in `bring_up`, `always`, `end` and conditions it is misuse. */
 uint32_t nicx_choose(uint32_t bound);
 
-/* Fails the schedule with this text, of which only the pointer is kept. Doesn't return. */
+/* Fails the schedule with this message, of which only the pointer is kept. Doesn't return. */
 void nicx_fail(const char *words);
 static inline void nicx_check(bool holds, const char *words)
 {
@@ -213,12 +215,13 @@ typedef struct nicx_flow {
 } nicx_flow;
 
 /* Builds a frame of 60 to 16,384 bytes in which each byte after the header depends on the number. Returns false for
-   another length. A flow's frame has 60 to 1,518 bytes, and valid checksums. */
+   another length. A flow's frame is 60 to 1,518 bytes long and has valid checksums. */
 bool nicx_numbered_frame(uint8_t *frame, size_t length, uint32_t number);
 bool nicx_flow_frame(uint8_t *frame, size_t length, const nicx_flow *flow, uint32_t number);
 /* Returns the frame's number, below NICX_TORN, or NICX_TORN if a byte belongs to another frame or to none. */
 uint32_t nicx_frame_number(const uint8_t *frame, size_t length);
-/* In `begin`: names `count` numbered frames, at most NICX_FRAMES, from number 0 on. An invalid length is misuse. */
+/* In `begin`: names `count` numbered frames, at most NICX_FRAMES, with numbers 0 to count - 1. An invalid length is
+   misuse. */
 void nicx_frames(uint32_t count, size_t length);
 
 /* Return the hash of a flow (0 if none is computed) and the queue of its frames, according to the current MRQC, RSSRK
@@ -246,8 +249,8 @@ bool nicx_host_is_acked(uint8_t vf);
 /* --- in `bring_up` and `end` --- */
 
 /* The controller, for calls that the explorer needn't see: calls without effects, or any call in `end`. nic_lend_memory
-   is misuse anywhere in a scenario, for its controller and for others that the scenario opens: a store to the driver's
-   own memory isn't a point, so a search would miss races on it. */
+   is misuse anywhere in a scenario, for the scenario's controller and for any others that it opens: a store to the
+   driver's own memory isn't a point, so a search would miss races on it. */
 nic *nicx_device(void);
 
 /* Lends all blocks that aren't lent. Returns NIC_DONE or NIC_OUT_OF_MEMORY. Never call it in a task or a handler. */
@@ -261,7 +264,7 @@ void nicx_settle(void);
    if an argument, a schedule or the scenario is refused. */
 int nicx_main(int argc, char **argv, const nicx_scenario *scenario);
 
-/* --- what nicx_main is built on, for other front ends (a fuzzer, another language) --- */
+/* --- the functions below nicx_main, for other front ends (a fuzzer, another language) --- */
 
 enum nicx_outcome {
     NICX_FINE = 0,
@@ -275,7 +278,7 @@ enum nicx_outcome {
     NICX_MISUSE = 8,   /* a call that isn't allowed at that place, such as unlocking another task's lock */
     NICX_CRASH = 9,    /* a signal ended the process */
     NICX_HANG = 10,    /* a task reached no point for ten seconds */
-    NICX_RACE = 11     /* two unordered accesses of memory, at least one of them a write */
+    NICX_RACE = 11     /* two unordered memory accesses, at least one of them a write */
 };
 
 typedef struct nicx_result {
@@ -285,9 +288,9 @@ typedef struct nicx_result {
     char words[256];   /* what is wrong; "" if nothing is */
 } nicx_result;
 
-/* Chooses the actors of a schedule. `can` contains the numbers of the `count` runnable actors; the one that acted last
-   comes first if it can continue. Returns the index of the actor to run. If that is a step of the device with nothing
-   to do, the function is called again at the same point, without that step among the actors. */
+/* Chooses a schedule's actors. `can` contains the numbers of the `count` runnable actors; the one that acted last comes
+   first if it can continue. Returns the index of the actor to run. If that is a device step with nothing to do, the
+   function is called again at the same point, without that step among the actors. */
 typedef struct nicx_chooser {
     uint32_t (*choose)(void *argument, const uint16_t *can, uint32_t count);
     void *argument;

@@ -1,6 +1,6 @@
 /* Captures of Ethernet frames. Reads pcap files (microseconds or nanoseconds, either byte order) and writes them with
-   microseconds. Each call returns whether it succeeded. It fails for a file that is cut off, has a link type other than
-   Ethernet, or contains a partly captured frame. (tools/pcap2nic and the Python module also read pcapng.)
+   microseconds. Each call returns whether it succeeded. It fails for a file that is truncated, has a link type other
+   than Ethernet, or contains a partly captured frame. (tools/pcap2nic and the Python module also read pcapng.)
 
        FILE *in = fopen("in.pcap", "rb");
        pcap_reader reader;

@@ -19,7 +19,7 @@ from nic82599.tools.script import Bench, Refused, of_text, script_part
 ROOT = Path(__file__).resolve().parent.parent
 LIMIT = 4_096
 STRICT = ["-std=c99", "-Wall", "-Wextra", "-pedantic", "-Werror"]
-# A script with every reply that no example has, and with texts that would end a comment in C or Python.
+# A script with every reply that no example contains, and with strings that would end a comment in C or Python.
 HOSTILE = """# */ int x; /* ??/ \\
 data frame 0011\t# a tab */ \\
 data small 00112233445566778899aabbccddeeff

@@ -6,7 +6,7 @@
 
    Nothing happens on the bench on its own, so the bus runs the steps. A read of RXDCTL or TXDCTL, which drivers poll,
    runs the queue's enable step; a write that disables the queue runs its disable step. A read of EERD runs the EEPROM
-   step, and a write of TDT sends all that is queued. The user of the bus requests receive steps and messages. */
+   step, and a write to TDT sends all that is queued. The user of the bus requests receive steps and messages. */
 #ifndef BUS_H
 #define BUS_H
 
@@ -142,7 +142,7 @@ void bus_close(struct bus *it);
 nic *bus_device(struct bus *it);
 const struct bus_counts *bus_counts(const struct bus *it);
 
-/* Sets the run's current phase by number, and returns a phase's name. */
+/* bus_enter sets the run's current phase by number. bus_phase_name returns a phase's name. */
 void bus_enter(struct bus *it, unsigned int phase);
 const char *bus_phase_name(const struct bus *it, unsigned int phase);
 
@@ -154,7 +154,7 @@ void bus_wait(struct bus *it, unsigned int microseconds);
 /* While the bus is held, it runs no steps by itself: its user also requests the steps for enables, the EEPROM and
    sending. */
 void bus_hold(struct bus *it, bool is_held);
-/* Sends everything in the queue, as a write of TDT does unless the bus is held. */
+/* Sends everything in the queue, as a write to TDT does unless the bus is held. */
 void bus_transmit(struct bus *it, uint16_t queue);
 /* Runs the enable step of a queue, or the EEPROM step. Returns whether it did anything. */
 bool bus_enable(struct bus *it, bool is_transmit, uint16_t queue);
@@ -191,7 +191,7 @@ bool bus_is_settled(struct bus *it, uint16_t queues);
 
 /* ---- interrupts ---- */
 
-/* Takes and delivers the due messages of all functions. Returns how many there were. */
+/* Takes and delivers all due messages of all functions. Returns how many there were. */
 unsigned int bus_messages(struct bus *it);
 /* Takes and delivers a function's message if one is due. Returns whether it did. */
 bool bus_message(struct bus *it, unsigned int function);

@@ -22,7 +22,7 @@ struct frame {
     uint8_t bytes[FRAME_JUMBO];
 };
 
-/* Makes the frame with this number, FRAME_MIN to `most` bytes long. Consecutive numbers cycle through all these
+/* Builds the frame with this number, FRAME_MIN to `most` bytes long. Consecutive numbers cycle through all these
    lengths. */
 void frame_make(struct frame *frame, uint32_t number, uint16_t most, const uint8_t to[6], const uint8_t from[6]);
 

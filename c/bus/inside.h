@@ -6,7 +6,7 @@
 #include "mailbox.h"
 
 #define BUS_FRAME_ROOM 65536 /* bytes: the device sends at most 65,531, as MAXFRS limits it, and pads up to 60 */
-#define MAILBOX_REQUESTS 17  /* numbers of requests; the last number counts all others */
+#define MAILBOX_REQUESTS 17  /* number of request codes counted separately; the last one counts all others */
 #define MAILBOX_SHOWN 3      /* words of a message that are printed */
 
 /* A register of the physical function, as the bus classifies it. */
@@ -43,7 +43,7 @@ struct bus {
     bus_sink *sink;
     void *sink_of;
     bool is_held;       /* only the user requests steps */
-    uint32_t semaphore; /* value of SWSM, when the bus answers it */
+    uint32_t semaphore; /* value of SWSM, if the bus answers in the device's place */
     struct mailboxes mailboxes;
     struct stray *strays[BUS_FUNCTIONS]; /* by function, an entry for each word */
     struct stray outside;                /* accesses beyond the window */

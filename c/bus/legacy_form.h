@@ -6,7 +6,7 @@
 #include <stdbool.h>
 #include <stdint.h>
 
-/* A checksum that a legacy transmit descriptor requests: over the bytes from `start` on, stored at `at`. */
+/* A checksum that a legacy transmit descriptor requests: over the bytes starting at `start`, stored at `at`. */
 struct legacy_sum {
     bool is_wanted;
     uint8_t start, at;

@@ -1,4 +1,5 @@
-/* Requests that functions sent to the host through their mailboxes, and the host's answers, as they were written. */
+/* Requests that virtual functions sent to the PF's driver through their mailboxes, and its answers, as they were
+   written. */
 #ifndef BUS_MAILBOX_H
 #define BUS_MAILBOX_H
 
@@ -13,7 +14,7 @@ struct mailbox_counts {
 };
 struct mailbox_counts mailbox_counts(const struct bus *it, unsigned int request);
 
-/* Returns how often the host sent a message that answers no request. */
+/* Returns how often the PF's driver sent a message that answers no request. */
 uint64_t mailbox_own_messages(const struct bus *it);
 
 /* Prints a line for each kind of request, with the words of the first request and of its answer. */

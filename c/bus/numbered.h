@@ -1,5 +1,4 @@
-/* Frames with numbers from 1 on (frames.h) that arrive in any order: records which have arrived, and compares each
-   byte. */
+/* Frames numbered from 1 (frames.h) that arrive in any order: records which have arrived, and compares each byte. */
 #ifndef BUS_NUMBERED_H
 #define BUS_NUMBERED_H
 
@@ -29,8 +28,8 @@ struct numbered {
 /* Builds `count` frames in a single pass, FRAME_MIN to `most` bytes long. Returns false if memory runs out. */
 bool numbered_begin(struct numbered *it, unsigned int count, uint16_t most, const uint8_t to[6], const uint8_t from[6]);
 /* Build the frames step by step: numbered_start builds none, and each numbered_prepare builds about `bytes` bytes of
-   further frames. Frames may arrive meanwhile. If more than NUMBERED_EARLY arrive before they are built, the excess
-   counts as wrong. */
+   further frames. Frames may arrive between these calls. If more than NUMBERED_EARLY arrive before they are built, the
+   excess counts as wrong. */
 bool numbered_start(struct numbered *it, unsigned int count, uint16_t most, const uint8_t to[6], const uint8_t from[6]);
 void numbered_prepare(struct numbered *it, size_t bytes);
 /* Returns whether all frames are made. */

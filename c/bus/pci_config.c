@@ -83,7 +83,7 @@ void pci_add_power(struct pci_config *it, unsigned int at)
 {
     chain(it, at, ID_POWER);
     pci_field(it, at + 2, 2, 0x0003, 0);      /* version 3 */
-    pci_field(it, at + 4, 4, 0x0008, 0x0103); /* no reset on the transition from D3; state, and wake-up */
+    pci_field(it, at + 4, 4, 0x0008, 0x0103); /* no reset on the transition from D3; power state, and wake-up */
 }
 
 void pci_add_pin(struct pci_config *it)
@@ -118,7 +118,7 @@ void pci_add_express(struct pci_config *it, unsigned int at)
     chain(it, at, ID_EXPRESS);
     pci_field(it, at + 2, 2, 0x0002, 0);                    /* version 2, an endpoint */
     pci_field(it, at + 4, 4, 0x10008002, 0);                /* function level reset, 512 bytes */
-    pci_field(it, at + EXPRESS_CONTROL, 2, 0x2810, 0xFFFF); /* read requests of 512 bytes */
+    pci_field(it, at + EXPRESS_CONTROL, 2, 0x2810, 0xFFFF); /* 512-byte read requests */
     pci_field(it, at + 0x0C, 4, 0x00000082, 0);             /* link capabilities, control, status */
     pci_field(it, at + 0x10, 2, 0, 0xFFFF);
     pci_field(it, at + 0x12, 2, 0x0082, 0);

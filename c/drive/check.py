@@ -226,8 +226,8 @@ def changed(source: Path, changes: dict[str, str], to: Path) -> Path:
 
 
 def check_counts(folder: Path) -> None:
-    """Races are found on two plain counters that one thread updates and another reads, and on copies of both. The
-    author needs no flag, and -Werror is allowed."""
+    """Races are found on two plain counters that one thread updates and another reads, and in a copy of both counters.
+    The author needs no flag, and -Werror is allowed."""
     copied = changed(HERE / "corpus/driver.c", COPIED_COUNTS, folder / "copied_counts.c")
     how: list[object] = ["--rows", "stats-receive", "--runs", 200, "--no-pages", *PATIENT]
     for source, more, size in ((HERE / "corpus/driver.c", "", 8), (copied, f"-Werror -I{HERE}/corpus", 24)):
@@ -237,8 +237,8 @@ def check_counts(folder: Path) -> None:
 
 
 def check_accesses(kit: Kit) -> str:
-    """A race on a word that two polls change is found without a point at it, and the correct twin passes. If accesses
-    aren't observed, the row passes, and the first line says why."""
+    """A race on a word that two polls change is found although its accesses aren't points, and the correct twin passes. If
+    accesses aren't observed, the row passes, and the first line says why."""
     row, right = "interrupt-two-queues", HERE / "corpus/pages.c"
     how: list[object] = ["--rows", row, "--runs", 200, "--every", 200, "--no-pages", *PATIENT]
     wrong, folder = changed(right, PLAIN_WORD, kit.folder / "plain_word.c"), kit.folder / "accesses"
@@ -447,7 +447,7 @@ MISTAKES_SANITIZED: list[tuple[str, str, list[str], str]] = [
 ]
 
 
-# The driver's writes of its address, and the place where its run opens the bench and the driver.
+# The statements that write the driver's address, and the place where its run opens the bench and the driver.
 ADDRESS = re.compile(r"    os_write32\(RAL0, .*\n    os_write32\(RAH0, .*\n")
 OPENS = "    if (nic_open(&n, 0, 64, BLOCKS) != NIC_DONE || !driver_open(address, SLOTS, true))\n"
 OPENED = """    if (nic_open(&n, 0, 64, BLOCKS) != NIC_DONE)
@@ -457,7 +457,7 @@ OPENED = """    if (nic_open(&n, 0, 64, BLOCKS) != NIC_DONE)
 
 
 def changed_driver(changes: Sequence[tuple[str, str]]) -> str:
-    """Returns the source of examples/adapter's driver with replaced texts."""
+    """Returns the source of examples/adapter's driver with these strings replaced."""
     text = (ADAPTER_FOLDER / "driver.c").read_text()
     for old, new in changes:
         if old not in text:
@@ -497,7 +497,7 @@ def check_address(kit: Kit) -> None:
         raise Wrong("examples/adapter with port.md's EEPROM image prints something else than adapter.out")
 
 
-# Puts the driver's rings and buffers in one piece, which the glue provides.
+# Puts the driver's rings and buffers in a single piece of memory, which the glue provides.
 ONE_PIECE = (
     ('#include "os.h"\n', f'#include "os.h"\n#include "{HERE}/tests/one_piece.h"\n'),
     (
@@ -510,8 +510,8 @@ ONE_PIECE = (
 
 
 def check_one_piece(kit: Kit) -> str:
-    """A driver with its rings and buffers in one piece of memory, as port.md describes for static ones: its run, and
-    rows of its card."""
+    """A driver with its rings and buffers in a single piece of memory, as port.md describes for static ones: its run,
+    and rows of its card."""
     program = adapter(kit, more=ONE_PIECE)
     if ran([program]) != (ADAPTER_FOLDER / "adapter.out").read_text():
         raise Wrong("examples/adapter with its memory in one piece prints something else than adapter.out")
@@ -579,7 +579,7 @@ class Edit:
     """A change of corpus/driver.c after which these rows neither fail nor reach what they try, and each row's report.
     With the flag of nicd_can, if any, the rows aren't applicable."""
 
-    texts: dict[str, str]  # texts in the driver, and their replacements
+    texts: dict[str, str]  # strings in the driver's source, and their replacements
     rows: dict[str, str]
     can: str = ""
     defines: tuple[str, ...] = ()
@@ -701,7 +701,7 @@ def check_reached(kit: Kit, each: int = 1) -> str:
     return f"{len(IDLE)} rows without traffic and {len(list(EDITS)[::each])} drivers that don't reach what is tried"
 
 
-# The texts reported if a setting was lost.
+# What is reported if a setting was lost.
 KEPT = {
     "filter": "was received, but the filter doesn't accept it \\(only its own address is accepted again; then ",
     "list": "wasn't received, but the filter accepts it|was received, but the filter doesn't accept it",
@@ -809,7 +809,7 @@ def check_files(kit: Kit) -> str:
 
 
 def check_foreign_cards(kit: Kit, card: Path) -> None:
-    """Comparing cards prints no control characters from them. A file that isn't a card is refused in one line."""
+    """Comparing cards prints none of their control characters. A file that isn't a card is refused in one line."""
     bad, data = kit.folder / "bad.json", json.loads((card / "card.json").read_text())
     bad.write_text(json.dumps(data | {"driver": "\x1b]0;title\x07"}))
     said = nicdrive(kit.folder, ["--compare", bad, card], 0)

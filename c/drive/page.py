@@ -21,7 +21,7 @@ RESULT = re.compile(r"(\d+) passed, (\d+) failed, \d+ not applicable")
 
 
 class Unplaced(Exception):
-    """A page has no place for the text."""
+    """A page lacks the place where the generated part belongs."""
 
 
 def table(*rows: Sequence[str]) -> str:
@@ -31,7 +31,7 @@ def table(*rows: Sequence[str]) -> str:
 
 
 def with_part(text: str, name: str, part: str) -> str:
-    """Returns the page's text with the part between its marker lines replaced."""
+    """Returns the page with the part between its marker lines replaced."""
     before, found, rest = text.partition(f"<!-- c/drive/table writes the {name} -->\n")
     if not found:
         raise Unplaced(f"{CARD.name} has no place for the {name}")
@@ -49,7 +49,7 @@ def scenarios(rows: Sequence[Row]) -> str:
 
 
 def with_counts(page: Path, text: str, count: int) -> str:
-    """Returns the page's text with the number of rows updated in each place."""
+    """Returns the page with the number of rows updated in each place."""
     for place in COUNTS.get(page, ()):
         if len(re.findall(place, text)) != 1:
             raise Unplaced(f"{page.name}: '{place}' doesn't occur exactly once")
@@ -61,7 +61,7 @@ def with_counts(page: Path, text: str, count: int) -> str:
 
 
 def texts_of(rows: Sequence[Row]) -> dict[Path, str]:
-    """Returns the updated text of each page, given the rows that a driver's program lists."""
+    """Returns the updated pages, given the rows that a driver's program lists."""
     texts = {page: with_counts(page, page.read_text(encoding="utf-8"), len(rows)) for page in (CARD, PORT, README)}
     texts[CARD] = with_part(texts[CARD], "scenarios", scenarios(rows))
     return texts

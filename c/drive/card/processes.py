@@ -20,7 +20,7 @@ from nic82599.tools.printable import printable
 
 # Only the last MOST_PRINTED bytes of a program's output are kept.
 MOST_PRINTED, PIECE = 1 << 20, 1 << 16
-# Polling interval for a program's end, in seconds.
+# How often to check whether a program has exited, in seconds.
 EACH = 0.05
 # A line of /proc/PID/stat is shorter: a name of 16 bytes and 51 numbers of at most 20 digits.
 MOST_OF_STAT = 1 << 12

@@ -60,7 +60,7 @@ class Row:
     page: str = ""  # page of the schedule, at the failing point
     run: str = ""  # page of the device's run, step by step
     reached: dict[str, int] = field(default_factory=dict)  # requirement: how often it was reached
-    never: dict[str, str] = field(default_factory=dict)  # requirement: the text if it was never reached
+    never: dict[str, str] = field(default_factory=dict)  # requirement: what to report if it was never reached
     excuses: list[str] = field(default_factory=list)  # why the driver can't reach it
     notes: list[str] = field(default_factory=list)
     delivered: int = 0
@@ -228,7 +228,7 @@ def page_of(path: Path) -> str:
 
 
 def missed(row: Row) -> list[str]:
-    """Returns the texts of the requirements that the row never reached."""
+    """Returns the descriptions of the requirements that the row never reached."""
     return [row.never.get(name, f"never: {name}") for name, count in row.reached.items() if not count]
 
 

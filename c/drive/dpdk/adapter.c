@@ -1,6 +1,6 @@
 /* DPDK's driver plugged into the card: one queue in each direction, ixgbe_recv_pkts_lro_single_alloc and
    ixgbe_xmit_pkts, set up, started and stopped by the driver's own code. drivers/dpdk provides DPDK's memory and a port
-   without a bus, and makes each access of a register or a descriptor a point. */
+   without a bus, and makes each register or descriptor access a point. */
 #include <rte_ring.h>
 #include <rte_vect.h>
 #include <string.h>
@@ -11,7 +11,7 @@
 
 enum {
     PACKETS = 144,
-    BLOCKS = 90, /* blocks of 2,048 bytes, from BUS_RING on; the packets start at BUS_BUFFERS */
+    BLOCKS = 90, /* 2,048-byte blocks, starting at BUS_RING; the packets start at BUS_BUFFERS */
     TX_RING = BUS_RING + 0x800,
     LOOK_AHEAD = 32,
     SEND_THRESHOLD = 8,

@@ -28,7 +28,7 @@ static void next_life(void)
     memset(nicd.went_now, 0, sizeof nicd.went_now);
 }
 
-/* Records that this thread is now in the given call of the driver, so that a failure's message can name it. */
+/* Records that this thread is now in the given driver call, so that a failure's message can name the call. */
 static void begin_call(enum call call)
 {
     nicd.doing = (uint8_t)call;
@@ -220,8 +220,8 @@ void nicd_wait_for_event(uint32_t seen)
         nicx_wait_until(has_happened, &seen);
 }
 
-/* Returns the number of events before a poll. The poll reads nothing older: a polling thread eventually sees each
-   store. */
+/* Returns the number of events before a poll. The poll sees at least the stores of these events: a polling thread
+   eventually sees each store. */
 uint32_t nicd_before_look(void)
 {
     uint32_t seen = nicd.events;

@@ -59,7 +59,7 @@ enum ways {
 };
 
 /* What a row must reach in at least one of its schedules, as observed at the device and in the card. A row that doesn't
-   reach it shows nothing and doesn't pass. reach.c has the text for each. */
+   reach it shows nothing and doesn't pass. reach.c has the message for each. */
 enum reach {
     NO_REACH,
     WAS_OPENED,
@@ -91,7 +91,7 @@ enum reach {
     CHAIN, /* a received frame took several slots */
     SENT_CHAIN,
     SEND_REFUSED, /* `send` returned false because the ring was full */
-    OVERLAPS,     /* two calls of `send` ran concurrently for one queue */
+    OVERLAPS,     /* two `send` calls ran concurrently for one queue */
     DESCRIPTOR,
     WRITTEN_BACK,
     POLLED, /* a frame arrived while its queue was being polled */
@@ -112,7 +112,7 @@ enum reach {
     MET_FAULT,
     NO_MEMORY,
     MAIL_GIVEN, /* the driver's peer in the mailbox received a message from it */
-    MAIL_TAKEN, /* the driver received a message through the mailbox; for a host, from function 0 */
+    MAIL_TAKEN, /* the driver received a message through the mailbox; for the PF's driver, from function 0 */
     MAIL_TAKEN_1,
     IS_READY,
     COUNTED, /* a thread of the row saw `stats` increase */
@@ -251,8 +251,8 @@ struct drive {
     uint32_t links;                /* link changes so far */
     uint32_t life;                 /* interruptions so far: open, close, nicd_hold, nicd_go_on */
     uint32_t events;               /* device steps and other events after which a failed call may succeed */
-    uint32_t calls;                /* calls of send and reclaim in progress */
-    uint32_t sending[NICD_QUEUES]; /* calls of send in progress, by queue */
+    uint32_t calls;                /* send and reclaim calls in progress */
+    uint32_t sending[NICD_QUEUES]; /* send calls in progress, by queue */
     uint32_t cards;                /* bit k: task k belongs to the card, not to the driver */
     bool by_card;                  /* outside tasks: whether the card is acting */
     const struct reached *reached; /* what the row must reach */
@@ -309,9 +309,9 @@ const char *nicd_call_name(enum call call);
 
 /* --- which calls the adapter's contract keeps from overlapping --- */
 
-/* Called around each call of the driver. A queue's calls (receive, reclaim, send, rearm) come after `open` and after
-   calls that hold the flow. Calls that hold the flow come after queues' calls. Calls for the mailbox never overlap, and
-   calls for one vector never do. */
+/* Called around each driver call. A queue's calls (receive, reclaim, send, rearm) come after `open` and after calls
+   that hold the flow. Calls that hold the flow come after queues' calls. Calls for the mailbox never overlap, and calls
+   for one vector never do. */
 enum contract { OF_QUEUE, OF_CONTROL, OF_MAILBOX, BESIDE_ALL };
 void nicd_calls(enum contract contract);
 void nicd_called(enum contract contract);
@@ -353,7 +353,7 @@ const struct reached *nicd_reached(const struct scenario *it);
 bool nicd_must_reach(const struct reached *entry, enum reach reach);
 void nicd_reach_begin(void);
 bool nicd_reach_open(void);
-/* Called for each step, and when a call of the driver begins. */
+/* Called for each step, and when a driver call begins. */
 void nicd_reach_step(const nicxo_step *step, bool is_drivers);
 void nicd_reach_call(void);
 void nicd_reach_delivered(uint16_t queue, uint16_t number);
@@ -376,8 +376,8 @@ const char *nicd_judge_end(void);
 uint32_t nicd_make(const struct come *come, uint16_t number, uint8_t *bytes);
 void nicd_make_sent(uint16_t number, uint32_t length, uint8_t *bytes);
 
-/* Acts as a function's host: configures 64 pools of two queues and directs the function's frames to its pool.
-   `is_ready` says whether it also reports the device as ready. */
+/* Acts as the PF's driver for a virtual function: configures 64 pools of two queues and directs the function's frames
+   to its pool. If `is_ready`, it also reports the device as ready. */
 void nicd_set_up_host(unsigned function, bool is_ready);
 
 /* The functions of a scenario that the explorer calls. */
@@ -397,14 +397,15 @@ void nicd_come_late(uint32_t count, uint32_t length);
 /* Declares one frame for each of `count` flows of a type. */
 void nicd_come_flows(uint8_t type, uint16_t count);
 /* Used by several families: whether a filter accepts a frame; a description of its destination; a check of a flow's
-   queue against the current key and table (null, or what is wrong); a call that sets another key and table. */
+   queue against the current key and table (null, or what is wrong); a function that sets another key and table. */
 bool nicd_is_wanted(const nicd_filter *filter, const struct come *come);
 const char *nicd_whose(const struct come *come);
 const char *nicd_judge_queue(uint16_t number);
 void nicd_spread_otherwise(void);
 /* Builds the rows that come from tables (kept.c). */
 void nicd_make_rows(void);
-/* Makes the driver spread flows over its queues, if it has `rss`. For a function, its host has already done so. */
+/* Has the driver spread flows over its queues, if it has `rss`. For a virtual function, the PF's driver has already
+   done so. */
 void nicd_spread_flows(void);
 /* Adds threads that receive frames, one per queue. */
 void nicd_take_frames(void);
@@ -412,7 +413,7 @@ void nicd_take_frames(void);
 void nicd_send_frames(uint16_t queue, uint32_t count, uint32_t length);
 /* Adds a thread of the scenario that calls the driver. */
 void nicd_control(void (*function)(void));
-/* Adds a thread that plays another part: a host, or another driver. */
+/* Adds a thread that plays another part: the PF's driver, or a neighbouring driver. */
 void nicd_other(const char *name, void (*function)(void), bool waits_for_ever);
 
 /* --- for scenarios, in a task --- */
@@ -429,18 +430,19 @@ void nicd_suspend(void);
 void nicd_resume(void);
 /* Returns whether the driver resized its rings. */
 bool nicd_try_to_resize(uint16_t slots);
-/* Lets `count` of the late frames arrive. */
+/* Releases `count` of the late frames, so that they arrive. */
 void nicd_let_come(uint16_t count);
 /* Interrupts the flow: from its return until nicd_go_on, no receive, send or reclaim runs. */
 void nicd_hold(void);
 void nicd_go_on(void);
-/* Lets one of the late frames arrive, if any are left, and returns its number. */
+/* Releases one of the late frames, if any remain, and returns its number. */
 uint16_t nicd_let_one_come(void);
 /* Tries to send one frame of this length. Returns whether the driver accepted it. */
 bool nicd_send(uint16_t queue, uint32_t length);
 uint32_t nicd_reclaim(uint16_t queue);
 void nicd_rearm(uint16_t queue);
-/* The mailbox. A host names function vf; for a function, vf is 0. */
+/* The mailbox. The PF's driver passes the number of the virtual function in vf; for a virtual function's driver, vf is
+   0. */
 bool nicd_mailbox_send(uint8_t vf, const uint32_t *words, uint32_t count);
 bool nicd_mailbox_receive(uint8_t vf, uint32_t *words);
 bool nicd_mailbox_ready(void);

@@ -108,7 +108,7 @@ void nicd_in_place_end(const struct piece *piece)
 
 /* --- what the device and the driver's calls write --- */
 
-/* Copies the parts of this range that are in pieces in place. */
+/* Copies the parts of this device memory range that belong to pieces in place. */
 void nicd_in_place_copy(uint64_t bus, uint64_t bytes)
 {
     for (unsigned k = 0; k < MOST_PIECES; k++) {
@@ -191,7 +191,7 @@ static void write_changes(uint64_t from, uint64_t end)
     }
 }
 
-/* With a sanitizer, which itself watches memory that isn't lent, this writes only the pieces. */
+/* A sanitizer watches memory that isn't lent by itself. With one, this therefore writes only the pieces. */
 static void write_all(void)
 {
     if (!__asan_poison_memory_region) {

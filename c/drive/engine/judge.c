@@ -97,7 +97,7 @@ static void tell_strange(uint16_t queue, const uint8_t *bytes, uint32_t length)
                     number, (unsigned)at, nicd.frames[number].slot, queue);
 }
 
-/* Skips frames of an interrupted flow, which may be missing. */
+/* Skips frames that may be missing because the flow was interrupted. */
 static bool take_next(uint16_t queue, const uint8_t *bytes, uint32_t length)
 {
     uint16_t at = nicd.next[queue];
@@ -159,7 +159,7 @@ static const char *tell_loss(uint8_t why)
     return words[why];
 }
 
-/* Reports what the library says a frame is waiting for, in a line of at most 190 characters. */
+/* Reports what a frame is waiting for, according to the library, in a line of at most 190 characters. */
 static void tell_waiting(uint16_t number)
 {
     static char why[400];
@@ -293,7 +293,7 @@ static const char *tell_kept(unsigned queue)
     return words;
 }
 
-/* Reports a task that waits for the driver although the device has nothing left to do. */
+/* Reports a task that is still waiting for the driver when the device has nothing left to do. */
 static void judge_stuck(unsigned queue)
 {
     if (nicd.went[queue] != nicd.accepted[queue] || !nicd.is_open)

@@ -16,7 +16,7 @@ struct drive nicd;
 
 /* --- the device, before the driver opens it --- */
 
-/* Configures the host to spread each pool's flows over its two queues. */
+/* Spreads each pool's flows over its two queues, on behalf of the PF's driver. */
 static void spread_in_pools(void)
 {
     for (unsigned k = 0; k < 10; k++)

@@ -21,7 +21,7 @@ static struct counts *counts;
 /* Whether a requirement is for the whole row or for each queue of the driver. */
 enum each { ONCE, QUEUES };
 
-/* The texts if a requirement was reached and if it never was. %u is the queue, %s the row's call. */
+/* The messages for a requirement that was reached and for one that never was. %u is the queue, %s the row's call. */
 static const struct {
     const char *did, *never;
     uint8_t each;

@@ -167,8 +167,8 @@ static bool is_reset(const nicxo_step *step)
     return step->kind == STEP_WRITE && step->address == NIC_CTRL && step->word & (NIC_CTRL_RST | NIC_CTRL_LRST);
 }
 
-/* Whether a step is a reset of the function, by itself or by its host. A reset discards the frames waiting for the
-   function's pool, the destination of all frames of the scenario. */
+/* Whether a step is a reset of the function, by itself or by the PF's driver. A reset discards the frames waiting for
+   the function's pool, the destination of all frames of the scenario. */
 static bool is_pool_reset(const nicxo_step *step)
 {
     bool is_functions = step->kind == STEP_VF_WRITE && step->address == NIC_VFCTRL;

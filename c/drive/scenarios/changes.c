@@ -1,7 +1,7 @@
 /* Link changes, resets, faults, other frame lengths and new rings during traffic. */
 #include "../engine/drive.h"
 
-enum { MOST_REFUSED = 6 }; /* one of the first MOST_REFUSED allocations is refused */
+enum { MOST_REFUSED = 6 }; /* one of the first MOST_REFUSED allocations fails */
 
 /* --- the link --- */
 
@@ -33,7 +33,7 @@ static bool is_begun(void *unused)
 static void reset_during_frame(void)
 {
     nicx_wait_until(is_begun, NULL);
-    nicx_pause(); /* lets the driver read the frame */
+    nicx_pause(); /* gives the driver the chance to read the frame */
     reset_once();
 }
 
@@ -208,7 +208,7 @@ static void make_rings_longer(void)
     nicd_go_on();
 }
 
-/* Refuses one of resize's allocations. If resize then returns false, the old rings must still be in use. */
+/* Makes one of resize's allocations fail. If resize then returns false, the old rings must still be in use. */
 static void refuse_one(void)
 {
     uint32_t before = nicd_memory_taken();

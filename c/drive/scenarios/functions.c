@@ -1,4 +1,5 @@
-/* The driver of a virtual function: its queues, resets by its host, its mailbox. The card plays the host. */
+/* The driver of a virtual function: its queues, resets by the PF's driver, its mailbox. The card plays the PF's
+   driver. */
 #include "../engine/drive.h"
 
 enum { VF = 0, PORT = VF + 1 };
@@ -22,7 +23,7 @@ static void close_it(void)
         nicx_fail(nicd.fault);
 }
 
-/* --- the host resets the pool during traffic, as when it removes the function --- */
+/* --- the PF's driver resets the pool during traffic, as when it removes the function --- */
 
 static void reset_pool(void)
 {
@@ -35,7 +36,7 @@ static bool pool_was_reset(void *unused)
     return !(nicd_peek(NIC_RXDCTL(nicd.base)) & NIC_RXDCTL_ENABLE);
 }
 
-/* How a driver learns of the reset depends on its host. This scenario calls the driver's reset directly. */
+/* How a driver learns of the reset depends on the PF's driver. This scenario calls the driver's reset directly. */
 static void be_reset(void)
 {
     nicx_wait_until(pool_was_reset, NULL);
@@ -75,10 +76,10 @@ static void see_foreign(const nicxo_step *step, bool is_drivers)
         nicd_note("no virtual function register is at offset 0x%04x", (unsigned)step->address);
 }
 
-/* --- the mailbox; the card plays the host --- */
+/* --- the mailbox; the card plays the PF's driver --- */
 
 static struct {
-    uint32_t taken, sent;     /* messages that the host received and sent */
+    uint32_t taken, sent;     /* messages that the PF's side received and sent */
     uint32_t given, received; /* messages that the driver sent and received */
 } mail;
 
@@ -90,7 +91,7 @@ static bool is_asked(void)
     return true;
 }
 
-/* Word `number` of message k. The words identify the message, and differ between host and function. */
+/* Word `number` of message k. The words identify the message, and differ between the PF's side and the function's. */
 static uint32_t word(bool of_host, uint32_t k, uint32_t number)
 {
     return (of_host ? 0xB0000000u : 0xF0000000u) | k << 8 | number;
@@ -263,7 +264,7 @@ static bool has_work(void *unused)
     return has_request(NULL) || (!mail.sent && is_free(NULL));
 }
 
-/* Sends one message from the host, and serves the function's requests. */
+/* Sends one message as the PF's driver, and serves the function's requests. */
 static void host_does_both(void)
 {
     for (;;) {
@@ -282,7 +283,7 @@ static void collide(void)
     nicd_other("host", host_does_both, true);
 }
 
-/* --- a device reset, and the bit that reports its end --- */
+/* --- a device reset, and the bit that reports that it is complete --- */
 
 static void host_gets_ready(void)
 {

@@ -1,4 +1,4 @@
-/* The driver as the host of two functions: their mailboxes. The card plays the functions. */
+/* The driver as the PF's driver of two virtual functions: their mailboxes. The card plays the functions. */
 #include "../engine/drive.h"
 
 enum { FUNCTIONS_THERE = 2, PATIENCE = 3 };
@@ -34,7 +34,7 @@ static bool function_puts(uint8_t vf, uint32_t k)
     kept[vf] |= value & (NIC_PVFMAILBOX_PFSTS | NIC_PVFMAILBOX_PFACK);
     if (!(value & NIC_PVFMAILBOX_VFU))
         return false;
-    if (kept[vf] & NIC_PVFMAILBOX_PFSTS) { /* reads the host's message first */
+    if (kept[vf] & NIC_PVFMAILBOX_PFSTS) { /* reads the driver's message first */
         nicx_vf_write32(vf, NIC_VFMAILBOX, 0);
         return false;
     }
@@ -109,7 +109,7 @@ static void function_reads(void)
     }
 }
 
-/* Sends one message and reads two from the host, in any order. */
+/* Sends one message and reads two from the driver, in any order. */
 static void function_does_both(void)
 {
     bool has_given = false;
@@ -123,7 +123,7 @@ static void function_does_both(void)
     }
 }
 
-/* --- the host's driver --- */
+/* --- the tested driver --- */
 
 /* Receives a message, if there is one, and checks that it is a complete message of the function. Stores its number. */
 static bool take(uint8_t vf, uint32_t *number)
@@ -177,7 +177,7 @@ static void serve_and_answer(void *unused)
     }
 }
 
-/* Sends two messages, the second after the function has read the first, and receives meanwhile. */
+/* Sends two messages, the second after the function has read the first. Also receives messages in the meantime. */
 static void tell_and_serve(void *unused)
 {
     uint32_t value = 0, number;
@@ -193,7 +193,7 @@ static void tell_and_serve(void *unused)
     }
 }
 
-/* While the device has a host, CTRL_EXT.PFRSTD reports it as ready to its functions. */
+/* While a PF's driver is running, CTRL_EXT.PFRSTD reports the device as ready to the virtual functions. */
 static const char *judge_ready(void)
 {
     return nicd_peek(NIC_CTRL_EXT) & NIC_CTRL_EXT_PFRSTD ? NULL

@@ -1,4 +1,4 @@
-/* Messages during a poll, late messages, masked causes, spurious calls of a handler. */
+/* Messages during a poll, late messages, masked causes, spurious handler calls. */
 #include "../engine/drive.h"
 
 static bool has_begun(void *unused)

@@ -1,4 +1,4 @@
-/* Opening and closing repeatedly, with frames in flight and with memory refused. */
+/* Opening and closing repeatedly, with frames in flight and with failing allocations. */
 #include "../engine/drive.h"
 
 /* --- what must not remain after close --- */
@@ -58,7 +58,7 @@ static void open_with_frames(void)
 
 enum { ONCE_RECEPTION_IS_ON = 3 };
 
-/* Lets the first frames arrive as soon as reception is enabled, so that `open` finishes during traffic. */
+/* Releases the first frames as soon as reception is enabled, so that `open` finishes during traffic. */
 static void see_reception(const nicxo_step *step, bool is_drivers)
 {
     if (is_drivers && step->kind == STEP_WRITE && step->address == NIC_RXCTRL && step->word & NIC_RXCTRL_RXEN &&
@@ -114,7 +114,7 @@ static void three_lives(void)
     nicd_let_one_come();
 }
 
-/* Refuses each allocation of `open` once, then none. */
+/* Makes each allocation of `open` fail once, then none. */
 static void refuse_each(void)
 {
     bool is_open = false;

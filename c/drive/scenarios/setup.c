@@ -1,7 +1,7 @@
 /* How a driver configures the controller: order and values, including where the bench is more lenient than the card. */
 #include "../engine/drive.h"
 
-enum { OTHERS_ACT = 6 }; /* link changes, which may occur between a write of ENABLE and the queue's own step */
+enum { OTHERS_ACT = 6 }; /* link changes, which may occur between an ENABLE write and the queue's own step */
 
 #define EITR_RESERVED UINT32_C(0x70007007)
 

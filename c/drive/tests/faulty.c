@@ -25,7 +25,7 @@ static struct {
     nicx_mutex lock;
 } driver;
 
-static int calls; /* calls of receive over all schedules: open doesn't reset it */
+static int calls; /* receive calls over all schedules: open doesn't reset it */
 
 static void *touch(void *unused)
 {

@@ -1,6 +1,6 @@
-/* Rings and buffers in one piece of memory, as docs/port.md describes for a driver with static rings and buffers. The
-   driver of examples/adapter runs with this file included after os.h: the glue provides the piece, and bus addresses
-   are offsets in it. */
+/* Rings and buffers in a single piece of memory, as docs/port.md describes for a driver with static rings and buffers.
+   The driver of examples/adapter runs with this file included after os.h: the glue provides the piece, and bus
+   addresses are offsets in it. */
 #ifndef ONE_PIECE_H
 #define ONE_PIECE_H
 

@@ -5,7 +5,7 @@
 
 #include "os.h"
 
-/* With -fsanitize=address: nothing else may touch a packet that the device owns, or that is free. */
+/* With -fsanitize=address, reports each access to a packet that the device owns, or that is free. */
 #if defined __has_feature
 #if __has_feature(address_sanitizer)
 #define __SANITIZE_ADDRESS__ 1 /* as gcc defines it */

@@ -1,5 +1,5 @@
-/* The bus between a driver and the bench's device: registers, shared memory, steps of the device, frames and
-   interrupts. It needs only the C library (nic82599.h). A process may have several buses, each called by one thread.
+/* The bus between a driver and the bench's device: registers, shared memory, device steps, frames and interrupts. It
+   needs only the C library (nic82599.h). A process may have several buses, each called by one thread.
 
    Functions are numbered as the library numbers groups: 0 is the physical function, v + 1 virtual function v. Each has
    a window of registers, which are addressed by their offsets in it.

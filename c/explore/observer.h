@@ -31,7 +31,7 @@ enum step_kind {
     STEP_START, /* a handler starts */
     STEP_VALUE, /* nicx_choose */
     STEP_STORE, /* weak memory: a store reaches memory, the device's or the driver's own */
-    STEP_RX,    /* steps of the device from here on */
+    STEP_RX,    /* device steps from here on */
     STEP_TX,
     STEP_RX_ENABLE,
     STEP_TX_ENABLE,
@@ -66,8 +66,8 @@ void nicxo_observe(const nicxo_observer *observer);
 
 /* --- queries --- */
 
-/* The running thread; steps of the device run on its stack too. NICXO_NO_THREAD in bring_up, begin and end, and before
-   the first thread runs. */
+/* The running thread; device steps run on its stack too. NICXO_NO_THREAD in bring_up, begin and end, and before the
+   first thread runs. */
 unsigned nicxo_thread(void);
 /* The thread's name, as the scenario gave it. */
 const char *nicxo_thread_name(unsigned thread);
@@ -112,7 +112,7 @@ uint8_t nicxo_write(uint64_t bus, nicxo_bytes_at *source, size_t length);
 void nicxo_publish(void);
 
 /* Make the running thread release everything that it did so far to an object, or acquire from the object. This states
-   the order of calls that the driver's caller promises. It isn't a barrier, and does nothing if accesses of own memory
+   the order of calls that the driver's caller promises. It isn't a barrier, and does nothing if accesses to own memory
    aren't seen. */
 void nicxo_gives(const void *object);
 void nicxo_takes(const void *object);

@@ -1,5 +1,5 @@
 /* A step reads the descriptor at its ring's head, and the bytes that a transmit descriptor points to. This records
-   them. If a step of the device ever reads more, a replay of random calls (c/test) differs. */
+   them. If a device step ever reads more, a replay of random calls (c/test) differs. */
 #include "catch_up.h"
 
 #include "../in_place/shadow.h"

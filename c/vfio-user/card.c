@@ -91,7 +91,7 @@ static void one_out(void *to, const uint8_t *frame, size_t length)
         it->sink(it->sink_to, it->budget.payer, frame, length);
 }
 
-/* Sends the rest of a large send as far as the budget allows. Returns false if part of it remains. */
+/* Sends the rest of a TSO packet as far as the budget allows. Returns false if part of it remains. */
 static bool send_rest(struct card *it, uint16_t queue)
 {
     if (!it->offload || !offload_is_cutting(it->offload, queue))

@@ -104,8 +104,8 @@ bool card_takes_frame(const struct card *it);
 
 /* Begins a turn of the loop, in which each client gets a new budget (budget.h). */
 void card_begin_turn(struct card *it);
-/* card_pump runs the due steps of the device, as many as this turn's budgets allow. Returns whether to call it again
-   soon. card_is_busy returns whether to do so immediately. */
+/* card_pump runs the due device steps, as many as this turn's budgets allow. Returns whether to call it again soon.
+   card_is_busy returns whether to do so immediately. */
 bool card_pump(struct card *it);
 bool card_is_busy(const struct card *it);
 /* Run steps requested at the control socket, as many as BUDGET_ASKED allows. Return the number of descriptors or

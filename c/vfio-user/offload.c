@@ -124,7 +124,7 @@ static void begin(struct offload_queue *it, uint64_t second)
     it->length = 0;
 }
 
-/* Appends to a large send. Returns false if there is no room; the large send is then dropped when its frame is sent. */
+/* Appends to a TSO packet. Returns false if there is no room; the TSO packet is then dropped when its frame is sent. */
 static bool gather(struct offload_queue *it, const uint8_t *bytes, size_t length)
 {
     if (length > OFFLOAD_LARGEST - it->length)
@@ -141,7 +141,7 @@ static bool gather(struct offload_queue *it, const uint8_t *bytes, size_t length
     return true;
 }
 
-/* For a large send, the device gets a short frame with the last descriptor, and context descriptors, which it skips,
+/* For a TSO packet, the device gets a short frame with the last descriptor, and context descriptors, which it skips,
    before that. */
 static uint64_t stand_in(uint64_t second, size_t *length)
 {
@@ -281,7 +281,7 @@ static void put_out(struct offload *it, const struct offload_job *job, size_t le
     sink(to, it->frame, length);
 }
 
-/* Writes the headers of a large send's segment, which has `many` bytes from offset `at` of the whole send. */
+/* Writes the headers of a TSO packet's segment, which has `many` bytes from offset `at` of the whole send. */
 static void put_headers(struct offload *it, const struct offload_queue *of, size_t head, size_t at, size_t many)
 {
     const struct offload_job *job = &of->job;
@@ -326,7 +326,7 @@ static size_t head_of(const struct offload_job *job)
     return (size_t)job->mac_length + job->ip_length + job->l4_length;
 }
 
-/* The device has sent the frame in a large send's place. */
+/* The device has sent the frame in a TSO packet's place. */
 static void begin_to_cut(struct offload *it, struct offload_queue *of)
 {
     const struct offload_job *job = &of->job;

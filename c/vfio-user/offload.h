@@ -1,9 +1,9 @@
-/* Offloads that the card performs on transmitted frames but the bench's device doesn't: checksums, segmentation of
-   large sends, VLAN tags. The device gets descriptors without these requests, and the frame that it sends is completed
+/* Offloads that the card performs on transmitted frames but the bench's device doesn't: checksums, TCP segmentation
+   (TSO), VLAN tags. The device gets descriptors without these requests, and the frame that it sends is completed
    afterwards, as the Intel 82599 10 GbE Controller Datasheet (331520) describes. This part of the server is tested;
    nothing in it is proved.
 
-   The device sends a large send as one short frame. When that is sent, the server cuts the large send into segments, as
+   The device sends a TSO packet as one short frame. When that is sent, the server cuts the TSO packet into segments, as
    many at a time as the budget allows. A request for IPsec, which isn't supported, stays in the descriptor, so that the
    device refuses it. */
 #ifndef OFFLOAD_H
@@ -18,9 +18,9 @@
 
 #define OFFLOAD_QUEUES 128
 #define OFFLOAD_CONTEXTS 2
-#define OFFLOAD_LARGEST (256u * 1024 + 512) /* bytes of a large send: PAYLEN's 18 bits, and headers */
+#define OFFLOAD_LARGEST (256u * 1024 + 512) /* bytes of a TSO packet: PAYLEN's 18 bits, and headers */
 #define OFFLOAD_FRAME_MOST 65536u           /* bytes of a frame passed to the sink */
-#define OFFLOAD_STAND_IN 60u                /* bytes of the frame that the device sends in a large send's place */
+#define OFFLOAD_STAND_IN 60u                /* bytes of the frame that the device sends in a TSO packet's place */
 
 /* The offloads that a frame requests. */
 struct offload_job {
@@ -35,15 +35,15 @@ struct offload_queue {
     struct offload_job job;
     bool is_partial; /* a frame has begun, but its last descriptor hasn't arrived yet */
     bool is_ready;   /* the last descriptor has arrived, but the device hasn't sent the frame yet */
-    uint8_t *bytes;  /* bytes of the large send */
+    uint8_t *bytes;  /* bytes of the TSO packet */
     size_t length, room;
-    size_t cut; /* offset of the next segment in a large send that the device has sent; 0: none is being cut */
+    size_t cut; /* offset of the next segment in a TSO packet that the device has sent; 0: none is being cut */
     uint32_t segment;
 };
 
 struct offload_counts {
     uint64_t sums, tags, large, segments, dropped;
-    uint64_t given_up; /* large sends of queues that were reset or changed owners before all was sent */
+    uint64_t given_up; /* TSO packets of queues that were reset or changed owners before all was sent */
 };
 
 struct offload {
@@ -68,11 +68,11 @@ void offload_context(struct offload *it, unsigned int queue, uint64_t first, uin
    tag. */
 uint64_t offload_data(struct offload *it, unsigned int queue, uint64_t second, const uint8_t *bytes, size_t *length,
                       const struct legacy_sum *legacy, uint16_t tag);
-/* Completes a frame that the device sent from this queue, and passes it to the sink. A large send waits to be cut into
+/* Completes a frame that the device sent from this queue, and passes it to the sink. A TSO packet waits to be cut into
    segments. */
 void offload_sent(struct offload *it, unsigned int queue, const uint8_t *frame, size_t length, offload_sink *sink,
                   void *to);
-/* Returns whether segments of a large send wait in this queue: then its next descriptors have to wait too. */
+/* Returns whether segments of a TSO packet wait in this queue: then its next descriptors have to wait too. */
 bool offload_is_cutting(const struct offload *it, unsigned int queue);
 /* Sends segments until the budget is spent or none is left. */
 void offload_cut(struct offload *it, unsigned int queue, struct budget *budget, offload_sink *sink, void *to);

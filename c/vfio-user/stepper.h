@@ -1,4 +1,4 @@
-/* Which steps of the device are due, and when they run: immediately, when requested, or delayed at random. */
+/* Which device steps are due, and when they run: immediately, when requested, or delayed at random. */
 #ifndef VFU_STEPPER_H
 #define VFU_STEPPER_H
 

@@ -1,5 +1,5 @@
 /* Runs DPDK's driver with its transmit offloads, on the guests' server's card in this process. The card computes
-   checksums, cuts large sends and inserts tags. drivers/dpdk/run --offloads compiles and calls it.
+   checksums, cuts TSO packets and inserts tags. drivers/dpdk/run --offloads compiles and calls it.
 
      offloads [--frames N] [--loud] [--turn out]
 
@@ -23,7 +23,7 @@ enum { MEBIBYTES = 48, PACKETS = 4095, BUFFER = 2048, FRAMES_MOST = 1000000, QUE
 #define TAG_BYTES 4u
 #define TAG 0x6007u /* VLAN 7, priority 3 */
 #define ID 0x8259u
-#define SEQUENCE 0xFFFFF000u /* so that large sends wrap past 2^32 */
+#define SEQUENCE 0xFFFFF000u /* so that TSO packets wrap past 2^32 */
 #define FLAGS (RTE_TCP_ACK_FLAG | RTE_TCP_PSH_FLAG | RTE_TCP_FIN_FLAG)
 #define FIRST_FLAGS RTE_TCP_ACK_FLAG
 #define PORT_FROM 4096

@@ -229,7 +229,7 @@ uint32_t nicd_before_look(void)
     return seen;
 }
 
-/* Body of a thread that polls again after each step of the device. */
+/* Body of a thread that polls again after each device step. */
 static void poll(void *given)
 {
     struct poller *poller = &nicd.pollers[number_of(given)];

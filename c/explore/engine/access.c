@@ -530,7 +530,7 @@ void nicxi_changed_memory(void)
         nicxi.self->is_void = false;
 }
 
-/* --- steps of the device that a thread itself requests --- */
+/* --- device steps that a thread itself requests --- */
 
 void nicxi_asks(const char *call)
 {

@@ -211,7 +211,7 @@ struct engine {
     struct omitted omitted; /* set by a search that shrinks, and by a schedule's file */
     bool is_weak;           /* stores may be late and loads old (weak.h) */
     bool is_tso;            /* as on x86: stores may be late but stay in order, and no load is old */
-    bool knows_memory;      /* every access of the driver's own memory is reported (nicxi_touched) */
+    bool knows_memory;      /* every access to the driver's own memory is reported (nicxi_touched) */
     bool is_program;        /* the first task is a whole program, which runs the device's steps itself */
     nicxo_bus_of *bus_of;   /* which lent memory the driver also reads by pointers, without a step; null: none */
 
@@ -221,8 +221,8 @@ struct engine {
     bool is_idle;    /* after bring-up no step is possible, so none is tried until something wakes it */
 
     /* The actors (actors.c), in this order: threads and outside events, the device's steps from `steps_from` on, stores
-       and older loads from `steps_to` on. A step of the device that had nothing to do is idle: its bit in `awake` is 0.
-       It isn't tried again until another step, which may have added work for it, wakes it (nicxi_wake). Waking too many
+       and older loads from `steps_to` on. A device step that had nothing to do is idle: its bit in `awake` is 0. It
+       isn't tried again until another step, which may have added work for it, wakes it (nicxi_wake). Waking too many
        costs time; waking too few loses schedules. */
     struct actor actors[MOST_ACTORS];
     uint16_t count, steps_from, steps_to;
@@ -240,7 +240,7 @@ struct engine {
     uint32_t waits; /* waits in a row without a step that changed anything */
 
     /* The schedule being run (run.c). The first *points entries of `schedule` are the actors, and the same entries of
-       `steps` are their steps. A step of the device that had nothing to do is removed again: it isn't a point. */
+       `steps` are their steps. A device step that had nothing to do is removed again: it isn't a point. */
     const nicx_chooser *chooser;
     uint16_t can[MOST_ACTORS]; /* offered to the chooser; the actor that ran last is first if it can continue */
     uint16_t *schedule;
@@ -303,7 +303,7 @@ void nicxi_list_actors(void);
 /* Whether an actor is runnable, as far as known without trying it; whether a thread in any state can continue. */
 bool nicxi_can_act(const struct actor *actor);
 bool nicxi_can_go_on(const struct thread *thread);
-/* Whether a step of the device, given by its actor's number, is idle. */
+/* Whether a device step, given by its actor's number, is idle. */
 static inline bool nicxi_is_idle(uint16_t number)
 {
     return !(nicxi.awake[number / 64] >> number % 64 & 1);
@@ -315,11 +315,11 @@ static inline void nicxi_set_idle(uint16_t number)
 }
 /* Whether the first runnable actor is the one that acted last. */
 bool nicxi_goes_on(const uint16_t *can);
-/* Whether all of these are steps of the device that may turn out to have nothing to do. */
+/* Whether all of these are device steps that may turn out to have nothing to do. */
 bool nicxi_may_be_idle(const uint16_t *can, uint32_t count);
 /* Whether an actor may still be offered at this point: a paused thread may if all others may be idle. */
 bool nicxi_may_come(uint16_t actor, const uint16_t *can, uint32_t count);
-/* Runs a step of the device or the link. Returns false if it had nothing to do. */
+/* Runs a device step or the link. Returns false if it had nothing to do. */
 bool nicxi_device_step(struct actor *actor, struct step *step);
 /* Turns a fault of the device into a failure, unless the scenario allows it. */
 void nicxi_judge(const struct step *step);
@@ -342,7 +342,7 @@ uint32_t nicxi_list_due(uint16_t *can);
 /* Whether a timer fires when all is at rest. */
 bool nicxi_fires_at_rest(const struct actor *actor);
 
-/* Reports an access of the driver's own memory by the running thread. Every access is reported if `knows_memory` is
+/* Reports an access to the driver's own memory by the running thread. Every access is reported if `knows_memory` is
    set. */
 void nicxi_touched(const void *place, size_t size, bool writes);
 /* Notes that this thread of the process runs the schedules; no other thread may make these calls. */

@@ -293,7 +293,7 @@ static bool add_more(struct exhaustive *it, struct node *node, const uint16_t *c
     return true;
 }
 
-/* Called if a step of the device had nothing to do: tries another actor at the same point. */
+/* Called if a device step had nothing to do: tries another actor at the same point. */
 static bool try_another(struct exhaustive *it, struct node *node, const uint16_t *can, uint32_t count)
 {
     it->can[node->can + node->at] |= IDLE;
@@ -329,7 +329,7 @@ static uint32_t choose_again(struct exhaustive *it, const struct node *node, con
 }
 
 /* The point after the choice of another process's part is the last one. It serves only to learn whether that choice's
-   actor could continue; a step of the device is tried to find out. */
+   actor could continue; a device step is tried to find out. */
 static uint32_t end_glance(struct exhaustive *it, const uint16_t *can, uint32_t count, bool again)
 {
     struct node *node = &it->nodes[it->depth - 1];

@@ -10,7 +10,7 @@
    independent only if neither touches own memory that the other one changes. The search knows that if it sees the
    driver's accesses (nicxi_touched), or if the scenario says that it is race-free. A virtual function's access
    counts as the physical function's at the address for its offset (`dev: vf_access_is_the_physical_functions`). That
-   address depends on the mode in GCR_EXT, which no step of the device and no frame changes (`dev:
+   address depends on the mode in GCR_EXT, which no device step and no frame changes (`dev:
    other_events_keep_settings`). */
 #include "independent.h"
 
@@ -61,7 +61,7 @@ static uint32_t address_of(const struct step *step)
     return step->kind == STEP_VF_READ || step->kind == STEP_VF_WRITE ? step->physical : step->address;
 }
 
-/* Returns the side of a step of the device. If a frame was dropped, its queue isn't reported. */
+/* Returns the side of a device step. If a frame was dropped, its queue isn't reported. */
 int nicxi_side_of_step(const struct step *step)
 {
     switch (step->kind) {
@@ -136,7 +136,7 @@ static bool is_of_a_function(const struct step *a, const struct step *b)
     return a->of != 0;
 }
 
-/* A step of the device writes only the memory that its result names: a frame's bytes and descriptor, a descriptor or a
+/* A device step writes only the memory that its result names: a frame's bytes and descriptor, a descriptor or a
    head. */
 static bool writes_elsewhere(const struct step *a, const struct step *b)
 {
@@ -250,8 +250,8 @@ static const struct row {
     {READS | WRITES, OTHERS, is_of_some_side, "access to a side, int, eestep, arrive or link",
      "dev: read_changes_nothing, access_leaves_the_rest (write), message_leaves_the_rest (queues), "
      "eeprom_step_gives_the_word (rest), arrival_leaves_the_rest (queues), link_leaves_the_rest (link, queues)"},
-    /* mailboxes: no step of the device reads their memory; a write may raise a cause */
-    {FUNCTIONS_OWN, DEVICE, is_mailbox_memory, "virtual function's VFMBMEM access, device step",
+    /* mailboxes: no device step reads their memory; a write may raise a cause */
+    {FUNCTIONS_OWN, DEVICE, is_mailbox_memory, "function's access of VFMBMEM, step of the device",
      "dev: vf_stays_in_its_pool (changes), event_stays_within_its_reach, eeprom_step_gives_the_word (rest); reg: "
      "accesses_stay_with_their_owner"},
     {BY(VF_READ), DEVICE, is_mailbox, "virtual function's VFMAILBOX read, device step",
@@ -265,7 +265,7 @@ static const struct row {
      "arrival_leaves_the_rest (groups), link_leaves_the_rest (link, groups)"},
     {FUNCTIONS_OWN, BY(INT), is_of_other_group, "virtual function's access to its interrupts, int of another group",
      "dev: vf_stays_in_its_pool (changes), message_leaves_the_rest (groups)"},
-    /* two steps of the device */
+    /* two device steps */
     {BY(INT), BY(INT), are_other_groups, "int of two groups",
      "dev: message_leaves_the_rest (groups), due_bit_is_reported"},
     {BY(INT), ENABLES | BY(EEPROM), NULL, "int, qstep or eestep",
@@ -328,7 +328,7 @@ static bool is_of_driver(const struct step *step)
     return step->kind < STEP_STORE;
 }
 
-/* A library call or a point at an access of own memory: the table doesn't look at its object. */
+/* A library call or a point at an access to own memory: the table doesn't look at its object. */
 static bool is_of_library(const struct step *step)
 {
     return step->kind == STEP_LOCAL && step->word >= LOCAL_CALL;

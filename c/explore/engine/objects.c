@@ -82,7 +82,7 @@ static void add_offset(struct objects *objects, const struct step *step)
         add_queue(objects, step->physical);
 }
 
-/* --- steps of the device --- */
+/* --- device steps --- */
 
 static void add_interrupts(struct objects *objects, unsigned group)
 {

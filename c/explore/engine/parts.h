@@ -43,11 +43,11 @@ struct nicxi_races {
 
 /* The file of linker options for the link form; the report card has another. */
 extern const char *nicxi_form_options;
-/* How to let a search see accesses of the driver's own memory in another language; null: C. */
+/* How to let a search see accesses to the driver's own memory in another language; null: C. */
 extern const char *nicxi_to_be_seen;
 extern const struct nicxi_form *nicxi_form;
 extern const struct nicxi_races *nicxi_races;
-/* Turns accesses of the driver's own memory into points: all accesses, or only those to a variable or in a function
+/* Turns accesses to the driver's own memory into points: all accesses, or only those to a variable or in a function
    with this name. Returns null, or why not. */
 extern const char *(*nicxi_ask_for_memory)(const char *name);
 /* Like nicxi_ask_for_memory, for the argument of --points or of a schedule's file: "memory" or "memory:NAME". It is
@@ -79,7 +79,7 @@ void nicxi_call_until(bool (*condition)(void *), void *argument, bool timed, con
 /* Notes that the running thread accesses packet memory by this call. */
 void nicxi_note_call(const void *at);
 
-/* Adds a point before an access of the driver's own memory. */
+/* Adds a point before an access to the driver's own memory. */
 void nicxi_memory_point(enum local local, uint64_t at, uint32_t size);
 
 /* An atomic operation of the running thread. Values are known only for up to 8 bytes. */
@@ -103,8 +103,8 @@ void nicxi_polled(uint64_t at, uint64_t value);
 /* Notes a change of memory that other threads look at. */
 void nicxi_changed_memory(void);
 
-/* Adds a point before a step of the device that a thread itself requests by this call. Afterwards, reports the step's
-   result, or that the step had nothing to do. */
+/* Adds a point before a device step that a thread itself requests by this call. Afterwards, reports the step's result,
+   or that the step had nothing to do. */
 void nicxi_asks(const char *call);
 void nicxi_asked(struct step *step);
 void nicxi_asked_in_vain(void);

@@ -20,8 +20,8 @@ extern unsigned (*nicxi_ask_for_lines)(struct source_line *lines, unsigned most)
 extern unsigned (*nicxi_ask_for_begin)(const struct thread *thread, struct source_line *lines, unsigned most);
 extern unsigned (*nicxi_ask_for_wait)(const struct thread *thread, struct source_line *lines, unsigned most);
 
-/* Finds the place of a step that is being reported: call it only in a listener. The place is unknown for steps of the
-   device, and if the program has no debug information. */
+/* Finds the place of a step that is being reported: call it only in a listener. The place is unknown for device steps,
+   and if the program has no debug information. */
 void nicxi_place(uint16_t actor, const struct step *step, struct place *place);
 
 /* Returns "race.c:31"; with helpers "corpus.h:110 < tail.c:42"; "" if unknown. */

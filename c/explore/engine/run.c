@@ -345,7 +345,7 @@ static void note(uint16_t number)
     *nicxi.points = points + 1;
 }
 
-/* Tries a step of the device. Returns false, and notes nothing, if it had nothing to do. */
+/* Tries a device step. Returns false, and notes nothing, if it had nothing to do. */
 static bool device_acts(uint16_t number)
 {
     struct step step = {0};
@@ -372,7 +372,7 @@ static bool device_acts(uint16_t number)
     return true;
 }
 
-/* At rest every step of the device is tried once more. If one has something to do, a rule for waking it (nicxi_wake) is
+/* At rest every device step is tried once more. If one has something to do, a rule for waking it (nicxi_wake) is
    missing. That costs the search schedules, but no result is wrong. */
 static bool is_at_rest(void)
 {

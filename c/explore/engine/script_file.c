@@ -56,7 +56,7 @@ static void line(struct script *script, uint16_t actor, const char *text)
                 *script->where ? ": at " : "", script->where);
 }
 
-/* Writes a step of the device or the link, with its result. */
+/* Writes a device step or the link, with its result. */
 static void with_reply(struct script *script, uint16_t actor, const char *text, const struct step *step)
 {
     char reply[MOST_WORDS];

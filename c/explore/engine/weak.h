@@ -56,7 +56,7 @@ void nicxi_land_own(uint64_t at, uint64_t length);
 /* Like nicxi_land_own, for every processor: the range holds other data from now on. */
 void nicxi_land_everywhere(uint64_t at, uint64_t length);
 
-/* Notes that a step of the device, or one outside of threads, changed memory. */
+/* Notes that a device step, or one outside of threads, changed memory. */
 void nicxi_memory_changed(const struct step *step);
 
 /* Whether an actor is runnable: a store that reaches memory, or an older load. Makes a store reach memory. */

@@ -94,7 +94,7 @@ static const char *atomic_words(const struct step *step, const char *name, char 
     return room;
 }
 
-/* Describes an access of the driver's own memory, or a call on a library's object. */
+/* Describes an access to the driver's own memory, or a call on a library's object. */
 static const char *own_words(const struct step *step, char *room)
 {
     static const char *const words[] = {"reads", "writes"};

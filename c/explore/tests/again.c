@@ -30,7 +30,7 @@ static void begin(void)
     nicx_task("look", look, NULL);
 }
 
-/* Reading the EEPROM is a step of the device that is pending when schedules start. */
+/* Reading the EEPROM is a device step that is pending when schedules start. */
 static const char *ask_eeprom(void)
 {
     nicx_write32(NIC_EERD, NIC_EERD_START);

@@ -27,7 +27,7 @@ static uint32_t end_count;
 
 /* --- a random driver; each thread keeps a hash of what it saw, in order --- */
 
-/* Reports accesses of the driver's own memory, as instrumented code does. */
+/* Reports accesses to the driver's own memory, as instrumented code does. */
 static void tell(const void *place, size_t size, bool writes)
 {
     if (is_seen)

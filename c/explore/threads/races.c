@@ -599,7 +599,7 @@ static void device_writes_back(const struct step *step)
     device_writes(step->outcome.at, is_head ? 4 : 16, WRITES | WRITTEN_BACK);
 }
 
-/* A step of the device is ordered after the register writes for its side, a message after all register writes. */
+/* A device step is ordered after the register writes for its side, a message after all register writes. */
 static void device_acted(const struct step *step)
 {
     struct clock *clock = &now[DEVICE];

@@ -1,5 +1,5 @@
 /* A guest's requests are served in pieces, with other clients' turns in between, and each request is answered correctly
-   or refused by name: endless large sends, frames of every length, tails all around a ring, abandoned offloads, IPsec.
+   or refused by name: endless TSO packets, frames of every length, tails all around a ring, abandoned offloads, IPsec.
    bounds FOLDER */
 #define _GNU_SOURCE
 #include <signal.h>
@@ -224,7 +224,7 @@ static void tails(struct peer *it)
     CHECK(peer_count(control, "read ahead ") - before <= 64 * MANY);
 }
 
-/* Fills the longest ring with large sends of 256 KB, with one byte in each segment: about 2 billion segments. */
+/* Fills the longest ring with TSO packets of 256 KB, with one byte in each segment: about 2 billion segments. */
 static uint32_t make_endless(void)
 {
     uint32_t slot = 1;

@@ -43,7 +43,7 @@ static void forget(void)
     frame_length = 0;
 }
 
-/* For a large send, the device gets a short frame with the last descriptor, and nothing to send before that. */
+/* For a TSO packet, the device gets a short frame with the last descriptor, and nothing to send before that. */
 static void check_stand_in(uint64_t second, size_t length)
 {
     bool is_last = (second & NIC_TXD_EOP) != 0;
@@ -51,7 +51,7 @@ static void check_stand_in(uint64_t second, size_t length)
     CHECK(is_last ? length > 0 && length <= OFFLOAD_STAND_IN : length == 0);
 }
 
-/* Cuts large sends in pieces with budgets of all sizes, each of which allows at least one segment. */
+/* Cuts TSO packets in pieces with budgets of all sizes, each of which allows at least one segment. */
 static void cut_in_pieces(void)
 {
     static struct budget budget;

@@ -89,7 +89,7 @@ class Kit:
 
     def build_form(self, source: Path, *defines: str, of_memory: bool = False, form: str = "threads") -> Path:
         """Builds with the link form that intercepts a driver's own threads, or the one for a whole program, which
-        prints nothing of its own. With `of_memory`, accesses of memory are seen."""
+        prints nothing of its own. With `of_memory`, memory accesses are observed."""
         program = self.folder / "-".join([source.stem, form, *["memory"] * of_memory, *defines]).lower()
         made = program.with_suffix(".o")
         kind = ["-fsanitize=thread"] if of_memory else []
@@ -101,7 +101,7 @@ class Kit:
 
 
 def of_known_memory(source: Path) -> bool:
-    """Whether a driver of the corpus says that its bug shows only if accesses of memory are seen."""
+    """Whether a corpus driver says that its bug shows only if memory accesses are observed."""
     return "-fsanitize=thread" in source.read_text().partition("*/")[0] and source.parent.name == "corpus"
 
 
@@ -151,8 +151,8 @@ def check_script(kit: Kit, path: Path) -> None:
 
 
 def check_names(kit: Kit) -> str:
-    """Each address of the register table and each offset of a virtual function is named; other addresses aren't. Names
-    of Rust are reported as in the source."""
+    """Each address in the register table and each virtual function's offset is named; other addresses aren't. Rust names
+    are reported as in the source."""
     ran([kit.build(HERE / "tests/demangle.c")])
     return ran([kit.build(HERE / "tests/names.c")]).strip()
 
@@ -375,7 +375,7 @@ def must_print(text: str, wanted: str, what: str) -> None:
 
 
 def check_faults(kit: Kit) -> str:
-    """Each fault is reported on its own, with a schedule and as JUnit."""
+    """Each fault is reported by itself, with a schedule, and also as JUnit."""
     out = kit.out("faults")
     program = replace(kit, flags=[*kit.flags, "-g"]).build(HERE / "tests/faulty.c")  # (so reports contain lines)
     for mode, wanted in FAULTS.items():
@@ -407,7 +407,8 @@ def check_faults(kit: Kit) -> str:
 
 
 def check_never(kit: Kit) -> str:
-    """What a scenario names but never runs is reported, in JUnit too; with --strict the search has its own status."""
+    """What a scenario names but never runs is reported, in JUnit too; with --strict, the search exits with a separate
+    status."""
     program, out = kit.build(HERE / "tests/vacuous.c"), kit.out("never")
     ways: list[list[object]] = [["--runs", 200], ["--strategy", "exhaustive", "--preemptions", 1]]
     for mode, wanted in NEVER.items():
@@ -610,7 +611,7 @@ def check_refusals(kit: Kit) -> str:
     return f"{len(REFUSALS) + len(WORDS) + 13} refusals"
 
 
-# --- a driver's own memory, if its accesses aren't seen ---
+# --- a driver's own memory, if its accesses aren't observed ---
 
 MISSING = {
     "count": r"note: count\(\) in task \w+ (reads and writes driver|touches driver at unpointed.c:\d+ and driver) at "
@@ -623,7 +624,7 @@ POINTED = {"count": "FAILED end: a count is lost", "push": "FAILED end: a slot i
 
 def check_unpointed(kit: Kit) -> str:
     """A missing point is reported if a driver touches what other tasks touch. Nothing is reported about the version
-    with its points; its bug is found. If accesses are seen, the bug is found without any point."""
+    with its points; its bug is found. If accesses are observed, the bug is found without any point."""
     if os.uname().machine != "x86_64":
         return "no missing points, which are looked for on x86-64 alone"
     source, out = HERE / "tests/unpointed.c", kit.out("unpointed-found")
@@ -658,13 +659,13 @@ def check_orders(kit: Kit, states: int) -> str:
     return ran([kit.build(HERE / "tests/orders.c"), states, 1], timeout=HANGS).strip().splitlines()[-1]
 
 
-# Modes of the test: a host's or a function's driver; tasks kept apart by the scenario's promise or by the memory that
-# they are seen to access.
+# Modes of the test: the PF's driver or a virtual function's; tasks kept apart by the scenario's promise, or by the
+# memory that they are observed to access.
 SLEEPING = ("", "vf", "apart", "vf apart", "seen", "vf seen", "vf weak", "three", "four")
 
 
 def check_sleeping(kit: Kit, scenarios: int) -> str:
-    """The exhaustive search reaches the same ends with sleep sets as without."""
+    """The exhaustive search reaches the same final states with sleep sets as without."""
     program = kit.build(HERE / "tests/sleeping.c")
     said = {mode: ran([program, scenarios, 1, *mode.split()], timeout=HANGS).strip() for mode in SLEEPING}
     return "; ".join(f"{mode or 'host'}: {line}" for mode, line in said.items())

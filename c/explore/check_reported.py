@@ -36,7 +36,7 @@ def points_of(schedule: str) -> list[str]:
 
 
 def check_shrinking(kit: Kit, program: Path) -> str:
-    """What a failure doesn't need is left out; what `end` counts isn't."""
+    """Shrinking leaves out what a failure doesn't need, but not what `end` counts."""
     left = "without 2 tasks, 1 handler, 4 frames, 4 link changes"
     seen = []
     for seed in range(1, 6):
@@ -55,7 +55,7 @@ def check_shrinking(kit: Kit, program: Path) -> str:
 
 
 def check_cycle(kit: Kit, program: Path) -> str:
-    """An endless schedule is reported with its cycle, once."""
+    """An endless schedule is reported with its cycle, which is shown once."""
     said, schedule = found_by(kit, program, "round")
     must_print(said, r"FAILED endless: .*\n.*shrunk by \d+ tries to \d+ and \d+, the last \d points repeating", "round")
     points, lines = points_of(schedule), schedule.splitlines()

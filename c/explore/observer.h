@@ -1,7 +1,7 @@
 /* The explorer, as seen by a program that judges a driver's schedules while they run. The program is notified of each
    step, queries the running thread and the device, and gives a verdict. The report card (c/drive) is an observer: it
    knows no more of the explorer than this header and nic82599_explore.h. A process has one observer. Make these calls
-   where the calls of nic82599_explore.h are allowed, and in the observer's own functions. */
+   where the nic82599_explore.h calls are allowed, and in the observer's own functions. */
 #ifndef NICXO_OBSERVER_H
 #define NICXO_OBSERVER_H
 
@@ -31,7 +31,7 @@ enum step_kind {
     STEP_START, /* a handler starts */
     STEP_VALUE, /* nicx_choose */
     STEP_STORE, /* weak memory: a store reaches memory, the device's or the driver's own */
-    STEP_RX,    /* device steps from here on */
+    STEP_RX,    /* this kind and all that follow are device steps */
     STEP_TX,
     STEP_RX_ENABLE,
     STEP_TX_ENABLE,
@@ -43,7 +43,7 @@ enum step_kind {
 
 typedef struct nicxo_step {
     uint8_t kind;       /* enum step_kind */
-    uint8_t status;     /* status returned by the call of nic82599.h */
+    uint8_t status;     /* status returned by the nic82599.h call */
     uint8_t vf;         /* the virtual function of an access */
     bool is_outside;    /* taken in bring_up or begin */
     bool is_by_pointer; /* a store that the driver made through a pointer (nicxo_write) */
@@ -58,10 +58,10 @@ typedef struct nicxo_step {
 
 typedef struct nicxo_observer {
     void (*see)(const nicxo_step *step); /* called after each step, but not for steps of `end` */
-    void (*publish)(void); /* called before each call of the driver: writes its pointer stores by nicxo_write */
+    void (*publish)(void); /* called before each driver call: writes the driver's pointer stores with nicxo_write */
 } nicxo_observer;
 
-/* In bring_up: sets the observer. It observes from here on, until the scenario is closed. */
+/* In bring_up: sets the observer. It observes until the scenario is closed. */
 void nicxo_observe(const nicxo_observer *observer);
 
 /* --- queries --- */
@@ -71,7 +71,7 @@ void nicxo_observe(const nicxo_observer *observer);
 unsigned nicxo_thread(void);
 /* The thread's name, as the scenario gave it. */
 const char *nicxo_thread_name(unsigned thread);
-/* Whether the schedule is over and the running thread only unwinds its stack. Then each call returns at once. */
+/* Whether the schedule is over and the running thread only unwinds its stack. Then each call returns immediately. */
 bool nicxo_is_over(void);
 
 /* Returns the value of a register of the device, read without effects. */
@@ -90,30 +90,30 @@ const char *nicxo_place(const nicxo_step *step, char room[NICXO_PLACE]);
 void nicxo_fail(uint8_t outcome, const char *form, ...) __attribute__((format(printf, 2, 3)));
 /* The outcome so far. */
 uint8_t nicxo_outcome(void);
-/* Appends words to the failure's text, if there is a failure. */
+/* Appends words to the failure's message, if there is a failure. */
 void nicxo_add_words(const char *form, ...) __attribute__((format(printf, 1, 2)));
 
 /* --- what a driver may do beyond nic82599_explore.h --- */
 
 /* In `begin`, after all frames are named: holds back the last `count` frames until nicxo_let_come. */
 void nicxo_hold_back(uint16_t count);
-/* Lets `count` more frames arrive. Returns how many may arrive now. */
+/* Releases `count` more frames. Returns how many may arrive now. */
 uint16_t nicxo_let_come(uint16_t count);
 
-/* From here on the driver also reaches lent memory through pointers. The function returns whether an address of the
-   process is in lent memory, and if so, its bus address. */
+/* After this call, the driver also accesses lent memory through pointers. The function returns whether an address of
+   the process is in lent memory, and if so, its bus address. */
 typedef bool nicxo_bus_of(uint64_t at, uint64_t *bus);
 void nicxo_has_pointers(nicxo_bus_of *bus_of);
 /* A store that the driver made through a pointer, treated like nicx_dma_write. `source` returns the bytes after the
    point. */
 typedef const uint8_t *nicxo_bytes_at(uint64_t bus, size_t length);
 uint8_t nicxo_write(uint64_t bus, nicxo_bytes_at *source, size_t length);
-/* Calls the observer's `publish`, as happens before each call of the driver. */
+/* Calls the observer's `publish`, as happens before each driver call. */
 void nicxo_publish(void);
 
 /* Make the running thread release everything that it did so far to an object, or acquire from the object. This states
-   the order of calls that the driver's caller promises. It isn't a barrier, and does nothing if accesses to own memory
-   aren't seen. */
+   the order of calls that the driver's caller promises. It isn't a barrier, and does nothing if accesses to the
+   driver's own memory aren't observed. */
 void nicxo_gives(const void *object);
 void nicxo_takes(const void *object);
 bool nicxo_sees_accesses(void);

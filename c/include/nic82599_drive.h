@@ -11,8 +11,8 @@
 
        c/drive/nicdrive my_driver.c
 
-   Your driver accesses its controller through the calls of nic82599_explore.h for tasks: nicx_read32 and nicx_write32
-   (for a virtual function nicx_vf_read32 and nicx_vf_write32), nicx_dma_read and similar calls, nicx_lock, nicx_wait,
+   Your driver accesses its controller through the nic82599_explore.h calls for tasks: nicx_read32 and nicx_write32 (for
+   a virtual function nicx_vf_read32 and nicx_vf_write32), nicx_dma_read and similar calls, nicx_lock, nicx_wait,
    nicx_pause, nicx_point. Each of them is a point at which other actors may run. DMA memory comes from nicd_dma_alloc,
    below. Your driver declares no tasks, handlers or frames: the card does.
 

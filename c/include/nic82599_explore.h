@@ -120,7 +120,7 @@ uint32_t nicx_came(void);
 
 /* --- in tasks and handlers: each of these is a point --- */
 
-/* These work like the calls of nic82599.h with the same names. */
+/* These work like the nic82599.h calls with the same names. */
 uint32_t nicx_read32(uint32_t address); /* the word as a driver sees it, even for a stray access */
 uint8_t nicx_write32(uint32_t address, uint32_t word);
 uint32_t nicx_vf_read32(uint8_t vf, uint32_t offset);

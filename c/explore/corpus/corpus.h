@@ -13,13 +13,13 @@ enum {
     TX_RING = 0x0880,
     NEW_RING = 0x0900,
     WRITTEN_HEAD = 0x0980,
-    BUFFERS = 0x1000, /* one block each, from block 2 on */
+    BUFFERS = 0x1000, /* one block each, starting with block 2 */
     FRAME = 60,
     CAUSE = 1 << 5,
     DD = 1,
-    EOP_RS = 0x2B,   /* EOP, IFCS, RS and DEXT, from bit 24 of a transmit descriptor's second half */
+    EOP_RS = 0x2B,   /* EOP, IFCS, RS and DEXT, starting at bit 24 of a transmit descriptor's second half */
     EOP = 0x23,      /* EOP_RS without RS */
-    DATA = 3,        /* an advanced data descriptor, from bit 20 */
+    DATA = 3,        /* an advanced data descriptor, starting at bit 20 */
     ENABLE = 1 << 25 /* RXDCTL and TXDCTL: a write enables the queue; reads as 1 when it is on */
 };
 
@@ -34,7 +34,7 @@ static inline void lend_blocks(unsigned buffers)
         nicx_lend(block);
 }
 
-/* Turns on a receive queue with its ring at `ring`. The first `posted` slots get buffers, numbered from `first` on. */
+/* Turns on a receive queue with its ring at `ring`. The first `posted` slots get buffers, numbered from `first`. */
 static inline void bring_up_receive_queue(unsigned queue, uint32_t ring, unsigned first, unsigned posted)
 {
     nicx_write32(NIC_RDBAL(queue), ring);

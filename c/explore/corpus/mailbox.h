@@ -1,4 +1,4 @@
-/* A host, its virtual function 0, and the mailbox between them. */
+/* The PF's driver, virtual function 0's driver, and the mailbox between them. */
 #ifndef CORPUS_MAILBOX_H
 #define CORPUS_MAILBOX_H
 
@@ -12,13 +12,13 @@ enum {
     PFSTS = 16,
     PFACK = 32,
     RSTD = 128, /* in the function's VFMAILBOX */
-    STS = 1,    /* in the host's PFMAILBOX, as are ACK and PFU */
+    STS = 1,    /* in PFMAILBOX, as are ACK and PFU */
     VFMAILBOX = 0x2FC,
     VFMBMEM = 0x200,
     DEVICE_READY = 0x4000 /* CTRL_EXT: the functions may start */
 };
 
-/* Sets up the host's interrupt: a request of the function sends message vector 5. */
+/* Sets up the PF's interrupt: a request from the virtual function sends a message with vector 5. */
 static inline void bring_up_mailbox_interrupt(void)
 {
     nicx_write32(NIC_GPIE, 0x10);

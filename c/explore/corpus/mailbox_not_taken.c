@@ -30,7 +30,7 @@ static void function(void *unused)
 #endif
 }
 
-/* The host reports the link to the function, at any time. */
+/* The PF's driver reports the link to the virtual function, at any time. */
 static void tell_link(void *unused)
 {
     nicx_write32(NIC_PFMAILBOX(0), PFU);

@@ -1,4 +1,4 @@
-/* A driver's calls. Each is a point, followed by the access. Outside of tasks, accesses happen immediately. */
+/* A driver's calls. Each is a point, followed by the access. Outside of tasks, accesses take effect immediately. */
 #define _DEFAULT_SOURCE
 #include <stdio.h>
 #include <stdlib.h>
@@ -50,7 +50,7 @@ static struct polls *polls_of(struct thread *self)
     return self ? &self->polls : &nicxi.outside;
 }
 
-/* Lets other actors run. Returns false if the thread is left. */
+/* Gives other actors the chance to run. Returns false if the thread is left. */
 static bool let_others(struct thread *self)
 {
     if (polls_of(self)->times >= POLLS) {
@@ -165,7 +165,8 @@ static void note_beyond(const struct step *step)
             nicxi.notes->beyond = queue + 1;
 }
 
-/* After an access: wakes the actors that it may give work, and passes it to the listeners. */
+/* Called after an access: wakes the actors for which the access may have created work, and passes it to the
+   listeners. */
 static void after(const struct step *step)
 {
     nicxi_wake(step);
@@ -360,7 +361,7 @@ uint8_t nicx_dma_read(uint64_t bus, uint8_t *bytes, size_t length)
     return step->status;
 }
 
-/* Writes `bytes`, or if there is a `source`, what that returns after the point. */
+/* Writes `bytes`, or, if there is a `source`, the bytes that it returns after the point. */
 static uint8_t nicxi_write_bytes(uint64_t bus, const uint8_t *bytes, nicxo_bytes_at *source, size_t length)
 {
     struct step *step = before(STEP_POKE);
@@ -443,7 +444,7 @@ uint8_t nicx_take(uint32_t block)
     return move_block(STEP_TAKE, block);
 }
 
-/* --- the driver's own memory, if its accesses are seen --- */
+/* --- the driver's own memory, if its accesses are observed --- */
 
 void nicxi_memory_point(enum local local, uint64_t at, uint32_t size)
 {
@@ -550,7 +551,7 @@ void nicxi_asked_in_vain(void)
         nicxi_announce(&nicxi.self->next);
 }
 
-/* The step is the driver's too, so no other step is independent of it. */
+/* The step also counts as the driver's, so no other step is independent of it. */
 void nicxi_asked(struct step *step)
 {
     bool is_made = step->status != NIC_IDLE && step->status != NIC_NO_GROUP;
@@ -625,7 +626,7 @@ void nicx_settle(void)
 
 void (*nicxi_gives_up)(const char *words);
 
-/* Reports an endless wait and exits. No search is running yet to notice the hang. */
+/* Reports an endless wait and exits. No search is running yet that could notice the hang. */
 static void give_up(void)
 {
     char words[MOST_WORDS], access[MOST_WORDS + 24] = "", beyond[48] = "", all[sizeof access + 128];

@@ -149,7 +149,8 @@ bool nicxi_can_act(const struct actor *actor)
     }
 }
 
-/* --- what a step wakes: too much is harmless; too little is noticed when a schedule comes to rest --- */
+/* --- what a step wakes: waking too many actors is harmless; waking too few is noticed when a schedule comes to rest
+   --- */
 
 enum {
     WAKES_RX = 1 << BY_RX,
@@ -161,8 +162,8 @@ enum {
     WAKES_ALL = WAKES_RECEIVE | WAKES_TRANSMIT | WAKES_INT | WAKES_EEPROM
 };
 
-/* The queue to wake, or EACH_QUEUE. With few queues, all are woken: that costs little, and a seed keeps its
-   schedules. */
+/* The queue to wake, or EACH_QUEUE. With few queues, all are woken: that costs little, and each seed still yields the
+   same schedules. */
 enum { EACH_QUEUE = UINT16_MAX };
 
 uint16_t nicxi_few_queues = FEW_QUEUES;

@@ -1,4 +1,4 @@
-/* The driver's barriers. With strong memory they are no-ops and no points. */
+/* The driver's barriers. With strong memory they are no-ops and aren't points. */
 #include "left.h"
 #include "parts.h"
 #include "weak.h"

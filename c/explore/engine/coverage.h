@@ -28,7 +28,8 @@ struct step;
 
 /* Starts a schedule. */
 void nicxi_cover_begin(void);
-/* The frame that a receive step is about, taken or not; -1 if none waited. Call it after nicxi_cover_step. */
+/* Returns the frame that a receive step is about, whether or not the step took it; -1 if no frame was waiting. Call
+   this after nicxi_cover_step. */
 int nicxi_frame_in_hand(bool is_taken);
 /* Notes that a task or handler ended, or continued from a point that isn't a wait. */
 void nicxi_cover_thread(uint16_t number);
@@ -41,7 +42,8 @@ void nicxi_cover_bring_up(void);
 /* Adds what another process saw to `all`. */
 void nicxi_cover_more(struct coverage *all, const struct coverage *one);
 
-/* Passes on a line for each thing that the scenario names but that never happened. Returns how many there were. */
+/* Passes a line to `tell` for each item that the scenario names but that never ran or occurred. Returns the number of
+   lines. */
 typedef void nicxi_teller(void *argument, const char *line);
 uint32_t nicxi_never(const struct coverage *coverage, nicxi_teller *tell, void *argument);
 

@@ -66,7 +66,7 @@ enum local {
     LOCAL_MB,
     LOCAL_ARM,
     LOCAL_DISARM,
-    LOCAL_CALL, /* a call of a library that the driver uses */
+    LOCAL_CALL, /* a call to a library that the driver uses */
     LOCAL_LOAD, /* a load from the driver's own memory at `bus` */
     LOCAL_STORE,
     LOCAL_ATOMIC
@@ -108,7 +108,7 @@ struct thread {
     bool is_timer;      /* a handler that no message starts */
     uint8_t older;      /* weak memory: how many changes old the load being made is */
     uint32_t within;    /* timer: fires within this many points after it is armed; 0: fires at rest */
-    uint32_t due;       /* armed timer: from this point on no other actor may run */
+    uint32_t due;       /* armed timer: at this point or later, no other actor may run before it fires */
     int interrupted_by; /* task: the handler thread that interrupts it, or -1 */
     int on;             /* handler: the task that it interrupts, or -1 */
     unsigned masked;
@@ -163,8 +163,8 @@ struct frame {
     size_t length, room;
 };
 
-/* Things that the scenario names and a schedule leaves out: shrinking leaves out what a failure doesn't need. Numbers
-   and names remain as in the whole scenario. */
+/* What the scenario names but a schedule leaves out: shrinking leaves out what a failure doesn't need. Numbers and
+   names remain as in the whole scenario. */
 struct omitted {
     bool threads[MOST_THREADS];
     bool frames[NICX_FRAMES], links[NICX_FRAMES];
@@ -220,10 +220,10 @@ struct engine {
     bool is_changed; /* the device has changed since it was restored; if false, it needn't be restored */
     bool is_idle;    /* after bring-up no step is possible, so none is tried until something wakes it */
 
-    /* The actors (actors.c), in this order: threads and outside events, the device's steps from `steps_from` on, stores
-       and older loads from `steps_to` on. A device step that had nothing to do is idle: its bit in `awake` is 0. It
-       isn't tried again until another step, which may have added work for it, wakes it (nicxi_wake). Waking too many
-       costs time; waking too few loses schedules. */
+    /* The actors (actors.c), in this order: threads and outside events, the device's steps starting at `steps_from`,
+       stores and older loads starting at `steps_to`. A device step that had nothing to do is idle: its bit in `awake`
+       is 0. It isn't tried again until another step, which may have added work for it, wakes it (nicxi_wake). Waking
+       too many costs time; waking too few loses schedules. */
     struct actor actors[MOST_ACTORS];
     uint16_t count, steps_from, steps_to;
     uint64_t awake[MOST_ACTORS / 64 + 1];
@@ -233,7 +233,7 @@ struct engine {
     /* The running thread (threads.c, run.c). */
     struct fiber main;
     struct thread *self; /* null for the engine itself, which runs on `main` */
-    const char *asker;   /* the running function of the scenario that may only look, or null */
+    const char *asker;   /* the running scenario function that may only look, or null */
 
     /* The bring-up's accesses, which no thread makes (access.c). */
     struct polls outside;
@@ -280,13 +280,13 @@ bool nicxi_may_order(void);
 /* Waits outside of threads: during the bring-up, the device runs its steps. An endless wait is reported, then the
    process exits. */
 void nicxi_wait_outside(void);
-/* If not null, called with the report's text instead of printing it; must not return. */
+/* If not null, called with the report instead of printing it; must not return. */
 extern void (*nicxi_gives_up)(const char *words);
 void nicxi_forget_polls(struct polls *polls);
 /* Begins a phase in which no thread acts: a bring-up, or a schedule's `begin`. */
 void nicxi_outside_begins(void);
 
-/* Lets other actors run until this thread is chosen or left (left.h). */
+/* Runs other actors until this thread is chosen or left (left.h). */
 void nicxi_next(struct thread *self);
 
 /* Notes that a chosen thread continues. */
@@ -295,7 +295,7 @@ void nicxi_went_on(struct thread *self);
 void nicxi_announce(const struct step *step);
 void nicxi_observed(uint16_t actor, const struct step *step);
 
-/* Returns the first index from `from` on that isn't left out, or `count`. */
+/* Returns the first index at or after `from` that isn't left out, or `count`. */
 uint16_t nicxi_next_kept(const bool *omitted, uint16_t from, uint16_t count);
 
 /* Lists the actors of a schedule, after its tasks and handlers are named. */

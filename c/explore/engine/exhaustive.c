@@ -188,7 +188,7 @@ static bool inherit(struct exhaustive *it, const struct node *above, struct node
     return true;
 }
 
-/* Tries the actor first that acted longest ago. So a schedule that makes no further choice is fair. */
+/* Tries the actor that acted longest ago first. So a schedule without further choices is fair. */
 static void sort(uint16_t *can, uint32_t count, bool is_current)
 {
     for (uint32_t k = is_current + 1u; k < count && !nicxi_is_value(can[0]); k++) {
@@ -200,8 +200,8 @@ static void sort(uint16_t *can, uint32_t count, bool is_current)
     }
 }
 
-/* An actor that was runnable this long without acting must act. Otherwise two actors that wake each other go on
-   forever. */
+/* An actor that has been runnable for this long without acting must act. Otherwise two actors that wake each other
+   could continue forever. */
 static bool is_starved(uint16_t actor)
 {
     return !nicxi_is_value(actor) && *nicxi.points > nicxi.actors[actor].since + PATIENCE;
@@ -313,7 +313,7 @@ static void remember_idle(const struct exhaustive *it, const struct node *node)
             nicxi_set_idle(actor_at(it, node, k));
 }
 
-/* Makes the choice at a point reached before. At the last point it may have changed since. */
+/* Makes the choice at a point reached before. At the last point the choice may have changed since then. */
 static uint32_t choose_again(struct exhaustive *it, const struct node *node, const uint16_t *can, uint32_t count)
 {
     if (node->at == node->count)

@@ -9,7 +9,7 @@
    choice at one point of the first schedule. */
 struct parts {
     uint64_t next;
-    volatile uint64_t most; /* highest-numbered part with a schedule that was run */
+    volatile uint64_t most; /* highest-numbered part of which a schedule was run */
     uint64_t base;          /* added to a part's number */
     uint32_t shard, shards; /* of every `shards` parts, number `shard` is searched; if `shards` is 0, all parts are */
 };
@@ -31,7 +31,7 @@ bool nicxi_exhaustive_is_glance(const struct exhaustive *it);
 nicx_chooser nicxi_exhaustive_chooser(struct exhaustive *it);
 void nicxi_exhaustive_made(struct exhaustive *it);
 
-/* Whether a schedule went differently from before, because the driver behaves differently on each run. */
+/* Whether a schedule took a different course than before, because the driver behaves differently on each run. */
 bool nicxi_exhaustive_is_strange(const struct exhaustive *it);
 
 #endif

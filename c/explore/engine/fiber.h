@@ -37,8 +37,7 @@ struct fiber {
 int nicxi_fiber_open(struct fiber *fiber, size_t size);
 void nicxi_fiber_close(struct fiber *fiber);
 
-/* Makes the fiber start with a call of this function, which must not return. Whatever the fiber was doing is
-   abandoned. */
+/* Makes the fiber start by calling this function, which must not return. Whatever the fiber was doing is abandoned. */
 void nicxi_fiber_begin(struct fiber *fiber, void (*function)(void *), void *argument);
 
 /* Continues `to` where it was left. Returns when `from` is switched to again. */

@@ -351,7 +351,8 @@ static bool may_be_read(const struct step *a, const struct step *b)
     return nicxi.bus_of && is_of_driver(a) && (b->kind == STEP_RX || b->kind == STEP_TX);
 }
 
-/* With weak memory, a step that changes memory, or may, lets other processors' loads be older. */
+/* With weak memory, after a step that changes memory, or may change it, other processors' loads may return older
+   values. */
 static bool may_change_memory(const struct step *step)
 {
     return step->kind == STEP_RX || step->kind == STEP_TX || step->kind == STEP_STORE || is_of_driver(step);

@@ -5,7 +5,7 @@
 
 #include "words.h"
 
-/* Writes a byte of text. What XML 1.0 doesn't allow becomes a question mark. */
+/* Writes a byte. A character that XML 1.0 doesn't allow becomes a question mark. */
 static void put(FILE *file, int byte)
 {
     switch (byte) {

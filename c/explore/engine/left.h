@@ -1,6 +1,7 @@
-/* Threads that are inside a call when their schedule ends. The stack of a thread in C is simply abandoned. A thread may
-   have frames of a language with destructors, such as Rust, and says so. It is resumed once after the schedule: each
-   call of the explorer then returns at once as a no-op, so the frames can unwind before other threads use the stack. */
+/* Threads that are inside a call when their schedule ends. The stack of a thread in C is simply abandoned. A thread
+   whose stack has frames of a language with destructors, such as Rust, announces them. It is resumed once after the
+   schedule: each explorer call then returns immediately as a no-op, so the frames can unwind before other threads use
+   the stack. */
 #ifndef NICX_LEFT_H
 #define NICX_LEFT_H
 
@@ -13,7 +14,7 @@ bool nicxi_is_left(void);
 /* Leaves the stack for good, after its frames are unwound. Doesn't return. */
 void nicxi_unwound(void);
 
-/* After the schedule: lets each thread with frames unwind them, one thread at a time. */
+/* Called after the schedule: has each thread with frames unwind them, one thread at a time. */
 void nicxi_unwind_all(void);
 
 #endif

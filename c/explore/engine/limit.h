@@ -10,7 +10,7 @@ struct limit {
 };
 
 struct limit nicxi_limit(double seconds);
-/* Upper bound on the remaining CPU seconds. Another process may start its limit with it. */
+/* Upper bound on the remaining CPU seconds. Another process may use it as its own limit. */
 double nicxi_left(const struct limit *limit);
 bool nicxi_is_over(const struct limit *limit);
 

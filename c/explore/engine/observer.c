@@ -1,4 +1,4 @@
-/* The calls of ../observer.h. */
+/* Implements the functions declared in ../observer.h. */
 #include "../observer.h"
 
 #include <stdarg.h>

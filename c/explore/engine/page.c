@@ -63,7 +63,7 @@ void nicxi_page_begin(FILE *file, const struct origin *origin, const struct turn
     fflush(file);
 }
 
-/* Reads the text of a line. For a function's opening brace, reads the line before it. */
+/* Reads a source line. For a function's opening brace, reads the line before it. */
 static bool source_of(struct source_line line, char *room, size_t size)
 {
     if (!nicxi_source(&line, room, size))

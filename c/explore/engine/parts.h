@@ -22,7 +22,7 @@ struct nicxi_form {
     const void *(*function_of)(const struct thread *thread); /* returns a created thread's function */
     /* Names a barrier in the driver's inline assembly: "mfence at driver.c:9". */
     bool (*assembly)(char *room, size_t size);
-    /* The text that reports add about a completed call: ", while nothing waited", or "". */
+    /* What reports append about a completed call: ", while nothing waited", or "". */
     const char *(*beside)(const struct step *step);
     /* Names an address in memory from malloc: "malloc(driver.c:9)+0x8". */
     bool (*name)(const void *object, char *room, size_t size);
@@ -43,7 +43,7 @@ struct nicxi_races {
 
 /* The file of linker options for the link form; the report card has another. */
 extern const char *nicxi_form_options;
-/* How to let a search see accesses to the driver's own memory in another language; null: C. */
+/* Advice on making memory accesses visible to the search, for a driver in another language; null: C. */
 extern const char *nicxi_to_be_seen;
 extern const struct nicxi_form *nicxi_form;
 extern const struct nicxi_races *nicxi_races;

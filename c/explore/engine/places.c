@@ -37,7 +37,7 @@ static bool has_prefix(const char *name, const char *prefix)
     return !strncmp(name, prefix, strlen(prefix));
 }
 
-/* The calls of nic82599_explore.h, and the calls that link forms substitute for the driver's own. */
+/* The nic82599_explore.h calls, and the calls that link forms substitute for the driver's own. */
 static bool is_of_engine(const void *call)
 {
     char name[MOST_SYMBOL];
@@ -75,7 +75,7 @@ static unsigned end_of_thread(const struct frames *frames, const struct thread *
     return frames->count;
 }
 
-/* Lines in other languages' libraries say nothing about the driver. */
+/* Lines in other languages' libraries reveal nothing about the driver. */
 static bool is_of_library(const char *file)
 {
     return strstr(file, "/nic82599/src/explore/") || strstr(file, "/nic82599/src/drive/") ||

@@ -10,13 +10,14 @@ enum { MOST_CALLS = 8, MOST_PLACE = NICXO_PLACE, MOST_TEXT = 200, MOST_DESCRIPTI
 struct place {
     struct source_line calls[MOST_CALLS]; /* calls from the innermost to the task's own function */
     unsigned count;
-    const void *function; /* set if only this is known: the call was a tail call of this function */
+    const void *function; /* set if nothing else is known: the function that made the call as a tail call */
 };
 
-/* Null in C. For a driver in another language, with its calls not on the stack: fills in the lines of the current step,
-   innermost first, and returns how many there are; 0 if its place is in C. */
+/* Null for a driver in C. For a driver in another language, whose calls aren't on the stack: fills in the lines of the
+   current step, innermost first, and returns the number of lines; 0 if the step's place is in C. */
 extern unsigned (*nicxi_ask_for_lines)(struct source_line *lines, unsigned most);
-/* Like nicxi_ask_for_lines, for the place at which a thread begins, and for the place at which it waits at rest. */
+/* These work like nicxi_ask_for_lines. The first fills in the lines where a thread begins, the second the lines where
+   it waits when all is at rest. */
 extern unsigned (*nicxi_ask_for_begin)(const struct thread *thread, struct source_line *lines, unsigned most);
 extern unsigned (*nicxi_ask_for_wait)(const struct thread *thread, struct source_line *lines, unsigned most);
 

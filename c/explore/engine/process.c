@@ -134,7 +134,7 @@ bool nicxi_start(struct post *post, uint32_t hang, void (*work)(struct post *, v
     _exit(0);
 }
 
-/* Reports that the actor that ran last, or a function of the scenario called after it, is still running. */
+/* Reports that the actor that ran last, or a scenario function called after it, is still running. */
 static void tell_hang(const struct post *post, nicx_result *result)
 {
     char name[96];

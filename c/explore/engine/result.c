@@ -57,7 +57,7 @@ static void wrong(struct form *it, const char *form, ...)
     va_end(list);
 }
 
-/* Reads a line. It must be text and end with a newline. */
+/* Reads a line, which must be printable ASCII and end with a newline. */
 static bool next_line(struct form *it)
 {
     it->line++;

@@ -126,7 +126,7 @@ static const char *take_scenario(struct schedule_file *file, const char *words, 
     return nicxi_why("the schedule is for scenario %s, but this program is %s", words + 9, nicxi.scenario->name);
 }
 
-/* Parses a number below a bound; returns the bound if the text isn't one. */
+/* Parses a number below a bound; returns the bound if the string isn't such a number. */
 static unsigned number_of(const char *text, unsigned bound)
 {
     unsigned number = 0;
@@ -206,7 +206,7 @@ static const char *take(struct schedule_file *file, const char *words, const cha
     return add(file, actor, description);
 }
 
-/* Whether a line is text: no zero byte ends it early, and all its bytes are text. */
+/* Whether a line is complete, without a zero byte, and has no control characters other than tabs and line ends. */
 static bool is_text(const char *line, size_t length, bool is_last)
 {
     for (size_t k = 0; k < length; k++)

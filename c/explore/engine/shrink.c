@@ -37,7 +37,8 @@ static void note_cycle(struct post *post)
         post->result.points = cycle.from + cycle.length;
 }
 
-/* An endless schedule stays fair; otherwise it is just one task that never lets another actor run. */
+/* An endless schedule must stay fair. Otherwise it would shrink to a single task that keeps all other actors from
+   running. */
 static void follow(struct post *post, void *argument)
 {
     const struct shrinking *it = argument;

@@ -42,8 +42,8 @@ static uint32_t highest(const struct by_priority *state, const uint16_t *can, ui
     return best;
 }
 
-/* From half of the allowed points on, the schedule is fair. Otherwise the actor with the highest priority could poll
-   forever, and keep others from doing what it polls for. */
+/* In the second half of the allowed points, the schedule is fair. Otherwise the actor with the highest priority could
+   poll forever, and keep others from doing what it polls for. */
 static uint32_t choose_by_priority(void *argument, const uint16_t *can, uint32_t count)
 {
     struct by_priority *state = argument;
@@ -59,7 +59,7 @@ static uint32_t choose_by_priority(void *argument, const uint16_t *can, uint32_t
     return best;
 }
 
-/* A schedule starts with priorities from `depth` up; the changes use those below it. */
+/* A schedule starts with priorities of `depth` and above; the changes use lower ones. */
 nicx_chooser nicxi_by_priority(struct by_priority *state, uint64_t seed, uint64_t run, uint32_t depth, uint32_t length)
 {
     nicx_chooser chooser = {choose_by_priority, state};

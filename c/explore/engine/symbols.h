@@ -24,7 +24,7 @@ struct source_line {
    installed, or the program has no debug information. */
 unsigned nicxi_lines(const void *instruction, struct source_line *lines, unsigned most);
 
-/* Reads the text of a line, without leading and trailing blanks. Returns false if the file can't be read. */
+/* Reads a source line, without leading and trailing blanks. Returns false if the file can't be read. */
 bool nicxi_source(const struct source_line *line, char *room, size_t size);
 
 /* Ends the program used for the lookups, if it runs. */

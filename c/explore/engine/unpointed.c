@@ -58,7 +58,7 @@ void nicxi_steps_end(void)
 struct decoded {
     const uint8_t *at;    /* after the opcode: the ModRM byte */
     unsigned rex, opcode; /* two-byte opcodes are 0x0F00 and up */
-    bool is_wide;         /* immediates have four bytes, not two */
+    bool is_wide;         /* immediates are four bytes long, not two */
     bool is_locked;       /* no other access can occur between its load and its store */
     bool reads, writes;
 };

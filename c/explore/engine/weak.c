@@ -10,7 +10,7 @@ enum { SEEN = 16 };
 
 /* A pending store. */
 struct store {
-    uint64_t bus; /* own memory: its address in the process */
+    uint64_t bus; /* if to own memory: its address in the process */
     uint32_t length, room;
     uint8_t *bytes;
     bool is_own;       /* to the driver's own memory */
@@ -133,7 +133,7 @@ const char *nicxi_change_memory(enum given_memory memory)
     return fault;
 }
 
-/* Restores the copy to the state after the bring-up, with no store pending. */
+/* Restores the copy to its state after the bring-up, with no pending store. */
 void nicxi_weak_back(void)
 {
     while (weak.count) {

@@ -18,7 +18,7 @@
 
 enum given_memory { AS_SCENARIO, STRONG, WEAK, TSO };
 
-/* Sets the memory model from --memory or a schedule's file, for scenarios opened from now on. */
+/* Sets the memory model from --memory or a schedule's file, for scenarios opened after this call. */
 void nicxi_give_memory(enum given_memory given);
 /* Changes the model of the open scenario. Returns null, or why that is impossible. */
 const char *nicxi_change_memory(enum given_memory memory);
@@ -40,7 +40,7 @@ uint8_t nicxi_load(struct step *step, uint8_t *bytes);
 uint32_t nicxi_released(const struct thread *thread);
 /* Flushes its stores to lent memory only. Pending stores to own memory stay pending, but come before later stores. */
 uint32_t nicxi_ordered(const struct thread *thread);
-/* From now on, no load of the thread's processor is older than this point. */
+/* After this call, no load by the thread's processor is older than this point. */
 void nicxi_acquired(const struct thread *thread);
 /* A block was lent or taken back: no processor's loads are older than this. */
 void nicxi_memory_moved(uint32_t block);
@@ -53,7 +53,7 @@ int nicxi_keep_own(uint64_t at, const void *bytes, uint32_t length, bool release
 void nicxi_load_own(uint64_t at, void *bytes, uint32_t length);
 /* Flushes the stores of the thread's processor to this range of own memory, and all stores that come before them. */
 void nicxi_land_own(uint64_t at, uint64_t length);
-/* Like nicxi_land_own, for every processor: the range holds other data from now on. */
+/* Like nicxi_land_own, but for every processor: the range is about to hold other data. */
 void nicxi_land_everywhere(uint64_t at, uint64_t length);
 
 /* Notes that a device step, or one outside of threads, changed memory. */

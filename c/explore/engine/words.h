@@ -24,7 +24,8 @@ const char *nicxi_taken_words(uint64_t bus, char room[MOST_WORDS]);
 
 const char *nicxi_outcome_name(uint8_t outcome);
 
-/* Formats why something is refused. The text stays valid until the next refusal, and may be an argument of it. */
+/* Formats why something is refused. The result stays valid until the next refusal, and may be an argument of that
+   call. */
 const char *nicxi_why(const char *form, ...) __attribute__((format(printf, 1, 2)));
 
 /* Returns the plural ending for a count: "1 schedule", "2 schedules". */
@@ -33,7 +34,7 @@ static inline const char *nicxi_s(uint64_t count)
     return count == 1 ? "" : "s";
 }
 
-/* Copies a driver's text for one line of a file; anything but printable ASCII becomes a question mark. */
+/* Copies a driver's string for use in a line of a file; anything but printable ASCII becomes a question mark. */
 void nicxi_plain(const char *words, char *room, unsigned size);
 /* Joins lines into one, separated by "; ". */
 void nicxi_one_line(const char *words, char *room, unsigned size);

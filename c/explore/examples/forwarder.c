@@ -244,7 +244,7 @@ static void *send_all(void *unused)
     return NULL;
 }
 
-/* --- the bench: runs the device's steps, and lets frames arrive --- */
+/* --- the bench: runs the device's steps, and puts frames on the link --- */
 
 static void *act(void *unused)
 {

@@ -80,7 +80,7 @@ int main(int argc, char **argv)
     static const nicx_scenario race = {
         .name = "race",
         .fifo = 64,  /* how many frames may wait inside the device */
-        .blocks = 2, /* packet memory, in blocks of 2,048 bytes; .vfs is the number of virtual functions */
+        .blocks = 2, /* packet memory, in 2,048-byte blocks; .vfs is the number of virtual functions */
         .queues = 1, /* the device runs the steps of queues below 1 */
         .bring_up = bring_up,
         .begin = begin,

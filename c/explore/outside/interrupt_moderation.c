@@ -2,8 +2,8 @@
    takes the frames and unmasks. A moderator watches the number of interrupts: if there are many, it keeps the vector
    masked for an interval.
 
-   The poll clears `scheduled` after its last look, but the moderator may already have unmasked: a message sent
-   meanwhile is forgotten. With -DFIXED it clears `scheduled` before its first look. */
+   The poll clears `scheduled` after its last look, but the moderator may already have unmasked: a message sent in the
+   meantime is lost. With -DFIXED it clears `scheduled` before its first look. */
 #include <string.h>
 
 #include "../driver.h"

@@ -12,11 +12,11 @@ enum { VF = 0, VECTOR = 1, GET_QUEUES = 0x10, GET_ADDRESS = 0x11, NOT_KNOWN = 0x
 static const uint32_t queues_of_pool = 2, address = 0x02000011;
 
 static struct {
-    bool asked;           /* the host: a function made a request */
-    uint32_t queues, mac; /* the function: the host's answers */
+    bool asked;           /* the PF's driver: the virtual function made a request */
+    uint32_t queues, mac; /* the virtual function: answers of the PF's driver */
 } driver;
 
-/* --- the host --- */
+/* --- the PF's driver --- */
 
 static void isr(void *unused)
 {
@@ -39,7 +39,7 @@ static void host_takes(void)
     }
 }
 
-/* Reads a request, if there is one. The host then owns it, and keeps the mailbox in any case. */
+/* Reads a request, if there is one. The PF's driver then owns the request. It keeps the mailbox in any case. */
 static bool host_reads(uint32_t *request)
 {
     if (!(nicx_read32(NIC_PFMBICR(0)) & NIC_PFMBICR_VFREQ_IS(1 << VF)))
@@ -49,7 +49,7 @@ static bool host_reads(uint32_t *request)
     return true;
 }
 
-/* Returns the answer to a request, from the host's own tables and registers. */
+/* Returns the answer to a request, from the PF driver's own tables and registers. */
 static uint32_t host_finds(uint32_t request)
 {
     switch (request) {
@@ -82,7 +82,7 @@ static void host(void *unused)
     }
 }
 
-/* --- the function --- */
+/* --- the virtual function's driver --- */
 
 /* Takes the mailbox. What was sent before no longer matters, and the read discards it. */
 static void function_asks(uint32_t request)

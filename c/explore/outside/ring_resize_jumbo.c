@@ -1,4 +1,4 @@
-/* Jumbo frames in buffers of 1 KB, which the driver chains. A thread resizes the ring while frames arrive: it stops the
+/* Jumbo frames in 1 KB buffers, which the driver chains. A thread resizes the ring while frames arrive: it stops the
    queue, takes what is in the ring, and restarts the queue with a ring twice as long. Frames that arrive while the
    queue is off are lost; all others are delivered.
 

@@ -113,7 +113,7 @@ static bool is_busy(void *unused)
     return driver.count[BULK] > 0;
 }
 
-/* Lets the old worker deliver what is in its ring before the new one starts. */
+/* Waits until the old worker has delivered what is in its ring, and only then starts the new one. */
 static void balance(void *unused)
 {
     nicx_wait_until(is_busy, NULL);

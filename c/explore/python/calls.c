@@ -1,4 +1,4 @@
-/* How functions in Python are called, and the calls of nic82599_explore.h that a driver in Python makes. */
+/* How functions in Python are called, and the nic82599_explore.h calls that a driver in Python makes. */
 #include <stdio.h>
 
 #include "../engine/parts.h"

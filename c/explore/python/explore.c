@@ -50,7 +50,7 @@ struct nicp_found {
     char never[MOST_NEVER];                 /* one line for each thing that never happened */
 };
 
-/* A schedule that ran in this process, and the text about it, which the caller frees. */
+/* A schedule that ran in this process, and the report on it, which the caller frees. */
 struct nicp_made {
     char *text;
     bool is_cut;

@@ -28,7 +28,7 @@ struct host {
     pthread_t thread;
     sem_t turn;
     bool is_inside, is_left, is_ended, is_stuck;
-    unsigned calls_on; /* calls it made although it should leave */
+    unsigned calls_on; /* calls that the thread has made although it should leave */
     struct nicp_way *way;
 };
 
@@ -244,7 +244,7 @@ static void unwind(struct host *host)
 
 /* --- called by the engine --- */
 
-/* The main thread has no host. */
+/* Returns the thread that a fiber runs on; null for the main thread. */
 static struct host *host_of(const struct fiber *fiber)
 {
     return fiber->bottom ? fiber->top : NULL;

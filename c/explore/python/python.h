@@ -15,7 +15,7 @@ struct source_line;
 
 /* Special results of a function in Python, and of a driver's call. */
 enum {
-    NICP_RAISED = -1, /* the function raised an exception; its text was passed to nicp_set_words */
+    NICP_RAISED = -1, /* the function raised an exception; its message was passed to nicp_set_words */
     NICP_OVER = -2    /* the schedule is over: the thread must leave it */
 };
 
@@ -32,7 +32,7 @@ struct nicp_python {
 void nicp_open(const struct nicp_python *given, uint32_t condition, void (*foreign)(void));
 /* Calls a function in Python. Doesn't return if the schedule is over. */
 int64_t nicp_ask(uint32_t function, uint64_t a, uint64_t b, uint64_t c);
-/* Returns the text of an exception or a fault. */
+/* Returns the message of an exception or a fault. */
 const char *nicp_words(void);
 void nicp_set_words(const char *text);
 

@@ -137,7 +137,7 @@ static void misuse(void)
         nicx_check(++left < 20, "the twentieth schedule");
 }
 
-/* Loops that poll the device without a wait: two registers in turn, and a descriptor. */
+/* Loops that poll the device without waiting: two registers in turn, and a descriptor. */
 static void spin(void)
 {
     while (is("two") && nicx_read32(NIC_RDH(0)) != 1 && nicx_read32(NIC_RDT(0)) < SLOTS)

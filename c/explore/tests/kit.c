@@ -1,5 +1,5 @@
-/* The kit: frames of flows arrive complete, in the queue and with the hash that it predicts. A host and a function
-   exchange words by mailbox, in any order of steps. */
+/* The kit: frames of flows arrive complete, in the queue and with the hash that it predicts. The drivers of the PF and
+   of a virtual function exchange words through the mailbox, in any order of steps. */
 #include <stdio.h>
 #include <string.h>
 
@@ -17,7 +17,7 @@ static uint32_t ring(unsigned queue)
     return RX_RING + NIC_DESC_BYTES * SLOTS * queue;
 }
 
-/* Some flows of TCP, of UDP and of neither, each with its own frame numbers. */
+/* A few TCP flows, UDP flows and flows of neither, each with its own frame numbers. */
 static void name_flows(void)
 {
     static const uint8_t protocols[] = {NICX_TCP, NICX_UDP, 1};

@@ -40,7 +40,7 @@ static void atomics(void)
         nicx_fail("shown");
 }
 
-/* --- a signal without a waiting thread --- */
+/* --- a signal while no thread is waiting --- */
 
 static void signals(void)
 {

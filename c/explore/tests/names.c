@@ -31,7 +31,7 @@ static const uint32_t addresses[] = {
 #include "addresses.inc"
 };
 
-/* A macro's text is NIC_NAME or NIC_NAME(i). */
+/* Compares with the macros' names in the source, NIC_NAME or NIC_NAME(i). */
 static void try_macros(void)
 {
     char want[64], got[MOST_NAME];

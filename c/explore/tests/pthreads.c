@@ -38,7 +38,7 @@ static void *joined(pthread_t thread)
     return result;
 }
 
-/* No lock may let two threads in here at the same time. */
+/* No lock may admit two threads here at the same time. */
 static void be_inside(void)
 {
     nicx_check(!inside++, "two are inside");

@@ -1,5 +1,5 @@
-/* The library's calls on the search's controller, made by a driver. They are steps of the schedule, like the calls of
-   nic82599_explore.h. On other controllers, and outside of a search, they work as usual. */
+/* The library's calls on the search's controller, if a driver makes them. They are steps of the schedule, like the
+   nic82599_explore.h calls. On other controllers, and outside of a search, they work as usual. */
 #include "form.h"
 
 static bool is_the_device(const nic *n)

@@ -1,6 +1,6 @@
-/* Threads as a driver creates them: calls of the C library's threads become tasks, locks and points. With --wrap the
-   linker replaces NAME with this archive's __wrap_NAME in the driver's code alone; the rest of this archive calls
-   __real_NAME. docs/explore.md says how to link a program. */
+/* Threads as a driver creates them: calls to the C library's thread functions become tasks, locks and points. With
+   --wrap the linker replaces NAME with this archive's __wrap_NAME in the driver's code alone; the rest of this archive
+   calls __real_NAME. docs/explore.md says how to link a program. */
 #ifndef NICX_THREADS_FORM_H
 #define NICX_THREADS_FORM_H
 
@@ -104,7 +104,7 @@ int nicxi_mutex_lock(pthread_mutex_t *mutex, enum how how, const char *call, con
 int nicxi_mutex_unlock(pthread_mutex_t *mutex, const char *call, const void *at);
 int nicxi_cond_wait(pthread_cond_t *cond, pthread_mutex_t *mutex, bool is_timed, const char *call, const void *at);
 int nicxi_cond_signal(pthread_cond_t *cond, bool is_all, const char *call, const void *at);
-/* Whether a call signals a condition variable without a waiting thread. */
+/* Whether a call signals a condition variable on which no thread is waiting. */
 bool nicxi_wakes_nobody(const char *call, const void *object);
 /* For a task that waits for a condition variable: "; wake signalled it at driver.c:9, and nobody waited", or "". */
 const char *nicxi_vain_words(const struct posix_thread *posix, char room[2 * MOST_NAMED]);
@@ -127,7 +127,8 @@ void nicxi_state_back(void);
 void nicxi_state_close(void);
 void nicxi_state_goes(const struct thread *from, const struct thread *to);
 
-/* In a searched whole program: from here on other actors may run, because the program creates a thread, or waits. */
+/* Called in a searched whole program: other actors may run after this call, because the program creates a thread, or
+   waits. */
 void nicxi_program_begins(void);
 /* Called when the program opens a controller. Returns whether the controller is the search's. */
 extern bool (*nicxi_program_opens)(uint8_t vfs, uint16_t fifo, uint32_t blocks, void **device);

@@ -9,7 +9,7 @@
 
 extern bool nicxi_memory_is_point;
 
-/* Called if accesses are seen, so that they can be points. */
+/* Called if accesses are observed, so that they can be points. */
 void nicxi_memory_open(void);
 
 /* Called before each access of the running thread. It is a point if --points covers the access, or if a handler may

@@ -592,7 +592,7 @@ static void device_writes(uint64_t bus, uint64_t length, unsigned how)
         look_at(BUS_SPACE | bus, length, &cell, &now[DEVICE]);
 }
 
-/* A head that is written back has four bytes, a descriptor sixteen. */
+/* A head that is written back is four bytes long, a descriptor sixteen. */
 static void device_writes_back(const struct step *step)
 {
     bool is_head = nicxi_peek(NIC_TDWBAL(step->outcome.queue)) & NIC_TDWBAL_HEAD_WB_EN;

@@ -9,7 +9,7 @@
 #include <stddef.h>
 #include <stdint.h>
 
-/* Called if accesses are seen: the driver was built with -fsanitize=thread. */
+/* Called if accesses are observed: the driver was built with -fsanitize=thread. */
 void nicxi_race_open(void);
 
 /* Make the running thread release everything that it did so far to an object, or acquire from the object. */

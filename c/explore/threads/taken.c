@@ -291,7 +291,7 @@ static void *take(size_t size, const void *call)
     return take_head(piece_take(piece, size ? size : 1), size, call);
 }
 
-/* Lets the oldest freed block be handed out again. */
+/* Makes the oldest freed block available for allocation again. */
 static void give_oldest(void)
 {
     char *at = freed.list[freed.first].at;

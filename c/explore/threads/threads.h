@@ -1,4 +1,4 @@
-/* What the calls of C11 and POSIX share. */
+/* Shared by the C11 and POSIX thread calls. */
 #ifndef NICX_THREADS_THREADS_H
 #define NICX_THREADS_THREADS_H
 

@@ -1,6 +1,6 @@
-/* Replaces the sanitizer's own library: functions called by code built with -fsanitize=thread. Each memory access is
-   thereby seen, and each atomic operation is a point. All tasks run on one thread of the process, so the operations
-   themselves can be plain code. */
+/* Replaces the sanitizer's own library: functions called by code built with -fsanitize=thread. Through them the search
+   observes each memory access, and each atomic operation is a point. All tasks run on one thread of the process, so the
+   operations themselves can be plain code. */
 #define _GNU_SOURCE
 #include <string.h>
 

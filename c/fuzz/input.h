@@ -1,4 +1,4 @@
-/* A fuzzer's input, consumed from its front. After its end everything is 0, so that each input is valid. */
+/* A fuzzer's input, consumed from its front. Reads beyond its end return 0, so that each input is valid. */
 #ifndef FUZZ_INPUT_H
 #define FUZZ_INPUT_H
 

@@ -10,7 +10,7 @@
 
 #define BODY_MOST 4200 /* a transfer and its header */
 
-/* Makes a file of a kind: memory, an eventfd, an empty file, or a file that can't be mapped. */
+/* Creates a file of the given kind: memory, an eventfd, an empty file, or a file that can't be mapped. */
 static int make_file(const struct guest *it, unsigned int kind)
 {
     switch (kind) {

@@ -1,6 +1,6 @@
 /* Descriptors of a transmit queue with offload requests for the server: checksums, TSO, tags. The input is a byte with
-   their number, the descriptors of 16 bytes each, and the bytes of their frames. The queue's ring and the card are set
-   up as by a driver. */
+   the number of descriptors, the 16-byte descriptors, and the bytes of their frames. The queue's ring and the card are
+   set up as by a driver. */
 #include "guest.h"
 #include "input.h"
 #include "nic82599.h"

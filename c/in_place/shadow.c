@@ -33,7 +33,7 @@ static void each_part(const nic *n, uint64_t bus, uint64_t length, look *look, n
     }
 }
 
-/* Without memory for a shadow, every 16-byte unit is passed on. */
+/* If there is no memory for a shadow, calls `poke` for every 16-byte unit. */
 static void poke_part(const struct part *part, nicl_poke *poke, void *argument)
 {
     const uint8_t *host = part->block->host;

@@ -556,7 +556,7 @@ uint8_t nic_link(nic *n, bool up)
 
 /* --- steps --- */
 
-/* Counts a frame that a step may have dropped; only the reason is known by now. */
+/* Counts a frame that a step may have dropped; at this point only the reason is known. */
 static uint8_t counted(const nic *n, uint8_t status, const nic_outcome *outcome)
 {
     if (__builtin_expect(status == NIC_DROPPED, 0))
@@ -742,7 +742,7 @@ static void name_step(uint16_t queues, uint16_t at, nic_outcome *outcome)
     }
 }
 
-/* Tries the steps in order until one has work, or until a whole round had none. */
+/* Tries the steps in order until one has something to do, or until no step in a whole round had. */
 static uint8_t next_step(nic *n, nic_settling *where, nic_outcome *outcome)
 {
     uint16_t places = (uint16_t)(3 * where->queues + 2 + GROUPS);

@@ -100,7 +100,7 @@ void nicl_before_transmit(struct recording *it, nic *n, uint32_t queue)
         before_ring(it, n, true, queue, FIRST);
 }
 
-/* A disabled queue may be enabled before its first slot is read. */
+/* A queue that is disabled now may be enabled before its first slot is read. */
 void nicl_before_settle(struct recording *it, nic *n, uint32_t queues)
 {
     nicl_may_switch(it);

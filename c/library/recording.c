@@ -32,9 +32,9 @@ struct recording {
     struct kept *kept;
     char *text;
     size_t used, room, line; /* bytes of `text`, and the start of its last line */
-    uint32_t lent, lent_end; /* the blocks that the last line is about; 0 and 0 if it is another line */
+    uint32_t lent, lent_end; /* the blocks that the last line is about; 0 and 0 if it isn't about lent blocks */
     struct nicl_on on;
-    bool is_again; /* `text` replaces the file's last line, which has LENT bytes */
+    bool is_again; /* `text` replaces the file's last line, which is LENT bytes long */
 };
 
 /* Programs started by this one don't inherit the file, and bytes are written unchanged. */
@@ -76,8 +76,8 @@ static void say(const char *name, const char *why)
 
 /* --- files --- */
 
-/* Makes the file name of a controller, counted from 0: %p becomes the process ID, and a number follows from the second
-   controller on. */
+/* Makes the file name of a controller, counted from 0: %p becomes the process ID, and from the second controller on, a
+   number follows. */
 static void name_of(unsigned number, char *name, size_t room)
 {
     size_t at = 0;
@@ -364,7 +364,7 @@ static void note_line(struct recording *it)
         it->line = it->used;
 }
 
-/* Without memory for text, added text is discarded into this buffer. */
+/* If there is no memory for text, added text goes to this buffer, and is lost. */
 static char nowhere[NICL_LINE];
 
 struct nicl_text nicl_text_of(struct recording *it)

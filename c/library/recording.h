@@ -46,14 +46,14 @@ struct recording *nicl_enter_dropped(nic_kept kept, uint32_t *number);
    next. */
 struct nicl_text nicl_text_of(struct recording *it);
 void nicl_text_ends(struct recording *it, const struct nicl_text *text);
-/* Add a text, two texts with a number between them, and text in printf's format. */
+/* Add a string, two strings with a number between them, and text formatted as by printf. */
 void nicl_add_text(struct recording *it, const char *text);
 void nicl_add_number(struct recording *it, const char *before, uint64_t number, const char *after);
 void nicl_add(struct recording *it, const char *format, ...) __attribute__((format(printf, 2, 3)));
 void nicl_add_hex(struct recording *it, const uint8_t *bytes, size_t length);
 /* Adds a line that names bytes, before the line that uses them, and returns the number in the name. Data in a script
-   has at least one byte: empty data gets one byte and a comment that says so. The device drops a frame of no bytes and
-   one of one byte for the same reason. */
+   has at least one byte: empty data gets one byte and a comment that says so. The device drops an empty frame and a
+   one-byte frame for the same reason. */
 uint32_t nicl_add_data(struct recording *it, const uint8_t *bytes, size_t length);
 /* Adds `poke 0x00010 d3`: these bytes at a bus address. */
 void nicl_add_poke(struct recording *it, uint64_t bus, uint32_t name);

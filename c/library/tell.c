@@ -16,7 +16,7 @@
 /* The maximum number of kinds counted for a controller; all further kinds share one count. */
 enum { MOST_KINDS = 64, NAME = 96, TEXT = 1024 };
 
-/* A kind of event that is reported once and counted from then on. */
+/* A kind of event that is reported once and only counted after that. */
 struct kind {
     struct kind *next;
     char name[NAME];
@@ -26,7 +26,7 @@ struct kind {
 struct teller {
     struct teller *next;
     void *device;
-    unsigned number; /* the controller's number in the process, from 1 on */
+    unsigned number; /* the controller's number in the process, counted from 1 */
     unsigned count;
     struct kind *kinds;
 };

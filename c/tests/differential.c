@@ -411,7 +411,7 @@ static void settle(void)
     CHECK(at == count);
 }
 
-/* --- queues that work, so that not everything is refused --- */
+/* --- working queues, so that not every call is refused --- */
 
 static void set_up(void)
 {
@@ -459,7 +459,7 @@ static void post(bool transmit, uint32_t queue, uint32_t slot)
     write_range(block * 2048 + 16 * slot, bytes, 16);
 }
 
-/* Writes descriptors into the slots from the tail on, and then the tail. */
+/* Writes descriptors into the slots starting at the tail, and then writes the tail. */
 static void refill(bool transmit, uint32_t queue)
 {
     uint32_t count = 1 + below(4), tail = nic_get(&n, transmit ? NIC_TDT(queue) : NIC_RDT(queue));

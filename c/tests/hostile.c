@@ -364,7 +364,7 @@ static void memory_in_place(nic *n)
         MAY(nic_unlend_memory(n, bus, below(8) ? bytes : SIZE_MAX - 2047), NIC_DONE, NIC_BAD_MEMORY, NIC_NOT_LENT);
 }
 
-/* The text ends inside its buffer, however short that is. */
+/* The string ends within its buffer, however short the buffer is. */
 static void ask_why(nic *n, uint8_t *bytes, size_t length)
 {
     if (below(64)) /* (it copies all lent memory) */

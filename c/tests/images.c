@@ -1,5 +1,5 @@
-/* An EEPROM image: `images IMAGE TEXT` installs the image from its bytes and from its text, and reads its words with
-   EERD. */
+/* An EEPROM image: `images IMAGE TEXT` installs the image from its bytes and from its textual description, and reads
+   its words with EERD. */
 #include "check.h"
 
 static uint8_t bytes[65536];

@@ -419,7 +419,7 @@ static void shared(uint8_t *host)
 
 static int is_over;
 
-/* Lends and takes back memory endlessly, with a separate controller, and frees other memory meanwhile. */
+/* Lends and takes back memory endlessly, with a separate controller, and frees other memory in between. */
 static void *lends_on(void *unused)
 {
     nic n;

@@ -15,7 +15,7 @@ static const char *path_of(const char *name)
     return path;
 }
 
-/* Returns whether a text equals `form` with the library's edition in place of "%s". */
+/* Returns whether a string equals `form` with the library's edition in place of "%s". */
 static bool is_text(const char *text, const char *form)
 {
     char want[4096];
@@ -27,7 +27,7 @@ static bool is_text(const char *text, const char *form)
     return strcmp(text, want) == 0;
 }
 
-/* Returns whether a file's text equals this one. A file that doesn't exist has no text. */
+/* Returns whether a file's contents equal this string. A file that doesn't exist counts as empty. */
 static bool holds(const char *name, const char *form)
 {
     char text[4096];
@@ -64,7 +64,8 @@ static bool is_there(const char *name)
 #define LENT_HEAD                                                                                                      \
     "#: nic vfs 0 fifo 4 blocks 8\n# recorded by the %s library " NIC82599_VERSION "; nicbench run --vfs 0 --fifo 4\n"
 
-/* Two open controllers have a file each, one that was already open has none, and null ends all. */
+/* Two controllers opened later have a file each, a controller that was already open has none, and null ends all
+   recordings. */
 static void files(void)
 {
     nic early, first, second, late;

@@ -96,7 +96,7 @@ static void course(nic *n, uint64_t seed, uint64_t *answers)
 
 /* --- a busy controller --- */
 
-/* Two frames wait and a third was written, half a frame is staged, and two frames were sent. */
+/* Two frames are waiting and a third was written, half a frame is staged, and two frames were sent. */
 static void set_off(nic *n)
 {
     static const uint8_t frame[60] = {2, 0, 0, 0, 0, 1, 2, 0, 0, 0, 0, 2, 8, 0};

@@ -1,13 +1,13 @@
-/* Checks what nic_why says about the set-ups in rust/nic82599/tests/why.cases: `why CASES`. For each of them it checks
-   that the text is cut at whole lines, and that nothing changes. `why CASES FILE` writes the texts into a file, in the
-   format of the cases. */
+/* Checks what nic_why says about the setups in rust/nic82599/tests/why.cases: `why CASES`. For each of them it checks
+   that too long an explanation is cut at the end of a line, and that nothing changes. `why CASES FILE` writes the
+   explanations into a file, in the format of the cases. */
 #include <string.h>
 
 #include "check.h"
 
 enum { MOST_LINES = 64, WIDE = 256, ROOM = 4096, QUEUES = 8 };
 
-/* Lines of a set-up; `label` is empty except in the base. */
+/* Lines of a setup; `label` is empty except in the base. */
 struct line {
     char label[16], text[WIDE];
 };
@@ -17,7 +17,7 @@ static unsigned of_base, lines, cases;
 static char name[WIDE], want[ROOM];
 static bool is_alone;
 
-/* --- a set-up --- */
+/* --- a setup --- */
 
 static void arrive(nic *n, unsigned last, size_t length, unsigned first)
 {
@@ -67,7 +67,7 @@ static void make(nic *n, const char *text)
         CHECK(!"a line of a set-up");
 }
 
-/* --- the texts --- */
+/* --- the explanations --- */
 
 /* Returns whether to try this buffer size: around the ends of lines, and some others. */
 static bool is_tried(const char *whole, size_t size)
@@ -117,7 +117,8 @@ static uint64_t look(nic *n)
     return sum * 31 + nic_next_out(n);
 }
 
-/* Checks that calling nic_why on one of two controllers with the same set-up doesn't change how it continues. */
+/* Checks that calling nic_why on one of two controllers with the same setup doesn't change how this controller
+   continues. */
 static void is_unchanged(nic *asked)
 {
     nic other;

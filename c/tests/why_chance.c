@@ -1,5 +1,5 @@
 /* Compares what nic_why says with what the device then does: on random controllers, a step has something to do exactly
-   if the text says so. */
+   if nic_why says so. */
 #include <string.h>
 
 #include "set_up.h"
@@ -9,7 +9,7 @@ enum { RUNS = 400, CALLS = 60, ROOM = 16384 };
 static char text[ROOM];
 static unsigned long asked;
 
-/* Returns whether the text has a line with this beginning and end. */
+/* Returns whether the explanation contains a line with this beginning and end. */
 static bool says(const char *begin, const char *end)
 {
     for (const char *line = text; *line; line = strchr(line, '\n') + 1) {

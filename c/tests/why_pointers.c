@@ -25,7 +25,7 @@ static void open(nic *n, uint64_t ring, uint64_t buffer)
     nic_write32(n, NIC_RDT(0), 1);
 }
 
-/* Checks whether the text contains this part of a line. */
+/* Checks whether the explanation contains this part of a line. */
 static void has(nic *n, bool is_there, const char *format, uint64_t first, uint64_t second, uint64_t third)
 {
     char text[4096], want[256];

@@ -6,8 +6,8 @@
 
 struct bus;
 
-/* Prints a line for the host and one for all functions, each with the most accessed names. Prints nothing if there were
-   no such accesses. */
+/* Prints a line for the physical function and one for all virtual functions, each with the most accessed names. Prints
+   nothing if there were no such accesses. */
 void absent_tell(const struct bus *bus, FILE *to);
 
 #endif

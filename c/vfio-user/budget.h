@@ -45,7 +45,7 @@ static inline void budget_begin_turn(struct budget *it)
         it->left[payer] = BUDGET_PIECE;
 }
 
-/* Charges a request at the control socket from now on. */
+/* After this call, charges a request at the control socket. */
 static inline void budget_ask(struct budget *it)
 {
     it->payer = BUDGET_CONTROL;

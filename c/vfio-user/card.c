@@ -388,7 +388,7 @@ uint32_t card_causes(const struct card *it)
     return bus_peek(it->bus, NIC_EICR) & bus_peek(it->bus, NIC_EIMS);
 }
 
-/* A message of a function is due only if a cause and its mask are set; usually none is. */
+/* A function's message is due only if a cause and its mask are set; usually no message is. */
 static bool has_cause(const struct card *it, unsigned int function)
 {
     if (function == BUS_PHYSICAL)

@@ -19,7 +19,7 @@
 #define CARD_SOCKETS 2        /* sockets of each virtual function */
 #define CARD_FIFO 4096
 
-/* The best kind of interrupts that the physical function supports. It also supports the kinds before. */
+/* The best kind of interrupts that the physical function supports. It also supports the kinds listed before that. */
 enum card_interrupts { CARD_INTX, CARD_MSI, CARD_MSIX };
 
 struct card_options {
@@ -60,8 +60,8 @@ struct card {
     struct dma writer;  /* during a register write: the client that writes */
     bool is_busy;       /* work remains, but only because this turn's budget is spent */
     struct watch watch; /* accesses at which to hold the device */
-    /* by function number: its sockets, first its own guest's, then the host's shadow; and the one that accessed it
-       last */
+    /* by function number: its sockets, first the one for its own guest, then the shadow in the PF's guest; and the
+       socket that accessed it last */
     struct function *sockets[1 + CARD_FUNCTIONS_MOST][CARD_SOCKETS];
     struct function *active[1 + CARD_FUNCTIONS_MOST];
     card_sink *sink;
@@ -121,7 +121,7 @@ bool card_has_left_some(const struct card *it);
 
 /* Plugs the cable in or unplugs it. Returns the device's status. */
 uint8_t card_link(struct card *it, bool is_up);
-/* Delays steps at random with this seed from now on, or (null) stops doing so. */
+/* Starts to delay steps at random with this seed, or (null) stops doing so. */
 void card_seed(struct card *it, const uint64_t *seed);
 /* Holds the device: it only runs steps that are requested. */
 void card_hold(struct card *it);

@@ -83,7 +83,8 @@ enum channel_state channel_receive(struct channel *it)
     return take_files(it, &head) ? CHANNEL_OPEN : CHANNEL_WRONG;
 }
 
-/* Passes on the files that belong to the message ending at `end`. Returns false if there are too many. */
+/* Attaches to the message the files that belong to it: those that arrived before `end`, where it ends. Returns false if
+   there are too many. */
 static bool give_files(struct channel *it, struct message *message, size_t end)
 {
     unsigned int left = 0;

@@ -1,6 +1,6 @@
 /* Answers `why`: what blocks the waiting work. A separate thread finds the reasons on a copy of the device and of its
-   rings' locations. Examining all that a guest can set up takes seconds of CPU time, and guests are served meanwhile.
-   There is one thread, so clients take turns. */
+   rings' locations. Examining all that a guest can set up takes seconds of CPU time, and guests are served in the
+   meantime. There is one thread, so clients take turns. */
 #ifndef VFU_EXPLAIN_H
 #define VFU_EXPLAIN_H
 

@@ -1,6 +1,6 @@
 /* One function of the card as a client sees it: its configuration space, its registers, its interrupts. A virtual
    function has two sockets. One makes it a separate device for another guest. The other socket is a shadow of it for
-   the host's guest, visible only through SR-IOV. */
+   the guest with the physical function, visible only through SR-IOV. */
 #ifndef VFU_FUNCTION_H
 #define VFU_FUNCTION_H
 
@@ -27,7 +27,7 @@ struct function_counts {
 struct function {
     enum function_kind kind;
     unsigned int number; /* on the bus: 0 for the physical function, v + 1 for virtual function v */
-    unsigned int socket; /* among all sockets, from 0 on */
+    unsigned int socket; /* among all sockets, counted from 0 */
     uint64_t client;     /* number of clients that have left; also the current client's serial number */
     uint16_t device;
     unsigned int virtual_functions; /* number of virtual functions; set for the physical function */

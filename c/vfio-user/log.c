@@ -100,7 +100,7 @@ static void say_what_was_left_out(enum log_kind kind, struct account *it)
 
 /* ---- lines ---- */
 
-/* A line may contain a client's text, so control characters are replaced. */
+/* A line may contain a client's string, so control characters are replaced. */
 static void put(char *line, size_t length)
 {
     for (size_t i = 0; i < length; i++)

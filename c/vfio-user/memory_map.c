@@ -15,10 +15,10 @@
 #include "closer.h"
 #include "protocol.h"
 
-#define PIECE (UINT64_C(16) << 20) /* bytes unmapped at a time, which takes some milliseconds if all were used */
+#define PIECE (UINT64_C(16) << 20) /* bytes unmapped at a time, which takes a few milliseconds if all were used */
 #define WINDOWS_A_PIECE 64
 #define MAPS_MOST CLOSER_OWNERS
-#define GRAINS 16u                       /* maximum per file; a window is some consecutive grains */
+#define GRAINS 16u                       /* maximum per file; a window consists of consecutive grains */
 #define GRAIN_LEAST (UINT64_C(16) << 20) /* minimum size of a grain in bytes */
 #define WINDOWS_TO_BYTES 2u              /* limit for windows, as a multiple of the bytes that ranges may have */
 

@@ -72,8 +72,8 @@ void memory_map_end(struct memory_map *it);
 void *memory_map_run(const struct memory_map *it, uint64_t address, size_t *length, bool write);
 
 /* A client may truncate its file; then an access beyond the file's end would end this process with SIGBUS. After this
-   call the access reads zeros instead, and the rest of the window can't be accessed from then on. Ranges added later
-   get another window. */
+   call the access reads zeros instead, and the rest of the window can't be accessed any longer. Ranges added later get
+   another window. */
 bool memory_map_guard(void);
 /* Returns how many windows were cut off this way. */
 unsigned long memory_map_cuts(void);

@@ -57,7 +57,7 @@ static const char help[] =
     "A second process, which can do nothing else, removes the sockets on exit. With --wire=stream or dgram, a third\n"
     "process connects the wire. docs/guests.md lists the kernel features that this needs.\n";
 
-/* Returns the text after NAME= in a word; null if the word has another name. */
+/* Returns the value after NAME= in a word; null if the word has another name. */
 static const char *value_of(const char *word, const char *name)
 {
     size_t length = strlen(name);

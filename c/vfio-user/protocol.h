@@ -44,7 +44,7 @@ struct vfu_header {
 #define VFU_MAPS_MOST 16384 /* ranges of a client's memory */
 
 struct vfu_version {
-    uint16_t major, minor; /* followed by a JSON text that ends in a zero byte */
+    uint16_t major, minor; /* followed by a JSON string that ends in a zero byte */
 };
 
 /* vfu_dma_map.flags */

@@ -305,7 +305,7 @@ static bool check_owner(struct rings *it, enum side side, uint16_t queue, struct
 /* ---- register accesses ---- */
 
 /* Makes the device drop frames for a virtual function that has no room. If they waited in front of the queues, they
-   would block everybody's frames. On the card, the host does this with QDE, which the device doesn't have. */
+   would block all other frames. On the card, the PF's driver does this with QDE, which the device doesn't have. */
 static uint32_t add_drop(struct ring *ring, struct dma client, uint32_t control)
 {
     ring->has_drop = dma_function(client) && !(control & NIC_SRRCTL_DROP_EN);

@@ -10,7 +10,7 @@
 #include "closer.h"
 #include "log.h"
 
-#define CAPABILITIES_MOST 200 /* maximum size of the text in bytes */
+#define CAPABILITIES_MOST 200 /* maximum size of the JSON string in bytes */
 
 /* A message being answered. `reply` is the number of bytes in the reply's body. */
 struct work {

@@ -1,5 +1,6 @@
-/* Finds out what registers don't show: which frames wait and for which queues, which sides of queues were requested to
-   be enabled, and which causes no message has reported. A copy of the controller reveals all of it by its behavior. */
+/* Finds out what registers don't show: which frames are waiting and for which queues, for which sides of queues an
+   enable was requested, and which causes no message has reported. A copy of the controller reveals all of it by its
+   behavior. */
 #include <string.h>
 
 #include "../library/look.h"
@@ -47,8 +48,8 @@ static void arm(nic *copy, uint16_t queue)
     nicl_write32(copy, NIC_RDT(queue), UINT16_MAX);
 }
 
-/* Finds out for which queues frames wait. With a tail outside its ring, each receive step ends in a fault that names
-   the queue, disables it and drops the frame. */
+/* Finds out for which queues frames are waiting. With a tail outside its ring, each receive step ends in a fault that
+   names the queue, disables it and drops the frame. */
 static void look_at_frames(nic *copy, struct nicl_inside *inside)
 {
     nic_outcome outcome;
@@ -66,7 +67,7 @@ static bool look(nic *copy, const nic_kept *kept, struct nicl_inside *inside)
 {
     if (nicl_restore(copy, kept) != NIC_DONE)
         return false;
-    nicl_write32(copy, NIC_CTRL, 0); /* otherwise it takes no step */
+    nicl_write32(copy, NIC_CTRL, 0); /* otherwise the device runs no step */
     for (uint8_t group = 0; group < NICL_GROUPS; group++)
         inside->due[group] = due(copy, group);
     if (look_at_sides(copy, inside)) {

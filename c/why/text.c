@@ -1,4 +1,4 @@
-/* The text of nic_why, a line for each reason. */
+/* The output of nic_why, a line for each reason. */
 #include <stdarg.h>
 #include <stdio.h>
 #include <string.h>

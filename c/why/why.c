@@ -13,7 +13,7 @@
 
 enum { SHORTEST = 60, KILOBYTE = 1024, ENTRY_VALID = 0x80, CAUSE_OF_ENTRY = 0x3f };
 
-/* Sets the subject of the lines from here on. */
+/* Sets the subject of the lines that follow. */
 static void about(struct nicl_why *it, const char *what, int number)
 {
     snprintf(it->subject, sizeof it->subject, number < 0 ? "%s" : "%s %d", what, number);

@@ -1,4 +1,4 @@
-/* The state that nic_why examines, and the text that it writes. */
+/* The state that nic_why examines, and the lines that it writes. */
 #ifndef NICL_WHY_H
 #define NICL_WHY_H
 
@@ -24,7 +24,7 @@ struct nicl_why {
     struct nicl_inside inside;
     bool is_silent; /* suppresses all reports */
     unsigned lines; /* number of lines reported */
-    /* The text: as many whole lines as fit, and the length of all lines. */
+    /* The output: as many whole lines as fit, and the length of all lines. */
     char *text;
     size_t room, used, length;
     bool is_cut;

@@ -21,7 +21,7 @@ usage() {
     exit 3
 }
 
-# is_number WORD: whether it is a decimal number from 1 to 99,999,999.
+# is_number WORD: whether WORD is a decimal number from 1 to 99,999,999.
 is_number() { [[ ${1-} =~ ^[1-9][0-9]{0,7}$ ]]; }
 
 # no_more WORDS..: rejects the remaining arguments.
@@ -90,7 +90,7 @@ LINES
 # Prints the folder of apt's lists. With SUITE the lists are separate from the system's.
 apt_folder() { echo "$WORK/apt${SUITE:+-$SUITE}"; }
 
-# Writes what apt reads from now on: the line of SUITE if it is set, else the system's lines.
+# Writes the source lines for apt: the line of SUITE if it is set, else the system's lines.
 write_sources() {
     local at
     at=$(apt_folder)

@@ -43,7 +43,8 @@ void memory_calls(struct dma_memory *it, struct bus_calls *calls);
    (in place: also if these bytes are, at another address), or if out of memory. */
 bool memory_lend(struct dma_memory *it, uint64_t bus, void *host, size_t length);
 
-/* Returns these bytes' address in this process, or null if they weren't lent in one piece. */
+/* Returns these bytes' address in this process, or null unless a single contiguous range that was lent contains
+   them. */
 void *memory_at(const struct dma_memory *it, uint64_t bus, size_t length);
 
 /* ---- copies.c ---- */

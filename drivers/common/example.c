@@ -18,7 +18,7 @@ static unsigned int came_back;
 
 static void set_up(void)
 {
-    bus_write(run_bus, BUS_PHYSICAL, NIC_CTRL, NIC_CTRL_RST); /* from here on, the EEPROM's MAC address is set */
+    bus_write(run_bus, BUS_PHYSICAL, NIC_CTRL, NIC_CTRL_RST); /* the reset also sets the MAC address from the EEPROM */
     bus_write(run_bus, BUS_PHYSICAL, NIC_RDBAL(0), BUS);
     bus_write(run_bus, BUS_PHYSICAL, NIC_RDLEN(0), SLOTS * sizeof *rx);
     bus_write(run_bus, BUS_PHYSICAL, NIC_SRRCTL(0),

@@ -13,7 +13,7 @@ enum { API_1_0 = 0, API_1_1 = 2 };
 #define REFUSED 0x40000000u
 #define CLEAR_TO_SEND 0x20000000u
 #define NUMBER 0x0000FFFFu
-#define CONTROL 0x00000100u /* host control message */
+#define CONTROL 0x00000100u /* control message of the PF's driver */
 
 static struct {
     unsigned int vf;

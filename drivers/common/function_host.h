@@ -1,6 +1,6 @@
-/* A minimal host for one virtual function: it enables pools, sets the function's address and serves the host's half of
-   the mailbox. It replies to requests as Linux's host does (API 1.0 and 1.1). It is for runs of a VF driver without a
-   host driver. */
+/* A minimal PF driver for one virtual function: it enables pools, sets the function's address and serves the PF's half
+   of the mailbox. It replies to requests as Linux's PF driver does (API 1.0 and 1.1). It is for runs of a VF driver
+   without a PF driver. */
 #ifndef DRIVERS_FUNCTION_HOST_H
 #define DRIVERS_FUNCTION_HOST_H
 

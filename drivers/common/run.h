@@ -21,7 +21,7 @@ void run_close(void);
 /* Prints accesses by phase, device steps and bytes. */
 void run_tell_counts(void);
 /* Reports a problem if a copy was refused, or if the number of dropped frames or faults isn't the one expected. Also
-   prints a line if no frame passed, because such a run tested little. */
+   prints a line if no frame was transferred, because such a run tested little. */
 void run_check_counts(uint64_t drops_expected, uint64_t faults_expected);
 
 /* Writes the strays to a file of this name. Returns false and reports a problem if it can't. */

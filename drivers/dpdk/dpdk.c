@@ -17,7 +17,7 @@
 
 #define ARGUMENTS 16
 #define PACKETS_KEPT 64 /* packets cached per core */
-#define SEED 82599      /* seeds DPDK's random numbers, from which the host takes its functions' addresses */
+#define SEED 82599      /* seeds DPDK's random numbers, from which the PF's driver takes its VFs' addresses */
 #define FLIPPED 10      /* the frame in which --turn changes a byte */
 
 struct rte_mempool *pool;

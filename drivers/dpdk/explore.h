@@ -21,7 +21,7 @@ extern enum plant planted;
 void points_begin(void);
 /* Registers a ring: the descriptors at address `at` in the process have bus address `bus`. */
 void points_ring(volatile void *at, uint64_t bus, size_t length);
-/* Makes the last store visible. Call it before each call of the explorer and after each call of the driver. */
+/* Makes the last store visible. Call it before each explorer call and after each driver call. */
 void points_flush(void);
 
 /* ---- state: saved at the end of bring-up, restored at the start of each schedule ---- */
@@ -41,13 +41,13 @@ enum { DATA_ROOM = 1024, BUS_BUFFERS = 0x2000, BUS_RING = 0x0800, MOST_FUNCTIONS
 
 /* Starts DPDK, once in a process. Returns null, or why it failed. */
 const char *layer_start(void);
-/* Creates a pool of `count` packets, with bus addresses from BUS_BUFFERS on. Call it once. Returns null, or why it
-   failed. */
+/* Creates a pool of `count` packets, with bus addresses that start at BUS_BUFFERS. Call it once. Returns null, or why
+   it failed. */
 const char *layer_pool(unsigned int count);
 /* Creates the port in its state before any setup, with the driver's own functions for an 82599. Returns null, or why it
    failed. */
 const char *layer_port(unsigned int virtual_functions);
-/* During bring-up, each register read first takes the device's steps. */
+/* During bring-up, each register read first runs the device's steps. */
 void seam_bring_up(bool begins);
 
 /* ---- the runs ---- */

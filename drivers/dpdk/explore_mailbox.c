@@ -1,5 +1,5 @@
-/* DPDK's mailbox: the host (ixgbe_pf.c over base/ixgbe_mbx.c) with its functions (base/ixgbe_vf.c over the same). Each
-   function is a task; the host is the handler of the mailbox interrupt. */
+/* DPDK's mailbox: the PF's driver (ixgbe_pf.c on top of base/ixgbe_mbx.c) with its VFs' drivers (base/ixgbe_vf.c on top
+   of the same). Each virtual function is a task; the PF's driver is the handler of the mailbox interrupt. */
 #include <rte_ether.h>
 #include <string.h>
 
@@ -56,7 +56,7 @@ static void serve(void *unused)
     nicx_write32(NIC_EIMS, MAILBOX);
 }
 
-/* Acts as the host's application, which sends function 0 a message at any time. */
+/* Acts as the application on the PF's driver, which sends function 0 a message at any time. */
 static void ping(void *unused)
 {
     (void)unused;
@@ -70,7 +70,7 @@ static const char *start_host(void)
     const char *fault = layer_port(MOST_FUNCTIONS);
     if (fault)
         return fault;
-    /* otherwise the host doesn't report queues to functions */
+    /* otherwise the PF's driver reports no queues to its virtual functions */
     port->data->dev_conf.txmode.mq_mode = RTE_ETH_MQ_TX_VMDQ_ONLY;
     if (ixgbe_pf_host_init(port) != 0 || ixgbe_pf_host_configure(port) != 0)
         return "the host can't be started";

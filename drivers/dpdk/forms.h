@@ -1,4 +1,4 @@
-/* Differences between the driver's versions, from 22.11 on, detected by features instead of version numbers. */
+/* Differences between the driver's versions since 22.11, detected by features instead of version numbers. */
 #ifndef FORMS_H
 #define FORMS_H
 
@@ -8,7 +8,7 @@
 #include "ixgbe_ethdev.h"
 #include "ixgbe_rxtx.h"
 
-/* From 25.11 on, Intel's drivers share their queue structs. */
+/* Since 25.11, Intel's drivers share their queue structs. */
 #if __has_include("../common/rx.h")
 #include "../common/rx.h"
 #include "../common/tx.h"
@@ -29,8 +29,8 @@ typedef struct ixgbe_tx_queue transmit_queue;
 uint16_t ixgbe_recv_pkts_vec(void *queue, struct rte_mbuf **packets, uint16_t count);
 uint16_t ixgbe_recv_scattered_pkts_vec(void *queue, struct rte_mbuf **packets, uint16_t count);
 
-/* The mailbox functions: a struct of them in older versions, later an array of two structs, the first of which is for a
-   virtual function. */
+/* The mailbox functions: a single struct in older versions; in later ones an array of two structs, the first of which
+   is for a virtual function. */
 static inline const struct ixgbe_mbx_operations *mailbox_calls(const struct ixgbe_hw *hw)
 {
     return (const struct ixgbe_mbx_operations *)&hw->mbx.ops;

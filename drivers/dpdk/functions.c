@@ -1,15 +1,15 @@
-/* Runs DPDK's ixgbe driver as host on the bench, and its driver for virtual functions on functions of the same device,
-   all in one process. drivers/dpdk/run --vf compiles and calls it.
+/* Runs DPDK's ixgbe driver for the physical function on the bench, and its driver for virtual functions on functions of
+   the same device, all in one process. drivers/dpdk/run --vf compiles and calls it.
 
      functions [--max-vfs N] [--functions N] [--queues N] [--vf-queues N] [--no-rss] [--slots N] [--frames N]
                [--handlers messages | line | late=N] [--with ANSWER] [--without ANSWER]
                [--course whole | traffic | no-rss | fewer-queues | second-probe]
                [--scalar] [--turn in | out] [--strays FILE] [--trace FILE] [--loud]
 
-   The shim's answers are SWSM and ANLP1 (on by default), EICS, EERD and ABSENT. The courses are `whole` (a host with
-   two functions), `traffic` (frames alone), and three known differences from the card. Each difference must have the
-   outcome that docs/CARD.md says. Status 0: all was correct; 1: something was wrong; 2: a file can't be written; 3:
-   unknown arguments. */
+   The shim's answers are SWSM and ANLP1 (on by default), EICS, EERD and ABSENT. The courses are `whole` (the physical
+   function with two virtual functions), `traffic` (frames alone), and three known differences from the card. Each
+   difference must have the outcome that docs/CARD.md says. Status 0: all was correct; 1: something was wrong; 2: a file
+   can't be written; 3: unknown arguments. */
 #include <errno.h>
 #include <inttypes.h>
 #include <stdio.h>
@@ -110,7 +110,7 @@ static bool restart_function(void)
     return true;
 }
 
-/* The host stops and starts while its functions stay live; they are restarted afterwards. */
+/* The physical function stops and starts while its virtual functions stay live; they are restarted afterwards. */
 static bool restart_host_alone(void)
 {
     printf("-- the host is restarted while its virtual functions stay live\n");
@@ -123,7 +123,8 @@ static bool restart_host_alone(void)
     return true;
 }
 
-/* The functions stop first. The last one is removed, and probed again after the host has started. */
+/* The virtual functions stop first. The last one is removed, and probed again after the physical function has
+   started. */
 static bool restart_host_after_functions(void)
 {
     printf("-- the host is restarted, and then a virtual function is probed\n");
@@ -169,7 +170,7 @@ static bool only_traffic(void)
     return end_all();
 }
 
-/* Sends frames to the host and VF0 alternately. Returns whether they received the numbers that `expect` sets. */
+/* Sends frames to the physical function and VF0 alternately. Returns whether each received as many as `expect` sets. */
 static bool differs(void (*expect)(unsigned int gets[2]))
 {
     unsigned int got[2] = {0, 0}, gets[2];
@@ -188,8 +189,8 @@ static bool differs(void (*expect)(unsigned int gets[2]))
     return end_all();
 }
 
-/* Without RSS and with up to 31 functions, DPDK's host selects MRQC 0xC or 0xD. The bench then uses only the first
-   queue, which belongs to VF0. */
+/* Without RSS and with up to 31 virtual functions, DPDK's PF driver selects MRQC 0xC or 0xD. The bench then uses only
+   the first queue, which belongs to VF0. */
 static void all_to_one(unsigned int gets[2])
 {
     gets[0] = 0;

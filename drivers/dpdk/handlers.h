@@ -8,10 +8,10 @@
 
 #include "bus.h"
 
-/* By messages (nic_int_step): vector 0 calls the function's handler. `by_line`: functions still use messages, but the
-   host's handler is called when the card's line is up for a cause other than a queue's. The host's driver assigns no
-   vector to such causes unless its queues have vectors. `late`: handlers are called only at every `late`-th read of a
-   function's VFMAILBOX, which its driver polls; 0 calls them after each write. */
+/* By messages (nic_int_step): vector 0 calls the function's handler. `by_line`: virtual functions still use messages,
+   but the PF's handler is called when the card's line is up for a cause other than a queue's. The PF's driver assigns
+   no vector to such causes unless its queues have vectors. `late`: handlers are called only at every `late`-th read of
+   a function's VFMAILBOX, which its driver polls; 0 calls them after each write. */
 struct handlers_way {
     bool by_line;
     unsigned int late;
@@ -27,7 +27,7 @@ void handlers_reading(void *of, unsigned int function, uint32_t offset);
 void handlers_written(void *of, const struct bus_access *access);
 void handlers_message(void *of, unsigned int function, unsigned int vector);
 
-/* Returns how often the line called the host's handler. */
+/* Returns how often the line called the PF's handler. */
 uint64_t handlers_by_line(void);
 
 #endif

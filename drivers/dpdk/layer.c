@@ -71,7 +71,7 @@ void seam_write(uint32_t word, volatile void *address)
     points_flush();
 }
 
-/* Lets other tasks run, because time isn't modelled. */
+/* Gives other tasks the chance to run, because time isn't modelled. */
 void seam_wait(unsigned int microseconds)
 {
     (void)microseconds;

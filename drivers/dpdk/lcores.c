@@ -127,7 +127,7 @@ static void go_out(void *of, uint16_t queue, const uint8_t *bytes, size_t length
     atomic_fetch_add(&passed, 1);
 }
 
-/* Delivers frames from `number` on while their queues have room. Returns the next number. */
+/* Delivers frames, starting with this number, while their queues have room. Returns the next number. */
 static uint32_t let_in(uint32_t number)
 {
     for (unsigned int i = 0; i < BURST && number < setting.frames; i++, number++) {
@@ -173,7 +173,7 @@ static void be_wire(void)
         is_wire_done = number >= setting.frames;
         turns_give_back();
         watch(&before, &since);
-        rte_delay_us_sleep(REST); /* lets the lcores run first */
+        rte_delay_us_sleep(REST); /* leaves the CPU to the lcores */
     }
 }
 

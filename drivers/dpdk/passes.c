@@ -227,7 +227,8 @@ void pass(unsigned int first, unsigned int last)
         problem("the device isn't at rest");
 }
 
-/* The host counts all frames of the device, including its functions' frames; each function counts its own. */
+/* The physical function counts all frames of the device, including its virtual functions' frames; each virtual function
+   counts its own. */
 void pass_counters(void)
 {
     bus_enter(run_bus, IN_COUNTERS);

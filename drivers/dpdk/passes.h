@@ -1,4 +1,4 @@
-/* Passes of frames through the host and its functions. */
+/* Passes of frames through the physical function and its virtual functions. */
 #ifndef PASSES_H
 #define PASSES_H
 
@@ -26,7 +26,7 @@ unsigned int send_one(unsigned int which, const uint8_t to[6]);
    receive to got[0] and got[1]. Any other frame is a problem. */
 void frames_of_two(unsigned int frames, unsigned int got[2]);
 
-/* Sends this many frames to a port's address, numbered from `first` in steps of `step`, and takes all receive steps. No
+/* Sends this many frames to a port's address, numbered from `first` in steps of `step`, and runs all receive steps. No
    port is polled. */
 void flood(unsigned int which, unsigned int first, unsigned int step, unsigned int frames);
 

@@ -36,7 +36,7 @@ unsigned int port_queues(unsigned int which)
     return which == HOST ? setting.queues : setting.vf_queues;
 }
 
-/* The host's pool, the default pool in VT_CTL, comes after the functions' pools. */
+/* The physical function's pool, the default pool in VT_CTL, comes after the virtual functions' pools. */
 uint16_t device_queue(unsigned int which, uint16_t queue)
 {
     unsigned int pool_number = which == HOST ? setting.max_vfs : which - 1;
@@ -90,8 +90,9 @@ bool port_probe(unsigned int which)
     return !failed("the driver's probe", probe(which)) && greet(which);
 }
 
-/* Before the host is started, the mailbox works only if the shim always answers functions, as the card does, and the
-   interrupt line calls the host's handler. Messages can't call it yet, because no vector is assigned. */
+/* Before the physical function is started, the mailbox works only if the shim always answers virtual functions, as the
+   card does, and the interrupt line calls the PF's handler. Messages can't call it yet, because no vector is
+   assigned. */
 void port_probe_early(unsigned int which)
 {
     uint64_t before = bus_counts(run_bus)->absent_reads;

@@ -1,4 +1,5 @@
-/* The ports of a run with virtual functions: port 0 is the host's, and port v + 1 is function v's. */
+/* The ports of a run with virtual functions: port 0 is the physical function's, and port v + 1 is virtual function
+   v's. */
 #ifndef PORTS_H
 #define PORTS_H
 
@@ -30,9 +31,9 @@ extern const char *const phase_names[];
 
 /* A run's parameters. */
 struct setting {
-    unsigned int max_vfs;   /* the host's limit of functions */
+    unsigned int max_vfs;   /* limit on virtual functions */
     unsigned int functions; /* functions to probe */
-    unsigned int queues;    /* the host's queues, each way */
+    unsigned int queues;    /* the physical function's queues, each way */
     unsigned int vf_queues; /* each function's */
     unsigned int slots;     /* slots in each ring */
     unsigned int frames;    /* frames per pass, each way, on each port */
@@ -65,7 +66,8 @@ bool port_remove(unsigned int which);
 /* Like port_probe, but reports no problem. Returns 0, or the driver's error. */
 int port_try_probe(unsigned int which);
 
-/* Probes a function while the host isn't started. Its driver gives up unless the shim answers the function. */
+/* Probes a virtual function while the physical function isn't started. The VF driver gives up unless the shim answers
+   it. */
 void port_probe_early(unsigned int which);
 
 /* Receives the frames waiting in a port's queues, as take_packets does, if the port is started. Returns their

@@ -20,7 +20,7 @@
 #define OTHER_VLAN 200
 #define COLUMNS 9
 #define FLOOD 140      /* number of frames: more than fit in a ring and this test's receive list */
-#define AFTER_FLOOD 10 /* frames to the host after the flood */
+#define AFTER_FLOOD 10 /* frames to the physical function after the flood */
 
 static struct rte_ether_addr further = {{0x02, 0, 0, 0, 0, 0x77}}, another = {{0x02, 0, 0, 0, 0, 0x78}},
                              group = {{0x01, 0, 0x5e, 0x01, 0x02, 0x03}},
@@ -111,8 +111,8 @@ static int host_pings(uint16_t port)
     return rte_pmd_ixgbe_ping_vf(port, 0);
 }
 
-/* A request to a port's driver, the expected status, and the receiver of a frame to each address: the host (H), a
-   function (its number), or none (-). The addresses are the columns of tell_head. */
+/* A request to a port's driver, the expected status, and the receiver of a frame to each address: the physical function
+   (H), a virtual function (its number), or none (-). The addresses are the columns of tell_head. */
 static const struct {
     const char *what;
     unsigned int port;
@@ -199,7 +199,7 @@ void requests(void)
 
 /* ---- limits ---- */
 
-/* Floods VF0, which doesn't poll, then sends frames to the host. Checks how many of the host's frames arrive
+/* Floods VF0, which doesn't poll, then sends frames to the physical function. Checks how many of these frames arrive
    immediately and after VF0 polls. */
 static void block(const char *what, unsigned int at_once)
 {

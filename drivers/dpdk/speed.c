@@ -1,5 +1,5 @@
-/* Measures how many frames of 60 bytes DPDK's ixgbe driver receives and sends per second on the bench, compared with
-   DPDK's null driver. */
+/* Measures how many 60-byte frames DPDK's ixgbe driver receives and sends per second on the bench, compared with DPDK's
+   null driver. */
 #include "exchange.h"
 
 #include <stdlib.h>
@@ -63,7 +63,7 @@ static double clock_seconds(void)
     return (double)now.tv_sec + (double)now.tv_nsec / 1e9;
 }
 
-/* Measures frames per CPU second, for about SECONDS. */
+/* Measures frames per CPU second, for about SECONDS seconds. */
 static double round_of(uint16_t port, bool is_bench)
 {
     double start = clock_seconds(), spent;

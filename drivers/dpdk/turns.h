@@ -4,7 +4,7 @@
 #ifndef TURNS_H
 #define TURNS_H
 
-/* From here on threads share the device. Without this, the calls below do nothing. */
+/* After this call, threads share the device. Without it, the calls below do nothing. */
 void turns_share(void);
 
 /* Call these when this thread enters and leaves the driver, or other code that stores into the driver's memory. */

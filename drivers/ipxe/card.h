@@ -1,4 +1,4 @@
-/* The bench for iPXE: the bus, trapping register windows, and for a virtual function its host. */
+/* The bench for iPXE: the bus, trapping register windows, and, for a virtual function, the PF's driver. */
 #ifndef IPXE_CARD_H
 #define IPXE_CARD_H
 
@@ -20,7 +20,7 @@ void card_close(void);
 /* Returns the number of iPXE's function on the bus. */
 unsigned int card_function(void);
 
-/* Changes the link. A virtual function's host then notifies its function. */
+/* Changes the link. The PF's driver then notifies the virtual function. */
 void card_link(bool is_up);
 
 #endif

@@ -6,7 +6,7 @@
 
    The parts, in the order in which they run: offloads (datagrams while the driver's offloads are on), filters, mtu,
    stack, link, test, again, bind. Also: under (the physical function goes down and up while its functions are up), reta
-   (leaves the host's redirection table as its driver fills it), log (prints the kernel's log). */
+   (leaves the redirection table as the PF's driver fills it), log (prints the kernel's log). */
 #define _GNU_SOURCE
 #include <errno.h>
 #include <stdio.h>
@@ -217,7 +217,7 @@ static unsigned int function_queues(void)
     return queues < FUNCTION_QUEUES ? queues : FUNCTION_QUEUES;
 }
 
-/* The host's driver spreads the redirection table over four queues, however many its functions have. */
+/* The PF's driver spreads the redirection table over four queues, regardless of how many the virtual functions have. */
 static void redirect(const struct interface *host)
 {
     if (!(wanted & RETA))

@@ -33,7 +33,7 @@ from initrd import Initrd  # noqa: E402
 
 HERE = Path(__file__).resolve().parent
 FRAMES = 2000
-SECONDS = 1800  # limit in seconds for a guest: most take 15 to 40, but 500 on a machine with ten times the load
+SECONDS = 1800  # limit in seconds for a guest: most take 15 to 40, but up to 500 at ten times the load
 
 
 class Wrong(Exception):
@@ -212,7 +212,7 @@ class Guest:
                 self.add(f"control: {answer}")
 
     def wait_for(self, text: str, seconds: float = SECONDS) -> None:
-        """Waits for a line with this text. If the guest ends, its last output is still searched."""
+        """Waits for a line that contains this string. If the guest exits, its last output is still searched."""
         end = time.time() + seconds
         is_over = False
         while not any(text in it for it in list(self.lines)):
@@ -232,7 +232,7 @@ class Guest:
         return "\n".join(self.lines)
 
     def when(self, text: str) -> float:
-        """Returns the seconds from the guest's start to the first line with this text."""
+        """Returns the seconds from the guest's start to the first line that contains this string."""
         return next(at for at, line in zip(self.times, self.lines) if text in line)
 
     def kill(self) -> None:
@@ -339,7 +339,7 @@ def passed_frames(text: str, many: int, count: int = FRAMES) -> None:
 
 
 def seconds_of(text: str) -> str:
-    """Returns a text with the time at which the guest got its carrier, and the rates of frames."""
+    """Returns a line with the time at which the guest got its carrier, and the rates of frames."""
     carrier = re.search(r"carrier at ([\d.]+) s", text)
     sent = re.search(r"^frames: sent (\d+) .* in ([\d.]+) s", text, re.MULTILINE)
     got = re.search(r"^frames: received \d+ of (\d+) .* in ([\d.]+) s", text, re.MULTILINE)
@@ -519,7 +519,7 @@ def iommu(place: Place) -> str:
 
 @contextmanager
 def function_guest(place: Place, script: str) -> Iterator[tuple[Server, Guest]]:
-    """The host in one guest, and a script in another guest with a virtual function."""
+    """The physical function in one guest, and a script in another guest with a virtual function."""
     server = Server(place, "host", "--functions=2", "--hairpin")
     host = Machine(place, "kernel-6.1", (HERE / "guest/host.sh").read_text())
     shadows = [device(Path(f"{server.path}.shadow{v}"), addr=f"0.{v + 1}") for v in range(2)]
@@ -534,7 +534,7 @@ def function_guest(place: Place, script: str) -> Iterator[tuple[Server, Guest]]:
 
 
 def functions(place: Place) -> str:
-    """A virtual function's traffic, to the wire and to the host."""
+    """A virtual function's traffic, to the wire and to the physical function."""
     with function_guest(place, "function") as (_, guest):
         text = guest.end()
     has(text, "function", r"^4 packets transmitted, 4 packets received")
@@ -611,7 +611,7 @@ def vlan(place: Place) -> str:
 
 
 def two_guests(mtu: int) -> Callable[[Place], str]:
-    """Two guests back to back: HTTP with the checksums and the TSO that stock kernels request."""
+    """Two guests back to back: HTTP with the checksum offloads and TSO that stock kernels request."""
 
     def run(place: Place) -> str:
         scripts = [(HERE / f"guest/{it}.sh").read_text().replace("MTU", str(mtu)) for it in ("serve", "get")]

@@ -56,7 +56,7 @@ void kernel(void)
         if (card_causes() & CARD_LINK)
             say_link();
         echo();
-        /* A frame that arrived after the last check raises the line at once, so no frame is forgotten. */
+        /* A frame that arrived after the last check raises the line immediately, so no frame is forgotten. */
         card_unmask();
         sleep_until_interrupt();
     }

@@ -134,7 +134,7 @@ static void one_length(struct peer *it, uint32_t length, bool fits)
     CHECK(peer_frame(wire, frame, sizeof frame, FRAME_MS) == 60 && memcmp(frame, ram + BUFFER, 60) == 0);
 }
 
-/* A frame of this length arrives, in buffers of 16 KB. */
+/* A frame of this length arrives, in 16 KB buffers. */
 static void one_arrival(struct peer *it, uint32_t length)
 {
     const uint32_t slots = 16, each = 0x4000;
@@ -224,7 +224,7 @@ static void tails(struct peer *it)
     CHECK(peer_count(control, "read ahead ") - before <= 64 * MANY);
 }
 
-/* Fills the longest ring with TSO packets of 256 KB, with one byte in each segment: about 2 billion segments. */
+/* Fills the longest ring with 256 KB TSO packets, with one byte per segment: about 2 billion segments. */
 static uint32_t make_endless(void)
 {
     uint32_t slot = 1;
@@ -238,7 +238,7 @@ static uint32_t make_endless(void)
     return slot;
 }
 
-/* The host sends a frame from its own queue, and gets one from the wire. */
+/* The physical function's client sends a frame from its own queue, and gets one from the wire. */
 static void pass_both_ways(struct peer *host)
 {
     const uint32_t sends = BUFFER + 0x20000, receives = BUFFER + 0x21000, buffer = BUFFER + 0x30000;
@@ -259,8 +259,8 @@ static void pass_both_ways(struct peer *host)
     CHECK(memcmp(ram + buffer, frame, 60) == 0);
 }
 
-/* During the function's endless work, the host is served and its frames pass. A request at the control socket
-   terminates. */
+/* During the virtual function's endless work, the physical function's client is served and its frames pass. A request
+   at the control socket is completed. */
 static void endless(struct peer *host, struct peer *function)
 {
     uint32_t tail = make_endless();
@@ -297,8 +297,8 @@ static void ends(void)
 
 /* ---- expected frames ---- */
 
-/* The host gets its answers while a million frames are made. Returns false if the frames were made first, which can
-   happen if this process gets the CPU late. */
+/* The physical function's client gets its answers while a million frames are built. Returns false if the frames were
+   built first, which can happen if this process gets the CPU late. */
 static bool is_served_meanwhile(struct peer *host)
 {
     CHECK(strstr(peer_request(control, "expect 1000000 9014"), "ok"));
@@ -318,7 +318,8 @@ static void expected(struct peer *host)
         ;
 }
 
-/* Frames arrive while the expected ones are made in pieces: some before their own number is made, some after. */
+/* Frames arrive while the expected ones are built in pieces: some frames before the expected frame with their number is
+   built, some after. */
 static void numbered(void)
 {
     static const uint8_t to[6] = {2, 1}, from[6] = {2, 2}, other[6] = {2, 3};

@@ -114,7 +114,7 @@ static void bad_accesses(struct peer *it)
     CHECK(peer_ask(it, VFU_DMA_READ, reply, 32, NULL, 0, reply, sizeof reply) == ENOTSUP);
     CHECK(peer_ask(it, 999, reply, 32, NULL, 0, reply, sizeof reply) == ENOTSUP);
     CHECK(peer_ask(it, VFU_DMA_MAP, reply, 31, NULL, 0, reply, sizeof reply) == EINVAL);
-    /* registers have four bytes: a read of another size returns ones */
+    /* registers are four bytes wide: a read of any other size returns ones */
     struct vfu_access odd = {NIC_STATUS + 1, 0, 2};
     CHECK(peer_ask(it, VFU_REGION_READ, &odd, sizeof odd, NULL, 0, reply, sizeof reply) == 0);
     CHECK(reply[16] == 0xFF && reply[17] == 0xFF);
@@ -305,8 +305,8 @@ static bool says(const char *words, const char *text)
     return strstr(asked(words), text) != NULL;
 }
 
-/* Returns whether the answer contains the text eventually: the server passes frames to the card one turn after
-   another. */
+/* Returns whether the answer eventually contains the string: the server passes frames to the card over several
+   turns. */
 static bool comes_to_say(const char *words, const char *text)
 {
     for (unsigned int i = 0; i < TRIES; i++) {
@@ -431,7 +431,7 @@ static void snapshots(struct peer *it)
     CHECK(get64(TX_RING + 24) & NIC_TXWB_DD); /* the guest's memory hasn't changed */
     give_frame(it, 1);
     wait_for(TX_RING + 24, NIC_TXWB_DD);
-    until(it, NIC_RDH(0), UINT32_MAX, 5); /* a reply, three frames for the second time, a reply */
+    until(it, NIC_RDH(0), UINT32_MAX, 5); /* a reply, three frames that are sent a second time, a reply */
     CHECK(says("hold", "ok") && says("restore one", "ok") && says("due", "rx: at most 3") && says("rx", "3 descr"));
     CHECK(says("go", "ok"));
 }

@@ -27,7 +27,7 @@
 #define BUFFERS 0x40000000u
 #define SLOTS_MOST 32768u
 #define MANY 5000u
-#define SAID_AT_ONCE 32768u /* limit in bytes, enough for some lines of each kind */
+#define SAID_AT_ONCE 32768u /* limit in bytes, enough for a few lines of each kind */
 #define SAID_A_SECOND 2000u
 #define WAIT_MS 300000
 
@@ -313,7 +313,7 @@ static void half_closed(void)
     end(&peer, server);
 }
 
-/* Returns the number that the next file opened by a process gets. */
+/* Returns the number that a process's next open file gets. */
 static unsigned int next_file(pid_t process)
 {
     char name[64], file[64];

@@ -17,7 +17,7 @@
 #include "peer/peer.h"
 
 #define SESSION_MOST 300 /* messages of one client */
-#define HOST_MOST 60     /* messages of the host's session, which brings its queues up when it connects */
+#define HOST_MOST 60     /* messages of the physical function's session, which brings its queues up when it connects */
 #define REST_TRIES 30000 /* tries of at least 10 ms each, for the server to close files */
 #define FILES 8
 #define FILE_BYTES (64u * 4096)
@@ -113,7 +113,7 @@ static void make_irqs(void)
         add_file();
 }
 
-/* Makes a useful value for a queue register: a base, a length, an enable or a tail. */
+/* Returns a useful value for a queue register: a base, a length, an enable or a tail. */
 static void make_register(struct vfu_access *access, uint32_t *word)
 {
     const uint32_t registers[] = {
@@ -243,7 +243,7 @@ static void bring_up(struct peer *it)
 
 /* ---- clients, all at the same time ---- */
 
-#define CLIENTS 3 /* the host's guest, a function's guest, and the host's shadow of the function */
+#define CLIENTS 3 /* the PF's guest, a virtual function's guest, and the virtual function's shadow in the PF's guest */
 
 struct client {
     struct peer peer;

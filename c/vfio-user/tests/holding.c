@@ -57,9 +57,9 @@ static void *hold(void *holder)
     return NULL;
 }
 
-/* A client's epoll watches its eventfd, and a thread makes the kernel write that epoll's events to the page above:
-   meanwhile the last close of the eventfd waits. The client passes the eventfd as a vector, keeps no other copy, and
-   says so. */
+/* A client's epoll watches its eventfd, and a thread has the kernel write that epoll's events to the page above. While
+   this write is blocked, the last close of the eventfd waits. The client passes the eventfd as a vector, keeps no other
+   copy, and writes a byte to `said`. */
 static void give_and_hold(int said)
 {
     static struct holder holder;
@@ -183,7 +183,7 @@ static void connection_that_waits(const char *wire)
 #define RINGS 32u /* the maximum length */
 #define SLOTS 32768u
 #define SNAPSHOT_KB 8192 /* limit for a snapshot; the rings' memory is twice as large */
-#define MEANWHILE 20u    /* answers expected meanwhile; if nothing blocks, there are thousands */
+#define MEANWHILE 20u    /* answers expected in the meantime; if nothing blocks, there are thousands */
 
 static bool has_answer(int control)
 {

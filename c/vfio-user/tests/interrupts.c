@@ -1,5 +1,5 @@
-/* Interrupts go to the client that set up their vectors, no matter which accessed a register last. A virtual function
-   has two sockets: its guest's, and its shadow in the host's guest. */
+/* Interrupts go to the client that set up their vectors, no matter which client accessed a register last. A virtual
+   function has two sockets: one for its own guest, and its shadow in the PF's guest. */
 #define _GNU_SOURCE
 #include <stdlib.h>
 #include <string.h>
@@ -135,12 +135,12 @@ static void one_goes(void)
     raise(&shadow, 2);
     CHECK(raised(&own, 2) == 1 && raised(&shadow, 2) == 0);
     leave(&own);
-    come(&own, paths[0]); /* by now the last client has disconnected */
+    come(&own, paths[0]); /* at this point the previous client has disconnected */
     raise(&own, 2);
     CHECK(raised(&own, 2) == 0 && raised(&shadow, 2) == 1);
 }
 
-/* The host's interrupts go only to the host. */
+/* The physical function's interrupts go only to its own client. */
 static void host_is_apart(void)
 {
     int event = eventfd(0, EFD_CLOEXEC | EFD_NONBLOCK);
@@ -168,7 +168,7 @@ int main(void)
     snprintf(paths[1], sizeof paths[1], "%s.shadow0", path);
     peer_open(&host, path);
     CHECK(peer_version(&host) == 0);
-    peer_write(&host, NIC_GCR_EXT, 3); /* functions exist from now on */
+    peer_write(&host, NIC_GCR_EXT, 3); /* selects 64 pools, so the virtual functions exist */
     peer_read(&host, NIC_STATUS);
     come(&own, paths[0]);
     come(&shadow, paths[1]);

@@ -84,7 +84,7 @@ static void begin(void)
     peer_write(&peer, NIC_EIMS, CAUSE_A | CAUSE_B);
 }
 
-/* The host's function has one line and one MSI. */
+/* The physical function has one line and one MSI vector. */
 static void kinds(void)
 {
     struct vfu_irq_info line = info_of(&peer, INTX);

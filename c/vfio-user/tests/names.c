@@ -108,8 +108,8 @@ static void other_sockets(const struct way *way, bool is_long)
     }
 }
 
-/* The first server gets the name with mode 0600, whatever the umask. A second server is refused, and the first
-   continues. */
+/* The first server's socket has mode 0600, regardless of the umask. A second server is refused, and the first keeps
+   running. */
 static void two_servers(const struct way *way)
 {
     struct stat about;
@@ -122,7 +122,7 @@ static void two_servers(const struct way *way)
     CHECK(program_rests(first) && program_end(first) == 0 && access(path, F_OK) != 0);
 }
 
-/* A server that ends doesn't remove a file that has taken its name meanwhile. */
+/* On exit, a server doesn't remove a file that has replaced its socket under the same name. */
 static void name_of_another(const struct way *way)
 {
     pid_t server = start(way, -1);

@@ -1,9 +1,9 @@
 #!/usr/bin/env python3
 """Compares the server's offloads with a second implementation: offloads.py PROGRAM SEED COUNT.
 
-Random packets, each with the descriptors that a driver gives the card for it, go through PROGRAM (offloads.c). Its
-output is compared byte by byte with frames made here: IPv4 and IPv6, with options and extension headers, TCP, UDP and
-SCTP, checksums, large sends, VLAN tags, legacy descriptors.
+Random packets, each with the descriptors that a driver writes for it, go through PROGRAM (offloads.c). Its output is
+compared byte by byte with frames made here: IPv4 and IPv6, with options and extension headers, TCP, UDP and SCTP,
+checksums, TSO, VLAN tags, legacy descriptors.
 """
 
 from __future__ import annotations
@@ -166,7 +166,7 @@ def advanced(chance: random.Random) -> tuple[list[str], list[bytes]]:
     index, mss = chance.randrange(2), chance.randrange(200, 9000) if is_large else 0
     ip_bytes = (20 if packet.is_ipv4 else 40) + len(packet.options)
     first = ip_bytes | len(packet.ethernet) << 9 | (tag or 0) << 16
-    # a large send's checksums are always computed, except that the IPv4 checksum needs a request in the context or the
+    # a TSO packet's checksums are always computed, except that the IPv4 checksum needs a request in the context or the
     # data descriptor
     asks_ip, asks_l4 = packet.is_ipv4 and chance.random() < 0.7, chance.random() < 0.7
     says_ipv4 = packet.is_ipv4 and is_large and chance.random() < 0.8
@@ -188,7 +188,7 @@ def advanced(chance: random.Random) -> tuple[list[str], list[bytes]]:
 
 
 def too_large(chance: random.Random) -> tuple[list[str], list[bytes]]:
-    """A large send longer than the card accepts: nothing is sent."""
+    """A TSO packet longer than the card accepts: nothing is sent."""
     lines, _ = advanced(chance)
     while not any(int(it.split()[1], 16) & TSE for it in lines if it.startswith("data")):
         lines, _ = advanced(chance)

@@ -1,6 +1,6 @@
-/* Three guests of one card, each with its own memory: the host's, a virtual function's, and the host's shadow of that
-   function. At random they set up rings, even in each other's queues, name each other's addresses, leave and connect.
-   No byte of one guest's memory may be sent in another guest's frame or arrive in another guest's memory.
+/* Three guests of one card, each with its own memory: the physical function's, a virtual function's, and the one with
+   that function's shadow. At random they set up rings, even in each other's queues, name each other's addresses, leave
+   and connect. No byte of one guest's memory may be sent in another guest's frame or arrive in another guest's memory.
 
      owners SEED STEPS FOLDER */
 #define _GNU_SOURCE
@@ -16,7 +16,7 @@
 #define GUESTS 3u /* sockets; each has one client at a time, alternating between two kinds with separate memories */
 #define MEMORIES (2 * GUESTS)
 #define QUEUES 2u      /* number of the virtual function's queues */
-#define OWN_QUEUE 100u /* the host's first queue outside the function's queues */
+#define OWN_QUEUE 100u /* the physical function's first queue that isn't the virtual function's */
 #define RINGS 0u       /* layout of a memory: rings, 1 KB each */
 #define RING 0x400u
 #define HEAD 0x2000u
@@ -143,7 +143,7 @@ static void leave(unsigned int guest)
     come(guest);
 }
 
-/* The host assigns queues to the function, and enables reception. */
+/* The physical function's driver assigns queues to the virtual function, and enables reception. */
 static void set_up_card(void)
 {
     struct peer *host = &peers[0];
@@ -359,7 +359,7 @@ static void open_all(const char *path, const char *wire_path, const char *contro
     control = peer_stream(control_path);
 }
 
-/* Each memory's client has sent frames, and the guests have received some: otherwise nothing was tested. */
+/* Clients of each memory have sent frames, and the guests have received some: otherwise nothing was tested. */
 static void check_traffic(void)
 {
     for (unsigned int guest = 0; guest < GUESTS; guest++) {

@@ -181,7 +181,7 @@ static void windows_most(void)
     close(others[1]);
 }
 
-/* From the page at which a file was truncated on, nothing is accessible; the part before that page still is. */
+/* At and after the page at which a file was truncated, nothing is accessible; the part before that page still is. */
 static void cut(void)
 {
     size_t length = PAGE;
@@ -228,7 +228,7 @@ static bool huge(void)
     return true;
 }
 
-/* A reader that doesn't read loses whole records, and never gets part of a record. */
+/* For a reader that doesn't read, whole records are lost, and it never gets part of a record. */
 static void records(void)
 {
     struct output output;

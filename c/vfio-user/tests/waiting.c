@@ -45,7 +45,7 @@ static void set_address(uint32_t entry, const uint8_t mac[6], uint32_t pool)
         peer_write(&host, NIC_MPSAR(2 * entry + half), pool / 32 == half ? 1u << pool % 32 : 0);
 }
 
-/* The host has pool 63, and the function pool 0. */
+/* The physical function has pool 63, and the virtual function pool 0. */
 static void set_up_card(void)
 {
     peer_write(&host, NIC_CTRL, NIC_CTRL_RST);
@@ -88,8 +88,8 @@ static void send_to(const uint8_t mac[6])
     CHECK(peer_put_frame(wire, frame, sizeof frame));
 }
 
-/* The host receives frames as long as no frame blocks forever: all frames sent before this frame have left the front of
-   the queues by then. */
+/* Sends a frame to the physical function, which receives it unless an earlier frame blocks the queues forever. By then,
+   all earlier frames have left the front of the queues. */
 static void host_gets_one(void)
 {
     const uint32_t at = NIC_RDBAL(HOST_QUEUE);
@@ -101,7 +101,7 @@ static void host_gets_one(void)
     peer_write(&host, at + 0x18, head); /* one more slot than is used in the end */
 }
 
-/* Returns whether frames wait in front of the queues, according to the control socket. */
+/* Returns whether frames are waiting in front of the queues, according to the control socket. */
 static bool some_wait(void)
 {
     return strstr(peer_request(control, "due"), "rx:") != NULL;
@@ -171,7 +171,7 @@ static void nothing_posted(uint32_t control_word)
     CHECK(!some_wait());
 }
 
-/* The host's own queues behave as the host configures them. */
+/* The physical function's own queues behave as its driver configures them. */
 static void host_waits(void)
 {
     begin();

@@ -148,7 +148,7 @@ static void streams(void)
     bad_lengths(peer);
     close(peer);
     wire_close(&wire);
-    /* the other way round, at first without a listener */
+    /* the other way round: connects, at first without a listener */
     CHECK(wire_open(&wire, &connects) && wire.file < 0 && wire_patience(&wire) >= 0);
     int listener = socket(AF_UNIX, SOCK_STREAM, 0);
     name = name_of(second_path);
@@ -244,7 +244,7 @@ static void datagrams(void)
 
 /* ---- turns ---- */
 
-/* Sends ten frames of 60 bytes from the other end, in one piece. */
+/* Sends ten 60-byte frames from the other end, in a single write. */
 static void send_ten(int peer, uint8_t mark)
 {
     uint8_t bytes[10 * 64] = {0};

@@ -664,7 +664,7 @@ static void buses_are_apart(void)
     bus_close(other);
 }
 
-/* A run without names or an address. No frame passes, and that is reported; the script checks for it. */
+/* A run without names or an address. No frame is transferred, and that is reported; the script checks for it. */
 static void a_bus_needs_no_names(void)
 {
     unsigned int wrong = problems();

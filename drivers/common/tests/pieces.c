@@ -1,5 +1,5 @@
-/* Tests of the code for runs of compiled drivers: trapping registers, configuration space, a function's host, legacy
-   descriptors. */
+/* Tests of the code for runs of compiled drivers: trapping registers, configuration space, a virtual function's PF
+   driver, legacy descriptors. */
 #include <signal.h>
 #include <string.h>
 #include <sys/wait.h>
@@ -147,7 +147,7 @@ static void configuration_space_is_the_cards(void)
     CHECK(pci_config_read(&config, 0x10, 4) == (uint32_t)(~(BUS_FUNCTION_SPACE - 1) | 4));
 }
 
-/* ---- a function's host ---- */
+/* ---- a virtual function's PF driver ---- */
 
 static void request_comes(unsigned int function)
 {

@@ -57,7 +57,7 @@ void bench_close(void)
     run_bus = NULL;
 }
 
-/* Takes the device's steps until none is due. */
+/* Runs the device's steps until none is due. */
 static void settle(void)
 {
     do

@@ -12,7 +12,7 @@ dpdk-testpmd -l 0,1 --iova-mode=pa --in-memory -d $PMD/librte_mempool_ring.so.23
     -- --forward-mode=macswap --port-topology=loop --total-num-mbufs=8192 --rxd=512 --txd=4096 --stats-period=1 \
     </dev/null >/tmp/output 2>&1 &
 
-# says TEXT: waits for this text in testpmd's output, at most about a minute.
+# says TEXT: waits until testpmd's output contains this string, for at most about a minute.
 says() {
     n=0
     while ! grep -q "$1" /tmp/output && [ $n -lt 600 ]; do

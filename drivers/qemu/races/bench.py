@@ -145,7 +145,8 @@ class Outcome:
 
 
 class Relay(Guest):
-    """A guest that takes commands on its serial line. Its requests go to the server or to the host's guest."""
+    """A guest that takes commands on its serial line. Its requests go to the server, or to the guest with the physical
+    function."""
 
     stdin = subprocess.PIPE
 

@@ -9,8 +9,8 @@ start() {
     answers && echo "@search answers at first" || echo "@search doesn't answer at first"
 }
 
-# After a reset the host spreads frames over more queues than the function has. The driver polls every two seconds, so
-# the wait is longer. During the reset it refuses an MTU.
+# After a reset, the PF's driver spreads frames over more queues than the virtual function has. The driver polls every
+# two seconds, so the wait is longer. During the reset it refuses an MTU.
 calm() {
     host ethtool -X eth0 equal 1
     sleep 5
@@ -21,8 +21,8 @@ calm() {
     done
 }
 
-# The function's check: numbered frames go out. Frames from the wire have the host's address, so pings check the receive
-# side.
+# The function's check: numbered frames go out. Frames from the wire are sent to the physical function's address, so
+# pings check the receive side.
 exchange() {
     doing exchange
     neighbour

@@ -167,7 +167,7 @@ sent() {
     done
 }
 
-# The physical function's check: frames from the wire have its address.
+# The physical function's check: frames from the wire are sent to its address.
 exchange() {
     doing exchange
     neighbour

@@ -18,9 +18,9 @@ from verdict import KINDS
 from windows import Window, text_of, with_tails
 
 ROOT = Path(__file__).resolve().parents[3]
-EVENTS = 3000  # events on the page of a recording
-EVENTS_DOWN = 12_000  # maximum number of events on the page of one time that the card was down
-AFTER = 60  # lines of the recording to show after that time
+EVENTS = 3000  # maximum number of events on a recording's page
+EVENTS_DOWN = 12_000  # maximum number of events on a page about a period in which the card was down
+AFTER = 60  # lines of the recording to show after such a period
 TELL_SECONDS = 10  # seconds between two progress lines
 
 
@@ -110,7 +110,7 @@ def draw(record: Path, events: int = EVENTS) -> Path | None:
 
 
 def draw_down(record: Path, window: Window) -> None:
-    """Draws the page down.html of one time the card was down, from the recording until then."""
+    """Draws down.html, a page about a period in which the card was down, from the recording up to that period."""
     last = window.accesses[-1].line + AFTER
     cut = record.with_name("down.nic")
     with open(record, encoding="latin-1") as lines, open(cut, "w", encoding="latin-1") as to:

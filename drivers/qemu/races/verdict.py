@@ -40,8 +40,8 @@ KINDS = {
     "slow": "a processor or a process was stuck for seconds, and recovered",
 }
 FATAL = frozenset(list(KINDS)[: list(KINDS).index("frames") + 1])
-# Findings that aren't failures, by driver. A busy machine causes them too. A host's reset causes them in its functions,
-# which don't know of the reset before they are notified.
+# Findings that aren't failures, by driver. A busy machine causes them too. A reset by the PF's driver causes them in
+# virtual functions, which don't know of the reset before they are notified.
 NOTES = {
     "ixgbe": frozenset(["slow", "not tried"]),
     "ixgbevf": frozenset(["slow", "not tried", "driver", "reset", "tail outside", "tail off"]),

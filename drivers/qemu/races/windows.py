@@ -77,7 +77,8 @@ def accesses(lines: Iterable[str]) -> Iterator[Access]:
 
 
 def windows(lines: Iterable[str]) -> Iterator[Window]:
-    """Yields a window for each time the card was down; one still open at the end of the recording comes last."""
+    """Yields a window for each period in which the card was down. A window that is still open at the end of the
+    recording comes last."""
     before: list[Access] = []
     window: Window | None = None
     for it in accesses(lines):

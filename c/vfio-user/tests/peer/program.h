@@ -7,18 +7,18 @@
 
 /* Sets the program and the folder of its sockets. */
 void program_is(const char *program, const char *folder);
-/* Returns a name in the folder, after this text. It stays valid until the end. */
+/* Returns `text` followed by the path of this name in the folder. The result stays valid until the program ends. */
 const char *program_path(const char *text, const char *name);
 /* Starts the program with these arguments, null-terminated. If `before` isn't null, the new process calls it first. Its
    standard error goes to this file, or (-1) nowhere. */
 pid_t program_start(const char *const *words, void (*before)(void), int errors);
-/* Waits up to some minutes for its end. Returns its status, or -1 if a signal ended it. */
+/* Waits up to a few minutes for its exit. Returns its status, or -1 if a signal ended it. */
 int program_status(pid_t process);
 /* Ends it with SIGTERM. Returns the same as program_status. */
 int program_end(pid_t process);
 /* Stops it with SIGSTOP, and waits until it has stopped; SIGCONT continues it. */
 void program_stop(pid_t process);
-/* Returns whether it sleeps for more than a moment. Watches the process for up to some minutes. */
+/* Returns whether it sleeps for more than a moment. Watches the process for up to a few minutes. */
 bool program_rests(pid_t process);
 /* Returns a number in /proc/PID/status, in this base; -1 if there is no such line. */
 long long program_number(pid_t process, const char *name, int base);

@@ -127,7 +127,7 @@ struct bus_counts {
     uint64_t receive_steps, transmit_steps, frames_in, frames_out, enables, eeprom_words;
     uint64_t absent_reads, absent_writes; /* accesses by absent functions (bus_is_absent) */
     uint64_t answered[8];                 /* how often each answer was given, by bit number of enum bus_answer */
-    uint64_t faults, problems;            /* 0 in a good run */
+    uint64_t faults, problems;            /* 0 in a run without problems */
     uint64_t fault_whys[16];              /* faults by enum nic_fault */
     uint64_t drops, not_let_in;           /* frames dropped by receive steps and at arrival; by enum nic_why: */
     uint64_t drop_whys[16], arrive_whys[16];

@@ -1,5 +1,5 @@
-/* The frames that a run sends. A frame's number determines its bytes, so either end can make it and compare. This needs
-   no library, so a guest's program can use it too. */
+/* The frames that a run sends. A frame's number determines its bytes, so either end can build the frame and compare.
+   This needs no library, so a guest's program can use it too. */
 #ifndef BUS_FRAMES_H
 #define BUS_FRAMES_H
 
@@ -39,7 +39,7 @@ struct line_up {
     unsigned int room, put, taken;
 };
 
-/* Makes an empty line-up with room for `room` numbers. Returns false if memory runs out. The struct may be
+/* Creates an empty line-up with room for `room` numbers. Returns false if memory runs out. The struct may be
    uninitialized. line_up_end frees it. */
 bool line_up_begin(struct line_up *line_up, unsigned int room);
 void line_up_end(struct line_up *line_up);

@@ -55,7 +55,7 @@ bool numbered_is_ready(const struct numbered *it)
     return it->made == it->count;
 }
 
-/* Records the arrival of a frame with this hash. Returns false if no frame made so far has it. */
+/* Records the arrival of a frame with this hash. Returns false if no frame built so far has this hash. */
 static bool take_print(struct numbered *it, uint64_t print)
 {
     uint32_t number = it->places ? it->places[place_of(it, print)] : 0;

@@ -6,7 +6,7 @@
 #include <stddef.h>
 #include <stdint.h>
 
-#define NUMBERED_EARLY 65536u /* frames that may arrive before their numbers were made */
+#define NUMBERED_EARLY 65536u /* frames that may arrive before the frames with their numbers are built */
 
 struct frame;
 
@@ -16,12 +16,12 @@ struct numbered {
     uint32_t *places;                       /* numbers by hash, 0: none */
     bool *has_come;
     uint32_t room;
-    /* used only while the frames are being made: */
+    /* used only while the frames are being built: */
     struct frame *frame;
     unsigned int made;
     uint16_t most;
     uint8_t to[6], from[6];
-    uint64_t *early; /* hashes of frames that arrived and matched no frame made so far */
+    uint64_t *early; /* hashes of frames that arrived and matched no frame built so far */
     unsigned int early_count;
 };
 
@@ -32,7 +32,7 @@ bool numbered_begin(struct numbered *it, unsigned int count, uint16_t most, cons
    excess counts as wrong. */
 bool numbered_start(struct numbered *it, unsigned int count, uint16_t most, const uint8_t to[6], const uint8_t from[6]);
 void numbered_prepare(struct numbered *it, size_t bytes);
-/* Returns whether all frames are made. */
+/* Returns whether all frames are built. */
 bool numbered_is_ready(const struct numbered *it);
 void numbered_end(struct numbered *it);
 /* Records a frame that arrived. */

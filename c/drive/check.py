@@ -181,7 +181,7 @@ def check_planted(kit: Kit, runs: int, count: int | None) -> str:
 
 
 def check_pages_driver(kit: Kit, runs: int) -> str:
-    """corpus/pages.c, the second correct driver in C, fails no row. Faults are planted in it elsewhere."""
+    """corpus/pages.c, the second correct driver in C, fails no row. Another check plants faults in it."""
     rows = none_failed(kit.card(kit.build(HERE / "corpus/pages.c"), None, "--runs", runs, "--every", runs))
     return f"corpus/pages.c passes {sum(row['state'] == 'passed' for row in rows)} rows"
 
@@ -193,12 +193,13 @@ PLAIN_WORD = {
     "__atomic_store_n(&card.polled, all, __ATOMIC_RELEASE)": "card.polled = all",
     "__atomic_and_fetch(&card.polled, ~(1u << queue), __ATOMIC_ACQ_REL)": "(card.polled &= ~(1u << queue))",
 }
-# Rows in which threads of the driver share state besides their rings.
+# Rows in which the driver's threads share state other than their rings.
 SEEN = "interrupt-two-queues,interrupt-often,link,stats,reset-during-interrupts,mailbox-ready-once,host-collides"
 UNSEEN = "^the search can't see accesses to the driver's own memory, so it misses bugs in their order: "
 
 
-# Changes of corpus/driver.c with PLAIN_COUNTS: one copy accesses both words, with a fence, about which gcc warns.
+# Changes to corpus/driver.c with PLAIN_COUNTS: a single copy accesses both words, with a fence, for which gcc prints a
+# warning.
 COPIED_COUNTS = {
     "    it->frames++;\n    it->bytes += length;\n": """    struct count now;
     memcpy(&now, it, sizeof now);
@@ -237,8 +238,8 @@ def check_counts(folder: Path) -> None:
 
 
 def check_accesses(kit: Kit) -> str:
-    """A race on a word that two polls change is found although its accesses aren't points, and the correct twin passes. If
-    accesses aren't observed, the row passes, and the first line says why."""
+    """A race on a word that two polls change is found although its accesses aren't points, and the correct twin passes.
+    If accesses aren't observed, the row passes, and the first line says why."""
     row, right = "interrupt-two-queues", HERE / "corpus/pages.c"
     how: list[object] = ["--rows", row, "--runs", 200, "--every", 200, "--no-pages", *PATIENT]
     wrong, folder = changed(right, PLAIN_WORD, kit.folder / "plain_word.c"), kit.folder / "accesses"
@@ -319,7 +320,7 @@ def check_faults(kit: Kit, each: int = 1) -> str:
 
 
 def check_words(kit: Kit) -> str:
-    """Flags that begin with a minus sign, prefixes of rows' names, and the list without a driver."""
+    """Checks flags that begin with a minus sign, prefixes of row names, and --list without a driver."""
     source = HERE / "tests/faulty.c"
     for words in (["--flags", "-DMODE=NO_LENGTH"], ["--flags=-DMODE=NO_LENGTH"]):
         folder = kit.folder / "flags"
@@ -484,8 +485,8 @@ def adapter(
 
 
 def check_address(kit: Kit) -> None:
-    """If a driver reads its MAC address from RAL0 and RAH0, the report says that it is missing. With port.md's EEPROM
-    image it is there."""
+    """If a driver reads its MAC address from RAL0 and RAH0, the report says that the address is missing. With port.md's
+    EEPROM image, the driver finds it."""
     silent = "    (void)address;\n"
     if not (found := ADDRESS.search((ADAPTER_FOLDER / "driver.c").read_text())):
         raise Wrong("c/examples/adapter/driver.c writes no address")
@@ -527,8 +528,8 @@ def check_recorded(kit: Kit) -> None:
 
 
 def check_adapter(kit: Kit, sanitized: list[str] | None) -> str:
-    """The example with one adapter for both: it runs, records, says why no frame arrives, and gets its card. A
-    sanitizer finds device writes outside a buffer."""
+    """The example, with a single adapter for its run and its card: it runs, records, says why no frame arrives, and
+    gets a card. A sanitizer finds device writes outside a buffer."""
     if ran([adapter(kit)]) != (ADAPTER_FOLDER / "adapter.out").read_text():
         raise Wrong("examples/adapter prints something else than adapter.out")
     rows = none_failed(kit.card(kit.folder / "adapter-program", None, "--runs", 2, "--every", 2))

@@ -12,7 +12,7 @@ enum { SLOTS = 8, BUFFER = 2048, BYTES = 2048 + 2 * SLOTS * BUFFER };
 static uint8_t *memory;
 static nic_desc *rx_ring, *tx_ring;
 
-/* Returns the bus address of a byte in it. The memory is lent from bus address 0 on. */
+/* Returns the bus address of a byte in this memory, which is lent starting at bus address 0. */
 static uint64_t bus_of(const void *place)
 {
     return (uint64_t)((const uint8_t *)place - memory);

@@ -26,7 +26,7 @@ int main(void)
     nic_write32(&n, NIC_FCTRL, NIC_FCTRL_UPE); /* accept all unicast frames */
     nic_write32(&n, NIC_MRQC, NIC_MRQC_MRQE_IS(1) | NIC_MRQC_TCPIPV4);
     nic_write32(&n, NIC_RETA(0), NIC_RETA_ENTRY_0_IS(3)); /* with a key of zeros the hash is 0 */
-    nic_write32(&n, NIC_RDLEN(3), 128);                   /* eight descriptors from address 0 on */
+    nic_write32(&n, NIC_RDLEN(3), 128);                   /* eight descriptors, starting at address 0 */
     nic_write32(&n, NIC_SRRCTL(3), NIC_SRRCTL_DESCTYPE_IS(1) | NIC_SRRCTL_BSIZEPACKET_IS(2));
     nic_write32(&n, NIC_RXDCTL(3), NIC_RXDCTL_ENABLE);
     /* MSI-X mode; the queue's cause: bit 5 */

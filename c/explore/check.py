@@ -28,7 +28,7 @@ class Wrong(Exception):
 
 
 def ran(words: list[object], wanted: int | None = 0, **how: object) -> str:
-    """Returns what a program prints on both streams; raises Wrong if it ends with another status."""
+    """Returns what a program prints on both streams; raises Wrong if it exits with another status."""
     made = subprocess.run(
         [str(word) for word in words], stdout=subprocess.PIPE, stderr=subprocess.STDOUT, text=True, check=False, **how
     )
@@ -39,7 +39,7 @@ def ran(words: list[object], wanted: int | None = 0, **how: object) -> str:
 
 
 def links(compiler: str, flags: list[str], folder: Path, text: str = "int main(void) { return 0; }\n") -> bool:
-    """Whether a program with these flags links and runs here: an empty one, or this source."""
+    """Whether a program with these flags links and runs here: an empty program, or this source."""
     source, program = folder / "empty.c", folder / "empty"
     source.write_text(text)
     try:
@@ -79,7 +79,7 @@ class Kit:
         return program
 
     def make(self, program: Path, source: Path, *lines: list[object]) -> None:
-        """Builds a program by these command lines, unless the last build was the same: several checks use one
+        """Builds a program with these command lines, unless its last build used the same ones: several checks share a
         program."""
         wanted = lines, source.read_bytes()
         if self.built.get(program) != wanted:
@@ -151,8 +151,8 @@ def check_script(kit: Kit, path: Path) -> None:
 
 
 def check_names(kit: Kit) -> str:
-    """Each address in the register table and each virtual function's offset is named; other addresses aren't. Rust names
-    are reported as in the source."""
+    """Each address in the register table and each virtual function's offset is named; other addresses aren't. Rust
+    names are reported as in the source."""
     ran([kit.build(HERE / "tests/demangle.c")])
     return ran([kit.build(HERE / "tests/names.c")]).strip()
 
@@ -493,7 +493,7 @@ def check_choices(kit: Kit) -> str:
 
 
 def check_weak(kit: Kit) -> str:
-    """Litmus tests pass; a schedule of weak memory says so, and --memory overrides a scenario's model."""
+    """Litmus tests pass; a schedule found with weak memory records that, and --memory overrides a scenario's model."""
     out = kit.out("weakly")
     said = ran([kit.build(HERE / "tests/weak.c")], timeout=HANGS).strip()
     program = kit.build(HERE / "corpus/missing_wmb.c")
@@ -779,7 +779,7 @@ def check_cpp(kit: Kit) -> str:
 
 
 def check_points_line(program: Path, schedule: Path) -> None:
-    """A schedule says which accesses are points. Without that line, it is replayed with the option."""
+    """A schedule's file says which accesses are points. If that line is missing, the option replaces it in a replay."""
     text, line = schedule.read_text(), "points memory:data\n"
     words = [program, "no_lock", "--replay", schedule]
     if f"scenario races\n{line}" not in text:
@@ -1079,7 +1079,7 @@ def check_program(kit: Kit, runs: int) -> str:
 
 THREAD = ["-g", "-O1", "-fsanitize=thread"]
 # Maps as much memory as searches do, a gigabyte each time. On arm64 the thread sanitizer ends a program with memory
-# outside its ranges. QEMU's user emulation leaves these ranges after some gigabytes.
+# outside its ranges. QEMU's user emulation leaves these ranges after a few gigabytes.
 ROOMS = """#include <stddef.h>
 #include <sys/mman.h>
 
@@ -1112,7 +1112,7 @@ def check_threads(kit: Kit, searches: int) -> str:
 
 
 def sanitized_engine(folder: Path, compiler: str, flags: list[str], *parts: str) -> list[Path]:
-    """Builds archives of the engine, given by name, with sanitizers."""
+    """Builds the named archives of the engine with sanitizers."""
     made = folder / "engine"
     # (a relative path: make refuses a name with a space)
     out = os.path.relpath(made, C)

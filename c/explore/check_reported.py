@@ -122,7 +122,7 @@ def check_places(kit: Kit, program: Path) -> str:
 
 def check_late_lines(kit: Kit, program: Path, name: str) -> None:
     """A search waits for source lines that are resolved late, as on a busy machine, because they are part of a
-    failure's text. If only one of two runs had them, the texts would differ, and the search would blame `begin`
+    failure's message. If only one of two runs had them, the messages would differ, and the search would blame `begin`
     for not initializing everything."""
     folder, out = kit.folder / "late", kit.folder / "late-out"
     for made in (folder, out):

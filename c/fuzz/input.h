@@ -48,7 +48,7 @@ static inline uint32_t input_word(struct input *it)
     return low | (uint32_t)input_short(it) << 16;
 }
 
-/* Checks what must hold for an input: otherwise the process ends, as a fuzzer expects. */
+/* Checks a condition that must hold for an input. If it doesn't, the process aborts, as a fuzzer expects. */
 #define MUST(holds)                                                                                                    \
     do {                                                                                                               \
         if (!(holds)) {                                                                                                \

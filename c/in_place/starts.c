@@ -102,7 +102,7 @@ void nicl_starts_remove(uintptr_t start)
     room = 0;
 }
 
-/* A block that contains the address begins in the same unit of 2,048 bytes or in the one before it. */
+/* A block that contains the address begins in the same 2,048-byte unit or in the one before it. */
 static bool has_in_unit(uintptr_t unit, uintptr_t address)
 {
     for (size_t place = place_for(unit); places[place].blocks; place = next(place))

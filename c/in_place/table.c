@@ -106,7 +106,7 @@ static void note_count(void)
     __atomic_store_n(&count, tables.count, __ATOMIC_RELAXED);
 }
 
-/* If there are no tables, no call waits for the lock. A thread sees the tables that it made. */
+/* If there are no tables, no call waits for the lock. A thread sees the tables that it created. */
 struct nicl_table *nicl_table_of(const nic *n)
 {
     if (!__atomic_load_n(&count, __ATOMIC_RELAXED))

@@ -15,12 +15,13 @@ struct nicl_table {
 
 /* Returns the table of a controller, or null if it never held the caller's memory. */
 struct nicl_table *nicl_table_of(const nic *n);
-/* Returns the table of a controller, made if there is none, after giving blocks first to end - 1 the caller's memory,
-   in order. Returns null if memory runs out: then nothing changes. */
+/* Records that blocks first to end - 1 hold the caller's memory, in order, and returns the controller's table, which is
+   created if there is none. Returns null if memory runs out: then nothing changes. */
 struct nicl_table *nicl_table_with(const nic *n, uint32_t first, uint32_t end, uint8_t *host);
 /* Notes that the blocks no longer hold the caller's memory. */
 void nicl_table_remove(struct nicl_table *it, uint32_t first, uint32_t end);
-/* Detaches the table of a controller that is ending. The caller's memory in it isn't freed until nicl_table_end. */
+/* Detaches the table of a controller that is being closed. The caller's memory in it isn't freed until
+   nicl_table_end. */
 void nicl_table_close(struct nicl_table *it);
 void nicl_table_end(struct nicl_table *it);
 

@@ -76,7 +76,7 @@ static void say(const char *name, const char *why)
 
 /* --- files --- */
 
-/* Makes the file name of a controller, counted from 0: %p becomes the process ID, and from the second controller on, a
+/* Builds the file name of a controller, counted from 0: %p becomes the process ID, and from the second controller on, a
    number follows. */
 static void name_of(unsigned number, char *name, size_t room)
 {
@@ -340,7 +340,7 @@ struct recording *nicl_enter_dropped(nic_kept kept, uint32_t *number)
 
 /* --- text --- */
 
-/* Makes room for more bytes. Without memory the recording ends. */
+/* Makes room for more bytes. If memory runs out, the recording ends. */
 static bool has_room(struct recording *it, size_t more)
 {
     if (it->room - it->used >= more)
@@ -408,7 +408,7 @@ void nicl_add(struct recording *it, const char *format, ...)
     nicl_text_ends(it, &more);
 }
 
-/* Returns the two digits of each byte, made at the first use. */
+/* Returns the two digits of each byte, computed on first use. */
 static const char (*digits_of_bytes(void))[2]
 {
     static char digits[256][2];

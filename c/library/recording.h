@@ -11,7 +11,7 @@
 
 enum { NICL_LINE = 512 };
 
-/* A recording of one controller. Its text is written when an event is complete. */
+/* A recording of one controller. Its lines are written when an event is complete. */
 struct recording;
 
 /* Whether any controller is recorded or reported on (tell.h). Every call reads it. */
@@ -42,8 +42,8 @@ struct recording *nicl_enter_dropped(nic_kept kept, uint32_t *number);
 
 /* --- text --- */
 
-/* The place where text of at most NICL_LINE bytes continues, and where it ended. End one text before you begin the
-   next. */
+/* Return where to write at most NICL_LINE bytes of text, and set where that text ends. Call the second before you call
+   the first again. */
 struct nicl_text nicl_text_of(struct recording *it);
 void nicl_text_ends(struct recording *it, const struct nicl_text *text);
 /* Add a string, two strings with a number between them, and text formatted as by printf. */

@@ -1,7 +1,7 @@
 /* Reports faults, drops and stray accesses on standard error as they happen, if the environment requests it
    (NIC82599_TELL=1). The first of each kind is a line with its reason, and further ones are counted: the tenth, the
-   hundredth and so on get a line, and the total is printed when the controller or the process ends. nicl_enter's lock
-   protects all of it. */
+   hundredth and so on get a line, and the total is printed when the controller is closed or the process exits.
+   nicl_enter's lock protects all of it. */
 #ifndef NICL_TELL_H
 #define NICL_TELL_H
 
@@ -10,10 +10,10 @@
 
 #include "nic82599.h"
 
-/* Returns whether the environment requested it when the first controller was made. */
+/* Returns whether the environment requested this when the first controller was created. */
 bool nicl_is_telling(void);
 
-/* Called when a controller is made, when one ends, and when the process ends. */
+/* Called when a controller is created, when one is closed, and when the process exits. */
 void nicl_tell_begin(const nic *n);
 void nicl_tell_end(const nic *n);
 void nicl_tell_all_ends(void);

@@ -15,7 +15,7 @@ struct dropped {
 /* Held to change or read the drops of any controller. */
 static pthread_mutex_t lock = PTHREAD_MUTEX_INITIALIZER;
 static struct nicl_by_device all;
-/* Number of entries. Each controller that ends reads it. */
+/* Number of entries, read whenever a controller is closed. */
 static size_t all_count;
 
 /* This many controllers that drop frames need no allocation, so their counts are right even if memory runs out. */

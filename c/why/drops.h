@@ -1,4 +1,4 @@
-/* Frames dropped by each controller since it was made or a snapshot was restored into it. */
+/* Frames dropped by each controller since it was created or a snapshot was restored into it. */
 #ifndef NICL_DROPS_H
 #define NICL_DROPS_H
 

@@ -17,8 +17,9 @@ from pathlib import Path
 from . import where
 from .rows import Refused, accesses_of
 
-# With these the search observes each access. gcc would copy small objects with instructions that it can't observe, and
-# a tail call has no line. gcc warns that its library doesn't support fences; clang doesn't know that warning.
+# With these flags, the search observes each access. Otherwise gcc would copy small objects with instructions that the
+# search can't observe, and a tail call would have no source line. gcc warns that its library doesn't support fences;
+# clang doesn't know that warning.
 SEES = (
     "-fsanitize=thread",
     "-fno-builtin",

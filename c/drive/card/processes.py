@@ -1,4 +1,4 @@
-"""Runs a driver's program. When it ends, no process that it or the driver started is left."""
+"""Runs a driver's program. When the program exits, no process that it or the driver started is left."""
 
 from __future__ import annotations
 
@@ -28,12 +28,12 @@ PR_SET_CHILD_SUBREAPER = 36
 
 
 class TooLong(Exception):
-    """The program didn't end in time and was killed."""
+    """The program didn't exit in time and was killed."""
 
 
 @dataclass(frozen=True)
 class Ended:
-    """How a program ended: its status (below 0 if a signal ended it) and its output, with control characters
+    """How a program exited: its status (below 0 if a signal ended it) and its output, with control characters
     escaped."""
 
     status: int
@@ -99,8 +99,8 @@ def _end_group(process: int) -> None:
 
 
 def _end_orphans() -> None:
-    """Kills processes that ended programs left: children outside the process groups of this process and of running
-    programs."""
+    """Kills processes left behind by programs that have exited: children outside the process groups of this process and
+    of running programs."""
     with _lock, contextlib.suppress(ProcessLookupError, ChildProcessError, PermissionError):
         for process in list(_children()):
             if os.getpgid(process) not in {os.getpgrp(), *_running}:
@@ -127,8 +127,8 @@ def _started(words: Sequence[str | os.PathLike[str]]) -> subprocess.Popen[bytes]
 
 
 def _awaited(made: subprocess.Popen[bytes], pipes: list[Printed], seconds: float) -> bool:
-    """Reads a program's output until it ends. Returns whether it ended in time. Other processes may still hold its
-    pipes."""
+    """Reads a program's output until the program exits. Returns whether it exited in time. Other processes may still
+    hold its pipes."""
     until = time.monotonic() + seconds
     with selectors.DefaultSelector() as selector:
         for it in pipes:

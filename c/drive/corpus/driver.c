@@ -877,7 +877,7 @@ static void move_rings(void)
     }
 }
 
-/* Allocates rings of `slots` slots and moves the current ones to `old`. If memory is refused, keeps the current
+/* Allocates rings of `slots` slots and moves the current ones to `old`. If an allocation fails, keeps the current
    ones. */
 static bool change_rings(uint16_t slots, struct rings *old)
 {

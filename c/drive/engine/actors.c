@@ -19,7 +19,7 @@ static uint16_t number_of(const void *given)
 
 /* --- open and close --- */
 
-/* Interrupts everything: frames received or accepted before may be lost. */
+/* Interrupts everything: frames received or accepted before this may be lost. */
 static void next_life(void)
 {
     nicd.life++;
@@ -215,7 +215,7 @@ static bool has_happened(void *seen)
 void nicd_wait_for_event(uint32_t seen)
 {
     if (nicd.driver->threads)
-        nicx_wait(); /* what its threads do doesn't count as an event */
+        nicx_wait(); /* actions of the driver's own threads don't count as events */
     else
         nicx_wait_until(has_happened, &seen);
 }

@@ -80,7 +80,7 @@ enum reach {
     HASHES,   /* the driver selected RSS in MRQC, in a row that spreads flows over its queues */
     LOOKED,   /* `receive` found no frame */
     TAKEN,    /* for each queue: a frame arrived and was delivered */
-    TAKEN_0,  /* as TAKEN, for queue 0 only */
+    TAKEN_0,  /* like TAKEN, but only for queue 0 */
     SENT,     /* for each queue: a frame was sent, if the driver has `send` */
     MESSAGES, /* for each queue: its vector sent a message, if the driver has `interrupt` */
     FULL,     /* the device had no free slot left in receive queue 0 */
@@ -194,7 +194,7 @@ struct come {
 
 enum frame_state { ON_ITS_WAY, WAITS, IS_WRITTEN, IS_DELIVERED, IS_DROPPED, IS_LOST };
 
-/* When a frame arrived or was written, compared with the row's call, which a task of the scenario makes. */
+/* When a frame arrived or was written, relative to the row's call, which a scenario task makes. */
 enum era { BEFORE, DURING, AFTER };
 
 enum lost { BY_A_FAULT, BY_A_QUEUE, BY_A_RESET };
@@ -247,7 +247,7 @@ struct drive {
     bool is_asleep;                /* from suspend's return to resume's call */
     uint8_t doing;                 /* enum call: the call that `doer` is in */
     unsigned doer;                 /* a thread's number, or NICXO_NO_THREAD */
-    uint8_t era;                   /* enum era, compared with the row's call */
+    uint8_t era;                   /* enum era, relative to the row's call */
     uint32_t links;                /* link changes so far */
     uint32_t life;                 /* interruptions so far: open, close, nicd_hold, nicd_go_on */
     uint32_t events;               /* device steps and other events after which a failed call may succeed */
@@ -262,7 +262,7 @@ struct drive {
     struct piece pieces[MOST_PIECES];
     const struct piece *newest;
     uint32_t taken, own_taken;    /* allocated pieces: DMA memory, nicd_alloc */
-    uint32_t allocations, refuse; /* allocations so far; the one to refuse, from 1 */
+    uint32_t allocations, refuse; /* allocations so far; number of the one that is to fail, counted from 1 */
     uint32_t beyond;              /* memory in place is below this block; 0 if there is none */
     bool holds_back;              /* transmit write-backs aren't visible to the driver yet */
     size_t own_used;
@@ -301,7 +301,7 @@ void nicd_failed(const char *form, ...);
 /* Records a reason to fail, which takes effect at the next check. It always returns to its caller. */
 void nicd_note(const char *form, ...);
 
-/* Counts a requirement that the schedule reached. The second form is for a queue or function. */
+/* Counts a requirement that the schedule reached. The second form is for a queue or a virtual function. */
 void nicd_reach(enum reach reach);
 void nicd_reach_of(enum reach reach, unsigned number);
 /* Returns the name of a call. */
@@ -380,7 +380,7 @@ void nicd_make_sent(uint16_t number, uint32_t length, uint8_t *bytes);
    to its pool. If `is_ready`, it also reports the device as ready. */
 void nicd_set_up_host(unsigned function, bool is_ready);
 
-/* The functions of a scenario that the explorer calls. */
+/* The scenario functions that the explorer calls. */
 const char *nicd_bring_up(void);
 void nicd_begin(void);
 const char *nicd_always(void);

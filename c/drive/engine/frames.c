@@ -25,7 +25,7 @@ static void fill(uint8_t *bytes, uint32_t from, uint32_t length, uint16_t number
     put16(bytes + length - 2, number);
 }
 
-/* Writes the addresses of a flow. Its ports follow them. The hash covers both in this order. */
+/* Writes a flow's addresses. The flow's ports follow them. The hash covers both, in this order. */
 static uint32_t put_flow(uint8_t *at, uint16_t flow, uint32_t each)
 {
     for (uint32_t k = 0; k < 2 * each; k++)

@@ -35,7 +35,7 @@ static uint64_t at_block(uint32_t block)
     return (uint64_t)block * NIC_BLOCK_BYTES;
 }
 
-/* Clears the block after the last piece too. No piece owns it. */
+/* Also clears the block after the last piece, which no piece owns. */
 void nicd_in_place_begin(void)
 {
     uint64_t end = nicd.beyond ? at_block(nicd.beyond + 1) : 0;
@@ -108,7 +108,7 @@ void nicd_in_place_end(const struct piece *piece)
 
 /* --- what the device and the driver's calls write --- */
 
-/* Copies the parts of this device memory range that belong to pieces in place. */
+/* Reads this range of device memory into `known` and `here`, as far as it belongs to pieces in place. */
 void nicd_in_place_copy(uint64_t bus, uint64_t bytes)
 {
     for (unsigned k = 0; k < MOST_PIECES; k++) {

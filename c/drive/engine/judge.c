@@ -56,7 +56,7 @@ static bool is_frame(uint16_t number, const uint8_t *bytes, uint32_t length)
     return nicd_make(&nicd.coming[number], number, whole) == length && !memcmp(whole, bytes, length);
 }
 
-/* Reports a frame that was delivered ahead of the next one of its queue. */
+/* Reports a frame that was delivered before the next frame of its queue. */
 static void tell_too_early(uint16_t queue, uint16_t number)
 {
     uint16_t next = nicd.written[queue][nicd.next[queue]];
@@ -64,7 +64,7 @@ static void tell_too_early(uint16_t queue, uint16_t number)
                 nicd.frames[number].slot, next, nicd.frames[next].slot, queue);
 }
 
-/* Reports what a frame is if it isn't the next one of its queue. */
+/* Reports what is wrong with a delivered frame that isn't the next frame of its queue. */
 static void tell_strange(uint16_t queue, const uint8_t *bytes, uint32_t length)
 {
     for (uint16_t k = 0; k < nicd.count; k++) {
@@ -214,7 +214,7 @@ static unsigned first_other(const struct sent *sent, uint64_t length)
     return at;
 }
 
-/* Reports what a transmitted frame is if it isn't the next one of its queue. */
+/* Reports what is wrong with a transmitted frame that isn't the next frame of its queue. */
 static void tell_strange_out(unsigned queue, uint16_t slot, uint64_t length, uint32_t next)
 {
     const struct sent *sent = nicd.sent[queue];

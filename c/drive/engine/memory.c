@@ -1,5 +1,5 @@
 /* The driver's memory: pieces of DMA memory, and memory of its own. A DMA piece ends at the end of a block, and the
-   block after it isn't lent. Both kinds are counted, and both can be refused. */
+   block after it isn't lent. Allocations of both kinds are counted, and both can be made to fail. */
 #include <stdio.h>
 #include <string.h>
 

@@ -23,7 +23,7 @@ static void close_it(void)
         nicx_fail(nicd.fault);
 }
 
-/* --- the PF's driver resets the pool during traffic, as when it removes the function --- */
+/* --- the PF's driver resets the pool during traffic, as when it removes the virtual function --- */
 
 static void reset_pool(void)
 {
@@ -60,7 +60,7 @@ static void begin_host(void)
     nicd_other("host", reset_pool, false);
 }
 
-/* --- accesses outside the function --- */
+/* --- accesses outside the virtual function --- */
 
 static void see_foreign(const nicxo_step *step, bool is_drivers)
 {

@@ -4,9 +4,9 @@
 enum { FUNCTIONS_THERE = 2, PATIENCE = 3 };
 
 static struct {
-    uint32_t given[FUNCTIONS_THERE], taken[FUNCTIONS_THERE];   /* sent by functions; received by the driver */
+    uint32_t given[FUNCTIONS_THERE], taken[FUNCTIONS_THERE];   /* sent by virtual functions; received by the driver */
     uint32_t answered[FUNCTIONS_THERE], read[FUNCTIONS_THERE]; /* answers by the driver; messages read by functions */
-    uint32_t wanted;                                           /* messages expected from each function */
+    uint32_t wanted;                                           /* messages expected from each virtual function */
 } mail;
 
 static uint32_t word(uint8_t vf, bool of_host, uint32_t k, uint32_t number)
@@ -14,7 +14,7 @@ static uint32_t word(uint8_t vf, bool of_host, uint32_t k, uint32_t number)
     return (of_host ? 0xB0000000u : 0xF0000000u) | (uint32_t)vf << 16 | k << 8 | number;
 }
 
-/* --- a function --- */
+/* --- a virtual function --- */
 
 /* Bits that a read of VFMAILBOX clears, kept for later. */
 static uint32_t kept[FUNCTIONS_THERE];

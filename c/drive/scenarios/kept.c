@@ -1,5 +1,5 @@
-/* Settings that must last. A row makes a setting, then an event happens, and the frames that arrive afterwards show
-   whether the setting still holds. Other rows change a filter during traffic. Two tables, of settings and of events,
+/* Settings that must last. A row applies a setting, then an event happens, and the frames that arrive afterwards show
+   whether the setting still applies. Other rows change a filter during traffic. Two tables, of settings and of events,
    define the rows. */
 #include <stdio.h>
 #include <string.h>

@@ -1,7 +1,7 @@
 /* A driver that has all functions but does nothing. No row that requires something to happen may pass. */
 #include "nic82599_drive.h"
 
-static uint16_t slots; /* makes resize change the state */
+static uint16_t slots; /* so that `resize` changes some state */
 
 static bool open_driver(const nicd_setup *setup)
 {

@@ -15,7 +15,7 @@ enum { BLOCKS = 4096, PIECES = 8, SLOTS = 64, FRAMES = 10000, BURST = 7, VECTORS
 static bool is_card; /* otherwise a run, with the controller `n` */
 static nic n;
 
-/* --- the device of a run: it acts when the driver waits, and when the run calls for it --- */
+/* --- the device of a run: it acts when the driver waits, and when the run requests it --- */
 
 static bool was_raised[VECTORS]; /* a message of this vector arrived */
 
@@ -185,7 +185,7 @@ static const nicd_driver card = {
 static const uint8_t address[6] = {2, 0, 0, 0, 0, 1};
 static unsigned received, returned;
 
-/* Makes frame `number`, which determines its 60 to 1,514 bytes. */
+/* Builds frame `number`. The number determines the frame's 60 to 1,514 bytes. */
 static uint32_t make(unsigned number, uint8_t *bytes)
 {
     uint32_t length = 60 + number * 37 % (LONGEST - 59);

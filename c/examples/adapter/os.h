@@ -8,7 +8,8 @@
 uint32_t os_read32(uint32_t offset); /* registers, at their offset in BAR 0 */
 void os_write32(uint32_t offset, uint32_t word);
 
-/* Allocates zeroed memory for the driver and the device. Returns it with its bus address, or null if there is none. */
+/* Allocates zeroed memory for the driver and the device. Returns the memory with its bus address, or null if memory has
+   run out. */
 void *os_dma_alloc(size_t bytes, uint64_t *bus);
 void os_dma_free(void *memory, uint64_t bus);
 

@@ -11,11 +11,11 @@ enum {
     PFU = 8,
     PFSTS = 16,
     PFACK = 32,
-    RSTD = 128, /* in the function's VFMAILBOX */
+    RSTD = 128, /* in VFMAILBOX */
     STS = 1,    /* in PFMAILBOX, as are ACK and PFU */
     VFMAILBOX = 0x2FC,
     VFMBMEM = 0x200,
-    DEVICE_READY = 0x4000 /* CTRL_EXT: the functions may start */
+    DEVICE_READY = 0x4000 /* CTRL_EXT: the virtual functions may start */
 };
 
 /* Sets up the PF's interrupt: a request from the virtual function sends a message with vector 5. */
@@ -26,7 +26,7 @@ static inline void bring_up_mailbox_interrupt(void)
     nicx_write32(NIC_EIMS, 1 << 19);
 }
 
-/* Returns whether function 0 sent a request, and clears it. */
+/* Returns whether virtual function 0 sent a request, and clears it. */
 static inline bool is_asked(void)
 {
     if (!(nicx_read32(NIC_PFMBICR(0)) & 1))
@@ -35,7 +35,7 @@ static inline bool is_asked(void)
     return true;
 }
 
-/* Takes the mailbox for the function. */
+/* Takes the mailbox for the virtual function. */
 static inline void take_mailbox(void)
 {
     for (;;) {

@@ -15,7 +15,7 @@ static const char *bring_up(void)
     return NULL;
 }
 
-/* The function sends two words that belong together. */
+/* The virtual function sends two words that belong together. */
 static void function(void *unused)
 {
 #ifndef FIXED

@@ -33,7 +33,7 @@ void nicxi_cover_begin(void);
 int nicxi_frame_in_hand(bool is_taken);
 /* Notes that a task or handler ended, or continued from a point that isn't a wait. */
 void nicxi_cover_thread(uint16_t number);
-/* Notes a device step or the link. */
+/* Notes a device step or a link change. */
 void nicxi_cover_step(const struct step *step);
 /* Notes that the device was reset, which loses the frames that wait in it. */
 void nicxi_cover_reset(void);

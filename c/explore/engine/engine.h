@@ -106,7 +106,7 @@ struct thread {
     uint64_t voided;    /* the count of changes when it last acted without making one */
     bool pending;       /* a handler about to start, or an armed timer */
     bool is_timer;      /* a handler that no message starts */
-    uint8_t older;      /* weak memory: how many changes old the load being made is */
+    uint8_t older;      /* weak memory: how many changes old the value of the current load is */
     uint32_t within;    /* timer: fires within this many points after it is armed; 0: fires at rest */
     uint32_t due;       /* armed timer: at this point or later, no other actor may run before it fires */
     int interrupted_by; /* task: the handler thread that interrupts it, or -1 */
@@ -118,7 +118,7 @@ struct thread {
     unsigned rested; /* number of timeouts and pauses since the last change */
     uint64_t rested_at;
     uint64_t own;          /* how often it has acted */
-    uint64_t seen, looked; /* how often others had acted when it last returned from a wait; from a wait or a pause */
+    uint64_t seen, looked; /* how often others had acted at its last return from a wait; from a wait or a pause */
     bool (*condition)(void *);
     void *condition_argument;
     nicx_mutex *lock;
@@ -317,9 +317,9 @@ static inline void nicxi_set_idle(uint16_t number)
 bool nicxi_goes_on(const uint16_t *can);
 /* Whether all of these are device steps that may turn out to have nothing to do. */
 bool nicxi_may_be_idle(const uint16_t *can, uint32_t count);
-/* Whether an actor may still be offered at this point: a paused thread may if all others may be idle. */
+/* Whether an actor may still be offered at this point. A paused thread may be if all other actors may be idle. */
 bool nicxi_may_come(uint16_t actor, const uint16_t *can, uint32_t count);
-/* Runs a device step or the link. Returns false if it had nothing to do. */
+/* Runs a device step or a link change. Returns false if it had nothing to do. */
 bool nicxi_device_step(struct actor *actor, struct step *step);
 /* Turns a fault of the device into a failure, unless the scenario allows it. */
 void nicxi_judge(const struct step *step);

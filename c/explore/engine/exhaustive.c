@@ -85,7 +85,7 @@ bool nicxi_exhaustive_is_glance(const struct exhaustive *it)
     return it->is_glance || (it->was_glance && nicxi.is_cut);
 }
 
-/* --- growable lists; without memory the search stops as for a driver that behaves differently on each run --- */
+/* --- growable lists; if memory runs out, the search stops as for a driver that behaves differently on each run --- */
 
 static bool add_can(struct exhaustive *it, const uint16_t *can, uint32_t count)
 {

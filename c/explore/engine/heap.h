@@ -8,13 +8,14 @@
 #include <stdbool.h>
 #include <stddef.h>
 
-/* After this call the library allocates from the piece on this thread. Returns false if the machine has no memory for
+/* After this call, the library allocates from the piece on this thread. Returns false if the machine has no memory for
    it. Other threads of the process still allocate from malloc. */
 bool nicxi_heap_open(void);
 /* After this call only this thread, which runs a schedule, allocates from the piece. */
 void nicxi_heap_is_mine(void);
-/* On this thread the library allocates from malloc until nicxi_heap_is_mine. This is for a controller of the caller's
-   own, which must survive when the search's is restored. Returns false and does nothing if that is already so. */
+/* Has the library allocate from malloc on this thread until nicxi_heap_is_mine is called. This is for a controller of
+   the caller's own, which must survive when the search's is restored. Returns false and does nothing if that is already
+   so. */
 bool nicxi_heap_pause(void);
 void nicxi_heap_close(void);
 

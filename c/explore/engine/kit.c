@@ -1,4 +1,4 @@
-/* What scenarios share: descriptors in one access, frames that carry a number, the queue of a flow, and both sides of a
+/* Shared by scenarios: descriptors in a single access, frames that carry a number, a flow's queue, and both sides of a
    mailbox. All of it uses a driver's calls, so its accesses are points. */
 #include <string.h>
 

@@ -27,7 +27,7 @@ void nicxi_unwound(void)
     nicxi_fiber_switch(&self->fiber, &nicxi.main);
 }
 
-/* Unwinds a thread's stack. If that doesn't end, the search reports which stack it is. */
+/* Unwinds a thread's stack. If the unwinding hangs, the search reports which stack it was. */
 static void unwind(int number)
 {
     struct thread *thread = &nicxi.threads[number];

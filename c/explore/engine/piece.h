@@ -14,7 +14,7 @@ enum { HEAD = 16, UNIT = 16, PARTS = 8, CLASSES = PARTS * 24, FIRST = 2048 };
 #define PIECE_ROOM ((size_t)1 << 30)
 
 struct piece {
-    size_t used; /* bytes from this struct on, including it: everything handed out so far */
+    size_t used; /* size in bytes of everything handed out so far, including this struct */
     void *free[CLASSES];
 };
 

@@ -56,7 +56,7 @@ static void line(struct script *script, uint16_t actor, const char *text)
                 *script->where ? ": at " : "", script->where);
 }
 
-/* Writes a device step or the link, with its result. */
+/* Writes a device step or a link change, with its result. */
 static void with_reply(struct script *script, uint16_t actor, const char *text, const struct step *step)
 {
     char reply[MOST_WORDS];
@@ -86,7 +86,7 @@ static uint32_t data(struct script *script, const uint8_t *bytes, size_t length)
     return script->strings++;
 }
 
-/* --- memory, in units of 16 bytes --- */
+/* --- memory, in 16-byte units --- */
 
 static void peek(struct script *script, uint16_t actor, const struct step *step)
 {

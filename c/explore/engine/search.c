@@ -14,15 +14,15 @@
 #include "exhaustive.h"
 #include "words.h"
 
-/* The exhaustive search starts without preemptions and raises the bound by one at a time; from SLOWLY on, it uses the
-   bound that was requested. */
+/* The exhaustive search starts without preemptions and raises the bound by one at a time; from SLOWLY onwards, it uses
+   the requested bound directly. */
 enum {
     TRIED = 16,
     PAUSE = 10000000,
     SLOWLY = 3,
     BOUNDS = SLOWLY + 1,
     RUNS_OF_BOUND = 1 << 24,
-    PARTS = 1 << 16, /* parts from the last one on are counted together */
+    PARTS = 1 << 16, /* the last part and all parts beyond it are counted together */
     RECOUNT = 1024
 };
 
@@ -135,8 +135,8 @@ static nicx_chooser priorities_chooser(const struct turn *it)
     return nicxi_by_priority(&state, it->options->seed, it->run, depth_of(it), it->length);
 }
 
-/* Each strategy, the function that makes a run's chooser, and whether it needs the length of schedules. Mixed takes the
-   rows in turn. */
+/* Each strategy, the function that creates a run's chooser, and whether it needs the length of schedules. Mixed uses
+   the rows in turn. */
 static const struct strategy_row {
     enum strategy strategy;
     nicx_chooser (*chooser)(const struct turn *);

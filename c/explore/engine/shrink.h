@@ -42,7 +42,7 @@ struct cycle {
 
 struct cycle nicxi_find_cycle(const uint16_t *schedule, const struct step *steps, uint32_t points);
 
-/* --- whether the beginning of a schedule can still end well --- */
+/* --- whether a schedule with a given beginning can still pass --- */
 
 struct beginning {
     const struct omitted *omitted;

@@ -28,7 +28,7 @@ static inline bool nicxi_fails_always(const struct turn *turn)
 
 void nicxi_find_turn(const struct options *options, const struct failure *failure, struct turn *turn);
 
-/* Returns what could have ended well instead: "task poll acted", "value 3 were chosen". */
+/* Returns what could have avoided the failure: "task poll acted", "value 3 were chosen". */
 const char *nicxi_turn_other(const struct turn *turn, char room[MOST_TURN]);
 
 /* Returns "point of no return: ..", or "" if unknown. */

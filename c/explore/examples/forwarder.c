@@ -1,7 +1,7 @@
 /* A program written without any search in mind: a forwarder with a receiver and two senders, on POSIX threads with its
    own locks, conditions and atomics. It sends each frame back to its sender. Run by itself, it prints how many frames
-   came and went. Linked as docs/explore.md says, the same file is searched. Without -DFIXED it has a bug, which rarely
-   shows when it runs by itself. */
+   arrived and were sent. Linked as docs/explore.md says, the same file is searched. Without -DFIXED it has a bug, which
+   rarely shows when it runs by itself. */
 #include <pthread.h>
 #include <sched.h>
 #include <stdatomic.h>
@@ -16,7 +16,7 @@ enum {
     SLOTS = 8,        /* slots of a ring; the device never owns all of them */
     RX_RING = 0x0800, /* block 1 */
     TX_RING = 0x0880,
-    BUFFERS = 0x1000, /* one block each from block 2 on: the receive ring's, then the transmit ring's */
+    BUFFERS = 0x1000, /* one block each, starting with block 2: for the receive ring, then for the transmit ring */
     BLOCKS = 2 + 2 * SLOTS,
     QUEUED = 4, /* maximum number of frames waiting between receiver and senders */
     SENDERS = 2,

@@ -1,8 +1,8 @@
 /* Whether the exhaustive search reaches the same final states with sleep sets as without. Compares, for random
    scenarios, what the driver saw and the device's state at the end of each schedule. `sleeping SCENARIOS SEED MODE..`,
    with these modes: `vf`: the queue and the driver are a virtual function's. `apart`: the tasks share nothing but a
-   lock and what it protects, and the scenario says that it is race-free. `seen`: each access of the driver's memory is
-   seen. `weak`: memory is weak. `three`, `four`: this many transmit queues; a write wakes all queues in the search
+   lock and what it protects, and the scenario says that it is race-free. `seen`: each access to the driver's memory is
+   observed. `weak`: memory is weak. `three`, `four`: this many transmit queues; a write wakes all queues in the search
    without sleep sets, but only its own queue in the search with them. */
 #include <stdio.h>
 #include <stdlib.h>
@@ -42,7 +42,7 @@ static void count_in_lock(uint64_t *sum)
     nicx_unlock(&lock);
 }
 
-/* With several queues, values from QUEUED on select one of ON_QUEUE actions on one of MOST_QUEUES queues. */
+/* With several queues, values of QUEUED and above select one of ON_QUEUE actions on one of MOST_QUEUES queues. */
 enum { QUEUED = 64, MOST_QUEUES = 4, ON_QUEUE = 5 };
 
 static void act_on_queue(unsigned who, unsigned doing)

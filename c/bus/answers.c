@@ -108,7 +108,7 @@ void answer_eeprom(struct bus *it)
         nic_write32(&it->device, NIC_CTRL, control);
 }
 
-/* ---- functions without a pool ---- */
+/* ---- virtual functions without a pool ---- */
 
 /* Returns the physical function's address for a function's register outside its queues; BUS_SPACE if there is none. */
 static uint32_t own_address(unsigned int function, uint32_t offset)

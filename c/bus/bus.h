@@ -33,7 +33,7 @@ enum bus_answer {
     BUS_ANLP1 = 2,     /* the state of the negotiation with the link partner */
     BUS_EICS = 4,      /* a read of EICS returns EICR's causes and clears none */
     BUS_EERD = 8,      /* the EEPROM answers under master disable */
-    BUS_ABSENT = 16,   /* a function for which the mode has no pool */
+    BUS_ABSENT = 16,   /* a virtual function for which the mode has no pool */
     BUS_FWSM = 32,     /* the state of the firmware that the card would have */
     BUS_RXPBSIZE = 64, /* the size of the packet buffer */
     BUS_IPSEC = 128,   /* whether the card encrypts: it doesn't */
@@ -125,7 +125,7 @@ struct bus_counts {
     uint64_t messages[BUS_FUNCTIONS]; /* messages, and a bit for each vector used */
     uint32_t vectors[BUS_FUNCTIONS];
     uint64_t receive_steps, transmit_steps, frames_in, frames_out, enables, eeprom_words;
-    uint64_t absent_reads, absent_writes; /* accesses by absent functions (bus_is_absent) */
+    uint64_t absent_reads, absent_writes; /* accesses by absent virtual functions (bus_is_absent) */
     uint64_t answered[8];                 /* how often each answer was given, by bit number of enum bus_answer */
     uint64_t faults, problems;            /* 0 in a run without problems */
     uint64_t fault_whys[16];              /* faults by enum nic_fault */

@@ -1,5 +1,5 @@
 /* Accesses outside the bench's register table: their addresses, how often they occurred, and in which phases of the
-   run. Accesses by a function for which the mode has no pool are counted separately, in bus_counts. */
+   run. Accesses by a virtual function for which the mode has no pool are counted separately, in bus_counts. */
 #ifndef BUS_STRAYS_H
 #define BUS_STRAYS_H
 

@@ -36,8 +36,8 @@ static void count_one(void *of, unsigned int function, uint32_t offset, uint64_t
     it->unnamed += accesses;
 }
 
-/* Returns the most accessed name and removes it from the counts; COUNT(absent) if none is left. Several runs with one
-   name count as one. */
+/* Returns the index of the most accessed name and removes it from the counts; COUNT(absent) if none remain. Several
+   runs of registers with the same name count as one. */
 static size_t take_most(struct touched *it, uint64_t *accesses)
 {
     size_t most = COUNT(absent);

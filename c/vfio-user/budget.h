@@ -22,7 +22,7 @@
 #define BUDGET_ACCESS 128u         /* cost of a register access */
 #define BUDGET_MAP 8192u           /* cost of mapping or unmapping a range of memory */
 #define BUDGET_RING 32768u         /* cost of a change of a ring's length */
-#define BUDGET_RESET 32768u        /* cost of a reset of the card, or of a function by its client */
+#define BUDGET_RESET 32768u        /* cost of a card reset, or of a function reset by its client */
 #define BUDGET_EXPECTED (1u << 20) /* bytes of expected frames built in each turn */
 #define BUDGET_INTERRUPTS 64u      /* interrupt messages of a function in each turn */
 #define BUDGET_MICROSECONDS 5000u  /* in each turn, for a client's messages, a function's interrupts, frames */

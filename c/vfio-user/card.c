@@ -56,7 +56,7 @@ static void fault(void *of, bool is_transmit, const nic_outcome *outcome)
 
 /* ---- calls from the bus ---- */
 
-/* A client hands over descriptors with a tail. */
+/* Called when a client hands over descriptors by writing a tail. */
 static void give(struct card *it, const struct bus_access *access, uint32_t tail)
 {
     struct stepper *stepper = &it->stepper;
@@ -208,7 +208,7 @@ static void follow_causes(const struct card *it, struct function *function)
         function_line_after_access(function, card_causes(it));
 }
 
-/* A client accesses a register, and pays for the consequences. */
+/* Performs a client's register access, and charges the client for the consequences. */
 static void begin_access(struct card *it, struct function *function)
 {
     it->active[function->number] = function;

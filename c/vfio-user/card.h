@@ -15,7 +15,7 @@
 #include "stepper.h"
 #include "watch.h"
 
-#define CARD_FUNCTIONS_MOST 7 /* virtual ones: a root port's slot has eight functions */
+#define CARD_FUNCTIONS_MOST 7 /* virtual functions: a root port's slot has eight functions */
 #define CARD_SOCKETS 2        /* sockets of each virtual function */
 #define CARD_FIFO 4096
 

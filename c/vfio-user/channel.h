@@ -16,7 +16,7 @@
 #define CHANNEL_FILES (2 * VFU_FILES_MOST)
 #define CHANNEL_FILES_AT_ONCE 253 /* the kernel's limit: with less room it would close the rest, which takes time */
 
-/* A message. The receiver either closes each file, or keeps it and sets its entry to -1. */
+/* A message. For each file, the receiver either closes it, or keeps it and sets its entry to -1. */
 struct message {
     struct vfu_header head;
     unsigned int length; /* bytes of the body */

@@ -37,12 +37,12 @@ struct function {
     uint8_t table[FUNCTION_TABLE_BYTES];
     struct session session;
     int listener;    /* -1: none */
-    bool is_leaving; /* the client sends no more: its remaining messages are served, and the next client waits */
+    bool is_leaving; /* the client sends no more: the server serves its remaining messages, and the next client waits */
     char path[FUNCTION_PATH_MOST];
     struct function_counts counts;
 };
 
-/* Makes a function of a card. Its path must be set, for the reports. */
+/* Initializes a function of a card. Its path must already be set, for reports. */
 void function_begin(struct function *it);
 /* Listens at its path. Returns null, or why it can't. */
 const char *function_listen(struct function *it);

@@ -45,8 +45,8 @@ static void close_others(int line, int file)
     close_from(ABOVE);
 }
 
-/* Ignores the signals that end the server: a helper ends when its line is closed. A helper without anything to finish
-   is killed when the server ends. */
+/* Ignores the signals that end the server: a helper exits when its line is closed. A helper that has nothing left to
+   finish is killed when the server exits. */
 static void take_signals(bool stays)
 {
     static const int ignored[] = {SIGTERM, SIGINT, SIGHUP, SIGQUIT, SIGPIPE};

@@ -18,7 +18,7 @@ struct helper_job {
     bool is_confined;
     bool stays; /* if a signal ends this process, the helper first finishes its work */
     int file;   /* -1: none */
-    /* the helper's work; when it returns, the process ends */
+    /* the helper's work; when it returns, the process exits */
     void (*work)(int line, int file, void *given);
     void *given;
 };

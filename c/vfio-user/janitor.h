@@ -1,5 +1,5 @@
-/* A process that removes the names of this one's sockets after it has ended for any reason. The server itself can't
-   access files by then. */
+/* A process that removes the names of this process's sockets after this process has exited for any reason. The server
+   itself can no longer access files at that time. */
 #ifndef VFU_JANITOR_H
 #define VFU_JANITOR_H
 

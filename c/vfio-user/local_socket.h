@@ -1,6 +1,6 @@
 /* A UNIX socket with a name, accessible only to its user (mode 0600). It takes a name only if the name is free or
-   belongs to a dead socket of this user. At the end it removes the name only if the name still belongs to this
-   socket. */
+   belongs to a dead socket of this user. When the socket is closed, the name is removed only if it still belongs to
+   this socket. */
 #ifndef VFU_LOCAL_SOCKET_H
 #define VFU_LOCAL_SOCKET_H
 
@@ -22,11 +22,11 @@ struct local_given {
     struct timespec made; /* inode numbers are soon reused */
 };
 
-/* Makes the address of a name. Returns false if it is too long. */
+/* Converts a name to a socket address. Returns false if the name is too long. */
 bool local_name(struct sockaddr_un *name, const char *path);
 
-/* Makes a non-blocking socket of this type and binds it to the name. Returns null and sets *file. Otherwise returns why
-   it can't, sets *file to -1, and changes nothing. */
+/* Creates a non-blocking socket of this type and binds it to the name. Returns null and sets *file. Otherwise returns
+   why it can't, sets *file to -1, and changes nothing. */
 const char *local_bind(int *file, int type, const char *path);
 /* Like local_bind for a stream; it also listens. */
 const char *local_listen(int *file, const char *path, int backlog);

@@ -20,9 +20,9 @@
 #include "strays.h"
 #include "tell.h"
 
-#define LAST_WORDS_MS 1000 /* limit for the output at the end */
+#define LAST_WORDS_MS 1000 /* limit for the output on exit */
 
-/* Output of the server while it serves or at its end; opened before it gives up its rights. */
+/* Output of the server while it serves or when it exits; opened before the server gives up its rights. */
 struct written {
     struct output counts, strays;
 };

@@ -204,7 +204,7 @@ static struct memory_window *known_window(const struct memory_map *it, const str
     return NULL;
 }
 
-/* Removes a window from use. The list has room for it, reserved when the window was made. */
+/* Removes a window from use. The list has room for it, reserved when the window was created. */
 static void retire(struct memory_map *it, unsigned int place)
 {
     struct memory_window *window = it->windows[place];
@@ -254,7 +254,7 @@ static int make_window(struct memory_map *it, struct memory_file *of, int file, 
     return 0;
 }
 
-/* Finds a window for a piece of a file, or makes one as large as there is room for. */
+/* Finds a window for a piece of a file, or creates one as large as there is room for. */
 static int use_window(struct memory_map *it, struct memory_file *of, int file, struct extent piece, uint64_t file_bytes,
                       bool is_writable, struct memory_window **used)
 {

@@ -64,7 +64,7 @@ void memory_map_clear(struct memory_map *it);
 bool memory_map_give_back(struct memory_map *it);
 /* Returns whether too much removed memory is still mapped, so that the client has to wait. */
 bool memory_map_is_busy(const struct memory_map *it);
-/* Unmaps everything, at the end. */
+/* Unmaps everything, when the client is gone. */
 void memory_map_end(struct memory_map *it);
 
 /* Returns a pointer to the byte at an address, or null if there is none. *length is the wanted number of bytes, and

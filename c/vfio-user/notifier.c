@@ -31,7 +31,7 @@ bool notifier_open(void)
     return false;
 }
 
-/* Starts an access of zero bytes, which signals the file when it ends. */
+/* Starts an access of zero bytes, which signals the file when the access completes. */
 static long submit(int file, uint16_t operation)
 {
     struct iocb access = {.aio_fildes = (uint32_t)source,

@@ -304,7 +304,7 @@ static void put_headers(struct offload *it, const struct offload_queue *of, size
     }
 }
 
-/* Makes the next segment. Returns the length of its frame. */
+/* Builds the next segment. Returns the length of its frame. */
 static size_t cut_one(struct offload *it, struct offload_queue *of, size_t head)
 {
     const struct offload_job *job = &of->job;

@@ -167,8 +167,8 @@ static void fill(const struct server *it, struct events *events)
     control_polls(&it->control, events->control);
 }
 
-/* Waits for events for this many milliseconds (-1: forever). Passes only existing files to the kernel, which accepts no
-   more than the process may have. */
+/* Waits for events for this many milliseconds (-1: forever). Passes only existing files to the kernel, because the
+   kernel accepts at most as many entries as the process may have files. */
 static void wait_for(struct events *events, int milliseconds)
 {
     struct pollfd *all = &events->ending, polls[sizeof *events / sizeof(struct pollfd)];

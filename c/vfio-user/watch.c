@@ -5,7 +5,7 @@
 
 #include "registers.h"
 
-/* Reads the number of an existing function and a register's name: "vw 1 VFTDT[0]". */
+/* Parses the number of an existing virtual function and a register's name: "vw 1 VFTDT[0]". */
 static const char *place_of_function(struct watch_place *it, const char *words, unsigned int functions)
 {
     unsigned int number;

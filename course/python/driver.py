@@ -15,7 +15,7 @@ HASHED = {1: 16, 2: 17, 3: 21, 5: 20, 7: 22, 8: 23}
 
 
 class Ring:
-    """A ring of descriptors, and a buffer for each. In transmit rings, the `used` slots starting at `oldest` are in
+    """A ring of descriptors, and a buffer for each. In transmit rings, `used` slots starting at `oldest` are in
     flight."""
 
     def __init__(self) -> None:
@@ -97,9 +97,8 @@ class Course(Driver):
         # in RDRXCTL (bits 1, 25 and 26). Leave the other bits of both registers unchanged.
         loaded = 0
         # TODO 1: set DRV_LOAD (bit 28) in the value for CTRL_EXT. It tells the firmware that a driver is loaded.
-        # TODO 6: if the driver hosts virtual functions (self.setup.functions above 0), select 64 pools (VT_MODE 3, bits
-        # 1:0 of GCR_EXT). Also set PFRSTD (bit 14 of CTRL_EXT), which tells the virtual functions that the device is
-        # ready.
+        # TODO 6: if there are virtual functions (self.setup.functions above 0), select 64 pools (VT_MODE 3, bits 1:0 of
+        # GCR_EXT). Also set PFRSTD (bit 14 of CTRL_EXT), which tells the virtual functions that the device is ready.
         self.write32("CTRL_EXT", loaded)
 
     def leave_device(self) -> None:
@@ -244,10 +243,10 @@ class Course(Driver):
         return bool(self.read32(f"PFMAILBOX[{vf}]") & 1 << 3)
 
     def mailbox_send(self, vf: int, words: tuple[int, ...]) -> bool:
-        """Sends a message to virtual function vf. Returns False if its mailbox isn't free now."""
-        # TODO 6: take the mailbox. If it contains a request from the virtual function (is_asked), release it (write 0)
-        # and return False. Otherwise write the words, starting at PFMBMEM[16 * vf]. STS (bit 0 of PFMAILBOX) announces
-        # them and releases the mailbox.
+        """Sends a message to function vf. Returns False if its mailbox isn't free now."""
+        # TODO 6: take the mailbox. If it contains a request of the function (is_asked), release it (write 0) and return
+        # False. Otherwise write the words, starting at PFMBMEM[16 * vf]. STS (bit 0 of PFMAILBOX) announces them and
+        # releases the mailbox.
         return False
 
     def mailbox_receive(self, vf: int) -> tuple[int, ...] | None:

@@ -106,7 +106,7 @@ static unsigned int answer_of(uint32_t message[WORDS])
     }
 }
 
-/* Sends a message. Returns false if the function holds the mailbox. */
+/* Sends a message. Returns false if the virtual function holds the mailbox. */
 static bool send(const uint32_t *message, unsigned int words)
 {
     unsigned int tries = 0;

@@ -14,7 +14,7 @@
    broadcast frames. */
 void function_host_begin(unsigned int vf, const uint8_t mac[6]);
 
-/* For the bus's callback `written`: replies to the function's request if one is waiting. */
+/* For the bus's callback `written`: replies to the virtual function's request if one is waiting. */
 void function_host_written(void *of, const struct bus_access *access);
 
 /* Sends a control message, as after a link change, so that the function reads the link state. Returns false if the

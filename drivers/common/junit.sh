@@ -37,7 +37,7 @@ judged() {
 }
 
 # junit_end SUITE STATUS: writes the file if --junit was given, and returns the script's status, or 1 if a run failed. A
-# script that ends with status 2 gets a test case for it.
+# script that exits with status 2 gets a test case for that.
 junit_end() {
     [ -n "$JUNIT" ] || return "$2"
     if [ "$2" -gt 1 ]; then

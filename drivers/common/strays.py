@@ -192,7 +192,7 @@ class Family(NamedTuple):
 
 
 class Touched(NamedTuple):
-    """The accesses of one address, or of one offset of several functions together."""
+    """The accesses to an address, or to an offset in the registers of several virtual functions together."""
 
     reads: int
     writes: int

@@ -11,7 +11,8 @@
    MSI-X vectors for queues, in addition to the one for other causes; 0 for a single interrupt without MSI-X. */
 int card_probe(unsigned int function, uint16_t device_id, uint16_t max_vfs, unsigned int vectors);
 
-/* Assigns new vectors to a function, as a bus does at each start, because a driver releases them when it stops. */
+/* Assigns new vectors to a function, as the PCI bus does at each start, because a driver releases its vectors when it
+   stops. */
 void card_give_vectors(unsigned int function, unsigned int vectors);
 
 /* Removes a function's card. Returns 0, or the driver's error. */

@@ -29,7 +29,7 @@ static struct ixgbe_vf_info *host_knows(unsigned int vf)
 
 /* ---- the tasks ---- */
 
-/* Makes the requests of a function's driver at start: a reset, the API version, its queues, an address. */
+/* Sends the requests that a VF driver sends at start: a reset, the API version, its queues, an address. */
 static void function(void *argument)
 {
     unsigned int vf = (unsigned int)(uintptr_t)argument, classes = 0, first = 0;

@@ -27,12 +27,12 @@
 
 #define FIFO 64
 #define MEBIBYTES 48
-#define MEBIBYTES_MANY 110 /* for more than a few functions */
+#define MEBIBYTES_MANY 110 /* for more than a few virtual functions */
 #define FEW 8
 #define PACKETS 8191
 #define PACKETS_MANY 16383
 #define BUFFER 2048
-#define RESET 1         /* a function's first request */
+#define RESET 1         /* a virtual function's first request */
 #define POLLS_MOST 1999 /* the driver itself polls 2,000 times */
 #define FRAMES_MOST 1000000
 #define DIFFERENT 1000 /* frames for the differences between bench and card */
@@ -147,7 +147,7 @@ static bool whole(void)
     if (!begin_host())
         return false;
     port_probe_early(1);
-    /* a function that is probed this early sees only one queue, so it is removed and probed again later */
+    /* a virtual function that is probed this early sees only one queue, so it is removed and probed again later */
     if ((ports[1].is_there && !port_remove(1)) || !port_start(HOST))
         return false;
     pass(0, 0);
@@ -202,7 +202,8 @@ static bool without_rss(void)
     return differs(all_to_one);
 }
 
-/* RSS spreads a pool's frames over its queues. A function with one queue never gets the frames of the second queue. */
+/* RSS spreads a pool's frames over the pool's queues. A virtual function with one queue never gets the frames of the
+   second queue. */
 static void first_queue_alone(unsigned int gets[2])
 {
     gets[0] = DIFFERENT;

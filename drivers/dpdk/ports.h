@@ -32,7 +32,7 @@ extern const char *const phase_names[];
 /* A run's parameters. */
 struct setting {
     unsigned int max_vfs;   /* limit on virtual functions */
-    unsigned int functions; /* functions to probe */
+    unsigned int functions; /* virtual functions to probe */
     unsigned int queues;    /* the physical function's queues, each way */
     unsigned int vf_queues; /* each function's */
     unsigned int slots;     /* slots in each ring */

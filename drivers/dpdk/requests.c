@@ -14,7 +14,7 @@
 #include "verdict.h"
 
 #define REQUESTS 16
-#define F0 1u /* ports of functions 0 and 1 */
+#define F0 1u /* ports of virtual functions 0 and 1 */
 #define F1 2u
 #define VLAN 100
 #define OTHER_VLAN 200

@@ -12,7 +12,7 @@ void requests(void);
    are dropped in the process. */
 uint64_t limits(void);
 
-/* Checks that each request of the passes was answered and acknowledged. */
+/* Checks that each mailbox request during the passes was answered and acknowledged. */
 void requests_tell(void);
 
 #endif

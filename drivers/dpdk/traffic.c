@@ -18,7 +18,7 @@ static struct line_up in[QUEUES], out[QUEUES]; /* frames expected from each queu
 static uint64_t received[QUEUES], sent[QUEUES];
 static unsigned int alike, hashes, unhashed;
 
-/* Makes empty lists, with room for a pass and a full ring. */
+/* Creates empty lists, with room for a pass and a full ring. */
 static void clear(struct line_up *lists)
 {
     for (unsigned int queue = 0; queue < QUEUES; queue++) {

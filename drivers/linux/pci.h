@@ -12,7 +12,7 @@
    a problem, if it can't. Open the bus first. */
 bool pci_open(const char *path, uint16_t device, unsigned int functions);
 
-/* Serves the guest until it ends. */
+/* Serves the guest until it exits. */
 void pci_serve(void);
 void pci_close(void);
 

@@ -46,14 +46,14 @@ processes: list[subprocess.Popen[bytes]] = []
 
 
 def started(words: Sequence[str | Path], **how: Any) -> subprocess.Popen[bytes]:
-    """Starts a process that ends when this one does, for whatever reason."""
+    """Starts a process that is killed when this process exits for any reason."""
     process = subprocess.Popen(words, **how)
     processes.append(process)
     return process
 
 
 def end_all() -> None:
-    """Asks QEMU to exit by itself, so that it restores the terminal."""
+    """Has QEMU exit by itself, so that it restores the terminal."""
     for process in processes:
         if process.poll() is None:
             process.terminate()
@@ -110,7 +110,7 @@ class Place:
 
 
 def begin(place: Place) -> None:
-    """Makes sure that the other processes end and then their folder is removed, however this process ends."""
+    """Makes sure that, however this process exits, the other processes end and their folder is then removed."""
     atexit.register(place.forget)
     atexit.register(end_all)
     end_on_signals()
@@ -222,8 +222,8 @@ class Guest:
             is_over = time.time() > end or not self.reader.is_alive()
 
     def end(self) -> str:
-        """Waits until its script is over. Returns all lines. (A guest that switches itself off may lose the last
-        lines.)"""
+        """Waits until the guest's script is over. Returns all lines. (A guest that switches itself off may lose the
+        last lines.)"""
         try:
             self.wait_for("guest: end at", max(1, self.began + SECONDS - time.time()))
         finally:

@@ -1,5 +1,5 @@
 /* The other end of the cable, for any of QEMU's network cards. It listens on a UNIX socket in the format of -netdev
-   stream, replies to ARP and ping for 10.0.0.1, and makes and compares frames (c/bus/frames.h).
+   stream, replies to ARP and ping for 10.0.0.1, and builds and compares frames (c/bus/frames.h).
 
      other_end SOCKET
 
@@ -7,7 +7,7 @@
 
      frames COUNT MOST   sends COUNT frames of 60 to MOST bytes to the card
      expect COUNT MOST   expects as many from it
-     came                prints how many have come, and in what time
+     came                prints how many have arrived, and in what time
 
    Each answer ends with "ok". The program ends when standard input does. */
 #define _POSIX_C_SOURCE 200809L

@@ -49,7 +49,7 @@ suite() {
     touch "$at/read"
 }
 
-# Removes the lists, however the run ends.
+# Removes the lists, no matter how the run ends.
 forget_lists() { rm -rf "$FETCHED/lists"; }
 
 # archives NAME SUITE WORDS..: prints the size of the packages that apt-get fetches for these words, fetches and unpacks

@@ -23,7 +23,7 @@
 #define SECTXSTAT 0x08804u
 #define SECRXSTAT 0x08D04u
 #define SECURITY_OFF 2u
-#define MANY 100u     /* answers that others get during a client's endless work */
+#define MANY 100u     /* answers that other clients get during a client's endless work */
 #define TRIES 300000u /* tries of at least a millisecond each */
 #define FRAME_MS 300000
 #define ENDS_SECONDS 300
@@ -280,7 +280,7 @@ static void endless(struct peer *host, struct peer *function)
     CHECK(strstr(peer_request(control, "go"), "ok"));
 }
 
-/* The server also ends on request. */
+/* The server also exits on request. */
 static void ends(void)
 {
     struct timespec pause = {0, 10000000};

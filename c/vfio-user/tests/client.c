@@ -1,4 +1,4 @@
-/* A client that makes QEMU's requests, in QEMU's order: it inspects the device, maps memory, sets eventfds, resets the
+/* A client that sends QEMU's requests, in QEMU's order: it inspects the device, maps memory, sets eventfds, resets the
    device, and brings up a queue each way. Also tests hostile clients. */
 #define _GNU_SOURCE
 #include <errno.h>
@@ -142,7 +142,7 @@ static void map_memory(struct peer *it)
     CHECK(peer_map(it, RAM, RAM_BYTES, 0, 3, ram_file) == 0);
     CHECK(peer_map(it, RAM, PAGE, 0, 3, ram_file) == EEXIST);
     CHECK(peer_map(it, RAM + RAM_BYTES - PAGE, 2 * PAGE, 0, 3, ram_file) == EEXIST);
-    /* the firmware makes QEMU map RAM again, in pieces */
+    /* the firmware causes QEMU to map RAM again, in pieces */
     CHECK(peer_unmap(it, RAM, PAGE) == EINVAL && peer_unmap(it, RAM - PAGE, RAM_BYTES + 2 * PAGE) == 0);
     CHECK(peer_map(it, RAM, 3 * PAGE, 0, 3, ram_file) == 0);
     CHECK(peer_map(it, RAM + 3 * PAGE, RAM_BYTES - 3 * PAGE, 3 * PAGE, 3, ram_file) == 0);

@@ -517,7 +517,7 @@ static void confined(void)
     end(&peer, server);
 }
 
-/* However the server ends, the names of its sockets are removed. */
+/* However the server exits, the names of its sockets are removed. */
 static void killed(void)
 {
     struct peer peer;

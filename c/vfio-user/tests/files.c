@@ -1,5 +1,5 @@
-/* The program itself, with a socket passed as a file: files PROGRAM. It must end with the status that its manual page
-   says. */
+/* The program itself, with a socket passed as a file: files PROGRAM. It must exit with the status that its manual page
+   specifies. */
 #define _GNU_SOURCE
 #include <fcntl.h>
 #include <signal.h>
@@ -48,7 +48,7 @@ static void looks_like_the_card(struct peer *it)
     CHECK(peer_version(it) == 0 && peer_config(it, 0, 4) == 0x10F78086);
 }
 
-/* A client's socket: the program ends when the client has disconnected. */
+/* A client's socket: the program exits when the client has disconnected. */
 static void connected(void)
 {
     static const char *const words[] = {"server", WORD, NULL};

@@ -428,8 +428,8 @@ static void reopen(struct peer *it, const char *path)
     it->file = peer_stream(path);
 }
 
-/* Makes new connections for a client, a wire and a control socket, because the server may hang up late on random
-   messages. It answers after it has accepted all three (the wire only if the link is up). */
+/* Opens new connections for a client, a wire and a control socket, because the server may hang up late on random
+   messages. The server answers after it has accepted all three (the wire only if the link is up). */
 static void reconnect(void)
 {
     struct peer *peer = &clients[0].peer;

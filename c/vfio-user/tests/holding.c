@@ -33,8 +33,8 @@ static const char *path, *other_path, *not_tried = "";
 
 /* ---- an eventfd that takes long to close ---- */
 
-/* Returns a page on which the first access, even by the kernel, waits until this process ends; null if this process may
-   not have such a page. */
+/* Returns a page on which the first access, even by the kernel, blocks until this process exits; null if this process
+   may not have such a page. */
 static void *page_that_nobody_gives(void)
 {
     int file = (int)syscall(SYS_userfaultfd, O_CLOEXEC);
@@ -267,7 +267,7 @@ static void why_of_large_rings(void)
     tells_all(peer_answer(third));
     tells_all(peer_answer(first));
     are_in_order(first);
-    peer_send_request(first, "why"); /* the server ends before the answer */
+    peer_send_request(first, "why"); /* the server exits before it answers */
     peer_read(&other, NIC_VFSTATUS);
     CHECK(program_end(server) == 0);
     close(first);

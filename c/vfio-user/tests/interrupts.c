@@ -59,8 +59,8 @@ static void take_away(struct guest *it, uint32_t vector)
     CHECK(peer_vectors(&it->peer, vector, 1, NULL, 0) == 0);
 }
 
-/* Makes a vector's message due, with a client's register accesses. The message is sent in the turn of the first reply,
-   before the second reply. */
+/* Makes a vector's message due through a client's register accesses. The message is sent in the same turn as the first
+   reply, before the second reply. */
 static void raise(struct guest *by, uint32_t vector)
 {
     peer_write(&by->peer, VTEIMS, 1u << vector);
@@ -101,7 +101,7 @@ static void each_has_its_own(void)
     CHECK(pending(&own) == 0 && pending(&shadow) == 0);
 }
 
-/* If both clients set up a vector, its messages go to the function's own guest, until this guest removes its
+/* If both clients set up a vector, its messages go to the virtual function's own guest, until this guest removes its
    eventfd. */
 static void both_have_it(void)
 {

@@ -56,8 +56,8 @@ static struct vfu_irq_info info_of(struct peer *of, uint32_t kind)
     return info;
 }
 
-/* Returns how often the client was notified since the last call. The consequences of an access happen in the turn of
-   the first reply, before the second reply. */
+/* Returns how often the client was notified since the last call. The consequences of an access occur in the same turn
+   as the first reply, before the second reply. */
 static uint64_t informed(void)
 {
     uint64_t count = 0;
@@ -76,7 +76,7 @@ static void set_causes(uint32_t causes)
     peer_write(&peer, NIC_EICS, causes);
 }
 
-/* Makes the requests that QEMU makes before a reset and before it changes to other interrupts. */
+/* Sends the requests that QEMU sends before a reset and before it switches to another kind of interrupt. */
 static void begin(void)
 {
     CHECK(set(INTX, NONE | TRIGGER, 0) == 0 && set(MSI, NONE | TRIGGER, 0) == 0);

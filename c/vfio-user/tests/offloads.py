@@ -2,7 +2,7 @@
 """Compares the server's offloads with a second implementation: offloads.py PROGRAM SEED COUNT.
 
 Random packets, each with the descriptors that a driver writes for it, go through PROGRAM (offloads.c). Its output is
-compared byte by byte with frames made here: IPv4 and IPv6, with options and extension headers, TCP, UDP and SCTP,
+compared byte by byte with frames built here: IPv4 and IPv6, with options and extension headers, TCP, UDP and SCTP,
 checksums, TSO, VLAN tags, legacy descriptors.
 """
 
@@ -159,7 +159,7 @@ def pieces(chance: random.Random, data: bytes, least: int) -> list[bytes]:
 
 
 def advanced(chance: random.Random) -> tuple[list[str], list[bytes]]:
-    """Returns descriptors as Linux's driver makes them, and the frames."""
+    """Returns descriptors as Linux's driver writes them, and the expected frames."""
     is_large = chance.random() < 0.4
     packet = some_packet(chance, is_large)
     tag = chance.getrandbits(16) if chance.random() < 0.3 else None
@@ -229,7 +229,7 @@ def ends(line: str) -> bool:
 
 
 def plain(chance: random.Random) -> tuple[list[str], list[bytes]]:
-    """Returns a frame that requests nothing."""
+    """Returns a frame without offload requests."""
     frame = chance.randbytes(chance.randrange(60, 1514))
     return [f"data {DATA | DEXT | EOP | len(frame):x} 0 {frame.hex()}"], [frame]
 

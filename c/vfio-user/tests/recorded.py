@@ -1,6 +1,6 @@
 #!/usr/bin/env python3
-"""Checks a recording of the server's device, as the client makes one: recorded.py FILE. It replays with the library, it
-contains the guest's addresses, few of its steps are idle, and it converts to a page and a trace.
+"""Checks a recording of the server's device, as the test's client produces one: recorded.py FILE. It replays with the
+library, it contains the guest's addresses, few of its steps are idle, and it converts to a page and a trace.
 """
 
 from __future__ import annotations

@@ -109,8 +109,8 @@ static bool has_reply(const struct peer *peer)
     return recv(peer->file, &byte, 1, MSG_PEEK | MSG_DONTWAIT) == 1;
 }
 
-/* A turn makes a limited number of accesses. The reply follows the last access, and precedes the next message's
-   reply. */
+/* A limited number of accesses is performed per turn. The reply follows the last access, and precedes the next
+   message's reply. */
 static void many_writes(bool is_wrong)
 {
     struct peer peer = begin();

@@ -98,7 +98,7 @@ static void host_gets_one(void)
     for (unsigned int i = 0; i < 60000 && peer_read(&host, at + 0x10) == head; i++)
         usleep(1000);
     CHECK(peer_read(&host, at + 0x10) == (head + 1) % SLOTS);
-    peer_write(&host, at + 0x18, head); /* one more slot than is used in the end */
+    peer_write(&host, at + 0x18, head); /* posts one more slot than the test uses in total */
 }
 
 /* Returns whether frames are waiting in front of the queues, according to the control socket. */
@@ -131,7 +131,7 @@ static void faults(void)
 }
 
 /* After the first KB of a frame is written, its queue is disabled and the rest is dropped: by a write, by a reset of
-   the function, or because its client leaves. The queue's next frame begins at its own start. */
+   the virtual function, or because its client leaves. The queue's next frame begins at its own start. */
 static void off_in_the_middle(unsigned int how)
 {
     begin();

@@ -410,7 +410,7 @@ static void messages_and_the_line(void)
     run_close();
 }
 
-/* ---- device steps that the run takes ---- */
+/* ---- device steps that the run requests ---- */
 
 static unsigned int steps, resets;
 
@@ -491,7 +491,7 @@ static void answers_are_given_where_they_are_asked_for(bool given)
     run_close();
 }
 
-/* ---- functions ---- */
+/* ---- virtual functions ---- */
 
 static void functions_have_queues_of_their_own(void)
 {
@@ -505,14 +505,14 @@ static void functions_have_queues_of_their_own(void)
     bus_write(run_bus, BUS_PHYSICAL, NIC_VFRE(0), UINT32_MAX);
     bus_write(run_bus, BUS_PHYSICAL, NIC_RXCTRL, NIC_RXCTRL_RXEN);
     bus_write(run_bus, BUS_PHYSICAL, NIC_FCTRL, NIC_FCTRL_UPE);
-    start_receive(FUNCTION, NIC_VFRDBAL(0)); /* function 2's first queue: the device's queue 4 */
+    start_receive(FUNCTION, NIC_VFRDBAL(0)); /* virtual function 2's first queue: the device's queue 4 */
     frame_make(&frame, 1, FRAME_MAX, card, peer);
     CHECK(bus_arrive(run_bus, frame.bytes, frame.length) && bus_receive(run_bus) == 1 && filled == 1);
     CHECK(frame_is(&frame, host_memory + BUFFER, frame.length));
     run_close();
 }
 
-/* Tests that functions above the number of pools are absent for reads, writes and mailbox requests. */
+/* Tests that virtual functions above the number of pools are absent for reads, writes and mailbox requests. */
 static void functions_beyond_the_pools_are_absent(void)
 {
     const struct {
@@ -624,7 +624,7 @@ static void strays_are_kept(void)
     FILE *file = tmpfile();
     open_bus((struct bus_options){.functions = 3});
     bus_read(run_bus, BUS_PHYSICAL, 0x03220);
-    bus_read(run_bus, FUNCTION, 0x0820); /* not a stray: this mode has no pool for the function */
+    bus_read(run_bus, FUNCTION, 0x0820); /* not a stray: this mode has no pool for the virtual function */
     bus_enter(run_bus, 1);
     bus_write(run_bus, BUS_PHYSICAL, 0x03220, 0xABC);
     bus_write(run_bus, BUS_PHYSICAL, NIC_GCR_EXT, 3);

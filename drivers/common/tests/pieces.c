@@ -154,7 +154,7 @@ static void request_comes(unsigned int function)
     function_host_written(NULL, &(struct bus_access){.function = function, .offset = NIC_VFMAILBOX});
 }
 
-/* Sends function 1's request with a second word, and returns the first word of the reply. */
+/* Sends virtual function 1's request with a second word, and returns the first word of the reply. */
 static uint32_t asks(uint32_t first, uint32_t second)
 {
     bus_write(run_bus, 2, NIC_VFMAILBOX, NIC_PVFMAILBOX_VFU);
@@ -179,7 +179,7 @@ static void a_host_answers(void)
     CHECK(bus_read(run_bus, 2, NIC_VFMBMEM(1)) == 1 && asks(0x33, 0) == 0x60000033 &&
           asks(2, 0x66778802) == 0xA0000002);
     CHECK(bus_peek(run_bus, NIC_RAL(2)) == 0x66778802);
-    request_comes(1); /* another function's request is ignored */
+    request_comes(1); /* another virtual function's request is ignored */
     CHECK(function_host_ping() && bus_read(run_bus, 2, NIC_VFMBMEM(0)) == 0x20000100);
     bus_write(run_bus, 2, NIC_VFMAILBOX, NIC_PVFMAILBOX_VFU);
     CHECK(!function_host_ping());

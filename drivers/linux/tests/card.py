@@ -49,7 +49,7 @@ def mixed(seed: int) -> int:
 
 
 def frame(number: int, to: bytes, sender: bytes) -> bytes:
-    """Returns a frame as c/bus/frames.c makes it, of the kind that isn't IP (number modulo 7 is 6)."""
+    """Returns a frame as c/bus/frames.c builds it, of the kind that isn't IP (number modulo 7 is 6)."""
     assert number % 7 == 6
     length = 60 + number * 433 % (FRAME_MOST - 59)
     return to + sender + b"\x88\xb5" + bytes(mixed(number * 2048 + at) & 0xFF for at in range(14, length))
@@ -198,7 +198,7 @@ class Card:
 
 
 def expect(what: str, is_so: bool, detail: object = "") -> None:
-    """Ends the test if the condition is false."""
+    """Fails the test if the condition is false."""
     if not is_so:
         print(f"drivers/linux/tests/card.py: {what} {detail}", file=sys.stderr)
         sys.exit(1)

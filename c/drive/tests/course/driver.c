@@ -8,8 +8,7 @@
 
 enum { MOST_SLOTS = 64, BUFFER = 2048, ALL_CAUSES = 0x7FFFFFFF, ENABLE = 1 << 25 };
 
-/* A ring of descriptors, and a buffer for each. In transmit rings, the `used` slots starting at `oldest` are in flight.
-   */
+/* A ring of descriptors, and a buffer for each. In transmit rings, `used` slots starting at `oldest` are in flight. */
 struct ring {
     uint64_t bus, buffers[MOST_SLOTS];
     unsigned next, oldest, used;
@@ -112,8 +111,8 @@ static void set_up_device(void)
     /* TODO 1: set DRV_LOAD in the value for CTRL_EXT. It tells the firmware that a driver is loaded. */
     loaded = NIC_CTRL_EXT_DRV_LOAD;
     /* END */
-    /* TODO 6: if the driver hosts virtual functions (driver.setup.functions above 0), select 64 pools (GCR_EXT.VT_MODE
-       3). Also set CTRL_EXT.PFRSTD, which tells the virtual functions that the device is ready. */
+    /* TODO 6: if there are virtual functions (driver.setup.functions above 0), select 64 pools (GCR_EXT.VT_MODE 3).
+       Also set CTRL_EXT.PFRSTD, which tells the virtual functions that the device is ready. */
     if (driver.setup.functions) {
         nicx_write32(NIC_GCR_EXT, NIC_GCR_EXT_VT_MODE_IS(3));
         loaded |= NIC_CTRL_EXT_PFRSTD;
@@ -405,9 +404,8 @@ static inline bool take_mailbox(uint8_t vf)
 /* Sends a message to virtual function vf. Returns false if its mailbox isn't free now. */
 static bool mailbox_send(uint8_t vf, const uint32_t *words, uint32_t count)
 {
-    /* TODO 6: take the mailbox. If it contains a request from the virtual function (is_asked), release it (write 0) and
-       return false. Otherwise write the words, starting at PFMBMEM(16 * vf). PFMAILBOX.STS announces them and releases
-       it. */
+    /* TODO 6: take the mailbox. If it contains a request of the function (is_asked), release it (write 0) and return
+       false. Otherwise write the words, starting at PFMBMEM(16 * vf). PFMAILBOX.STS announces them and releases it. */
     if (!take_mailbox(vf))
         return false;
     if (is_asked(vf)) {

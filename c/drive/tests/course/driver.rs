@@ -1,8 +1,8 @@
 //! A driver for the 82599 in six milestones. README.md explains how to work on it.
 //!
 //! Registers have the datasheet's names, `CTRL` or `RDT.at(0)`, and their bits are `ctrl::RST` and so on
-//! (nic82599::regs, docs/REGISTERS.md). docs/DESCRIPTORS.md lists the fields of descriptors. At each call to
-//! `platform`, other functions of the driver may run, so mutable state is in `Cell`s.
+//! (nic82599::regs, docs/REGISTERS.md). docs/DESCRIPTORS.md lists the fields of descriptors. During each `platform`
+//! call, other functions of the driver may run, so mutable state is in `Cell`s.
 
 #![allow(dead_code, unused_assignments, unused_imports, unused_mut, unused_variables)] // until the last hole is filled
 
@@ -17,8 +17,7 @@ use nic82599::Register;
 const BUFFER: usize = 2048;
 const ALL_CAUSES: u32 = 0x7FFF_FFFF;
 
-/// A ring of descriptors, and a buffer for each. In transmit rings, the `used` slots starting at `oldest` are in
-/// flight.
+/// A ring of descriptors, and a buffer for each. In transmit rings, `used` slots starting at `oldest` are in flight.
 #[derive(Default)]
 struct Ring {
     bus: Cell<u64>,
@@ -150,8 +149,8 @@ impl Course {
         // TODO 1: set ctrl_ext::DRV_LOAD in the value for CTRL_EXT. It tells the firmware that a driver is loaded.
         loaded = ctrl_ext::DRV_LOAD;
         // END
-        // TODO 6: if the driver hosts virtual functions (setup.functions above 0), select 64 pools (gcr_ext::VT_MODE
-        // 3). Also set ctrl_ext::PFRSTD, which tells the virtual functions that the device is ready.
+        // TODO 6: if there are virtual functions (setup.functions above 0), select 64 pools (gcr_ext::VT_MODE 3). Also
+        // set ctrl_ext::PFRSTD, which tells the virtual functions that the device is ready.
         if setup.functions > 0 {
             platform.write(GCR_EXT, gcr_ext::VT_MODE.is(3));
             loaded |= ctrl_ext::PFRSTD;
@@ -414,9 +413,9 @@ impl Course {
     /// Sends a message to virtual function vf. Returns false if its mailbox isn't free now.
     fn mailbox_send(&self, platform: &Platform, vf: u8, words: &[u32]) -> bool {
         let vf = u16::from(vf);
-        // TODO 6: take the mailbox. If it contains a request from the virtual function (is_asked), release it (write 0)
-        // and return false. Otherwise write the words, starting at PFMBMEM.at(16 * vf). pfmailbox::STS announces them
-        // and releases the mailbox.
+        // TODO 6: take the mailbox. If it contains a request of the function (is_asked), release it (write 0) and
+        // return false. Otherwise write the words, starting at PFMBMEM.at(16 * vf). pfmailbox::STS announces them and
+        // releases the mailbox.
         if !self.take_mailbox(platform, vf) {
             return false;
         }

@@ -7,7 +7,7 @@
 
 /* Sets the program and the folder of its sockets. */
 void program_is(const char *program, const char *folder);
-/* Returns `text` followed by the path of this name in the folder. The result stays valid until the program ends. */
+/* Returns `text` followed by the path of this name in the folder. The result stays valid until this process exits. */
 const char *program_path(const char *text, const char *name);
 /* Starts the program with these arguments, null-terminated. If `before` isn't null, the new process calls it first. Its
    standard error goes to this file, or (-1) nowhere. */

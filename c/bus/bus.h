@@ -82,7 +82,7 @@ struct bus_calls {
 
     /* ---- memory ---- */
 
-    /* returns these bytes in this process; null if they aren't there */
+    /* returns the address of these bytes in this process; null if they aren't in it */
     void *(*at)(void *of, uint64_t bus, size_t length);
     /* after a receive step wrote part of a frame or a descriptor */
     void (*wrote)(void *of, uint64_t bus, size_t length);
@@ -93,7 +93,7 @@ struct bus_calls {
 
     /* Before a transmit step, or after a receive step that wrote. Returns whether to run the next step. */
     bool (*stepping)(void *of, bool is_transmit, uint16_t queue);
-    /* A receive descriptor at this bus address was filled; `ends` if it is the last of a frame. */
+    /* A receive descriptor at this bus address was filled; `ends` is set if it is the frame's last descriptor. */
     void (*filled)(void *of, uint16_t queue, uint64_t descriptor, bool ends);
     void (*message)(void *of, unsigned int function, unsigned int vector); /* delivers an interrupt message */
     /* Called for a fault of the device. If null, a line on standard error reports it. */

@@ -338,7 +338,7 @@ typedef struct nic_settling {
    MORE: a step ran, and `outcome` reports it with its `status`, `step` and `of`. DONE: no step in a whole round had
    anything to do; the next call begins a new round. OUT_OF_MEMORY: a transmit step found no memory; the next call tries
    the step again. NO_QUEUE: `queues` is above 128. If you make no other call in between, the steps and their order are
-   those of nic_settle. */
+   the same as with nic_settle. */
 uint8_t nic_next_step(nic *n, nic_settling *where, nic_outcome *outcome);
 
 /* --- why nothing happens --- */

@@ -1,4 +1,4 @@
-/* Makes memory run out: an allocation fails when the test says so. Link with -Wl,--wrap=malloc and so on. */
+/* Makes memory run out: an allocation fails when the test requests it. Link with -Wl,--wrap=malloc and so on. */
 #ifndef SHORT_H
 #define SHORT_H
 

@@ -22,11 +22,11 @@ void arrivals_begin(struct arrivals *it, const struct bus *bus);
 /* Restores the number of waiting frames from a snapshot. */
 void arrivals_restore(struct arrivals *it, const struct arrivals *kept);
 void arrivals_let_in(struct arrivals *it);
-/* The device wrote part of the first frame, or its last part. */
+/* Notes that the device wrote part of the first frame, or its last part. */
 void arrivals_written(struct arrivals *it, uint16_t queue);
-/* The first frame ended in a fault. */
+/* Notes that the first frame ended in a fault. */
 void arrivals_fault(struct arrivals *it);
-/* The device ran its receive steps, and may have dropped frames. */
+/* Notes that the device ran its receive steps, and may have dropped frames. */
 void arrivals_count(struct arrivals *it);
 /* Call this after a queue may have been disabled, and before it may be enabled again. */
 void arrivals_check(struct arrivals *it);

@@ -69,8 +69,8 @@ enum function_ready {
 enum function_ready function_ready(const struct function *it, unsigned int vector);
 /* Sends its client a message of the device. */
 void function_message(struct function *it, unsigned int vector);
-/* Returns whether its client gets causes by the line or by MSI: there is a client, and its MSI-X is off. Virtual
-   functions have neither. */
+/* Returns whether its client is notified of causes by the line or by MSI: there is a client, and its MSI-X is off.
+   Virtual functions have neither. */
 bool function_has_line(const struct function *it);
 /* Signals these pending enabled causes. Returns whether the client was notified. */
 bool function_line(struct function *it, uint32_t causes);

@@ -52,7 +52,7 @@ void log_open(void)
     is_open = true;
     output_begin(&output, STDERR_FILENO);
     if (output.file > STDERR_FILENO)
-        dup2(output.file, STDERR_FILENO); /* other output there then doesn't block either */
+        dup2(output.file, STDERR_FILENO); /* other output to the same file then doesn't block either */
     for (unsigned int kind = 0; kind < LOG_KINDS; kind++)
         for (unsigned int client = 0; client < LOG_CLIENTS; client++)
             accounts[kind][client] = (struct account){.has = kinds[kind].limit * THOUSAND, .at = began};

@@ -214,7 +214,7 @@ static void retire(struct memory_map *it, unsigned int place)
     it->retired_bytes += window->size;
 }
 
-/* Removes a file's windows that have no ranges; with null, those of all files. */
+/* Removes a file's windows that have no ranges; with null, does so for all files. */
 static void retire_idle(struct memory_map *it, const struct memory_file *file)
 {
     for (unsigned int i = it->window_count; i-- > 0;)

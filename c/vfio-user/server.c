@@ -195,7 +195,7 @@ static void serve_functions(struct server *it, const struct events *events)
     for (unsigned int i = 0; i < it->function_count; i++) {
         struct function *function = &it->functions[i];
         short ready = events->functions[i][1].revents;
-        /* the current client first: it may have gone, and the next one may be waiting */
+        /* the current client first: it may have disconnected, and the next one may be waiting */
         if (session_is_open(&function->session) && (ready || function_has_more(function)))
             function_serve(function, ready);
         if (events->functions[i][2].revents)

@@ -24,7 +24,7 @@ struct server {
     struct output trace;
     struct function functions[SERVER_FUNCTIONS];
     unsigned int function_count;
-    bool is_wire_gone; /* the link is down because the wire's other end has gone */
+    bool is_wire_gone; /* the link is down because the wire's other end has disconnected */
 };
 
 /* Opens everything. Returns false after a line on standard error that says what couldn't be opened. */

@@ -52,7 +52,7 @@ struct session {
 /* `has_line`: INTx and MSI in addition to the vectors of MSI-X. `owner`: this session's unique number for closer.h. */
 void session_begin(struct session *it, const struct session_calls *calls, void *function, unsigned int vectors,
                    bool has_line, unsigned int owner);
-/* A client has connected. The session now owns its socket. */
+/* Begins a session with a client that has connected, and takes ownership of the client's socket. */
 void session_open(struct session *it, int file);
 bool session_is_open(const struct session *it);
 /* Serves what has been received. Returns false if the session has ended; if the client is at fault, a line says why. */

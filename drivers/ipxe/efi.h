@@ -1,5 +1,5 @@
 /* The parts of UEFI that iPXE's drivers need, in this process: handles, events and time, memory, PCI, a console, one
-   file, images. Its types are those of the package gnu-efi. */
+   file, images. It uses the types of the package gnu-efi. */
 #ifndef IPXE_EFI_H
 #define IPXE_EFI_H
 

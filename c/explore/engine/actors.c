@@ -44,7 +44,7 @@ static void add_memory(uint16_t thread)
         add(BY_OLDER, thread, older);
 }
 
-/* Where the device's steps are among the actors. A queue's two enables are adjacent, receive first. */
+/* The positions of the device's steps in the list of actors. A queue's two enables are adjacent, receive first. */
 static struct {
     uint16_t tx, messages, enables, eeprom;
 } first;

@@ -22,7 +22,7 @@ static inline uint32_t chance_below(struct chance *chance, uint32_t bound)
     return (uint32_t)((chance_next(chance) >> 32) * bound >> 32);
 }
 
-/* Mixes one more value into a sum that depends on the order of the values. */
+/* Mixes another value into a hash that depends on the order of the values. */
 static inline uint64_t chance_mixed(uint64_t sum, uint64_t value)
 {
     sum = (sum ^ value) * 0x9E3779B97F4A7C15u;

@@ -6,7 +6,7 @@
 
 enum { MOST_DEPTH = 32, MOST_PARTS = 256, HASH = 16 };
 
-/* The input and the output. Parts are counted, because one may refer back to many. */
+/* The input and the output. Parts are counted, because a single part may refer back to many. */
 struct names {
     const char *symbol; /* what follows the prefix */
     size_t at, end;
@@ -148,8 +148,8 @@ static bool demangle_older(struct names *it)
 static void path(struct names *it);
 static void type(struct names *it);
 
-/* A number in base 62 (digits, small letters, capitals): "_" is 0, "0_" is 1. Of a number above 64 bits only the low
-   bits count: a number this large distinguishes crates, and isn't a position. */
+/* A number in base 62 (digits, small letters, capitals): "_" is 0, "0_" is 1. Of a number above 64 bits, only the low
+   bits count: a number this large tells crates apart, and isn't a position. */
 static uint64_t take_base62(struct names *it)
 {
     static const char digits[] = "0123456789abcdefghijklmnopqrstuvwxyzABCDEFGHIJKLMNOPQRSTUVWXYZ";

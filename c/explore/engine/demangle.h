@@ -6,7 +6,8 @@
 #include <stdbool.h>
 #include <stddef.h>
 
-/* Returns whether the symbol is a Rust name that fits into `room`, which then holds it in the form "race::poll". */
+/* Returns whether the symbol is a Rust name that fits into `room`. If so, stores the name there in the form
+   "race::poll". */
 bool nicxi_demangle(const char *symbol, char *room, size_t size);
 
 #endif

@@ -50,7 +50,7 @@ static bool omit_of(struct shrinking *it, bool *list, uint32_t count)
     return any;
 }
 
-/* Returns the number of tasks that `begin` names. Tasks that the driver creates begin only then. */
+/* Returns the number of tasks that `begin` names. They precede the tasks that the driver creates. */
 static uint32_t named_tasks(void)
 {
     uint32_t count = 0;

@@ -298,7 +298,7 @@ bool nicxi_can_be_older(const struct actor *actor)
 
 /* --- loads and stores --- */
 
-/* Copies the part that two ranges share into place. */
+/* Copies the bytes that two ranges have in common. */
 static void lay_over(uint8_t *bytes, uint64_t bus, uint64_t length, const uint8_t *other, uint64_t at, uint64_t many)
 {
     uint64_t from = bus > at ? bus : at, end = bus + length < at + many ? bus + length : at + many;

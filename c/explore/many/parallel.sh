@@ -5,7 +5,7 @@
 #
 # HOSTS is a file for `parallel --sshloginfile` with one line per machine: `2/user@host` runs two shards there.
 # The program is copied to each machine and runs there with WORDS, such as `--runs 1000000`. If a machine fails, another
-# one runs its shard. The results stay in this folder as SHARD.result. The exit status is that of the merge.
+# one runs its shard. The results stay in this folder as SHARD.result. The exit status is the merge's.
 set -eu
 
 [ $# -ge 3 ] || { sed -n 's/^# \{0,1\}//; 2,10p' "$0" >&2; exit 2; }

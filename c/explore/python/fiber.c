@@ -1,5 +1,5 @@
-/* Implements the stacks of engine/fiber.h as threads of the process, instead of engine/fiber.c. A switch wakes the
-   other thread, and waits for its own turn.
+/* Replaces engine/fiber.c: implements the stacks of engine/fiber.h as threads of the process. A switch wakes the other
+   thread, and waits for its own turn.
 
    A thread that is inside a call when its schedule ends is unwound then, so that Python's frames on it end. A forked
    process has no threads; there they are created again. */
@@ -32,7 +32,8 @@ struct host {
     struct nicp_way *way;
 };
 
-/* The main thread waits in read, not for a lock: a search would mistake a wait for a lock for the driver's. */
+/* The main thread blocks in read rather than on a lock: a search would mistake a thread that waits for a lock for the
+   driver's. */
 static struct {
     pid_t process;
     int turn;

@@ -32,7 +32,7 @@ enum bus_answer {
     BUS_SWSM = 1,      /* the drivers' semaphore */
     BUS_ANLP1 = 2,     /* the state of the negotiation with the link partner */
     BUS_EICS = 4,      /* a read of EICS returns EICR's causes and clears none */
-    BUS_EERD = 8,      /* the EEPROM answers under master disable */
+    BUS_EERD = 8,      /* EEPROM reads complete while master disable is set */
     BUS_ABSENT = 16,   /* a virtual function for which the mode has no pool */
     BUS_FWSM = 32,     /* the state of the firmware that the card would have */
     BUS_RXPBSIZE = 64, /* the size of the packet buffer */
@@ -91,7 +91,8 @@ struct bus_calls {
 
     /* ---- steps ---- */
 
-    /* Before a transmit step, or after a receive step that wrote. Returns whether to run the next step. */
+    /* Called before a transmit step, or after a receive step that wrote something. Returns whether to run the next
+       step. */
     bool (*stepping)(void *of, bool is_transmit, uint16_t queue);
     /* A receive descriptor at this bus address was filled; `ends` is set if it is the frame's last descriptor. */
     void (*filled)(void *of, uint16_t queue, uint64_t descriptor, bool ends);

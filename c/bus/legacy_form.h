@@ -14,8 +14,8 @@ struct legacy_sum {
 
 /* Returns whether a transmit descriptor with this second half is a legacy one. */
 bool legacy_is_transmit(uint64_t second);
-/* Converts that half to an advanced data descriptor's. If the descriptor requests a VLAN tag, VLE is set and *tag is
-   its 16 bits. */
+/* Converts that half to the second half of an advanced data descriptor. If the descriptor requests a VLAN tag, VLE is
+   set and *tag is its 16 bits. */
 uint64_t legacy_transmit(uint64_t second, struct legacy_sum *sum, uint16_t *tag);
 /* Converts the second half of an advanced write-back to the second half of a legacy receive descriptor. The first half
    remains the buffer's address. */

@@ -27,7 +27,7 @@ class Unplanted(Exception):
 
 @dataclass
 class Fault:
-    """A fault of the table: the row that finds it and the reported cause, or why no row finds it."""
+    """A fault in the table: the row that finds it and the reported cause, or why no row finds it."""
 
     name: str
     driver: str
@@ -63,7 +63,7 @@ class Fault:
 
 
 def faults() -> list[Fault]:
-    """Returns all faults of the table, in order."""
+    """Returns all faults in the table, in order."""
     found: list[Fault] = []
     for line in TABLE.read_text().splitlines():
         if head := re.fullmatch(r"\[(\w+)\] (\S+)", line):

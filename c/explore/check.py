@@ -624,7 +624,7 @@ POINTED = {"count": "FAILED end: a count is lost", "push": "FAILED end: a slot i
 
 def check_unpointed(kit: Kit) -> str:
     """A missing point is reported if a driver touches what other tasks touch. Nothing is reported about the version
-    with its points; its bug is found. If accesses are observed, the bug is found without any point."""
+    that has all its points, and its bug is found. If accesses are observed, the bug is found without any point."""
     if os.uname().machine != "x86_64":
         return "no missing points, which are looked for on x86-64 alone"
     source, out = HERE / "tests/unpointed.c", kit.out("unpointed-found")
@@ -921,7 +921,7 @@ NAMED: dict[str, tuple[str, list[str], str]] = {
     "based": (r"fault: queue 0: 0x7000 isn't lent; receive last wrote RDBAL\[0\] at named\.c:\d+ < \S+\n", [], ""),
 }
 
-# What a page's script chooses to trace first.
+# What the script of a page traces initially.
 FOLLOWED = """
 const [html] = process.argv.slice(1).map((path) => require("fs").readFileSync(path, "utf8"));
 const [, text, script] = /id="data">\\n(.*?)<\\/script>\\s*<script>(.*?)<\\/script>/s.exec(html);
@@ -1078,8 +1078,8 @@ def check_program(kit: Kit, runs: int) -> str:
 # --- other threads of the process ---
 
 THREAD = ["-g", "-O1", "-fsanitize=thread"]
-# Maps as much memory as searches do, a gigabyte each time. On arm64 the thread sanitizer ends a program with memory
-# outside its ranges. QEMU's user emulation leaves these ranges after a few gigabytes.
+# Maps as much memory as searches do, a gigabyte each time. On arm64 the thread sanitizer terminates a program with
+# memory outside its ranges. QEMU's user emulation leaves these ranges after a few gigabytes.
 ROOMS = """#include <stddef.h>
 #include <sys/mman.h>
 
@@ -1160,5 +1160,5 @@ def check_searches(kit: Kit, amount: str) -> list[str]:
 
 
 def check_all(kit: Kit, amount: str) -> list[str]:
-    """Runs all checks of this file, in the given amount."""
+    """Runs all checks in this file, to the given extent."""
     return [*check_reported_faults(kit), *check_searches(kit, amount)]

@@ -74,7 +74,7 @@ const char *nicxo_thread_name(unsigned thread);
 /* Whether the schedule is over and the running thread only unwinds its stack. Then each call returns immediately. */
 bool nicxo_is_over(void);
 
-/* Returns the value of a register of the device, read without effects. */
+/* Returns the value of a device register, read without side effects. */
 uint32_t nicxo_peek(uint32_t address);
 /* The name of the register at this first address: "RDT[3]". */
 const char *nicxo_register(uint32_t address, char room[NICXO_NAME]);

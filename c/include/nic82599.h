@@ -62,8 +62,8 @@ enum nic_status {
     NIC_NOT_LENT = 16, /* the block with this number, or a block at these bus addresses, isn't lent */
     NIC_NO_QUEUE = 18, /* the queue isn't below 128 */
     NIC_NO_GROUP = 19, /* there is no such virtual function, or the mode has no pool for it */
-    /* refusals: nothing changes, not even what the pointers point to. Exceptions are *count, which is then 0, and
-       *line. Two calls can stop halfway and keep what they did: nic_settle with MORE or OUT_OF_MEMORY, and nic_lend_all
+    /* refusals: nothing changes, not even what the pointers point to. Exceptions are *line, and *count, which becomes
+       0. Two calls can stop halfway and keep what they did: nic_settle with MORE or OUT_OF_MEMORY, and nic_lend_all
        with OUT_OF_MEMORY */
     NIC_OUT_OF_MEMORY = 32,
     NIC_NO_ROOM = 33,      /* nic_collect: the buffer is too small, so the frame stays; nic_hash: input too long */

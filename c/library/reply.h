@@ -59,7 +59,7 @@ static inline void nicl_put_reply(struct nicl_text *it, uint8_t status, const ni
     }
 }
 
-/* Formats it with a terminating 0. Returns the length of the text. */
+/* Formats the reply with a terminating 0. Returns the length of the string. */
 static inline int nicl_reply(char *room, size_t size, uint8_t status, const nic_outcome *outcome)
 {
     struct nicl_text text = nicl_text_in(room, size);

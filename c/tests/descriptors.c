@@ -10,7 +10,7 @@ enum { RX = 5, TX = 2, SLOTS = 8 };
 #define HEAD UINT64_C(0x200)
 #define BUFFER UINT64_C(0x800)
 
-/* A frame's kind, by its bytes from 12 on, and what the device reports about it. */
+/* A frame's kind, determined by its bytes 12 and following, and what the device reports about it. */
 typedef struct kind {
     uint16_t ether_type;
     uint8_t protocol;

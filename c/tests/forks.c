@@ -31,7 +31,7 @@ static void *make_threads(void *unused)
     return unused;
 }
 
-/* Whether a child ends in that time; one that doesn't is killed. */
+/* Whether a child exits within that time. A child that doesn't is killed. */
 static bool ends(pid_t child)
 {
     time_t began = time(NULL);

@@ -1,4 +1,4 @@
-/* Checks that the register macros have the addresses of the table: MACRO(value, address) in a list that c/test
+/* Checks that the register macros have the addresses in the table: MACRO(value, address) in a list that c/test
    writes. */
 #include "check.h"
 

@@ -361,7 +361,7 @@ static void obey(struct control_client *it, struct server *server)
     free(text);
 }
 
-/* The thread has answered. If no client waits for the answer any longer, it is discarded. */
+/* Called when the thread has answered. If no client is waiting for the answer any longer, the answer is discarded. */
 static void pass_answer(struct control *it)
 {
     const char *text = explain_text();

@@ -45,7 +45,7 @@ static unsigned int vectors_of(const struct function *it)
     return it->kind == FUNCTION_PHYSICAL ? VECTORS : FUNCTION_VIRTUAL_VECTORS;
 }
 
-/* Returns whether the physical function supports this kind of interrupts. */
+/* Returns whether the physical function supports this kind of interrupt. */
 static bool has_kind(const struct function *it, enum card_interrupts kind)
 {
     return it->kind == FUNCTION_PHYSICAL && kind <= it->card->options.interrupts;

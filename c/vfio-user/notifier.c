@@ -13,7 +13,7 @@
 #include <time.h>
 #include <unistd.h>
 
-#define READS 128       /* for which the kernel has room for results */
+#define READS 128       /* number of reads for whose results the kernel has room */
 #define READS_A_REAP 64 /* the results are discarded after this many */
 
 static aio_context_t reads; /* 0: none */
@@ -50,7 +50,7 @@ static void reap(void)
     results = 0;
 }
 
-/* Without asynchronous reads, compares the kernel's name of the file, which doesn't involve the file itself. */
+/* If there are no asynchronous reads, compares the kernel's name for the file, which doesn't access the file itself. */
 static bool is_named_eventfd(int file)
 {
     char link[64], name[64];

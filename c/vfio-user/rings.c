@@ -91,7 +91,8 @@ static uint32_t block_of(const struct ring *ring, uint32_t slot)
 }
 
 /* Lends the device only the block of a ring that contains its next slot. So a device with long rings is no larger than
-   a device with short rings, and copying it takes no longer. A recording contains whole rings, to draw them. */
+   a device with short rings, and copying it takes no longer. A recording contains whole rings, so that they can be
+   drawn. */
 static void lend_slot(struct rings *it, struct ring *ring, uint32_t slot)
 {
     uint32_t block = block_of(ring, slot);

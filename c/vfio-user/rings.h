@@ -85,7 +85,7 @@ bool rings_step(struct rings *it, bool is_transmit, uint16_t queue);
 void rings_prepare_receive(struct rings *it);
 
 /* Fills the slots that the device doesn't have yet with harmless descriptors, for `why`, which examines all slots. The
-   device and these rings are copies, or, if it is recorded, the originals. */
+   device and these rings are copies, or the originals if the device is recorded. */
 void rings_fill(struct rings *it, nic *device);
 
 /* Called when the device wrote these bytes: part of a frame, or a receive descriptor. */

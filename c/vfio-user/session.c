@@ -223,7 +223,7 @@ static int set_files(struct work *it, struct vectors *to, uint32_t start, uint32
     return session->error;
 }
 
-/* Sends messages to all vectors in the range, or only to the named ones. */
+/* Sends messages to all vectors in the range, or only to those that the request names. */
 static int raise_each(struct work *it, struct vectors *to, uint32_t start, uint32_t count, const uint8_t *named)
 {
     uint64_t *done = &it->session->done;

@@ -40,9 +40,9 @@ struct session {
     void *function;
     const char *name; /* name of the socket, for lines on standard error */
     bool has_version, has_reported_memory;
-    bool is_stalled;   /* whether received messages wait for replies to be sent, or for memory to be unmapped */
-    bool is_paused;    /* whether received messages wait for the next turn */
-    bool is_continued; /* whether the rest of the current message waits for the next turn too */
+    bool is_stalled;   /* whether received messages are waiting for replies to be sent, or for memory to be unmapped */
+    bool is_paused;    /* whether received messages are waiting for the next turn */
+    bool is_continued; /* whether the rest of the current message is also waiting for the next turn */
     struct message message;
     uint64_t done; /* parts of the current message that are done: writes, or vectors */
     int error;     /* result of the current message so far */
@@ -61,10 +61,10 @@ bool session_serve(struct session *it);
 bool session_flush(struct session *it);
 /* Reads the eventfd with which the client unmasks the line, once and without blocking. */
 void session_unmask(struct session *it);
-/* Returns whether the session receives more now. It doesn't while replies wait to be read, or while much of its
+/* Returns whether the session receives more now. It doesn't while replies are waiting to be read, or while much of its
    client's removed memory is still mapped. */
 bool session_is_ready(const struct session *it);
-/* Returns whether received messages wait for the next turn, in which session_serve continues. */
+/* Returns whether received messages are waiting for the next turn, in which session_serve continues. */
 bool session_is_paused(const struct session *it);
 void session_close(struct session *it);
 /* Returns whether the client is waiting for work that the server does in several turns. */

@@ -693,7 +693,7 @@ OWN_FILES = ("--kernel", "--initrd", "--disk")
 
 
 def own_words(words: list[str]) -> tuple[dict[str, str], list[str], list[str]]:
-    """Splits the arguments into the given files, with --gdb; those for the server; those for QEMU."""
+    """Splits the arguments into the guest's files and --gdb, arguments for the server, and arguments for QEMU."""
     given: dict[str, str] = {}
     for_server: list[str] = []
     rest = list(words)

@@ -36,7 +36,7 @@ from guests import (  # noqa: E402
     started,
 )  # fmt: skip
 
-READS, WRITES, FRAMES = 20_000, 100_000, 20_000  # reads and writes of a register; frames each way
+READS, WRITES, FRAMES = 20_000, 100_000, 20_000  # register reads and writes; frames each way
 MEGABYTES = 32  # sent from one guest to the other
 
 
@@ -165,7 +165,7 @@ def figures_of(text: str, guest: Guest) -> list[float]:
 
 
 def between_two(place: Place, card: Card) -> float:
-    """Returns the megabytes per second by HTTP from one guest to another."""
+    """Returns the HTTP throughput from one guest to another, in megabytes per second."""
     folder = Path(tempfile.mkdtemp(prefix="two.", dir=place.folder))
     scripts = []
     for name in ("serve", "get"):

@@ -19,7 +19,7 @@ ANY = 1000  # value of `every` if all schedules were run, with any number of pre
 # Changes that make a card worse, for a row that passed before.
 WORSE = ("fails now", "no longer reached", "no longer applicable")
 
-# What the device can reply to its own steps, arriving frames and link changes.
+# The device's possible replies to its own steps, arriving frames and link changes.
 REPLIES = [
     *("rx wrote", "tx advanced", "tx sent", "int message", "qstep_rx done", "qstep_tx done", "eestep done"),
     *("arrive done", "link done", "link idle"),

@@ -320,7 +320,7 @@ static void set_lengths(void)
     nicx_write32(NIC_MAXFRS, NIC_MAXFRS_MFS_IS(driver.setup.frame + 4));
 }
 
-/* Assigns vector q to both sides of queue q; for a function, vector q % 2. */
+/* Assigns vector q to both sides of queue q; for a virtual function, vector q % 2. */
 static void set_vectors(void)
 {
     unsigned pairs = BUG == IVAR_OF_TWO_QUEUES ? 1 : (driver.setup.queues + 1) / 2;

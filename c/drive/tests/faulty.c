@@ -1,5 +1,5 @@
 /* Drivers that the card must survive. -DMODE=name selects one that crashes, hangs or accesses what it doesn't own, in
-   the call that the name says. The rest is a minimal receive driver. */
+   the call that the mode's name mentions. The rest is a minimal receive driver. */
 #include <pthread.h>
 #include <stdlib.h>
 #include <string.h>

@@ -125,7 +125,7 @@ static inline void flow_comes(uint8_t port)
     nicx_frame(frame, FRAME);
 }
 
-/* Writes a descriptor into a slot of the transmit ring: a frame in a buffer, with these bits from bit 24. */
+/* Writes a descriptor into a slot of the transmit ring: a frame in a buffer, with these bits at bit 24 and above. */
 static inline void put_transmit(unsigned slot, unsigned number, uint64_t bits)
 {
     nicx_put64(TX_RING + 16 * slot, buffer(number));

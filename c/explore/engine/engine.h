@@ -44,7 +44,7 @@ struct step {
     uint32_t length;     /* bytes of a memory access; nicx_choose: its bound; barrier: number of stores flushed */
     uint64_t bus;        /* address of a memory access; for a lock, its identity */
     uint8_t operation;   /* LOCAL_ATOMIC: enum operation */
-    uint8_t order;       /* LOCAL_ATOMIC: the memory order in the code, by the compiler's numbering */
+    uint8_t order;       /* LOCAL_ATOMIC: the memory order in the code, in the compiler's numbering */
     uint64_t value;      /* LOCAL_ATOMIC: the value found, or the one stored */
     uint64_t other;      /* LOCAL_ATOMIC: the value afterwards, or the one expected */
     uint64_t touched[2]; /* own memory read [0] and written [1]: a set of addresses, hashed to 64 bits */
@@ -369,7 +369,7 @@ bool nicxi_lock_is_free(const nicx_mutex *lock);
 /* Whether another actor has run since the thread last continued. */
 bool nicxi_others_acted(const struct thread *thread);
 
-/* Returns the value of a register of the device, read without effects. */
+/* Returns the value of a device register, read without side effects. */
 static inline uint32_t nicxi_peek(uint32_t address)
 {
     return nicl_word_at(&nicxi.device, address);

@@ -89,7 +89,7 @@ static bool make(struct post *post, const nicx_chooser *chooser, struct distinct
     return note(post, &result);
 }
 
-/* Returns the largest number of points among some random schedules. Priorities change at points below this. */
+/* Returns the largest number of points among several random schedules. Priorities change at points below this. */
 static uint32_t usual_length(const struct options *options)
 {
     struct by_chance state;

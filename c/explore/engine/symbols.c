@@ -158,8 +158,8 @@ static bool find_symbol(const void *address, struct module *module, struct symbo
     return false;
 }
 
-/* Provided by C++'s library, which only C++ programs contain. In the link form it allocates from the driver's heap,
-   unless it is given a buffer. */
+/* Provided by C++'s library, which only C++ programs contain. In the link form, this function allocates from the
+   driver's heap unless it gets a buffer. */
 char *__cxa_demangle(const char *symbol, char *room, size_t *size, int *status) __attribute__((weak));
 
 static bool by_library(const char *symbol, char *room, size_t size)

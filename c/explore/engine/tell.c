@@ -16,7 +16,7 @@ static void tell_never(void *argument, const char *line)
     fprintf(argument, "%s: note: %s\n", nicxi.scenario->name, line);
 }
 
-/* If an option ended an exhaustive search early, it covered only part of the schedules. */
+/* If an option ended an exhaustive search early, the search covered only part of the schedules. */
 static void tell_part(const struct options *options, const struct totals *totals)
 {
     const char *by = "";

@@ -10,7 +10,7 @@ enum turn_kind {
     TURN_UNKNOWN,
     TURN_FOUND, /* before `point` some schedule was fine in which `other` acted; after it, none was */
     TURN_NONE,  /* no schedule was fine: the order of steps doesn't matter */
-    TURN_RACE   /* as TURN_NONE, for a data race, which any order of the steps shows */
+    TURN_RACE   /* like TURN_NONE, but for a data race, which any order of the steps reveals */
 };
 
 struct turn {

@@ -353,7 +353,7 @@ static void reach_own_memory(const struct store *store, struct step *step)
         nicxi_races->landed(step->of, store->slot, store->bus);
 }
 
-/* Makes a store of a processor reach memory, and frees its position in the list. */
+/* Flushes one of a processor's stores to memory, and frees its position in the list. */
 static void land(struct processor *it, uint32_t place, struct step *step)
 {
     struct store store = it->stores[place];

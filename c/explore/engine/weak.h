@@ -7,7 +7,7 @@
    In the model `tso`, which is x86's, stores reach memory in program order, and no load is old.
 
    If the driver's atomic operations are known (threads/tsan.c), its atomic stores to its own memory are pending too, in
-   the same list. Loads of own memory are never old.
+   the same list. Loads from own memory are never old.
 
    The engine keeps a copy of lent memory, and what each change overwrote, so that it knows older values. Every change
    of memory during a schedule goes through this file. */
@@ -49,7 +49,7 @@ void nicxi_memory_moved(uint32_t block);
    which is passed to nicxi_races->landed when it reaches memory. Returns -1 if it isn't kept, and must be made now. If
    it releases, all earlier stores reach memory before it. */
 int nicxi_keep_own(uint64_t at, const void *bytes, uint32_t length, bool releases);
-/* Replaces what a load of own memory returns with the thread's own pending store there, if there is one. */
+/* Replaces what a load from own memory returns with the thread's own pending store there, if there is one. */
 void nicxi_load_own(uint64_t at, void *bytes, uint32_t length);
 /* Flushes the stores of the thread's processor to this range of own memory, and all stores that come before them. */
 void nicxi_land_own(uint64_t at, uint64_t length);

@@ -52,7 +52,7 @@ static const char *bring_up(void)
     for (uint32_t slot = 0; slot < 7; slot++)
         nicx_put64(16 * slot, NIC_BLOCK_BYTES);
     nicx_write32(NIC_RDT(QUEUE), 7);
-    /* MSI-X: then a write of EICR clears a queue's cause, but a read doesn't */
+    /* MSI-X: a write to EICR then clears a queue's cause, but a read doesn't */
     nicx_write32(NIC_GPIE, NIC_GPIE_MULTIPLE_MSIX | NIC_GPIE_OCD | NIC_GPIE_PBA_SUPPORT);
     nicx_write32(NIC_IVAR(0), NIC_IVAR_INT_ALLOC_0_IS(5) | NIC_IVAR_INT_ALLOC_VAL_0);
     nicx_write32(NIC_EIAC, 0);

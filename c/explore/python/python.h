@@ -43,7 +43,7 @@ struct nicp_way {
     struct nicp_way *outer;
 };
 
-/* Returns the running thread's innermost way, or null if the thread isn't the engine's. */
+/* Returns the running thread's innermost nicp_way, or null if the thread isn't the engine's. */
 struct nicp_way **nicp_way(void);
 /* Jumps to the running thread's innermost nicp_way. */
 void nicp_leave(void);

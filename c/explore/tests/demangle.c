@@ -50,7 +50,7 @@ int main(void)
             return 1;
         }
     }
-    /* demangling must end, for each name cut short at any letter and with any letter changed */
+    /* demangling must terminate, for each name cut short at any letter or with any letter changed */
     for (unsigned k = 0; k < COUNT; k++)
         for (size_t at = 0; at < strlen(names[k].symbol); at++)
             for (int letter = 0; letter < 128; letter++) {

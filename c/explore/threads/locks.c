@@ -10,7 +10,7 @@
 
 enum kind { NORMAL = 0, RECURSIVE = 1, CHECKED = 2, KIND = 3, GONE = 0x40000000 };
 
-/* The holder's number of a lock taken outside of tasks, as in bring_up. */
+/* The holder's number in a lock that was taken outside of tasks, as in bring_up. */
 enum { BY_OUTSIDE = MOST_THREADS + 1 };
 
 static int number_of(const struct thread *self)

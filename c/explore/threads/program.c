@@ -26,7 +26,7 @@ static struct {
     int argc;
     char **argv;
     char name[64];
-    int scout; /* where the scout process writes which controller the program opens; -1 elsewhere */
+    int scout; /* file to which the scout process writes which controller the program opens; -1 in other processes */
     bool is_opened, is_silent;
     char end[64];
     nicx_scenario scenario;

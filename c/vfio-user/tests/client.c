@@ -431,7 +431,7 @@ static void snapshots(struct peer *it)
     CHECK(get64(TX_RING + 24) & NIC_TXWB_DD); /* the guest's memory hasn't changed */
     give_frame(it, 1);
     wait_for(TX_RING + 24, NIC_TXWB_DD);
-    until(it, NIC_RDH(0), UINT32_MAX, 5); /* a reply, three frames that are sent a second time, a reply */
+    until(it, NIC_RDH(0), UINT32_MAX, 5); /* five frames: a reply, the three restored ones, a reply */
     CHECK(says("hold", "ok") && says("restore one", "ok") && says("due", "rx: at most 3") && says("rx", "3 descr"));
     CHECK(says("go", "ok"));
 }

@@ -141,7 +141,7 @@ static void cut_file(void)
     close(file);
 }
 
-/* A file on a disk is refused by name, unless files are trusted. */
+/* A file on a disk is refused with EPERM, unless files are trusted. */
 static void foreign_file(void)
 {
     static const char *const more[] = {NULL, "--trust-files"};

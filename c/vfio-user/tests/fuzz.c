@@ -1,6 +1,6 @@
 /* Sends random messages to a server, shaped as in the protocol and some of them corrupted, from three clients at the
-   same time, while the wire's other end and the control socket do likewise. It runs with the sanitizers. At the end the
-   server must still run, with no more open files than at the beginning.
+   same time, while random input also arrives from the wire's other end and at the control socket. It runs with the
+   sanitizers. At the end the server must still run, with no more open files than at the beginning.
 
      fuzz SEED MESSAGES FOLDER */
 #define _GNU_SOURCE

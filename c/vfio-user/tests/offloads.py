@@ -149,7 +149,7 @@ def some_packet(chance: random.Random, is_large: bool) -> Packet:
 
 
 def pieces(chance: random.Random, data: bytes, least: int) -> list[bytes]:
-    """Splits bytes into any number of descriptors; the first has at least `least` bytes."""
+    """Splits bytes into any number of descriptors; the first one gets at least `least` bytes."""
     found, at = [], 0
     while at < len(data):
         size = max(least if at == 0 else 1, chance.randrange(1, 16384))

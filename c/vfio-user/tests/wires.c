@@ -160,7 +160,7 @@ static void streams(void)
     passes_a_stream(peer);
     close(peer);
     serve(true);
-    CHECK(wire_next(&wire, false) == 0 && wire.file < 0); /* the other end has disconnected, and the next one connects */
+    CHECK(wire_next(&wire, false) == 0 && wire.file < 0); /* the other end has disconnected, and another one connects */
     serve_until_connected();
     peer = accept(listener, NULL, NULL);
     CHECK(peer >= 0);

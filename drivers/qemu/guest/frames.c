@@ -82,7 +82,7 @@ static const uint8_t *next_of(const struct store *it, size_t *at, uint32_t *leng
     return bytes;
 }
 
-/* Adds a frame that was written after the last one. */
+/* Adds the frame whose bytes were written right after the last frame. */
 static void add_to(struct store *it, uint32_t length)
 {
     memcpy(it->bytes + it->end, &length, sizeof length);

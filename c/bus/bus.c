@@ -45,7 +45,7 @@ static inline struct place place_at(const struct bus *it, uint32_t address)
 
 /* ---- registers ---- */
 
-/* Completes the operation that the driver is polling for: a queue's enable or a read of the EEPROM. */
+/* Completes the operation that the driver is polling for: a queue's enable or an EEPROM read. */
 static void act(struct bus *it, struct place place)
 {
     if (it->is_held)

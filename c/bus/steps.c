@@ -83,7 +83,7 @@ static void turn(const struct bus_calls *calls, const nic_outcome *outcome)
         *last ^= 1;
 }
 
-/* Returns whether there may be more to do. */
+/* Returns whether further steps may have something to do. */
 static bool wrote(struct bus *it, const nic_outcome *outcome)
 {
     const struct bus_calls *calls = &it->options.calls;

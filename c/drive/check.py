@@ -186,7 +186,7 @@ def check_pages_driver(kit: Kit, runs: int) -> str:
     return f"corpus/pages.c passes {sum(row['state'] == 'passed' for row in rows)} rows"
 
 
-# Changes of corpus/pages.c: the bit mask of queues to rearm, which two polls and a handler change, is accessed without
+# Changes to corpus/pages.c: the bit mask of queues to rearm, which two polls and a handler change, is accessed without
 # synchronization. A queue is lost if another is rearmed between the load and the store.
 PLAIN_WORD = {
     "__atomic_store_n(&card.polled, 0, __ATOMIC_RELEASE)": "card.polled = 0",
@@ -433,7 +433,7 @@ def check_stores(kit: Kit) -> str:
 
 
 ADAPTER_FOLDER = C / "examples/adapter"
-# Changes of the example's driver, flags to compile it with, and what its run then reports.
+# Changes to the example's driver, flags to compile it with, and what its run then reports.
 MISTAKES: list[tuple[str, str, list[str], str]] = [
     ("    os_write32(RXCTRL, 1);\n", "", [], r"RXCTRL\.RXEN 0: receiving is off"),
     ("    os_write32(RDT0, slot);\n", "", [], r"rx 0: RDH\[0\] 63, RDT\[0\] 63: head and tail meet"),
@@ -470,7 +470,7 @@ def changed_driver(changes: Sequence[tuple[str, str]]) -> str:
 def adapter(
     kit: Kit, old: str = "", new: str = "", *flags: str, opened: str = "", more: Sequence[tuple[str, str]] = ()
 ) -> Path:
-    """Builds examples/adapter with changes of its driver, and with additional lines where its run opens the bench."""
+    """Builds examples/adapter with changes to its driver, and with additional lines where its run opens the bench."""
     folder, program = kit.folder / "adapter", kit.folder / "adapter-program"
     shutil.copytree(ADAPTER_FOLDER, folder, dirs_exist_ok=True)
     (folder / "driver.c").write_text(changed_driver([(old, new), *more]))
@@ -577,7 +577,7 @@ IDLE = {
 
 @dataclass(frozen=True)
 class Edit:
-    """A change of corpus/driver.c after which these rows neither fail nor reach what they try, and each row's report.
+    """A change to corpus/driver.c after which these rows neither fail nor reach what they try, and each row's report.
     With the flag of nicd_can, if any, the rows aren't applicable."""
 
     texts: dict[str, str]  # strings in the driver's source, and their replacements

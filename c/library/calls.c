@@ -19,7 +19,7 @@ enum { MOST_VFS = 63, MOST_BLOCKS = 65536, UNIT = NICL_UNIT, SHOWN = 4, QUEUES =
 enum { NOTE_BYTES = 200, LINE = 64 };
 
 #define IS_OFF __builtin_expect(!__atomic_load_n(&nicl_is_watched, __ATOMIC_RELAXED), 1)
-/* A handle that was never opened, or that nic_close ended. */
+/* A handle that was never opened, or that nic_close closed. */
 #define IS_CLOSED(n) __builtin_expect(!(n)->device, 0)
 #define COLD static __attribute__((noinline, cold))
 /* If nothing is recorded or reported, only makes the call. Otherwise the code after the macro makes it and writes its

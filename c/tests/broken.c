@@ -8,7 +8,7 @@
 
 static unsigned broken;
 
-/* Counts a status; after the first BROKEN there is no other. */
+/* Counts a status; after the first BROKEN, every status must be BROKEN. */
 static void print_status(uint8_t status)
 {
     CHECK(!broken || status == NIC_BROKEN);

@@ -341,11 +341,11 @@ static void restored_into_itself(nic *n, uint8_t *host, const nic_kept *early, c
     host[BLOCK] = 10;
     ANSWERS(NIC_DONE, nic_dma_read(n, 2 * BLOCK, &byte, 1));
     CHECK(byte == 10);
-    /* two of the blocks aren't lent in the early one */
+    /* two of the blocks aren't lent in the early snapshot */
     ANSWERS(NIC_DONE, nic_restore(n, early));
     CHECK(host[0] == 7 && host[BLOCK - 1] == 7 && host[BLOCK] == 10 && host[BLOCK + 1] == 8);
     ANSWERS(NIC_NOT_LENT, nic_dma_read(n, 2 * BLOCK, &byte, 1));
-    /* all are lent in the late one, but only the first is in place now */
+    /* all are lent in the late snapshot, but only the first is in place now */
     ANSWERS(NIC_DONE, nic_restore(n, late));
     CHECK(host[0] == 8 && host[BLOCK] == 10);
     ANSWERS(NIC_DONE, nic_dma_read(n, 2 * BLOCK, &byte, 1));

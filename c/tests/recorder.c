@@ -152,7 +152,7 @@ static void in_place(void)
                               "# lend: bad memory\n"));
 }
 
-/* A frame without bytes has a line that is valid in a script. */
+/* An empty frame is recorded as a line that is valid in a script. */
 static void no_bytes(void)
 {
     nic n;

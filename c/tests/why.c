@@ -93,7 +93,7 @@ static void is_cut(nic *n, const char *whole)
     }
 }
 
-/* Returns a number that changes with the registers, the memory or the waiting frames. */
+/* Returns a hash of the registers, the memory and the waiting frames. */
 static uint64_t look(nic *n)
 {
     static const uint32_t addresses[] = {

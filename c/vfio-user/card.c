@@ -510,7 +510,7 @@ static bool reads_eeprom(const struct card *it)
     return (bus_peek(it->bus, NIC_EERD) & (NIC_EERD_START | NIC_EERD_DONE)) == NIC_EERD_START;
 }
 
-/* Runs each kind of step or leaves it for later, at random. Returns whether something may be left. */
+/* Runs or postpones each kind of step, at random. Returns whether something may be left. */
 static bool pump_late(struct card *it)
 {
     struct stepper *stepper = &it->stepper;

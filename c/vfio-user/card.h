@@ -85,7 +85,7 @@ uint32_t card_read(struct card *it, struct function *function, uint32_t offset);
 void card_write(struct card *it, struct function *function, uint32_t offset, uint32_t word);
 void card_reset_function(struct card *it, struct function *function);
 void card_remapped(struct card *it, const struct function *function);
-/* Notes that a client's way of receiving interrupts changed. */
+/* Notes that a client changed how it receives interrupts. */
 void card_rearmed(struct card *it);
 /* Returns the physical function's pending enabled causes. */
 uint32_t card_causes(const struct card *it);

@@ -44,7 +44,7 @@ struct channel {
 
 enum channel_state {
     CHANNEL_OPEN,
-    CHANNEL_GONE, /* the client has ended or can't be reached */
+    CHANNEL_GONE, /* the client has disconnected or can't be reached */
     CHANNEL_WRONG /* the client sent something that isn't a message, or too many files */
 };
 

@@ -12,7 +12,7 @@
 
 #define CLOSER_OWNERS 16
 #define CLOSER_WIRE 15u        /* the owner of files from the wire's other end; lower numbers are clients */
-#define CLOSER_FOREIGN_MOST 32 /* files of an owner that may be waiting before its client has to wait */
+#define CLOSER_FOREIGN_MOST 32 /* maximum number of an owner's waiting files before its client has to wait */
 #define CLOSER_OWN_MOST 32
 
 /* Starts the threads, once per process. Returns false with errno set if it can't. Before that, files are closed

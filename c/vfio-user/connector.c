@@ -11,7 +11,7 @@
 #include "local_socket.h"
 #include "log.h"
 
-#define FIRST_MS 1000 /* limit for the first attempt, before the server serves */
+#define FIRST_MS 1000 /* time limit for the first attempt, before the server serves clients */
 
 union room {
     struct cmsghdr aligned;

@@ -76,7 +76,7 @@ bool function_has_line(const struct function *it);
 bool function_line(struct function *it, uint32_t causes);
 /* Takes the pending enabled causes after a register access, which may have cleared some. */
 void function_line_after_access(struct function *it, uint32_t causes);
-/* Ends its client and its socket. */
+/* Disconnects its client and closes its socket. */
 void function_end(struct function *it);
 
 #endif

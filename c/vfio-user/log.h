@@ -30,7 +30,7 @@ void log_open(void);
 /* Print a line, given without its newline: of the server, or about a client's action. */
 __attribute__((format(printf, 2, 3))) void log_line(enum log_kind kind, const char *format, ...);
 __attribute__((format(printf, 3, 4))) void log_client(unsigned int client, enum log_kind kind, const char *format, ...);
-/* Returns whether lines are waiting, so that log_tick should be called in LOG_WAIT_MS. */
+/* Returns whether lines are waiting. If so, log_tick should be called after LOG_WAIT_MS milliseconds. */
 bool log_is_waiting(void);
 /* Reports how many lines were left out, if any were and the limit permits a line again. */
 void log_tick(void);

@@ -326,7 +326,7 @@ static size_t head_of(const struct offload_job *job)
     return (size_t)job->mac_length + job->ip_length + job->l4_length;
 }
 
-/* The device has sent the frame in a TSO packet's place. */
+/* Called when the device has sent the short frame in a TSO packet's place. */
 static void begin_to_cut(struct offload *it, struct offload_queue *of)
 {
     const struct offload_job *job = &of->job;

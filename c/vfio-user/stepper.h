@@ -15,7 +15,7 @@ struct late_reset {
 
 struct stepper {
     bool is_held;                                /* only requested steps run */
-    bool has_seed;                               /* each step runs or is left for later at random */
+    bool has_seed;                               /* each step is run or postponed at random */
     uint64_t state;                              /* state of the random number generator */
     bool has_changed;                            /* something happened since the last steps that may make steps due */
     bool is_due[STEPPER_QUEUES], any_due;        /* transmit queues with a moved tail */

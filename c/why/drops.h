@@ -20,7 +20,7 @@ unsigned nicl_drop_kind(uint8_t why, const uint8_t *frame);
 void nicl_note_drop(const nic *n, uint8_t why, const uint8_t *frame, size_t length);
 /* Resets the counts of a controller. */
 void nicl_forget_drops(const nic *n);
-/* Returns false if nothing was dropped; then everything is 0. */
+/* Returns false if nothing was dropped; then all counts are 0. */
 bool nicl_drops_of(const nic *n, struct nicl_drops *drops);
 
 /* Locks the drops of all controllers while the process forks. */

@@ -1,5 +1,5 @@
-/* The calls that replace accesses of DPDK's driver (reroute.h); there are no others. This file is included before each
-   of the driver's sources. */
+/* All calls that replace accesses of DPDK's driver (reroute.h). This file is included before each of the driver's
+   sources. */
 #ifndef SEAM_H
 #define SEAM_H
 

@@ -411,7 +411,7 @@ void nicd_spread_flows(void);
 void nicd_take_frames(void);
 /* Adds a thread that sends `count` frames through a queue and waits until they are sent. */
 void nicd_send_frames(uint16_t queue, uint32_t count, uint32_t length);
-/* Adds a thread of the scenario that calls the driver. */
+/* Adds a scenario thread that calls the driver. */
 void nicd_control(void (*function)(void));
 /* Adds a thread that plays another part: the PF's driver, or a neighbouring driver. */
 void nicd_other(const char *name, void (*function)(void), bool waits_for_ever);

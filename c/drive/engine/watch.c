@@ -209,7 +209,7 @@ static void judge_lent(const nicxo_step *step)
                   step->kind == STEP_LEND ? "lends" : "takes back", (unsigned)step->address);
 }
 
-/* Reports an access of the driver to memory that isn't lent, relative to its pieces. The explorer then ends the
+/* Reports a driver access to memory that isn't lent, relative to the driver's pieces. The explorer then ends the
    thread. */
 static void judge_memory(const nicxo_step *step)
 {

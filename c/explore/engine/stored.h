@@ -9,7 +9,7 @@
 void nicxi_note_stored(uint64_t bus, uint64_t length, const void *call);
 void nicxi_note_set(uint32_t address, const void *call);
 
-/* After a device step: forgets the driver's writes to what the step overwrote. */
+/* Called after a device step: forgets the driver's writes to places that the step overwrote. */
 void nicxi_forget_stored(const struct step *step);
 
 /* Returns " at ring.c:9 < driver.c:40" for this thread's write, if it was the last one to that place, or "". */

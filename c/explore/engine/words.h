@@ -9,7 +9,7 @@ enum { MOST_WORDS = 160 };
 /* Formats an actor's step and its result: "r EICR = 0x00000020". */
 const char *nicxi_words(const struct step *step, char room[MOST_WORDS]);
 
-/* Returns what a device step returned, as a script's run prints it. */
+/* Returns the result of a device step, as a script's run prints it. */
 const char *nicxi_reply(const struct step *step, char room[MOST_WORDS]);
 
 /* Returns the variable at an address of the driver's own memory, or where that memory was allocated, or the address

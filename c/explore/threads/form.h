@@ -16,7 +16,7 @@ struct held {
     const void *at, *caller;
 };
 
-/* What POSIX's calls need to know about a thread, in addition to the engine's data. */
+/* What the POSIX calls need to know about a thread, in addition to the engine's data. */
 struct posix_thread {
     const void *object; /* what the thread waits for; below: the call, its place, and the caller */
     const char *call;

@@ -22,7 +22,7 @@ static inline bool nicxi_is_taken(uint64_t at)
     return at - nicxi_taken_from < PIECE_ROOM;
 }
 
-/* Checks an access to the piece. It fails if the memory was freed or never allocated. */
+/* Checks an access to the piece. The check fails if the memory was freed or never allocated. */
 void nicxi_judge_taken(uint64_t at, size_t length, bool writes, const void *call);
 /* Checks the object of a call with this name. */
 void nicxi_judge_object(const void *object, const char *name, const void *call);

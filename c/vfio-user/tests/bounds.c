@@ -1,6 +1,6 @@
 /* A guest's requests are served in pieces, with other clients' turns in between, and each request is answered correctly
-   or refused by name: endless TSO packets, frames of every length, tails all around a ring, abandoned offloads, IPsec.
-   bounds FOLDER */
+   or refused with a reason: endless TSO packets, frames of every length, tails all around a ring, abandoned offloads,
+   IPsec. bounds FOLDER */
 #define _GNU_SOURCE
 #include <signal.h>
 #include <string.h>
@@ -114,7 +114,8 @@ static void until(struct peer *it, uint32_t address, uint32_t word)
 
 /* ---- frames of every length ---- */
 
-/* Sends a frame of this length, or checks that it is refused by name. The next frame is sent in any case. */
+/* Sends a frame of this length, or checks that it is refused: by the device, or as too long for the wire, which is
+   counted. The next frame is sent in any case. */
 static void one_length(struct peer *it, uint32_t length, bool fits)
 {
     uint64_t refused = peer_count(control, "too long ");

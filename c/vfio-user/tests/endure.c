@@ -324,7 +324,7 @@ static unsigned int next_file(pid_t process)
     }
 }
 
-/* The process has no file left when a client connects. */
+/* The process has no free file descriptor when a client connects. */
 static void no_file_left(void)
 {
     struct peer peer, next;
@@ -420,7 +420,7 @@ static void unread_errors(void)
     close(file);
 }
 
-/* A FIFO without a reader is refused by name. If a FIFO's reader doesn't read, lines are lost. */
+/* With a FIFO without a reader, the server doesn't start. If a FIFO's reader doesn't read, lines are lost. */
 static void fifos(void)
 {
     static const char *const texts[] = {"--trace=", "--capture=", "--record=", "--strays="};

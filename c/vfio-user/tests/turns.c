@@ -186,7 +186,8 @@ static void many_interrupts(void)
     close(event);
 }
 
-/* A client leaves halfway through its messages, and the next client is served from its own first message. */
+/* A client disconnects halfway through its messages, and the next client is served, beginning with its own first
+   message. */
 static void one_goes(void)
 {
     struct peer peer = begin();

@@ -5,7 +5,7 @@
 #include <stddef.h>
 #include <stdint.h>
 
-/* Sets the function that gets the card's frames. */
+/* Sets the callback that receives the card's frames. */
 void bench_card_send_to(void (*sink)(const uint8_t *frame, size_t length));
 /* Stores how many TSO packets were cut, and into how many segments. */
 void bench_card_counts(uint64_t *large, uint64_t *segments);

@@ -107,7 +107,8 @@ void nicx_handler(const char *name, uint16_t group, uint8_t vector, void (*funct
 /* Names a timer. When it fires, it starts the function beside all tasks, as a message starts a handler. It counts as
    one of the handlers, and fires once each time it is armed. `within` is NICX_AT_REST, to fire when no other actor can
    run, or a number of points N, at least 1. In that case the timer fires at one of the N points after the point that
-   armed it, at the latest at the last one, before any other actor acts there. Returns its number for nicx_arm. */
+   armed it. If it hasn't fired before the last of them, it fires there, before all other actors. Returns its number for
+   nicx_arm. */
 int nicx_timer(const char *name, void (*function)(void *), void *argument, uint32_t within);
 
 /* Names a frame of at most 16,384 bytes, which will arrive after the frames already named. The bytes are copied. */

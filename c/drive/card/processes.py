@@ -99,8 +99,8 @@ def _end_group(process: int) -> None:
 
 
 def _end_orphans() -> None:
-    """Kills processes left behind by programs that have exited: children outside the process groups of this process and
-    of running programs."""
+    """Kills processes that programs left running when they exited: children outside the process groups of this process
+    and of running programs."""
     with _lock, contextlib.suppress(ProcessLookupError, ChildProcessError, PermissionError):
         for process in list(_children()):
             if os.getpgid(process) not in {os.getpgrp(), *_running}:

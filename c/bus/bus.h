@@ -97,7 +97,7 @@ struct bus_calls {
     /* A receive descriptor at this bus address was filled; `ends` is set if it is the frame's last descriptor. */
     void (*filled)(void *of, uint16_t queue, uint64_t descriptor, bool ends);
     void (*message)(void *of, unsigned int function, unsigned int vector); /* delivers an interrupt message */
-    /* Called for a fault of the device. If null, a line on standard error reports it. */
+    /* Called for a device fault. If null, a line on standard error reports it. */
     void (*fault)(void *of, bool is_transmit, const nic_outcome *outcome);
     /* Called when the bus can't do something. If null, a line on standard error reports each of the first twenty. */
     void (*problem)(void *of, const char *what);

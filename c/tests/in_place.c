@@ -19,7 +19,7 @@ struct slot {
 
 /* --- two controllers, one with copies, and one with the driver's memory --- */
 
-/* Receive ring, transmit ring, and from the second block on the buffers. */
+/* The receive ring, the transmit ring, and, starting with the second block, the buffers. */
 struct twins {
     nic copies, place;
     uint8_t *host;

@@ -10,7 +10,7 @@ static const struct line {
     uint8_t function, status;
     uint32_t offset, address;
 } lines[] = {
-    /* registers that each function has once, for function 3 */
+    /* registers that each virtual function has once, for virtual function 3 */
     {POOLS_64, 3, NIC_DONE, 0x0000, 0x0030C}, /* PVFCTRL[3] */
     {POOLS_64, 3, NIC_DONE, 0x0008, 0x00008}, /* STATUS */
     {POOLS_64, 3, NIC_DONE, 0x0010, 0x042A4}, /* LINKS */
@@ -128,7 +128,7 @@ int main(void)
     for (uint32_t mode = OFF; mode <= POOLS_64; mode++)
         count[mode] = registers_in(&n, mode);
     nic_close(&n);
-    /* 30 registers in a function, 15 in each of its queues, and a word of vectors for every two queues */
+    /* 30 registers in a virtual function, 15 in each of its queues, and a word of vectors for every two queues */
     CHECK(count[OFF] == 0 && count[POOLS_16] == 16 * (30 + 8 * 15 + 4));
     CHECK(count[POOLS_32] == 32 * (30 + 4 * 15 + 2) && count[POOLS_64] == 63 * (30 + 2 * 15 + 1));
     printf("%d offsets by hand, %u by accesses\n", LINES, count[POOLS_16] + count[POOLS_32] + count[POOLS_64]);

@@ -104,7 +104,7 @@ static void sends(nic *n)
     CHECK(nic_next_out(n) == 0);
 }
 
-/* Function 0's own driver brings up its queue and receives; function 1 isn't affected. */
+/* Virtual function 0's own driver brings up its queue and receives; virtual function 1 isn't affected. */
 static void receives_in_a_function(void)
 {
     nic n;

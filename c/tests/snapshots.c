@@ -216,7 +216,7 @@ static void sizes(void)
     nic_close(&n);
 }
 
-/* Writes into blocks 1 and 3, which the snapshot has lent, and lends others and writes into block 0. */
+/* Writes into blocks 1 and 3, which the snapshot has lent. Also lends other blocks and writes into block 0. */
 static void lend_others(nic *n)
 {
     ANSWERS(NIC_DONE, nic_put64(n, NIC_BLOCK_BYTES, 99));

@@ -9,8 +9,8 @@
 
 #include "bus.h"
 
-/* Sets up the device for virtual function `vf`, which must be below the run's number of functions, in pools of two
-   queues. The function gets address `mac` when it requests a reset. Its pool is the default pool, which receives
+/* Sets up the device for virtual function `vf`, which must be below the run's number of virtual functions, in pools of
+   two queues. The function gets address `mac` when it requests a reset. Its pool is the default pool, which receives
    broadcast frames. */
 void function_host_begin(unsigned int vf, const uint8_t mac[6]);
 

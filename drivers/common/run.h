@@ -12,7 +12,7 @@
 extern struct bus *run_bus;
 extern struct dma_memory run_memory;
 
-/* Opens the bus, with memory in place or copied. Returns false if memory is short. The options' callbacks get
+/* Opens the bus, with memory in place or copied. Returns false if memory runs out. The options' callbacks get
    &run_memory as their first argument. Adds the callbacks that the memory (memory_calls) and problem reports
    (verdict.h) need. */
 bool run_open(const struct bus_options *options, bool is_copied);

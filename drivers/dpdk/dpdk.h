@@ -17,7 +17,7 @@ struct dpdk_options {
     struct bus_options bus; /* its MAC address is ignored: card_mac is used instead */
     const char *name;       /* the program's name */
     unsigned int mebibytes; /* size of DPDK's memory */
-    unsigned int packets;   /* packets in the pool: a power of two less one */
+    unsigned int packets;   /* packets in the pool: a power of two minus one */
     uint16_t buffer;        /* data bytes of a packet */
     bool scalar, loud;      /* no vector functions in the driver; print everything that DPDK logs */
     bool has_null_driver;

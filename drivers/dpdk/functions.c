@@ -1,5 +1,5 @@
-/* Runs DPDK's ixgbe driver for the physical function on the bench, and its driver for virtual functions on functions of
-   the same device, all in one process. drivers/dpdk/run --vf compiles and calls it.
+/* Runs DPDK's ixgbe driver for the physical function on the bench, and its driver for virtual functions on virtual
+   functions of the same device, all in one process. drivers/dpdk/run --vf compiles and calls it.
 
      functions [--max-vfs N] [--functions N] [--queues N] [--vf-queues N] [--no-rss] [--slots N] [--frames N]
                [--handlers messages | line | late=N] [--with ANSWER] [--without ANSWER]

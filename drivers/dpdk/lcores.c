@@ -143,7 +143,7 @@ static uint32_t let_in(uint32_t number)
     return number;
 }
 
-/* Stops the lcores if no frame has passed for a long time. */
+/* Stops the lcores if no frame has been transferred for a long time. */
 static void watch(unsigned int *before, double *since)
 {
     unsigned int now = passed;

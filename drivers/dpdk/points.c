@@ -1,6 +1,6 @@
-/* Turns each access of the driver to a descriptor ring into a point of the explorer. The driver's files that touch
-   rings are compiled with -fsanitize=thread, so the compiler calls the functions below before each memory access. The
-   sanitizer's own library isn't linked: these are its only functions. Accesses outside the rings are ignored.
+/* Turns each driver access to a descriptor ring into an explorer point. The driver's files that touch rings are
+   compiled with -fsanitize=thread, so the compiler calls the functions below before each memory access. The sanitizer's
+   own library isn't linked: these are its only functions. Accesses outside the rings are ignored.
 
    A ring has two copies: the process's copy, which the driver accesses, and the bench's copy. Before a load, the bytes
    to load are copied from the bench. The bench sees a store at the next access to any address; no other task runs in

@@ -1,7 +1,7 @@
 """Builds a driver's program from what the author provides: sources, objects, a Python file, or the program itself.
 
 Sources are compiled with -fsanitize=thread and linked with the variant of the explorer that handles its calls, so that
-each access of the driver's own memory is observed. If the compiler or linker can't do that, they are compiled plainly.
+each access to the driver's own memory is observed. If the compiler or linker can't do that, they are compiled plainly.
 """
 
 from __future__ import annotations
@@ -38,13 +38,13 @@ class Words:
     compiler: str
     flags: str
     libraries: Path
-    sees: bool = True  # observe accesses of the driver's own memory, if possible
+    sees: bool = True  # observe accesses to the driver's own memory, if possible
 
 
 @dataclass
 class Built:
     program: Path
-    blind: str = ""  # why accesses of the driver's own memory aren't observed
+    blind: str = ""  # why accesses to the driver's own memory aren't observed
 
 
 def found(folder: Path, names: tuple[str, ...]) -> list[Path]:

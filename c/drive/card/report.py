@@ -40,7 +40,7 @@ class Card:
     budget: Budget
     seconds: float
     processor: float = 0  # CPU seconds of its processes
-    blind: str = ""  # why accesses of the driver's own memory weren't observed
+    blind: str = ""  # why accesses to the driver's own memory weren't observed
 
     def count(self, state: str) -> int:
         return sum(row.state == state for row in self.rows)
@@ -135,7 +135,7 @@ def counts(card: Card) -> str:
 
 
 def blindness(why: str) -> str:
-    """Returns the first line of a card whose accesses of the driver's own memory aren't observed."""
+    """Returns the first line of a card for which accesses to the driver's own memory aren't observed."""
     return f"{UNSEEN}: {why}"
 
 

@@ -96,7 +96,7 @@ def name_of(program: Path) -> str:
 
 
 def accesses_of(program: Path) -> bool:
-    """Whether accesses of the driver's own memory are observed in its program."""
+    """Whether accesses to the driver's own memory are observed in its program."""
     try:
         return ran([program, "--accesses"], LIST_SECONDS).printed.strip() == "seen"
     except (OSError, TooLong):

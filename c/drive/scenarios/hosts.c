@@ -1,4 +1,5 @@
-/* The driver as the PF's driver of two virtual functions: their mailboxes. The card plays the functions. */
+/* The driver on the physical function, with two virtual functions: their mailboxes. The card plays the virtual
+   functions. */
 #include "../engine/drive.h"
 
 enum { FUNCTIONS_THERE = 2, PATIENCE = 3 };

@@ -125,7 +125,7 @@ static void note_physical(struct step *step)
     step->physical = nicxi_physical(nicxi_peek(NIC_GCR_EXT), step->vf, step->address);
 }
 
-/* Whether a step changes something that others can see. A read of most registers doesn't. */
+/* Whether a step changes something that others can see. For most registers, a read doesn't. */
 static bool is_change(const struct step *step)
 {
     uint32_t word = 0;

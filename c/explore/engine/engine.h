@@ -36,7 +36,7 @@ struct step {
     bool is_kept;
     bool is_own;         /* set if the store that reached memory is to own memory */
     bool is_published;   /* a pointer store, which was an access when the driver made it (nicxo_write) */
-    uint8_t older;       /* weak memory: a load reads the value before this many changes */
+    uint8_t older;       /* weak memory: the load reads the value from before this many changes */
     uint16_t of;         /* number of the queue, group, frame or link change; for a value or a store, of the thread */
     uint32_t address;    /* register address, or offset of a virtual function's access; a block lent or taken */
     uint32_t physical;   /* virtual function's access: the physical function's address, or NO_ADDRESS */
@@ -213,7 +213,7 @@ struct engine {
     bool is_tso;            /* as on x86: stores may be late but stay in order, and no load is old */
     bool knows_memory;      /* every access to the driver's own memory is reported (nicxi_touched) */
     bool is_program;        /* the first task is a whole program, which runs the device's steps itself */
-    nicxo_bus_of *bus_of;   /* which lent memory the driver also reads by pointers, without a step; null: none */
+    nicxo_bus_of *bus_of;   /* which lent memory the driver also reads through pointers, without a step; null: none */
 
     /* The device (device.c). */
     nic device;

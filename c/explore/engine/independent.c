@@ -286,9 +286,9 @@ static const struct row {
      "queues)"},
     {BY(EEPROM), BY(RX) | BY(TX) | ENABLES | FROM_LINK, NULL, "eestep, another step but int",
      "dev: eeprom_step_gives_the_word (rest), event_stays_within_its_reach"},
-    /* two steps of the driver without conflicting accesses of its own memory */
-    {BY(LOCAL), DRIVER, are_other_locks, "own step, driver step", "no event: the device isn't involved"},
-    {READS | WRITES, MEMORY, NULL, "register access, peek or poke",
+    /* two driver steps without conflicting accesses to the driver's own memory */
+    {BY(LOCAL), DRIVER, are_other_locks, "own step, step of the driver", "no event: the device isn't involved"},
+    {READS | WRITES, MEMORY, NULL, "access of a register, peek or poke",
      "dev: memory_call_leaves_the_rest, access_leaves_the_rest (write), read_changes_nothing"},
     {BY(PEEK), BY(PEEK), NULL, "two peeks", "dev: memory_call_leaves_the_rest"},
     {MEMORY, BY(POKE), are_other_bytes, "peek or poke, poke of other bytes", "dev: memory_call_leaves_the_rest"},

@@ -276,7 +276,7 @@ static void stepped(int number, siginfo_t *info, void *context)
 
 /* --- evaluation --- */
 
-/* Another thread's access of the same memory, with at least one of the two a write; or null. */
+/* Another thread's access to the same memory, with at least one of the two a write; or null. */
 static const struct access *shared_with(const struct access *one)
 {
     for (uint32_t k = 0; k < logged.count; k++) {

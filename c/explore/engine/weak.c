@@ -19,7 +19,7 @@ struct store {
     uint32_t barriers; /* barriers made before it: stores made before one of them come first */
 };
 
-/* The latest state of a location that a processor has seen: its loads of the location return nothing older than
+/* The latest state of a location that a processor has seen: its loads from the location return nothing older than
    `time`. */
 struct seen {
     uint64_t bus;

@@ -46,7 +46,7 @@ static const char *local_words(const struct step *step, char *room)
     return room;
 }
 
-/* Describes an access of lent memory. With weak memory, a store may be pending, and a load may include the thread's own
+/* Describes an access to lent memory. With weak memory, a store may be pending, and a load may include the thread's own
    pending stores, or be old. */
 static const char *memory_words(const struct step *step, const char *stray, char *room)
 {

@@ -1,5 +1,5 @@
-/* A whole program: its main sets `is_over`, and returns. Until main has returned, its thread runs on, and ends the
-   process with a status of 3; with FIXED it doesn't. */
+/* A whole program: its main sets `is_over`, and returns. Until main has returned, its thread keeps running, and exits
+   the process with status 3; with FIXED it doesn't. */
 #include <pthread.h>
 #include <stdatomic.h>
 #include <stdlib.h>

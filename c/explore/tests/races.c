@@ -1,4 +1,4 @@
-/* `races MODE words..`, built with -fsanitize=thread: what orders two accesses of the same memory, and what doesn't. A
+/* `races MODE words..`, built with -fsanitize=thread: what orders two accesses to the same memory, and what doesn't. A
    mode with a name that starts with "no_" has a race. For c/explore/check.py: how each race is reported. */
 #define _GNU_SOURCE
 #include <pthread.h>

@@ -229,7 +229,7 @@ static uint32_t search(uint32_t preemptions, bool sleeps, uint64_t *sum)
     return runs == MOST_RUNS ? 0 : runs;
 }
 
-/* Returns a random action, often an access of what tasks share: loads and stores with weak memory, otherwise own
+/* Returns a random action, often an access to what tasks share: loads and stores with weak memory, otherwise own
    memory. */
 static uint8_t some_doing(bool is_weak)
 {

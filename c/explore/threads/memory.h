@@ -1,5 +1,5 @@
-/* Accesses of the driver's own memory as points, by --points: all accesses, or only those to one variable or in one
-   function. */
+/* Accesses to the driver's own memory as points, with --points: all accesses, or only those to a single variable or in
+   a single function. */
 #ifndef NICX_THREADS_MEMORY_H
 #define NICX_THREADS_MEMORY_H
 

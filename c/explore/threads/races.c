@@ -343,7 +343,7 @@ static bool is_before(const struct cell *cell, const struct clock *clock)
     return cell->time <= clock->at[cell->who];
 }
 
-/* Whether two accesses of the same bytes need an order. A driver may read a write-back's location before the device
+/* Whether two accesses to the same bytes need an order. A driver may read a write-back's location before the device
    writes it. */
 static bool conflict(const struct cell *old, const struct cell *new)
 {

@@ -1,4 +1,4 @@
-/* Data races: two accesses of the same memory by two threads, at least one of them a write, without an order between
+/* Data races: two accesses to the same memory by two threads, at least one of them a write, without an order between
    them. Vector clocks show which accesses are ordered. Each thread counts its own time, and learns other threads' times
    where it synchronizes with them: at a lock, an atomic operation, a thread's begin or end, a register, a message, a
    descriptor that the device wrote back. So one schedule shows a race even if its two accesses are far apart. */

@@ -1,5 +1,5 @@
-/* Calls that aren't intercepted, but could wait forever or end more than a task. In a task they are refused by name.
-   Elsewhere they work as usual. */
+/* Calls that aren't intercepted, but could wait forever or end more than a task. In a task, they are refused with a
+   message that names them. Elsewhere they work as usual. */
 #define _GNU_SOURCE
 #include <poll.h>
 #include <pthread.h>

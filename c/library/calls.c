@@ -157,7 +157,7 @@ void nic_free_snapshot(nic_kept kept)
 
 /* --- registers --- */
 
-/* Formats the line of an access: `w 0x01018 0x0000003f`, or `vw 3 0x1018 0x0000003f` for a function. */
+/* Formats the line of an access: `w 0x01018 0x0000003f`, or `vw 3 0x1018 0x0000003f` for a virtual function. */
 static void access_line(char line[LINE], const char *call, uint32_t address, const uint32_t *word)
 {
     struct nicl_text text = nicl_text_in(line, LINE);

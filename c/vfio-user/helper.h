@@ -25,7 +25,7 @@ struct helper_job {
 
 /* Starts it. Returns false with errno set if it can't. */
 bool helper_start(struct helper *it, const struct helper_job *job);
-/* Closes the line and, if `waits`, waits until the process has ended. */
+/* Closes the line and, if `waits`, waits until the process has exited. */
 void helper_end(struct helper *it, bool waits);
 
 #endif

@@ -89,7 +89,7 @@ static bool get_ready(const struct options *options)
     return true;
 }
 
-/* From here on the process opens no file. */
+/* After this, the process opens no file. */
 static bool settle(const struct options *options)
 {
     janitor_seal();

@@ -281,7 +281,8 @@ static void put_out(struct offload *it, const struct offload_job *job, size_t le
     sink(to, it->frame, length);
 }
 
-/* Writes the headers of a TSO packet's segment, which has `many` bytes from offset `at` of the whole send. */
+/* Writes the headers of a TSO packet's segment. The segment contains `many` bytes, starting at offset `at` of the
+   packet. */
 static void put_headers(struct offload *it, const struct offload_queue *of, size_t head, size_t at, size_t many)
 {
     const struct offload_job *job = &of->job;

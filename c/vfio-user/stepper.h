@@ -7,7 +7,7 @@
 
 #define STEPPER_QUEUES 128
 
-/* With a seed, a reset of the card takes time too: the datasheet makes drivers wait a millisecond. */
+/* With a seed, a reset of the card takes time too: the datasheet requires drivers to wait a millisecond. */
 struct late_reset {
     uint32_t word; /* value written to CTRL; 0: no reset is pending */
     uint64_t ends; /* in nanoseconds of the caller's clock */

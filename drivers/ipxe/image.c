@@ -20,7 +20,7 @@ static bool has(struct bytes in, uint64_t at, uint64_t count)
     return at <= in.length && count <= in.length - at;
 }
 
-/* Reads a number of 2, 4 or 8 bytes; 0 if it is out of range. */
+/* Reads a 2-, 4- or 8-byte number; 0 if it is out of range. */
 static uint64_t number(struct bytes in, uint64_t at, unsigned int count)
 {
     uint64_t value = 0;

@@ -84,7 +84,7 @@ fetch() {
 }
 
 # kernel NAME SUITE ARCHITECTURE: fetches the suite's stock kernel, which the package linux-image-ARCHITECTURE depends
-# on. From 7.2 on, that dependency is an empty package, which depends on two others.
+# on. Since 7.2, that dependency is an empty package, which depends on two others.
 kernel() {
     local package parts
     suite "$2" "$3"

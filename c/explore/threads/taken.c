@@ -15,7 +15,7 @@
 #include "form.h"
 #include "races.h"
 
-/* The piece's own header of 16 bytes, with data for reports. */
+/* The piece's own 16-byte header, with data for reports. */
 struct head {
     uint32_t class, size;
     const void *call; /* where it was allocated */
@@ -198,7 +198,7 @@ static bool is_over(void)
     return !nicxi_is_ours() || nicxi.result.outcome || nicxi_is_left();
 }
 
-/* Reports an access of freed memory: ".. freed by stop at driver.c:43". */
+/* Reports an access to freed memory: ".. freed by stop at driver.c:43". */
 static void fail_freed(const char *begin, const char *what, const void *call)
 {
     char here[MOST_NAMED], there[MOST_NAMED], where[MOST_NAMED];

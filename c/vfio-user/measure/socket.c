@@ -19,7 +19,7 @@
 #define RING 0x1000u
 #define FRAME 0x8000u
 #define SLOTS 512u
-#define BATCH 32u /* frames handed over by a write of the tail */
+#define BATCH 32u /* frames handed over by a tail write */
 
 static uint8_t *ram;
 

@@ -1,5 +1,5 @@
 /* Clients that try to block the server, run against the program itself. Whatever one client does, another client is
-   answered, the server sleeps when there is nothing to do, and it ends on request. endure PROGRAM FOLDER [TRIAL] */
+   answered, the server sleeps when there is nothing to do, and it exits on request. endure PROGRAM FOLDER [TRIAL] */
 #define _GNU_SOURCE
 #include <arpa/inet.h>
 #include <errno.h>

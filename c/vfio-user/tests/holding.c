@@ -131,7 +131,7 @@ static void eventfd_that_does_not_close(void)
 
 /* ---- connecting the wire ---- */
 
-/* Returns the process that started this one; 0 if this one has ended. */
+/* Returns the process that started this one; 0 if this one has exited. */
 static pid_t parent_of(const char *process)
 {
     char name[300], line[512];

@@ -1,5 +1,5 @@
-/* Names of sockets, with the program itself. It takes over only a dead socket of its user, its sockets are accessible
-   only to that user, and a server that ends doesn't remove another server's name. names PROGRAM FOLDER */
+/* Names of sockets, with the program itself. The program takes over only a dead socket of its user, its sockets are
+   accessible only to that user, and a server that exits doesn't remove another server's name. names PROGRAM FOLDER */
 #define _GNU_SOURCE
 #include <fcntl.h>
 #include <signal.h>

@@ -56,7 +56,7 @@ def frame(number: int, to: bytes, sender: bytes) -> bytes:
 
 
 class Guest:
-    """One function's connection. All functions share the memory; each has its own places from `base` on."""
+    """One function's connection. All functions share the memory; each has its own places, starting at `base`."""
 
     def __init__(self, path: str, file: int, base: int) -> None:
         self.socket = socket.socket(socket.AF_UNIX, socket.SOCK_STREAM)

@@ -49,7 +49,7 @@ class Asked(Server):
         super().__init__(place, name, *words)
 
     def ask(self, words: str) -> list[str]:
-        """Sends a request to the server. Raises Wrong if the server has ended."""
+        """Sends a request to the server. Raises Wrong if the server has exited."""
         try:
             with self.lock:
                 answer = super().ask(words)

@@ -21,7 +21,7 @@ NOT_TRIED, ENDS_BISECT = 125, 128
 
 
 class Words(argparse.ArgumentParser):
-    """Unknown arguments end the search with status 3, as everywhere in drivers/."""
+    """With unknown arguments, the search exits with status 3, as everywhere in drivers/."""
 
     status = 3
 

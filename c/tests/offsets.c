@@ -10,7 +10,7 @@ static const struct line {
     uint8_t function, status;
     uint32_t offset, address;
 } lines[] = {
-    /* registers that each virtual function has once, for virtual function 3 */
+    /* registers of which each virtual function has only one, for virtual function 3 */
     {POOLS_64, 3, NIC_DONE, 0x0000, 0x0030C}, /* PVFCTRL[3] */
     {POOLS_64, 3, NIC_DONE, 0x0008, 0x00008}, /* STATUS */
     {POOLS_64, 3, NIC_DONE, 0x0010, 0x042A4}, /* LINKS */

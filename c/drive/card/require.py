@@ -67,8 +67,8 @@ class Result:
 
 
 def _text(path: Path) -> str:
-    """Returns the contents of a list's file. Raises Refused unless it is a regular file below a size limit: a pipe might
-    never end."""
+    """Returns the contents of a list's file. Raises Refused unless it is a regular file below a size limit, because a
+    pipe might never end."""
     if not path.is_file():
         raise Refused(f"{path}: no file: --require takes a file with a row and its points on each line")
     try:

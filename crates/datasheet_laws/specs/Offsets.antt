@@ -20,7 +20,7 @@ receive_address q after = halves 64 (0x01000 + after) (0x0D000 + after) 0x40 q
 abbrev pub transmit_address : (q after : ℕ) → ℕ
 transmit_address q after = 0x06000 + after + 0x40 * q
 
--- The registers that function v has once.
+-- The registers of which function v has only one.
 pub record HasOwn (mode : Mode) (vfs v : ℕ) : Type 0 where
   pub control : mapped mode vfs v 0x0000 ≡ Pf (0x00300 + 4 * v)
   pub status : mapped mode vfs v 0x0008 ≡ Pf 0x00008
@@ -74,8 +74,8 @@ queue_offsets x =
     ++ map (λ after. 0x2000 + 0x40 * x + after)
     (0x00 ∷ 0x04 ∷ 0x08 ∷ 0x10 ∷ 0x18 ∷ 0x28 ∷ 0x38 ∷ 0x3C ∷ [])
 
--- All offsets of a function with k queues: of the registers that it has once, of its mailbox memory, of its vectors,
--- and of its queues.
+-- All offsets of a function with k queues: of the registers of which it has only one, of its mailbox memory, of its
+-- vectors, and of its queues.
 abbrev pub offsets_of : (k : ℕ) → List ℕ
 offsets_of k =
     (0x0000 ∷ 0x0008 ∷ 0x0010 ∷ 0x0100 ∷ 0x0104 ∷ 0x0108 ∷ 0x010C ∷ 0x0110 ∷ 0x0114 ∷ 0x0140 ∷ 0x02FC ∷ 0x0300

@@ -42,7 +42,7 @@ pub fn other_addresses_meet_none()
 
 /// At each listed offset, virtual function v, below `vfs` and with a pool, reaches the physical function's address that
 /// is listed by hand. This holds with GCR_EXT bits 1 to 0 at 1 (16 pools of 8 queues), 2 (32 of 4) and 3 (64 of 2). It
-/// covers the 14 registers that the function has once, its 16 words of mailbox memory, its vectors, and the 15
+/// covers the 14 registers of which the function has only one, its 16 words of mailbox memory, its vectors, and the 15
 /// registers of each of its queues.
 pub fn offsets_are_listed()
     ensures { OffsetsAreListed }

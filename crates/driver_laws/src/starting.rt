@@ -100,7 +100,7 @@ pub fn laid_queue_is_silent()
 {}
 
 /// A driver's own accesses preserve this state: each side is disabled, or enabled with an empty ring. A value written
-/// to a side takes effect, a side is enabled if its enable word is read with bit 25 set, and a lent, zero-filled block
+/// to a side takes effect. A side is enabled if its enable word is read with bit 25 set. A lent, zero-filled block
 /// becomes one of the driver's blocks.
 pub fn accesses_keep_sides_standing()
     ensures receive_write { WriteStands Rx }

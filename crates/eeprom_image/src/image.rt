@@ -15,8 +15,8 @@ use byteorder::{ByteOrder, LittleEndian};
 use std::alloc::{AllocError, Global};
 use std::marker::Model;
 
-/// An EEPROM image. It has 64 times a power of two words, from 64 to 16,384. All of its sections are inside the image,
-/// its checksum is correct, and its CSR section consists of whole register writes.
+/// An EEPROM image. Its size in words is 64 times a power of two, from 64 to 16,384. All of its sections are inside the
+/// image, its checksum is correct, and its CSR section consists of whole register writes.
 #[derive(Debug, Drop)]
 pub struct Image {
     words: Vec<u16>,

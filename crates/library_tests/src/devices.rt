@@ -204,7 +204,7 @@ impl Running {
         }
     }
 
-    /// Adds replies to the checksum of those before.
+    /// Adds replies to the running checksum.
     fn note<R: Abort>(&mut self, rt: &R, replies: Vec<Reply>) {
         let mut replies = replies;
         replies.reverse();

@@ -9,7 +9,8 @@ use crate::status::{DONE, OUT_OF_MEMORY};
 use std::alloc::Global;
 
 /// Takes a snapshot of the card: its device, with the bytes of the lent blocks, the receive list, the staged bytes and
-/// the transmitted frames, and which blocks are free. The card is unchanged. Stores the snapshot's pointer in `kept`.
+/// the transmitted frames, and which blocks are free. The card is unchanged. Stores a pointer to the snapshot in
+/// `kept`.
 ///
 /// Returns DONE, or OUT_OF_MEMORY, which leaves `kept` unchanged.
 #[unsafe(no_mangle)]

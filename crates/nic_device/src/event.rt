@@ -260,8 +260,8 @@ pub enum Reply<B = Buf> {
     },
 }
 
-/// A droppable copy of a packet buffer's contents. Contracts view it like the buffer, by its number and bytes, so an
-/// event equals its note. It stores the bytes without the trailing zeros, and the number of those zeros.
+/// A droppable copy of a packet buffer's contents. In contracts, a note and its buffer are the same value, a number and
+/// bytes, so an event equals its note. It stores the bytes without the trailing zeros, and the number of those zeros.
 #[derive(Debug, Drop)]
 pub struct Note {
     holding: Holding,

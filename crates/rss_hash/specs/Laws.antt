@@ -59,7 +59,8 @@ FragmentsHaveNoPorts classify =
     IsFragment header →
     classify (ipv4_frame to from header payload) ≡ plain_flow 4 (header.source ++ header.destination)
 
--- An IPv6 packet with a next header that has ports is classified by its addresses and its ports, whatever follows them.
+-- An IPv6 packet whose next header is that of a protocol with ports is classified by its addresses and its ports,
+-- whatever follows them.
 abbrev pub PortsOverIpv6 : (protocol : ℕ) → (ℕ → List ℕ → List ℕ → Flow) → (List ℕ → Flow) → Type 0
 PortsOverIpv6 protocol flow classify =
     (to from : List ℕ) (header : Ipv6Header) (source_port destination_port payload : List ℕ) →

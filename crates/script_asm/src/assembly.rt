@@ -39,9 +39,9 @@ fn read_sheet(alloc: Global, text: &str) -> Result<Sheet<'_>, ScriptFault>
 /// Assembles a script into its program, or returns its fault.
 ///
 /// The first line with `Syntax`, `UnknownName`, `Range`, `TwoLabels` or `TooLong` is reported. If that line has several
-/// of these faults, the first in this list is reported. If there is no such line, the first line that uses a label or
-/// data name that no line defines (`UnknownLabel`), or that pokes data that isn't 16 bytes long (`Range`), is reported.
-/// `OutOfMemory` may be returned in place of any other result.
+/// of these faults, the first in this list is reported. If there is no such line, the first line with one of these
+/// faults is reported: a label or data name that no line defines (`UnknownLabel`), or data to poke that isn't 16 bytes
+/// long (`Range`). `OutOfMemory` may be returned in place of any other result.
 #[tactic(auto, unfolding(crate::specs::Script::program_of))]
 pub fn assemble(alloc: Global, text: &str) -> Result<Program, ScriptFault>
     ensures program { IfOk result (λ program. program_of text.now ≡ Ok program) }

@@ -131,7 +131,7 @@ def check_growing(folder: Path, expect: Expect) -> None:
     busy_recording(whole, 30)
     lines = whole.read_bytes().splitlines(keepends=True)
     with served(file) as it:
-        expect("waits for" in it.part()["said"], "live: a missing file isn't reported")
+        expect("waiting for" in it.part()["said"], "live: a missing file isn't reported")
         at = 0
         for end in (1, 5, len(lines) // 3, len(lines) // 2, len(lines)):
             head, last = b"".join(lines[at : end - 1]), lines[end - 1]
@@ -235,7 +235,7 @@ def check_hostile(folder: Path, expect: Expect) -> None:
         with open(file, "ab") as to:
             to.writelines(b"x" * 1_000_000 for _ in range(30))
         said = it.until(lambda it: it["said"] != "")["said"]
-        expect("a line of a recording has at most" in said, f"live: an endless line: {said!r}")
+        expect("recording lines are at most" in said, f"live: an endless line: {said!r}")
         expect(it.peak() < 200, f"live: nicview used {it.peak()} MiB")
         status, seconds, _ = it.end()
         expect(status == 0 and seconds < 20, f"live: ctrl-C: status {status} after {seconds:.0f} s")

@@ -277,7 +277,7 @@ static void endless(struct peer *host, struct peer *function)
         peer_read(host, NIC_STATUS);
     CHECK(peer_count(control, "TSO sends in ") > segments && peer_read(function, NIC_VFTDH(0)) < tail);
     pass_both_ways(host);
-    CHECK(strstr(peer_request(control, "hold"), "ok") && strstr(peer_request(control, "tx 0"), "more are left"));
+    CHECK(strstr(peer_request(control, "hold"), "ok") && strstr(peer_request(control, "tx 0"), "more remain"));
     CHECK(strstr(peer_request(control, "go"), "ok"));
 }
 

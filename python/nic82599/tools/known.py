@@ -28,7 +28,7 @@ ABSENT: tuple[tuple[str, tuple[tuple[int, int, int, str], ...]], ...] = (
         (0x10140, 0x10140, 0x04, "SWSM"),
         (0x10160, 0x10160, 0x04, "SW_FW_SYNC"),
     )),
-    ("read LINKS only; the script line `link` sets it", (
+    ("read LINKS only; the `link` line in a script sets it", (
         (0x042B0, 0x042B0, 0x04, "ANLP1"),
         (0x042B4, 0x042B4, 0x04, "ANLP2"),
         (0x0420C, 0x0420C, 0x04, "PCS1GLSTA"),

@@ -59,7 +59,7 @@ class Wrong(Exception):
 
 @dataclass
 class Kit:
-    """The folder for tests, the compiler, and the folder of the libraries; builds and runs tests."""
+    """Builds and runs tests; contains their folder, the compiler, and the folder of the libraries."""
 
     folder: Path
     compiler: str

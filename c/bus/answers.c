@@ -110,7 +110,8 @@ void answer_eeprom(struct bus *it)
 
 /* ---- virtual functions without a pool ---- */
 
-/* Returns the physical function's address for a function's register outside its queues; BUS_SPACE if there is none. */
+/* Returns the physical function's address of a virtual function's register that belongs to no queue; BUS_SPACE if there
+   is none. */
 static uint32_t own_address(unsigned int function, uint32_t offset)
 {
     unsigned int vf = function - 1;

@@ -1,5 +1,5 @@
-"""Checks the report card: a correct driver passes each row; each bug of the corpus fails the row that finds it; a
-driver's forbidden access is reported, and the other rows continue.
+"""Checks the report card: a correct driver passes each row; each bug planted in the corpus makes the row that finds it
+fail; a driver's forbidden access is reported, and the other rows continue.
 
 `c/test` calls these checks. `c/drive/table` imports the bugs from this file.
 """
@@ -30,7 +30,7 @@ from explore.check import STRICT, Wrong, must_print, ran, sanitized_engine  # no
 
 @dataclass(frozen=True)
 class Bug:
-    """A bug of corpus/driver.c: the row that finds it, and the reported cause."""
+    """A bug planted in corpus/driver.c: the row that finds it and the cause it reports."""
 
     name: str
     row: str
@@ -40,7 +40,7 @@ class Bug:
 
 
 def wrongs(table: str) -> dict[str, tuple[str, ...]]:
-    """Returns the rows of a table of bugs: for each name, the values that follow it."""
+    """Parses a table of bugs. Returns, for each bug's name, the values that follow the name."""
     rows = re.findall(r"^WRONG\((\w+), (.*?)\)$", (HERE / table).read_text(), re.MULTILINE | re.DOTALL)
     return {name: ast.literal_eval(f"({words})") for name, words in rows}
 
@@ -102,7 +102,7 @@ def rows_of(folder: Path) -> dict[str, dict[str, Any]]:
 
 @dataclass
 class Kit:
-    """Where programs and cards go, and how to build programs."""
+    """The folder for programs and cards, and the settings with which programs are built."""
 
     folder: Path
     compiler: str
@@ -141,7 +141,7 @@ def none_failed(rows: dict[str, dict[str, Any]]) -> list[dict[str, Any]]:
 
 
 def check_right(kit: Kit, runs: int) -> str:
-    """The correct driver passes each applicable row, called by the card's threads and with its own threads."""
+    """The correct driver passes each applicable row, both when the card's threads call it and with its own threads."""
     said = []
     for defines, memory in (((), "strong"), (("THREADS",), "strong"), ((), "weak")):
         program = kit.build(HERE / "corpus/driver.c", *defines)
@@ -227,8 +227,8 @@ def changed(source: Path, changes: dict[str, str], to: Path) -> Path:
 
 
 def check_counts(folder: Path) -> None:
-    """Races are found on two plain counters that one thread updates and another reads, and in a copy of both counters.
-    The author needs no flag, and -Werror is allowed."""
+    """Races are found on two plain counters that one thread updates and another reads, and when both counters are
+    copied. The author needs no flag, and -Werror is allowed."""
     copied = changed(HERE / "corpus/driver.c", COPIED_COUNTS, folder / "copied_counts.c")
     how: list[object] = ["--rows", "stats-receive", "--runs", 200, "--no-pages", *PATIENT]
     for source, more, size in ((HERE / "corpus/driver.c", "", 8), (copied, f"-Werror -I{HERE}/corpus", 24)):
@@ -255,8 +255,7 @@ def check_accesses(kit: Kit) -> str:
 
 
 def check_seen(kit: Kit, runs: int, rows: str) -> str:
-    """The correct drivers have no race if accesses are observed, called by the card's threads and with their own
-    threads."""
+    """With accesses observed, the correct drivers have no race, whether the card's threads or their own call them."""
     said = []
     how: list[object] = ["--rows", rows, "--runs", runs, "--every", runs, "--jobs", kit.jobs, "--no-pages", *PATIENT]
     for source, defines in (("driver.c", ""), ("driver.c", "-DTHREADS"), ("pages.c", "")):
@@ -287,8 +286,8 @@ def check_blind(kit: Kit, wrong: Path, how: list[object]) -> None:
 
 
 def check_kept(kit: Kit, each: int = 1) -> str:
-    """If an event makes the driver forget a setting, the row of that setting and event fails, with a cause that names
-    them."""
+    """If an event makes the driver forget a setting, the row for that setting and event fails, with a cause that names
+    both."""
     own = replace(kit, flags=["-O0"])
     listed = nicdrive(kit.folder, [own.build(HERE / "corpus/driver.c"), "--list", "--rows", "kept"], 0)
     pairs = re.findall(r"^((\w+)-then-(\w+)) .*; then ", listed, re.MULTILINE)
@@ -360,7 +359,7 @@ def check_places(kit: Kit) -> str:
     return "a failed row names the driver's line"
 
 
-# Registers written after reception was enabled, at each of their addresses, and the names that the card reports.
+# Registers written after reception was enabled, at every address that they have, and the names that the card reports.
 LATE = {
     "NIC_SRRCTL(0)": "SRRCTL.0.",
     "0x02100": "SRRCTL.0.",
@@ -373,8 +372,8 @@ LATE = {
 
 
 def check_aliases(kit: Kit) -> str:
-    """A driver that writes registers through their aliases passes as before. A late write is reported by the register's
-    name, whichever of its addresses was used."""
+    """A driver that writes registers through their aliases still passes. A late write is reported with the register's
+    name, whichever address was used."""
     driver, words = HERE / "corpus/driver.c", ("--runs", 10, "--every", 10)
     states = [row["state"] for row in none_failed(kit.card(kit.build(driver, "ALIASES"), None, *words))]
     here = driver.read_text().replace('"bugs.h"', f'"{HERE}/corpus/bugs.h"')
@@ -387,7 +386,7 @@ def check_aliases(kit: Kit) -> str:
     return f"registers' other addresses: {states.count('passed')} rows passed, {len(LATE)} late writes named"
 
 
-# Bugs of corpus/bugs.h that are also found with the driver's memory in place, and misuses of pointers.
+# Bugs in corpus/bugs.h that are also found with the driver's memory in place, and misuses of pointers.
 BUGS_IN_PLACE = ("TAIL_BEFORE_DESCRIPTOR", "BUFFER_AGAIN_BEFORE_DD", "RECLAIM_BY_HEAD", "MISSING_WMB")
 FAULTS_OF_POINTERS = ("STORE_PAST_A_PIECE", "STORE_GIVEN_BACK", "STORE_IN_OPEN", "POINTER_TO_NOTHING")
 
@@ -578,7 +577,7 @@ IDLE = {
 @dataclass(frozen=True)
 class Edit:
     """A change to corpus/driver.c after which these rows neither fail nor reach what they try, and each row's report.
-    With the flag of nicd_can, if any, the rows aren't applicable."""
+    With the given flag of enum nicd_can, if any, the rows aren't applicable."""
 
     texts: dict[str, str]  # strings in the driver's source, and their replacements
     rows: dict[str, str]
@@ -779,7 +778,7 @@ def check_refusals(kit: Kit) -> str:
 
 
 def check_files(kit: Kit) -> str:
-    """The card as text, JUnit and page, and the comparison of two cards."""
+    """The card as text, as JUnit XML and as an HTML page, and the comparison of two cards."""
     small = HERE / "examples/small.c"
     before, after = kit.folder / "before", kit.folder / "after"
     rows: list[object] = ["--rows", "receive-one,setup-crc,send-one", "--runs", 50, "--no-pages", *PATIENT]

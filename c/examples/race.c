@@ -1,7 +1,7 @@
-/* A race of a poll loop, shown by an order of calls. A driver that finds its ring empty unmasks the interrupt again. If
-   it also clears EICR then, it loses a frame that arrived in between: the frame is in the ring, but no interrupt
-   reports it. In this example the frame arrives at that moment, because its arrival and its receive step are ordinary
-   calls. */
+/* A race in a poll loop, shown by one order of calls. A driver that finds its ring empty unmasks the interrupt again.
+   If it also clears EICR at that point, it loses a frame that arrived in between: the frame is in the ring, but no
+   interrupt reports it. In this example the frame arrives at that moment, because its arrival and its receive step are
+   ordinary calls. */
 #include <stdio.h>
 
 #include "nic82599.h"

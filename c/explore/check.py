@@ -101,7 +101,7 @@ class Kit:
 
 
 def of_known_memory(source: Path) -> bool:
-    """Whether a corpus driver says that its bug shows only if memory accesses are observed."""
+    """Whether a corpus driver states that its bug shows only if memory accesses are observed."""
     return "-fsanitize=thread" in source.read_text().partition("*/")[0] and source.parent.name == "corpus"
 
 
@@ -123,7 +123,7 @@ def vfs_of(source: Path) -> int:
 
 
 def check_files(kit: Kit, source: Path, program: Path, out: Path) -> None:
-    """A failure's schedule fails again, and its script's expects hold."""
+    """A replay of a failure's schedule fails again, and the expects in its script hold."""
     name = source.stem
     output = ran([program, "--replay", out / f"{name}.schedule"], 1)
     if "FAILED" not in output:
@@ -169,8 +169,8 @@ def check_pair(kit: Kit, source: Path, runs: int) -> tuple[str, Path, Path]:
 
 
 def check_corpus(kit: Kit, runs: int, preemptions: int, each: int = 1) -> str:
-    """Each bug of the corpus is found. Its twin passes `runs` random schedules, and up to ten times as many of the
-    exhaustive search. With `each`, only every `each`-th driver is tried."""
+    """Each bug in the corpus is found. Its twin passes `runs` random schedules, and up to ten times as many schedules
+    of the exhaustive search. With `each`, only every `each`-th driver is tried."""
     for source in corpus()[::each]:
         _, right, out = check_pair(kit, source, runs)
         words = ["--strategy", "exhaustive", "--preemptions", preemptions, "--runs", 10 * runs]
@@ -493,7 +493,8 @@ def check_choices(kit: Kit) -> str:
 
 
 def check_weak(kit: Kit) -> str:
-    """Litmus tests pass; a schedule found with weak memory records that, and --memory overrides a scenario's model."""
+    """Litmus tests pass; the file of a schedule found with weak memory says so, and --memory overrides a scenario's
+    model."""
     out = kit.out("weakly")
     said = ran([kit.build(HERE / "tests/weak.c")], timeout=HANGS).strip()
     program = kit.build(HERE / "corpus/missing_wmb.c")
@@ -537,7 +538,8 @@ def check_bounds(kit: Kit) -> str:
 
 
 def check_shards(kit: Kit) -> str:
-    """Shards together run what one search runs, each schedule once, except the first schedule of each bound."""
+    """Together, shards run the schedules that a single search runs, each once, except the first schedule of each
+    bound."""
     fixed, race = kit.build(HERE / "examples/race.c", "FIXED"), kit.build(HERE / "examples/race.c")
     out, shards = kit.out("shards"), 3
 
@@ -565,7 +567,7 @@ def check_shards(kit: Kit) -> str:
 
 
 def count_program(kit: Kit) -> Path:
-    """Builds the test of counting distinct schedules, which calls the engine itself."""
+    """Builds the test that counts distinct schedules. It calls the engine directly."""
     program = kit.folder / "distinct"
     words = [kit.compiler, *STRICT, *kit.flags, f"-I{C}/include", f"-I{HERE}/engine", HERE / "tests/distinct.c"]
     ran([*words, kit.explorer, C / "out/libnic82599.a", "-o", program])
@@ -573,7 +575,7 @@ def count_program(kit: Kit) -> Path:
 
 
 def check_refusals(kit: Kit) -> str:
-    """Invalid input is refused with status 2 and the reason; a schedule's file also with the line."""
+    """Invalid input is refused with status 2 and the reason, and for a schedule's file with the line too."""
     ran([kit.build(HERE / "tests/again.c")])
     program, out = kit.build(HERE / "tests/faulty.c"), kit.folder / "faults"
     for mode, wanted in REFUSALS.items():
@@ -695,7 +697,7 @@ def check_kit(kit: Kit) -> str:
     return "the kit's flows and mailboxes"
 
 
-# --- a driver's own threads, and races of its memory ---
+# --- a driver's own threads, and races on its memory ---
 
 # What is reported for these modes; in all other modes nothing is found.
 FORM_FAULTS = {
@@ -764,7 +766,7 @@ CPP = {
 
 
 def check_cpp(kit: Kit) -> str:
-    """Threads of C++, if its compiler is installed."""
+    """C++ threads, if a C++ compiler is installed."""
     if not shutil.which("g++"):
         return "no threads of C++, whose compiler isn't here"
     source, words = HERE / "tests/std_threads.cc", ["--quiet", "--jobs", 2, "--no-shrink", "--out", kit.folder]
@@ -1028,8 +1030,8 @@ UNSEEN_ATOMICS = "weak memory needs the driver's atomics and fences: compile the
 
 
 def check_own_memory(kit: Kit) -> str:
-    """Stores to the driver's own memory may be late. Litmus tests pass. A queue that is stopped forever is found if
-    a full barrier is missing, also by its shrunk schedule, but not with the barrier."""
+    """Stores to the driver's own memory may be late. Litmus tests pass. Without a full barrier, a queue stays stopped
+    forever: the search finds this, and the shrunk schedule reproduces it. With the barrier, nothing is found."""
     out, source = kit.out("own"), HERE / "tests/stop_wake.c"
     said = ran([kit.build_form(HERE / "tests/litmus.c", of_memory=True)], timeout=300).strip()
     wrong, right = (kit.build_form(source, *defines, of_memory=True) for defines in ([], ["FIXED"]))
@@ -1054,7 +1056,7 @@ def check_own_memory(kit: Kit) -> str:
 
 
 def check_program(kit: Kit, runs: int) -> str:
-    """A whole program is searched unchanged: its bug is found by how it ends, and as a race; its twin passes."""
+    """A whole program is searched unchanged: its bug is found from the way it ends, and as a race; its twin passes."""
     source, out = HERE / "examples/forwarder.c", kit.out("program")
     words = ["--quiet", "--jobs", 2, "--out", out]
     lost = "(end: main returns 1|deadlock: main waits in pthread_cond_wait for sent)"
@@ -1094,7 +1096,8 @@ int main(void)
 
 
 def check_threads(kit: Kit, searches: int) -> str:
-    """Searches run while another thread uses devices; without sanitizers also under the thread sanitizer."""
+    """Searches run while another thread uses devices. Without other sanitizers, they run under the thread sanitizer
+    too."""
     kits, more = [kit], ""
     if "-fsanitize=address,undefined" not in kit.flags:
         if links(kit.compiler, THREAD, kit.folder, ROOMS):

@@ -88,7 +88,7 @@ def check_cycle(kit: Kit, program: Path) -> str:
 
 
 def check_places(kit: Kit, program: Path) -> str:
-    """Each point has its line, and locks and conditions have their names, with each program that reads debug
+    """Each point has its line, and locks and conditions have their names, whichever program reads the debug
     information."""
     wanted = {}
     for number, line in enumerate(SOURCE.read_text().splitlines(), 1):
@@ -159,7 +159,7 @@ PARTS = {
 
 
 def page_of(path: Path) -> dict[str, Any]:
-    """Returns the data of a page, as its script reads them."""
+    """Returns the data in a page, as the page's script reads it."""
     found = re.search(r'<script type="application/json" id="data">\n(.*?)\n</script>', path.read_text(), re.S)
     if not found:
         raise Wrong(f"{path} has no data")

@@ -84,7 +84,7 @@ typedef struct nicd_rss {
 enum nicd_can {
     NICD_SHARED_SEND = 1, /* several threads may call `send` for one queue concurrently */
     NICD_FUNCTIONS = 2,   /* `open` supports the port of a virtual function */
-    NICD_HOST = 8,        /* `open` supports values of `functions` above 0 */
+    NICD_HOST = 8,        /* the driver can serve virtual functions: `open` supports `functions` above 0 */
     /* `open` and `close` don't change what the setup doesn't use, and don't reset the device */
     NICD_SHARED_DEVICE = 4,
 
@@ -102,7 +102,7 @@ enum nicd_can {
 /* A driver: its functions; a function that it lacks is null. Rows that need a missing function are reported as not
    applicable. `open` and `close` are required, and so is `send` or `receive` (or threads that call nicd_deliver).
 
-   For each queue the card calls `receive` in one thread at a time, and likewise `send` and `reclaim` (but see
+   For each queue the card calls `receive` in one thread at a time. The same holds for `send` and `reclaim` (but see
    NICD_SHARED_SEND). Calls for different queues may overlap. `interrupt` may run at any time between open and close, on
    top of any thread or concurrently with all of them, but never concurrently with itself for one vector. One thread
    makes the other calls (close, reset, filter, rss, mtu, resize, suspend, resume), and no receive, send or reclaim runs
@@ -160,8 +160,8 @@ typedef struct nicd_driver {
        call it concurrently with all other calls */
     bool (*link)(void);
 
-    /* The mailbox: of virtual function vf for port 0, or the virtual function's own mailbox (vf is then 0).
-       mailbox_send writes 1 to NICD_WORDS words for the other side; it returns false if the mailbox isn't free now.
+    /* The mailbox: for port 0, the mailbox of virtual function vf; for a virtual function, its own mailbox (vf is then
+       0). mailbox_send writes 1 to NICD_WORDS words for the other side; it returns false if the mailbox isn't free now.
        mailbox_receive reads and acknowledges a message from the other side; it returns false if there is none. */
     bool (*mailbox_send)(uint8_t vf, const uint32_t *words, uint32_t count);
     bool (*mailbox_receive)(uint8_t vf, uint32_t words[NICD_WORDS]);
@@ -183,7 +183,7 @@ typedef struct nicd_driver {
    503,808 bytes. The card opens at most two queues of 16 slots, four of 8, or two of the fewest slots that the driver
    supports. Two queues of 64 slots, with 2 KB for each slot in both directions, don't fit. */
 uint64_t nicd_dma_alloc(size_t bytes);
-/* Frees DMA memory by its first address. The device must no longer use it. */
+/* Frees the DMA memory that begins at this address. The device must no longer use it. */
 void nicd_dma_free(uint64_t bus);
 
 /* Returns a pointer to the byte at bus address `bus` in memory from nicd_dma_alloc, for a driver that accesses its

@@ -1,8 +1,9 @@
 /* A complete driver, plugged into the card: physical or virtual function, up to four queues, chained frames, MSI-X
    interrupts, filters, RSS, MTU, resizable rings, resets, suspend, link and mailbox.
 
-   It is correct. With -DBUG=NAME, a name of bugs.h, it contains one bug: those of c/explore's corpus and examples, and
-   similar ones, each as an author might write it. docs/report-card.md lists the row that finds each. */
+   It is correct. With -DBUG=NAME, it contains the bug that bugs.h lists under this name. The bugs are those in
+   c/explore's corpus and examples, and similar ones, each as an author might write it. docs/report-card.md lists the
+   row that finds each. */
 #include <string.h>
 
 #include "nic82599_drive.h"
@@ -138,7 +139,7 @@ static void stats(nicd_stats *stats)
     read_count(&driver.sent, &stats->tx_frames, &stats->tx_bytes);
 }
 
-/* --- registers; a function accesses those of its queues at other addresses --- */
+/* --- registers; a virtual function accesses its queues' registers at other addresses --- */
 
 static void put(uint32_t address, uint32_t word)
 {
@@ -834,7 +835,7 @@ static bool rss(const nicd_rss *wanted)
     return true;
 }
 
-/* Stops everything, then starts it according to the current setup. */
+/* Stops everything, then restarts it with the current setup. */
 static bool start_again(bool takes_memory)
 {
     rest_threads();
@@ -986,7 +987,7 @@ static bool function_sends(const uint32_t *words, uint32_t count)
         nicx_vf_write32(vf, NIC_VFMAILBOX, NIC_PVFMAILBOX_VFU);
         if (!(read_mailbox() & NIC_PVFMAILBOX_VFU))
             return false;
-        if (seen() & NIC_PVFMAILBOX_PFSTS) { /* reads the host's message first */
+        if (seen() & NIC_PVFMAILBOX_PFSTS) { /* reads the message from the PF's driver first */
             nicx_vf_write32(vf, NIC_VFMAILBOX, 0);
             return false;
         }
@@ -1037,7 +1038,7 @@ static bool host_sends(uint8_t vf, const uint32_t *words, uint32_t count)
     return true;
 }
 
-/* Takes the mailbox first, so that the function can't overwrite the request that is being read. */
+/* Takes the mailbox first, so that the virtual function can't overwrite the request that is being read. */
 static bool host_receives(uint8_t vf, uint32_t words[NICD_WORDS])
 {
     if (!is_asked(vf))

@@ -159,12 +159,12 @@ struct scenario {
     uint8_t links;                                        /* number of link changes; the first takes the link down */
     uint16_t length;                                      /* length of each frame; 60 if 0 */
     uint8_t type;                                         /* enum nic_rss_type of the flows that arrive */
-    const char *(*end)(void);                             /* a further judgement at the end, or null */
+    const char *(*end)(void);                             /* a further check when the schedule ends, or null */
     void (*see)(const nicxo_step *step, bool is_drivers); /* called for each step, or null */
     const struct reached *reached;                        /* requirements of a row that isn't in nicd_reaches */
 };
 
-/* A row of a family's table. Further fields of the scenario follow by name. */
+/* An entry in a family's table. Further fields of the scenario follow by name. */
 #define ROW(row, what, words, section, need, ...)                                                                      \
     {                                                                                                                  \
         .name = row, .title = what, .rule = words, .source = section, .needs = need, __VA_ARGS__                       \
@@ -290,7 +290,7 @@ struct drive {
     int timers[16]; /* timers of the vectors, in a scenario of late or repeated messages */
     struct {
         nicd_frame frame;
-        uint8_t beyond[64]; /* memory after the end, which the driver must not write */
+        uint8_t beyond[64]; /* memory past `frame`, which the driver must not write */
     } room[NICD_QUEUES];
 };
 
@@ -432,7 +432,7 @@ void nicd_resume(void);
 bool nicd_try_to_resize(uint16_t slots);
 /* Releases `count` of the late frames, so that they arrive. */
 void nicd_let_come(uint16_t count);
-/* Interrupts the flow: from its return until nicd_go_on, no receive, send or reclaim runs. */
+/* Interrupts the flow: after this call returns, no receive, send or reclaim runs until nicd_go_on. */
 void nicd_hold(void);
 void nicd_go_on(void);
 /* Releases one of the late frames, if any remain, and returns its number. */

@@ -108,7 +108,7 @@ void nicd_in_place_end(const struct piece *piece)
 
 /* --- what the device and the driver's calls write --- */
 
-/* Reads this range of device memory into `known` and `here`, as far as it belongs to pieces in place. */
+/* Reads the parts of this range of device memory that belong to pieces in place into `known` and `here`. */
 void nicd_in_place_copy(uint64_t bus, uint64_t bytes)
 {
     for (unsigned k = 0; k < MOST_PIECES; k++) {

@@ -173,7 +173,7 @@ const char *nicd_memory_near(uint64_t bus)
     return words;
 }
 
-/* Returns the size of the first piece of nicd_alloc that hasn't been freed. */
+/* Returns the size of the first piece from nicd_alloc that hasn't been freed. */
 static size_t first_own(void)
 {
     size_t size = 0;

@@ -167,8 +167,8 @@ static bool is_reset(const nicxo_step *step)
     return step->kind == STEP_WRITE && step->address == NIC_CTRL && step->word & (NIC_CTRL_RST | NIC_CTRL_LRST);
 }
 
-/* Whether a step is a reset of the function, by itself or by the PF's driver. A reset discards the frames waiting for
-   the function's pool, the destination of all frames of the scenario. */
+/* Whether a step resets the virtual function, requested by its own driver or by the PF's driver. A reset discards the
+   frames waiting for the virtual function's pool, the destination of all frames in the scenario. */
 static bool is_pool_reset(const nicxo_step *step)
 {
     bool is_functions = step->kind == STEP_VF_WRITE && step->address == NIC_VFCTRL;
@@ -201,7 +201,7 @@ static bool is_drivers(const nicxo_step *step)
     return step->thread != NICXO_NO_THREAD && (step->thread >= NICX_TASKS || !(nicd.cards >> step->thread & 1));
 }
 
-/* The driver may lend and take back only memory of nicd_dma_alloc. */
+/* The driver may lend and take back only memory from nicd_dma_alloc. */
 static void judge_lent(const nicxo_step *step)
 {
     if ((step->kind == STEP_LEND || step->kind == STEP_TAKE) && !nicd_memory_has(step->bus))
@@ -298,8 +298,8 @@ static void judge_sleep(const nicxo_step *step, bool is_of_driver)
         nicd_note("%s uses the device while the driver is suspended", nicxo_thread_name(nicxo_thread()));
 }
 
-/* Converts an access at a register's alias to its first address, because rows check only that address. A write at an
-   alias of bits 15:0 leaves the other bits unchanged. */
+/* Converts an access at a register's alias to one at the register's first address, because rows check only that
+   address. A write at an alias of bits 15:0 leaves the other bits unchanged. */
 static nicxo_step by_first_address(const nicxo_step *made)
 {
     nicxo_step step = *made;

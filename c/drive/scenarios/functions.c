@@ -91,7 +91,8 @@ static bool is_asked(void)
     return true;
 }
 
-/* Word `number` of message k. The words identify the message, and differ between the PF's side and the function's. */
+/* Word `number` of message k. The words identify the message, and differ between the PF's side and the virtual
+   function's. */
 static uint32_t word(bool of_host, uint32_t k, uint32_t number)
 {
     return (of_host ? 0xB0000000u : 0xF0000000u) | k << 8 | number;
@@ -264,7 +265,7 @@ static bool has_work(void *unused)
     return has_request(NULL) || (!mail.sent && is_free(NULL));
 }
 
-/* Sends one message as the PF's driver, and serves the function's requests. */
+/* Sends one message as the PF's driver, and serves the virtual function's requests. */
 static void host_does_both(void)
 {
     for (;;) {

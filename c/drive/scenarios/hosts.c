@@ -6,7 +6,7 @@ enum { FUNCTIONS_THERE = 2, PATIENCE = 3 };
 
 static struct {
     uint32_t given[FUNCTIONS_THERE], taken[FUNCTIONS_THERE];   /* sent by virtual functions; received by the driver */
-    uint32_t answered[FUNCTIONS_THERE], read[FUNCTIONS_THERE]; /* answers by the driver; messages read by functions */
+    uint32_t answered[FUNCTIONS_THERE], read[FUNCTIONS_THERE]; /* answers by the driver; messages read by VFs */
     uint32_t wanted;                                           /* messages expected from each virtual function */
 } mail;
 
@@ -126,7 +126,8 @@ static void function_does_both(void)
 
 /* --- the tested driver --- */
 
-/* Receives a message, if there is one, and checks that it is a complete message of the function. Stores its number. */
+/* Receives a message, if there is one, and checks that it is a complete message from the virtual function. Stores its
+   number. */
 static bool take(uint8_t vf, uint32_t *number)
 {
     uint32_t words[NICD_WORDS] = {0};
@@ -178,7 +179,8 @@ static void serve_and_answer(void *unused)
     }
 }
 
-/* Sends two messages, the second after the function has read the first. Also receives messages in the meantime. */
+/* Sends two messages, the second after the virtual function has read the first. Also receives messages in the
+   meantime. */
 static void tell_and_serve(void *unused)
 {
     uint32_t value = 0, number;

@@ -72,8 +72,8 @@ static void send_short_and_long(void)
 
 /* --- the write-back: DD in a slot, or the head if TDWBAL requests it --- */
 
-static bool was_read; /* the driver read a write-back of the device since it last sent frames */
-static bool has_head; /* the driver read TDH */
+static bool was_read; /* the driver has read a write-back since it last sent frames */
+static bool has_head; /* the driver has read TDH */
 
 static bool reaches(const nicxo_step *step, uint64_t at, uint32_t length)
 {

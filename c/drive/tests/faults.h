@@ -1,5 +1,5 @@
 /* Forbidden actions of faulty.c's drivers: for each fault, the row that reports it and the report as a regular
-   expression. The row after it must still pass. faulty.c takes the names from this file, check.py all of it. */
+   expression. The row after it must still pass. faulty.c uses only the names in this file; check.py uses all of it. */
 WRONG(CRASH_IN_RECEIVE, "receive-one", "crash: .*signal 11")
 WRONG(CRASH_IN_OPEN, "open-close", "crash: .*signal 11")
 WRONG(HANG_IN_RECEIVE, "receive-one", "hang: task receive0 reached no further point")

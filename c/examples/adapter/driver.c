@@ -186,7 +186,7 @@ static void close_ring(struct ring *ring)
     memset(ring, 0, sizeof *ring);
 }
 
-/* Enables or disables a queue, and waits until its register shows it. */
+/* Enables or disables a queue, and waits until its register shows the change. */
 static void switch_queue(uint32_t offset, uint32_t word)
 {
     os_write32(offset, word);

@@ -1,4 +1,4 @@
-/* Shared by the drivers of the corpus: the layout of packet memory, and how a queue is brought up. Each driver is one
+/* Shared by the drivers in the corpus: the layout of packet memory, and how a queue is brought up. Each driver is one
    file with one bug; -DFIXED builds its correct twin. */
 #ifndef CORPUS_H
 #define CORPUS_H

@@ -1,4 +1,5 @@
-/* The length of a frame is read before the bit that says the descriptor is done: it may be an earlier frame's. */
+/* The length of a frame is read before the bit that says the descriptor is done: it may be the length of an earlier
+   frame. */
 #include "corpus.h"
 
 enum { FRAMES = 2 };

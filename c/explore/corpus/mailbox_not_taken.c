@@ -1,5 +1,5 @@
-/* A function writes to its mailbox without taking it first (VFU), while the host writes to it too. The two messages
-   mix. */
+/* A virtual function writes to its mailbox without taking it first (VFU), while the PF's driver writes to it too. The
+   two messages mix. */
 #include "mailbox.h"
 
 static struct {

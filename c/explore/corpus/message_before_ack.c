@@ -1,4 +1,4 @@
-/* A function writes its next message into the mailbox before the host has acknowledged the first one. */
+/* A virtual function writes its next message into the mailbox before the PF's driver has acknowledged the first one. */
 #include "mailbox.h"
 
 enum { MESSAGES = 2 };

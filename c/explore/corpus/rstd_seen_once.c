@@ -1,5 +1,5 @@
-/* Two threads of a function read VFMAILBOX, but only one read returns RSTD, because it clears the bit. The thread that
-   doesn't wait for RSTD may read it, and drop it. */
+/* Two threads of a virtual function's driver read VFMAILBOX, but only one read returns RSTD, because it clears the bit.
+   The thread that doesn't wait for RSTD may read it, and drop it. */
 #include "mailbox.h"
 
 static struct {

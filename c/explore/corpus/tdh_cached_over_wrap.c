@@ -1,5 +1,5 @@
-/* A cleaner reads the head before it takes the lock, and meanwhile another thread cleans past that head. To reach the
-   old head, the cleaner goes around the ring once, over outstanding slots. */
+/* A cleaner reads the head before it takes the lock, and in the meantime another thread cleans past that head. To reach
+   the old head, the cleaner goes around the ring once, over outstanding slots. */
 #include "corpus.h"
 
 enum { FRAMES = 4, POOL = 3 };

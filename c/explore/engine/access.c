@@ -119,7 +119,7 @@ static void note_change(void)
     polls_of(nicxi.self)->times = 0;
 }
 
-/* Notes the physical function's address of a virtual function's access, before the access. */
+/* Called before a virtual function's access: notes the address that it has in the physical function. */
 static void note_physical(struct step *step)
 {
     step->physical = nicxi_physical(nicxi_peek(NIC_GCR_EXT), step->vf, step->address);

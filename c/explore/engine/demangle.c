@@ -148,8 +148,8 @@ static bool demangle_older(struct names *it)
 static void path(struct names *it);
 static void type(struct names *it);
 
-/* A number in base 62 (digits, small letters, capitals): "_" is 0, "0_" is 1. Of a number above 64 bits, only the low
-   bits count: a number this large tells crates apart, and isn't a position. */
+/* A number in base 62 (digits, small letters, capitals): "_" is 0, "0_" is 1. A number of more than 64 bits is
+   truncated to its low bits: numbers this large distinguish crates, and aren't positions. */
 static uint64_t take_base62(struct names *it)
 {
     static const char digits[] = "0123456789abcdefghijklmnopqrstuvwxyzABCDEFGHIJKLMNOPQRSTUVWXYZ";

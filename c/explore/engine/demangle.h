@@ -1,5 +1,5 @@
-/* Demangles names of Rust's functions and variables, in rustc's older mangling (_ZN..17h..E) and its newer one (_R..).
-   Leaves out generic arguments, lifetimes and hashes. Leaves C++ names alone. */
+/* Demangles the names of Rust functions and variables, in rustc's older mangling (_ZN..17h..E) and its newer one
+   (_R..). Leaves out generic arguments, lifetimes and hashes. Leaves C++ names alone. */
 #ifndef NICX_DEMANGLE_H
 #define NICX_DEMANGLE_H
 

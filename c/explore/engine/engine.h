@@ -252,11 +252,11 @@ struct engine {
     bool is_over; /* the program ended */
     nicx_result result;
     uint64_t epoch; /* the schedule's number in this process: a lock with another number is free (threads.c) */
-    /* Each act wakes the threads that wait, because it may have changed what they wait for. Changes are the acts that
-       weren't mere looks by waiting threads: two threads that poll each other act forever and change nothing. */
+    /* Each act wakes the threads that wait, because it may have changed what they wait for. `changes` doesn't count
+       acts in which a waiting thread only looked: two threads that poll each other act forever and change nothing. */
     uint64_t acts, changes;
 
-    /* Listeners to steps, and what is reported after a search. */
+    /* The step listener, the observer, and the data reported after a search. */
     nicxi_listener *listener;
     void *listener_argument;
     const nicxo_observer *observer; /* the observer, or null (observer.c) */

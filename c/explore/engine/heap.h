@@ -13,9 +13,9 @@
 bool nicxi_heap_open(void);
 /* After this call only this thread, which runs a schedule, allocates from the piece. */
 void nicxi_heap_is_mine(void);
-/* Has the library allocate from malloc on this thread until nicxi_heap_is_mine is called. This is for a controller of
-   the caller's own, which must survive when the search's is restored. Returns false and does nothing if that is already
-   so. */
+/* Has the library allocate from malloc on this thread until nicxi_heap_is_mine is called. This is for the caller's own
+   controller, which must survive when the search's controller is restored. Returns false and does nothing if that is
+   already so. */
 bool nicxi_heap_pause(void);
 void nicxi_heap_close(void);
 

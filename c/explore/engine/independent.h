@@ -8,7 +8,7 @@
    state. In either order they then have the same results and lead to the same state. */
 bool nicxi_are_independent(const struct step *a, const struct step *b);
 
-/* Return the row of the table by which two device steps commute, from 0, or -1; the number of rows; whether a row is
+/* Return the row in the table by which two device steps commute, from 0, or -1; the number of rows; whether a row is
    about two kinds of steps; the name of a row's law. */
 int nicxi_row_of(const struct step *a, const struct step *b);
 int nicxi_rows(void);

@@ -13,7 +13,7 @@ struct junit {
     const struct options *options;
     const struct totals *totals;
     bool has_distinct; /* distinct schedules were counted */
-    const char *name;  /* name of the case; from the second failure on it includes a number */
+    const char *name;  /* name of the case; for the second and later failures it includes a number */
     const struct junit_failure *failures;
     uint32_t count;
 };

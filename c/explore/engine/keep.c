@@ -66,7 +66,7 @@ static void write_files(struct post *post, void *argument)
         fprintf(stderr, "%s: the script stops before the end of the run: %s\n", scenario->name, it->script.unfit);
 }
 
-/* From the second failure on, the files' names contain its number. */
+/* For the second and later failures, the files' names contain the failure's number. */
 static FILE *open_file(const struct keeping *keeping, const char *ending, char path[MOST_PATH])
 {
     const char *out = keeping->options->out;

@@ -41,7 +41,7 @@ struct nicxi_races {
     void (*takes)(const void *object);
 };
 
-/* The file of linker options for the link form; the report card has another. */
+/* The file of linker options for the link form; the report card has a different one. */
 extern const char *nicxi_form_options;
 /* Advice on making memory accesses visible to the search, for a driver in another language; null: C. */
 extern const char *nicxi_to_be_seen;
@@ -100,7 +100,7 @@ int nicxi_store_point(const struct atomic *atomic, const void *bytes, bool relea
 void nicxi_drain(void);
 /* Notes what a load returned: a loop that keeps reading the same value counts as waiting. */
 void nicxi_polled(uint64_t at, uint64_t value);
-/* Notes a change of memory that other threads look at. */
+/* Notes a change to memory that other threads read. */
 void nicxi_changed_memory(void);
 
 /* Adds a point before a device step that a thread itself requests by this call. Afterwards, reports the step's result,

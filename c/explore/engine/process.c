@@ -64,7 +64,7 @@ void nicxi_note_in(struct post *post)
 static struct post *watched;
 static uint32_t seconds_left, seconds_given;
 
-/* Whether a lock of the process is being waited for: the system call will be restarted after the signal. */
+/* Whether the interrupted code waits for a lock of the process: the system call will be restarted after the signal. */
 static bool is_locked_up(const void *context)
 {
 #if defined(__linux__) && defined(__x86_64__)

@@ -144,7 +144,7 @@ static void print_point(void *argument, uint16_t actor, const struct step *step)
 }
 
 /* Returns null, or where the file doesn't fit: at one of its points, at its end, or because the schedule ended before
-   it. */
+   the file did. */
 static const char *unfit(const struct replay *it, const struct by_list *state, uint32_t points)
 {
     char name[96];

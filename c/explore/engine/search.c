@@ -210,8 +210,8 @@ static uint64_t most_runs(const struct options *options)
     return options->runs / options->shards + (options->runs % options->shards != 0);
 }
 
-/* Whether the limit on schedules excludes the rest of a part. The schedules before it are counted again now and then,
-   because other processes keep running more. */
+/* Whether the limit on schedules excludes the rest of a part. The schedules before it are counted again from time to
+   time, because other processes keep running more. */
 static bool is_spent(const struct job *job, const struct post *post)
 {
     static uint64_t before, part = UINT64_MAX, counted;

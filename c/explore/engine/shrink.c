@@ -54,7 +54,7 @@ static void follow(struct post *post, void *argument)
     post->is_found = post->result.outcome != NICX_FINE;
 }
 
-/* Compares words without their numbers: with a different count of missing frames, the failure is still the same. */
+/* Compares messages without their numbers: with a different count of missing frames, the failure is still the same. */
 static bool are_alike(const char *a, const char *b)
 {
     for (;;) {
@@ -69,7 +69,7 @@ static bool are_alike(const char *a, const char *b)
     }
 }
 
-/* The last actor in an endless schedule is a matter of chance. Words are compared as files contain them. */
+/* The last actor in an endless schedule is a matter of chance. Messages are compared as files contain them. */
 bool nicxi_is_the_same(const nicx_result *a, const nicx_result *b)
 {
     char words[sizeof a->words], others[sizeof b->words];

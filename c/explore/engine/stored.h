@@ -1,4 +1,4 @@
-/* The driver's last write to each place of packet memory and to each register. A later failure names its line. */
+/* The driver's last write to each place in packet memory and to each register. A later failure names its line. */
 #ifndef NICX_STORED_H
 #define NICX_STORED_H
 

@@ -27,7 +27,7 @@ unsigned nicxi_lines(const void *instruction, struct source_line *lines, unsigne
 /* Reads a source line, without leading and trailing blanks. Returns false if the file can't be read. */
 bool nicxi_source(const struct source_line *line, char *room, size_t size);
 
-/* Ends the program used for the lookups, if it runs. */
+/* Ends the program used for the lookups, if it is running. */
 void nicxi_symbols_close(void);
 
 #endif

@@ -35,7 +35,7 @@ struct processor {
     uint32_t seen_count, next;
 };
 
-/* A change of memory. What it overwrote is in `old`, at offset `at`. All changes of one step have the same time. */
+/* A change to memory. What it overwrote is in `old`, at offset `at`. All changes of one step have the same time. */
 struct change {
     uint64_t bus;
     uint32_t length, time;

@@ -1,8 +1,8 @@
 /* Weak memory. A processor's stores to lent memory stay pending for a while, and reach memory in any order that keeps
-   stores to one location in order. Its loads may return values from before memory's last changes. A barrier flushes
-   stores, or keeps later loads from being older than itself. Each task is a processor, and so is a handler beside; a
-   handler on a task runs on the task's processor. Which store reaches memory when, and how old a load is, are choices
-   of the schedule like any other.
+   stores to one location in order. Its loads may return values from before the last changes to memory. A barrier
+   flushes stores, or keeps later loads from being older than itself. Each task is a processor, and so is a handler
+   beside; a handler on a task runs on the task's processor. Which store reaches memory when, and how old a load is, are
+   choices of the schedule like any other.
 
    In the model `tso`, which is x86's, stores reach memory in program order, and no load is old.
 
@@ -10,7 +10,7 @@
    the same list. Loads from own memory are never old.
 
    The engine keeps a copy of lent memory, and what each change overwrote, so that it knows older values. Every change
-   of memory during a schedule goes through this file. */
+   to memory during a schedule goes through this file. */
 #ifndef NICX_WEAK_H
 #define NICX_WEAK_H
 
@@ -64,7 +64,7 @@ bool nicxi_can_land(const struct actor *actor);
 bool nicxi_can_be_older(const struct actor *actor);
 void nicxi_land(const struct actor *actor, struct step *step);
 
-/* Whether the copy equals memory; if not, a change of memory wasn't reported. */
+/* Whether the copy equals memory; if not, a change to memory wasn't reported. */
 bool nicxi_weak_is_exact(void);
 
 #endif

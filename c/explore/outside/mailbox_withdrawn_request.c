@@ -1,8 +1,8 @@
-/* A host and a virtual function. The function requests the number of its queues, and its address, through the
-   mailbox. If the first answer is late, the function assumes one queue, resets itself, and continues.
+/* The PF's driver and a virtual function. The virtual function requests the number of its queues, and its address,
+   through the mailbox. If the first answer is late, it assumes one queue, resets itself, and continues.
 
-   The host's answer to the withdrawn request overwrites the next request. With -DFIXED the host drops its answer if
-   another request has arrived. */
+   The PF driver's answer to the withdrawn request overwrites the next request. With -DFIXED the PF's driver drops its
+   answer if another request has arrived. */
 #include <string.h>
 
 #include "../driver.h"

@@ -63,7 +63,8 @@ extern void (*nicp_at_end)(void);
 /* A thread that reaches no point for this many seconds hangs; 0: no limit, or another process watches. */
 extern uint32_t nicp_hang;
 
-/* A driver's call. Returns its result, or NICP_OVER. The thread returns here too if the schedule ends during it. */
+/* A driver's call. Returns its result, or NICP_OVER. The thread returns here too if the schedule ends during the
+   call. */
 #define NICP_CALL(name, parameters, expression)                                                                        \
     int64_t name parameters;                                                                                           \
     int64_t name parameters                                                                                            \

@@ -37,8 +37,7 @@ static const char *ask_eeprom(void)
     return NULL;
 }
 
-/* If the reads of all schedules counted as one loop, this read would wait, and the device would run the EEPROM's
-   step. */
+/* If the reads of all schedules counted as one loop, this read would wait, and the device would run the EEPROM step. */
 static void begin_with_a_look(void)
 {
     look(NULL);

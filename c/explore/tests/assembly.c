@@ -17,7 +17,7 @@ static int count;
         int old = 0;                                                                                                   \
         __asm__ volatile("lock; cmpxchgl %2,%1" : "+a"(old), "+m"(count) : "r"(1) : "memory", "cc");                   \
     } while (0)
-/* No barrier, but a call's displacement that contains a barrier's bytes. The call leads 0x751F1 bytes back, so
+/* Not a barrier but a call, whose displacement contains the bytes of one. The call leads 0x751F1 bytes back, so
    something must be there: PADDED makes that room, whatever else the program contains. */
 #define DISTANCE __asm__ volatile("jmp 1f\n .byte 0xE8, 0x0F, 0xAE, 0xF8, 0xFF\n 1:" ::: "memory")
 #ifdef PADDED

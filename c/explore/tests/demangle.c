@@ -1,4 +1,4 @@
-/* Demangles names of Rust; other names, and damaged ones, stay as they are. */
+/* Demangles Rust names; other names, and damaged ones, stay as they are. */
 #include <stdio.h>
 #include <stdlib.h>
 #include <string.h>

@@ -115,7 +115,7 @@ static void close_ring(void)
     give_back(IS_FIXED);
 }
 
-/* --- a list that grows moves --- */
+/* --- a growing list moves --- */
 
 static uint64_t *list;
 static size_t length = 2;

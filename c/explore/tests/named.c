@@ -1,6 +1,6 @@
-/* `named MODE words..`, built with -fsanitize=thread: failures with words and pages that name what the driver's author
-   needs: the call that led to a helper, the slot of a ring, the call that took memory back, the store of an address, a
-   signal that woke no thread. */
+/* `named MODE words..`, built with -fsanitize=thread: failures whose messages and pages name what the driver's author
+   needs to know: the call that led to a helper, the slot of a ring, the call that took memory back, the store of an
+   address, a signal that woke no thread. */
 #define _GNU_SOURCE
 #include <pthread.h>
 #include <stdatomic.h>

@@ -1,7 +1,7 @@
 /* `orders STATES SEED`: from this many random states, runs pairs of steps in both orders, for each row of the table of
    independent steps and each pair of kinds in a row. Both orders must have the same results and lead to the same state:
    all registers, lent memory, frames. States are first compared byte by byte; if they differ, by everything that calls
-   show. */
+   can observe. */
 #include <stdio.h>
 #include <stdlib.h>
 #include <string.h>

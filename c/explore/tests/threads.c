@@ -22,7 +22,7 @@ static void expect(bool holds, const char *what)
     abort();
 }
 
-/* Brings up a queue and receives a frame: its words and its memory must be what was put there. */
+/* Brings up a queue and receives a frame: the registers and the memory must contain what was written here. */
 static void use(nic *n, unsigned number)
 {
     static const uint8_t bytes[FRAME] = {2, 0, 0, 0, 0, 1, 2, 0, 0, 0, 0, 2, 0x88, 0xB5};

@@ -73,7 +73,8 @@ static void flags(void *value)
     nicx_write32(NIC_EIMC, 2);
 }
 
-/* A handler on its task's processor: interrupting the task there isn't a race. With -DPOINTED it can't. */
+/* A handler on its task's processor: interrupting the task there isn't a race. With -DPOINTED no handler
+   interrupts the task there. */
 static void interrupted(void *unused)
 {
     (void)unused;

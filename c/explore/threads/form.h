@@ -117,7 +117,7 @@ bool nicxi_mutex_is_mine(const struct thread *self, const pthread_mutex_t *mutex
 void nicxi_mutex_take(struct thread *self, pthread_mutex_t *mutex, unsigned count, const void *at);
 unsigned nicxi_mutex_give(struct thread *self, pthread_mutex_t *mutex);
 
-/* Finds a barrier or an exchange by inline assembly in the driver's code. Returns its name, or null. */
+/* Finds a barrier or an exchange in the driver's inline assembly. Returns its name, or null. */
 const char *nicxi_find_assembly(const void **where);
 
 /* The driver's variables, and its memory from malloc. */

@@ -173,8 +173,8 @@ static bool is_filtered(void)
 #endif
 }
 
-/* Returns whether the trial has the expected result. Helpers are started without the server's threads, because they may
-   not wait for these threads. */
+/* Returns whether the trial has the expected result. The closer's threads are started only in trials of the server:
+   helpers aren't allowed the system calls needed to wait for them. */
 static bool try(const struct trial *trial)
 {
     CHECK(notifier_open() || !kernel_has_reads());

@@ -1,6 +1,7 @@
-/* Three guests of one card, each with its own memory: the physical function's, a virtual function's, and the one with
-   that function's shadow. At random they set up rings, even in each other's queues, name each other's addresses, leave
-   and connect. No byte of one guest's memory may be sent in another guest's frame or arrive in another guest's memory.
+/* Three guests of one card, each with its own memory: one has the physical function, one a virtual function, and one
+   the shadow of that virtual function. At random they set up rings, even in each other's queues, name each other's
+   addresses, leave and connect. No byte of one guest's memory may be sent in another guest's frame or arrive in another
+   guest's memory.
 
      owners SEED STEPS FOLDER */
 #define _GNU_SOURCE
@@ -182,7 +183,7 @@ static uint32_t ring_at(uint32_t queue, enum side side)
     return RINGS + RING * (4 * side + queue % OWN_QUEUE + (queue >= OWN_QUEUE ? 2 : 0));
 }
 
-/* Writes a queue's register, named by the physical function's address. In the function's window it has another
+/* Writes a queue register, given by its address in the physical function. In a virtual function's window it has another
    offset. */
 static void write_queue(unsigned int guest, uint32_t address, uint32_t word)
 {
@@ -359,7 +360,8 @@ static void open_all(const char *path, const char *wire_path, const char *contro
     control = peer_stream(control_path);
 }
 
-/* Clients of each memory have sent frames, and the guests have received some: otherwise nothing was tested. */
+/* For each guest, the clients of its two memories have together sent frames, and a frame from the wire is in at least
+   one of the two memories. Otherwise nothing was tested. */
 static void check_traffic(void)
 {
     for (unsigned int guest = 0; guest < GUESTS; guest++) {

@@ -1,5 +1,5 @@
-/* A server of c/vfio-user in a thread of this process, and its guests, one at a time. Each sends the messages of an
-   input, and is gone when the server has served them and closed the connection. A thread reads the replies. The server
+/* A server of c/vfio-user in a thread of this process, and its guests, one at a time. Each sends the messages in an
+   input, and ends when the server has served them and closed the connection. A thread reads the replies. The server
    continues, because opening its card takes a second, so an input may depend on earlier inputs. */
 #ifndef FUZZ_GUEST_H
 #define FUZZ_GUEST_H

@@ -1,4 +1,4 @@
-/* Messages of a guest to the server. The input's first byte says whether the guest greets properly. Then each message
+/* Messages from a guest to the server. The input's first byte says whether the guest greets properly. Then each message
    is a byte (its command, and whether it requests a reply), one for its files, two for its length, and its body. */
 #define _GNU_SOURCE
 #include <sys/eventfd.h>

@@ -1,7 +1,7 @@
-/* A command of nicbench and its input: scripts, objects, EEPROM texts and images, lines of hex. The input's first byte
-   selects the command, and the rest is its standard input. The program is part of this process (program_object compiles
-   it, with the counters for a fuzzer): its `main` and the calls that read and write are renamed. It returns its status,
-   and has freed all memory by then; a panic ends the process. */
+/* A command of nicbench and its input: scripts, objects, EEPROM descriptions and images, lines of hex. The input's
+   first byte selects the command, and the rest is its standard input. The program is part of this process
+   (program_object compiles it, with the counters for a fuzzer): its `main` and the calls that read and write are
+   renamed. It returns its status, and has freed all memory by then; a panic ends the process. */
 #define _DEFAULT_SOURCE
 #include <sys/types.h>
 #include <unistd.h>

@@ -31,9 +31,9 @@ static uint8_t *exchange(nic *n, uint32_t block, uint8_t *bytes)
     return former.bytes;
 }
 
-/* Puts the caller's memory into a block, and the block's own into the table. If an earlier exchange, meant to take the
-   caller's memory out, failed before it did anything, that memory is still in the block and is returned. The table then
-   still holds the block's own. */
+/* Puts the caller's memory into a block, and the block's own memory into the table. If an earlier exchange, meant to
+   take the caller's memory out, failed before it did anything, that memory is still in the block and is returned. The
+   table then still holds the block's own memory. */
 static bool put_in(nic *n, struct nicl_table *it, uint32_t number)
 {
     struct nicl_block *block = &it->runs.blocks[number];
@@ -165,7 +165,7 @@ void nicl_free_in_place(nic n)
         nicl_table_end(it);
 }
 
-/* Puts the caller's memory back into a block, with the bytes of the snapshot. If the snapshot doesn't lend the block,
+/* Puts the caller's memory back into a block, with the bytes from the snapshot. If the snapshot doesn't lend the block,
    the caller gets the memory back. A refused restore leaves the bytes in the caller's memory. */
 static void back_in_place(nic *n, struct nicl_table *it, uint32_t number, bool is_restored)
 {

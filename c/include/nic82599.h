@@ -406,7 +406,7 @@ static inline uint32_t nic_get(nic *n, uint32_t address)
 }
 
 /* Returns the number of queues in each pool in the mode that a GCR_EXT value selects: 8, 4 or 2; 0 without pools. This
-   is also the number of queues before the first queue of function 1. */
+   is also the number of queues before the first queue of virtual function 1. */
 static inline uint32_t nic_pool_queues(uint32_t gcr_ext)
 {
     uint32_t first = NIC_RDBAL(0);

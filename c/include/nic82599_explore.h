@@ -167,7 +167,7 @@ void nicx_arm(int timer);
    started. */
 bool nicx_disarm(int timer);
 
-/* Barriers of weak memory; with strong memory they are no-ops and aren't points. When nicx_wmb returns, all earlier
+/* Barriers for weak memory; with strong memory they are no-ops and aren't points. When nicx_wmb returns, all earlier
    stores of the task's processor to lent memory have reached memory. Its atomic stores to the driver's own memory may
    still be pending, but take effect before all later stores. A load after nicx_rmb returns no value older than the
    barrier. nicx_mb does both, and leaves no store pending. Locks are barriers too: taking one orders loads, and
@@ -273,7 +273,7 @@ enum nicx_outcome {
     NICX_ALWAYS = 2,   /* `always` returned a fault */
     NICX_DEADLOCK = 3, /* tasks wait, and no actor can run */
     NICX_ENDLESS = 4,  /* more points than a schedule may have */
-    NICX_FAULT = 5,    /* a queue's fault */
+    NICX_FAULT = 5,    /* a queue fault */
     NICX_MEMORY = 6,   /* the driver accessed memory that isn't lent, or that it freed */
     NICX_CHECK = 7,    /* nicx_fail */
     NICX_MISUSE = 8,   /* a call that isn't allowed at that place, such as unlocking another task's lock */

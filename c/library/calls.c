@@ -108,7 +108,7 @@ void nic_free(nic n)
     nicl_free_in_place(n);
 }
 
-/* --- snapshots: lines that are comments to a script --- */
+/* --- snapshots: in a script, their lines are comments --- */
 
 uint8_t nic_snapshot(nic *n, nic_kept *kept)
 {
@@ -814,7 +814,7 @@ uint8_t nic_note(nic *n, const char *text)
     return NIC_DONE;
 }
 
-/* --- the EEPROM: a script can't install an image, so these are comments to it too --- */
+/* --- the EEPROM: a script can't install an image, so these lines are comments too --- */
 
 static void installed(struct recording *it, const char *form, const uint8_t *bytes, size_t length, uint8_t status)
 {

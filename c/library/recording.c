@@ -76,8 +76,8 @@ static void say(const char *name, const char *why)
 
 /* --- files --- */
 
-/* Builds the file name of a controller, counted from 0: %p becomes the process ID, and from the second controller on, a
-   number follows. */
+/* Builds the file name of a controller, counted from 0: %p becomes the process ID, and for the second and later
+   controllers a number follows. */
 static void name_of(unsigned number, char *name, size_t room)
 {
     size_t at = 0;

@@ -1,5 +1,5 @@
 /* Reads the files 0 to COUNT - 1 of a folder with the server's reader of captures: `capture_reader FOLDER COUNT` prints
-   for each of them the number of its frames, their digest, and whether the reader reached the file's end. */
+   for each file the number of its frames, their digest, and whether the reader reached the file's end. */
 #include <inttypes.h>
 
 #include "capture.h"

@@ -291,7 +291,7 @@ static void call_of_registers(nic *n, unsigned which)
     }
 }
 
-/* The address of a function's offset in any mode is an address of the device. */
+/* In any mode, a virtual function's offset maps to an address of the device. */
 static void address_of(nic *n)
 {
     uint32_t mode = some32(), address = NIC_STATUS, word = 0;

@@ -511,7 +511,7 @@ int main(int count, char **words)
         return 0;
     }
     same_answers(bytes);
-    same_answers(bytes + 1); /* also at an odd address */
+    same_answers(bytes + 1); /* even at an odd address */
     parts(bytes + 1);
     many();
     snapshots(bytes + 1);

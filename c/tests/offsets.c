@@ -1,10 +1,11 @@
 /* The offsets of virtual functions: compares each register of the map in each mode with a table typed by hand. Then
-   checks for all offsets of all functions that an access by the function and one at the address show the same word. */
+   checks for all offsets of all virtual functions that an access by the virtual function and one at the address show
+   the same word. */
 #include "check.h"
 
 enum { OFF, POOLS_16, POOLS_32, POOLS_64, FUNCTIONS = 63, END = 0x3000 };
 
-/* The result for an offset of a function in a mode; an address of 0 means none. */
+/* The result for an offset of a virtual function in a mode; an address of 0 means none. */
 static const struct line {
     uint32_t mode;
     uint8_t function, status;
@@ -51,7 +52,7 @@ static const struct line {
     {POOLS_64, 0, NIC_STRAY, 0x1019, 0},
     {POOLS_64, 0, NIC_STRAY, 0x0820, 0},
     {POOLS_64, 0, NIC_STRAY, UINT32_MAX, 0},
-    /* functions that don't exist */
+    /* virtual functions that don't exist */
     {OFF, 0, NIC_NO_GROUP, 0x1018, 0},
     {POOLS_16, 16, NIC_NO_GROUP, 0x1018, 0},
     {POOLS_32, 32, NIC_NO_GROUP, 0x0008, 0},
@@ -81,7 +82,8 @@ static void counts_queues(void)
         CHECK(nic_pool_queues(word) == queues[word % 4]);
 }
 
-/* Checks the value that the function reads at an offset without a register: all ones without a pool, otherwise 0. */
+/* Checks the value that the virtual function reads at an offset without a register: all ones without a pool, otherwise
+   0. */
 static void is_stray(nic *n, uint8_t function, uint32_t offset, uint8_t status)
 {
     uint32_t word = 1;
@@ -89,7 +91,8 @@ static void is_stray(nic *n, uint8_t function, uint32_t offset, uint8_t status)
     CHECK(status == (word ? NIC_NO_GROUP : NIC_STRAY) && (word == 0 || word == UINT32_MAX));
 }
 
-/* Checks that both show the same word after a write by the function. Returns whether the offset has a register. */
+/* Checks that both show the same word after a write by the virtual function. Returns whether the offset has a
+   register. */
 static bool is_one_register(nic *n, uint32_t mode, uint8_t function, uint32_t offset)
 {
     uint32_t address = UNTOUCHED, own = 1, word = 2;
@@ -106,7 +109,7 @@ static bool is_one_register(nic *n, uint32_t mode, uint8_t function, uint32_t of
     return true;
 }
 
-/* Returns the number of registers of all functions, at multiples of 4 and the offsets after them. */
+/* Returns the number of registers of all virtual functions, at multiples of 4 and the offsets after them. */
 static unsigned registers_in(nic *n, uint32_t mode)
 {
     unsigned count = 0;

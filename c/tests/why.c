@@ -1,4 +1,4 @@
-/* Checks what nic_why says about the setups in rust/nic82599/tests/why.cases: `why CASES`. For each of them it checks
+/* Checks what nic_why says about the setups in rust/nic82599/tests/why.cases: `why CASES`. For each setup it checks
    that too long an explanation is cut at the end of a line, and that nothing changes. `why CASES FILE` writes the
    explanations into a file, in the format of the cases. */
 #include <string.h>

@@ -21,7 +21,7 @@
 #define BUDGET_MESSAGE 1024u       /* cost of a client's message */
 #define BUDGET_ACCESS 128u         /* cost of a register access */
 #define BUDGET_MAP 8192u           /* cost of mapping or unmapping a range of memory */
-#define BUDGET_RING 32768u         /* cost of a change of a ring's length */
+#define BUDGET_RING 32768u         /* cost of a change to a ring's length */
 #define BUDGET_RESET 32768u        /* cost of a card reset, or of a function reset by its client */
 #define BUDGET_EXPECTED (1u << 20) /* bytes of expected frames built in each turn */
 #define BUDGET_INTERRUPTS 64u      /* interrupt messages of a function in each turn */

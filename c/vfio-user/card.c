@@ -141,8 +141,8 @@ static void sent(void *of, uint16_t queue, const uint8_t *frame, size_t length)
 }
 
 /* Both sockets of a virtual function see its registers, but each client has its own vectors. The message is sent to the
-   client that has set up its vector. If both clients have, it is sent to the function's own guest, whichever client
-   accessed a register last. */
+   client that has set up its vector. If both clients have, it is sent to the virtual function's own guest, whichever
+   client accessed a register last. */
 static void on_message(void *of, unsigned int number, unsigned int vector)
 {
     const struct card *it = of;

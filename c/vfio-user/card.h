@@ -80,7 +80,7 @@ void card_send_to(struct card *it, card_sink *sink, void *to);
 /* Adds a socket of a function. */
 void card_add(struct card *it, struct function *function);
 
-/* Called by functions: for register accesses, a reset, and a change of the client's memory. */
+/* Called by functions: for register accesses, a reset, and a change to the client's memory. */
 uint32_t card_read(struct card *it, struct function *function, uint32_t offset);
 void card_write(struct card *it, struct function *function, uint32_t offset, uint32_t word);
 void card_reset_function(struct card *it, struct function *function);

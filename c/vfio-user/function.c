@@ -53,8 +53,8 @@ static bool has_kind(const struct function *it, enum card_interrupts kind)
 
 /* ---- configuration space ---- */
 
-/* A root port's slot has only functions 0 to 7, so the virtual functions follow the physical function directly; on the
-   card they start 128 further and use every second number. */
+/* A root port's slot has only functions 0 to 7, so the virtual functions follow the physical function directly. On the
+   card their numbers begin 128 later, and only every second number is used. */
 static void make_config(struct function *it)
 {
     const struct pci_identity identity = {

@@ -67,7 +67,7 @@ enum function_ready {
 };
 
 enum function_ready function_ready(const struct function *it, unsigned int vector);
-/* Sends its client a message of the device. */
+/* Sends its client a message from the device. */
 void function_message(struct function *it, unsigned int vector);
 /* Returns whether its client is notified of causes by the line or by MSI: there is a client, and its MSI-X is off.
    Virtual functions have neither. */

@@ -17,7 +17,7 @@
 enum log_kind {
     LOG_SERVER,  /* events of the server itself */
     LOG_CLIENT,  /* clients connecting and leaving */
-    LOG_MESSAGE, /* refused requests of clients */
+    LOG_MESSAGE, /* refused requests from clients */
     LOG_ACCESS,  /* driver accesses that the card refuses */
     LOG_FAULT,   /* faults of the device */
     LOG_CHECK,   /* accesses that --iommu-check reports */
@@ -27,7 +27,7 @@ enum log_kind {
 
 /* Opens standard error, once, before the process gives up its rights. */
 void log_open(void);
-/* Print a line, given without its newline: of the server, or about a client's action. */
+/* Print a line, given without its newline: one from the server, or one about a client's action. */
 __attribute__((format(printf, 2, 3))) void log_line(enum log_kind kind, const char *format, ...);
 __attribute__((format(printf, 3, 4))) void log_client(unsigned int client, enum log_kind kind, const char *format, ...);
 /* Returns whether lines are waiting. If so, log_tick should be called after LOG_WAIT_MS milliseconds. */

@@ -326,7 +326,7 @@ static void release(struct memory_map *it, const struct memory_range *range)
         retire_idle(it, window->file);
 }
 
-/* ---- requests of clients ---- */
+/* ---- requests from clients ---- */
 
 int memory_map_add(struct memory_map *it, const struct memory_range *asked, int file, uint64_t offset)
 {

@@ -79,7 +79,7 @@ void offload_cut(struct offload *it, unsigned int queue, struct budget *budget, 
 
 /* Discards the unfinished frame of a queue that was enabled again. */
 void offload_give_up(struct offload *it, unsigned int queue);
-/* Discards everything of a queue that was reset or got another owner. */
+/* Discards the whole state of a queue that was reset or got another owner. */
 void offload_forget(struct offload *it, unsigned int queue);
 
 #endif

@@ -265,7 +265,7 @@ static void stop(struct rings *it, enum side side, uint16_t queue)
     it->counts.stopped++;
 }
 
-/* Passes a disabled ring to the client that sets it up, and discards everything of another client. */
+/* Passes a disabled ring to the client that sets it up, and discards everything that belongs to another client. */
 static void claim(struct rings *it, enum side side, uint16_t queue, struct dma client)
 {
     struct ring *ring = &it->rings[side][queue];

@@ -171,7 +171,7 @@ static void capture(struct wire *it, enum capture_direction direction, const uin
     output_end(&it->capture, 0);
 }
 
-/* Keeps a reply to a frame of this sender, or the frame's copy from the hairpin. Returns whether it was kept. */
+/* Keeps a reply to a frame from this sender, or the frame's copy from the hairpin. Returns whether it was kept. */
 static bool comes_back(struct wire *it, unsigned int sender, const uint8_t *frame, size_t length)
 {
     return keep(it, &it->local[sender % WIRE_SENDERS], WIRE_COMING_BACK, frame, length);

@@ -70,7 +70,7 @@ void wire_cut(struct wire *it, bool is_cut);
 /* Returns whether a stream's other end was connected and has disconnected. */
 bool wire_is_gone(const struct wire *it);
 
-/* Sends a frame of the card. `sender` is the owner of its ring. */
+/* Sends a frame from the card. `sender` is the owner of its ring. */
 void wire_send(struct wire *it, unsigned int sender, const uint8_t *frame, size_t length);
 /* Stores the next frame for the card, padded to 60 bytes, in it->frame. Returns its length; 0 if none is waiting. With
    `plays`, this includes the file's frames. Replies and hairpins for each sender and frames from the other end take

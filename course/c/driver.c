@@ -301,8 +301,9 @@ static inline bool take_mailbox(uint8_t vf)
 /* Sends a message to virtual function vf. Returns false if its mailbox isn't free now. */
 static bool mailbox_send(uint8_t vf, const uint32_t *words, uint32_t count)
 {
-    /* TODO 6: take the mailbox. If it contains a request of the function (is_asked), release it (write 0) and return
-       false. Otherwise write the words, starting at PFMBMEM(16 * vf). PFMAILBOX.STS announces them and releases it. */
+    /* TODO 6: take the mailbox. If it contains a request from the virtual function (is_asked), release it (write 0) and
+       return false. Otherwise write the words, starting at PFMBMEM(16 * vf). PFMAILBOX.STS announces them and releases
+       it. */
     (void)vf;
     (void)words;
     (void)count;
@@ -313,7 +314,7 @@ static bool mailbox_send(uint8_t vf, const uint32_t *words, uint32_t count)
 static bool mailbox_receive(uint8_t vf, uint32_t words[NICD_WORDS])
 {
     /* TODO 6: if there is a request, take the mailbox, so that the virtual function can't overwrite it. Clear the
-       function's bit in PFMBICR by writing 1 (NIC_PFMBICR_VFREQ_IS), read the 16 words, and acknowledge
+       virtual function's bit in PFMBICR by writing 1 (NIC_PFMBICR_VFREQ_IS), read the 16 words, and acknowledge
        (PFMAILBOX.ACK). */
     (void)vf;
     (void)words;

@@ -243,14 +243,15 @@ class Course(Driver):
         return bool(self.read32(f"PFMAILBOX[{vf}]") & 1 << 3)
 
     def mailbox_send(self, vf: int, words: tuple[int, ...]) -> bool:
-        """Sends a message to function vf. Returns False if its mailbox isn't free now."""
-        # TODO 6: take the mailbox. If it contains a request of the function (is_asked), release it (write 0) and return
-        # False. Otherwise write the words, starting at PFMBMEM[16 * vf]. STS (bit 0 of PFMAILBOX) announces them and
-        # releases the mailbox.
+        """Sends a message to virtual function vf. Returns False if its mailbox isn't free now."""
+        # TODO 6: take the mailbox. If it contains a request from the virtual function (is_asked), release it (write 0)
+        # and return False. Otherwise write the words, starting at PFMBMEM[16 * vf]. STS (bit 0 of PFMAILBOX) announces
+        # them and releases the mailbox.
         return False
 
     def mailbox_receive(self, vf: int) -> tuple[int, ...] | None:
         """Receives a message from virtual function vf. Returns None if there is none."""
         # TODO 6: if there is a request, take the mailbox, so that the virtual function can't overwrite it. Clear the
-        # function's bit in PFMBICR by writing 1, read MAILBOX_WORDS words, and acknowledge (ACK, bit 1 of PFMAILBOX).
+        # virtual function's bit in PFMBICR by writing 1, read MAILBOX_WORDS words, and acknowledge (ACK, bit 1 of
+        # PFMAILBOX).
         return None

@@ -40,7 +40,7 @@ void memory_calls(struct dma_memory *it, struct bus_calls *calls);
 
 /* Lends `length` bytes to the device, with the byte at `host` at bus address `bus`. Both `bus` and `length` are
    multiples of 2,048, and bus addresses end at 128 MiB. Returns false if they don't fit, if the range is already lent
-   (in place: also if these bytes are, at another address), or if out of memory. */
+   (in place: if these bytes are, even at another address), or if memory runs out. */
 bool memory_lend(struct dma_memory *it, uint64_t bus, void *host, size_t length);
 
 /* Returns these bytes' address in this process, or null unless a single contiguous range that was lent contains

@@ -13,7 +13,7 @@ enum { API_1_0 = 0, API_1_1 = 2 };
 #define REFUSED 0x40000000u
 #define CLEAR_TO_SEND 0x20000000u
 #define NUMBER 0x0000FFFFu
-#define CONTROL 0x00000100u /* control message of the PF's driver */
+#define CONTROL 0x00000100u /* control message from the PF's driver */
 
 static struct {
     unsigned int vf;
@@ -30,7 +30,7 @@ static void put(uint32_t address, uint32_t word)
     bus_write(run_bus, BUS_PHYSICAL, address, word);
 }
 
-/* Sets the receive address after the physical function's own, for the function's pool alone. */
+/* Sets the receive address after the physical function's own, for the virtual function's pool alone. */
 static void set_address(const uint8_t mac[6])
 {
     unsigned int entry = host.vf + 1, pair = 2 * entry;

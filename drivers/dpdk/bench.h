@@ -1,11 +1,11 @@
 /* The bench that a program's driver runs on: either the bus, whose device works in the driver's memory (bench_bus.c),
-   or the guests' server's card in this process, which copies rings and has offloads (server/bench_card.c). */
+   or the guest server's card in this process, which copies rings and has offloads (server/bench_card.c). */
 #ifndef BENCH_H
 #define BENCH_H
 
 #include "bus.h"
 
-/* Opens the bench. Returns false if out of memory. */
+/* Opens the bench. Returns false if memory runs out. */
 bool bench_open(const struct bus_options *options);
 void bench_close(void);
 uint32_t bench_read(unsigned int function, uint32_t offset);

@@ -27,7 +27,7 @@ void points_flush(void);
 /* ---- state: saved at the end of bring-up, restored at the start of each schedule ---- */
 
 void state_begin(void);
-/* Registers memory to save. Returns false if out of memory. */
+/* Registers memory to save. Returns false if memory runs out. */
 bool state_keep(void *at, size_t length);
 void state_back(void);
 

@@ -56,7 +56,7 @@ static void serve(void *unused)
     nicx_write32(NIC_EIMS, MAILBOX);
 }
 
-/* Acts as the application on the PF's driver, which sends function 0 a message at any time. */
+/* Acts as the application that uses the PF's driver, and sends virtual function 0 a message at any time. */
 static void ping(void *unused)
 {
     (void)unused;

@@ -1,4 +1,4 @@
-/* Runs DPDK's driver with its transmit offloads, on the guests' server's card in this process. The card computes
+/* Runs DPDK's driver with its transmit offloads, on the guest server's card in this process. The card computes
    checksums, cuts TSO packets and inserts tags. drivers/dpdk/run --offloads compiles and calls it.
 
      offloads [--frames N] [--loud] [--turn out]

@@ -1,10 +1,10 @@
-/* Requests of virtual functions to the PF's driver, and its actions on them. */
+/* Requests from virtual functions to the PF's driver, and the PF driver's actions on them. */
 #ifndef REQUESTS_H
 #define REQUESTS_H
 
 #include <stdint.h>
 
-/* Checks which port receives frames to each address, after each request of a virtual function and each action of the
+/* Checks which port receives frames to each address, after each request from a virtual function and each action of the
    PF's driver. */
 void requests(void);
 

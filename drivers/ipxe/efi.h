@@ -56,7 +56,7 @@ void events_at_application_level(void (*call)(void));
 /* Reserves the shared memory and lends it to the device. */
 bool low_open(void);
 void low_close(void);
-/* Returns zeroed shared memory from a page boundary on, or null if none is left. */
+/* Returns zeroed shared memory that begins at a page boundary, or null if none is left. */
 void *low_take(size_t bytes);
 void pools_serve(EFI_BOOT_SERVICES *services);
 

@@ -199,7 +199,8 @@ static void link_changes(void)
     }
 }
 
-/* Sends more frames at once than fit: the function's ring is full, and the device drops the rest because of DROP_EN. */
+/* Sends more frames at once than fit. A virtual function's ring fills up, and the device drops the rest because of
+   DROP_EN. */
 static void burst(void)
 {
     static struct frame frame;

@@ -5,8 +5,8 @@
      frames=N queues=N functions=N parts=PART,PART..
 
    The parts, in the order in which they run: offloads (datagrams while the driver's offloads are on), filters, mtu,
-   stack, link, test, again, bind. Also: under (the physical function goes down and up while its virtual functions are
-   up), reta (leaves the redirection table as the PF's driver fills it), log (prints the kernel's log). */
+   stack, link, test, again, bind. Also: under (takes the physical function down and brings it back up while its virtual
+   functions are up), reta (leaves the redirection table as the PF's driver fills it), log (prints the kernel's log). */
 #define _GNU_SOURCE
 #include <errno.h>
 #include <stdio.h>

@@ -5,8 +5,8 @@
           [--turn in | out]
 
    It waits for the guest at PATH, and at PATH.v for virtual function v, and exits when the guest does. The shim's
-   answers are SWSM, ANLP1, EICS, EERD and ABSENT. --turn changes one byte of one frame. Status 0: all was correct, also
-   in the guest; 1: something was wrong; 2: a file can't be written; 3: unknown arguments. */
+   answers are SWSM, ANLP1, EICS, EERD and ABSENT. --turn changes one byte of one frame. Status 0: all was correct,
+   including in the guest; 1: something was wrong; 2: a file can't be written; 3: unknown arguments. */
 #include <errno.h>
 #include <stdio.h>
 #include <stdlib.h>

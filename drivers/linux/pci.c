@@ -137,7 +137,7 @@ static void make_sriov(struct function *it, unsigned int count)
 
 /* ---- messages ---- */
 
-/* Writes one message into a buffer of the guest. Returns false if it has none left. */
+/* Writes one message into one of the guest's buffers. Returns false if the guest has none left. */
 static bool send_one(struct function *it, unsigned int vector)
 {
     struct vhost_chain chain;
@@ -194,7 +194,7 @@ uint64_t pci_messages(unsigned int function)
     return function < function_count ? functions[function].sent : 0;
 }
 
-/* ---- requests of the guest ---- */
+/* ---- requests from the guest ---- */
 
 void pci_order_to(pci_orders *to)
 {

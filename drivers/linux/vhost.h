@@ -24,7 +24,7 @@ struct vhost {
     void *owner;
 };
 
-/* A message of the guest, and the buffer for the reply. */
+/* A message from the guest, and the buffer for the reply. */
 struct vhost_chain {
     uint16_t head;
     size_t out_length, in_length;
@@ -44,7 +44,7 @@ bool vhost_listen(struct vhost *vhost, const char *path);
 bool vhost_accept(struct vhost *vhost);
 void vhost_close(struct vhost *vhost);
 
-/* Serves one request of the guest. Returns false if the connection has ended. A malformed request is a problem. */
+/* Serves one request from the guest. Returns false if the connection has ended. A malformed request is a problem. */
 bool vhost_serve(struct vhost *vhost);
 
 /* Takes the next entry that the guest put into a ring. Returns false if there is none. */

@@ -1,4 +1,4 @@
-"""The far end of the small kernel's wire: checks that each frame sent comes back correctly, also after the wire was
+"""The far end of the small kernel's wire: checks that each frame sent comes back correctly, even after the wire was
 unplugged.
 
 drivers/small/run calls it with the script that boots a kernel, the kernel, the number of frames to send, and arguments

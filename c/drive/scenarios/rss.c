@@ -1,4 +1,4 @@
-/* Receive side scaling: flows of each hash type, and a change of the table during traffic. */
+/* Receive side scaling: flows of each hash type, and a change to the table during traffic. */
 #include <stdio.h>
 
 #include "../engine/drive.h"

@@ -17,7 +17,7 @@ const char *nicxi_law(int row);
 const char *nicxi_row_name(int row);
 
 /* Returns the physical function's address for an offset of a virtual function, with GCR_EXT as given; NO_ADDRESS if the
-   function has no register at that offset. */
+   virtual function has no register at that offset. */
 uint32_t nicxi_physical(uint32_t gcr_ext, uint8_t vf, uint32_t offset);
 
 /* Returns the side that a register or a step belongs to: 2 q for queue q's receive side, 2 q + 1 for its transmit side,

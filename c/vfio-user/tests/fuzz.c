@@ -16,8 +16,8 @@
 #include "nic82599.h"
 #include "peer/peer.h"
 
-#define SESSION_MOST 300 /* messages of one client */
-#define HOST_MOST 60     /* messages of the physical function's session, which brings its queues up when it connects */
+#define SESSION_MOST 300 /* messages from one client */
+#define HOST_MOST 60     /* messages from the PF's session, which brings its queues up when it connects */
 #define REST_TRIES 30000 /* tries of at least 10 ms each, for the server to close files */
 #define FILES 8
 #define FILE_BYTES (64u * 4096)

@@ -1,4 +1,4 @@
-/* Threads close files, so a client may become ready to be served at any moment, even between two checks of the server's
+/* Threads close files, so a client may become ready to be served at any moment, even between two checks in the server's
    loop, and then the loop must not sleep. In this test, after memory was removed, the closer reports "full" exactly N
    times, for each N. The linker replaces the server's own calls (--wrap). */
 #define _GNU_SOURCE

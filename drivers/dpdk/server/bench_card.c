@@ -1,4 +1,4 @@
-/* The guests' server's card without a server. This process is its one client, and its memory is accessed in place. The
+/* The guest server's card without a server. This process is its one client, and its memory is accessed in place. The
    file replaces c/vfio-user's dma.c, function.c, log.c and watch.c. */
 #include "bench_card.h"
 

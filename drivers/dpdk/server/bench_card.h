@@ -1,4 +1,4 @@
-/* The guests' server's card as a program's bench. Frames that go out have passed its offloads. */
+/* The guest server's card as a program's bench. Frames that go out have passed its offloads. */
 #ifndef BENCH_CARD_H
 #define BENCH_CARD_H
 

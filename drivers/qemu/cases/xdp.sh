@@ -1,5 +1,5 @@
 # For drivers/qemu/search --script: attaches and detaches XDP programs under traffic. They pass frames, drop them, or
-# send them back. At each attach and detach the driver takes the card down and up.
+# send them back. At each attach and detach the driver takes the card down and brings it back up.
 ethtool -K "$IFACE" lro off || exit 125
 n=0
 while [ $n -lt 6 ]; do

@@ -121,7 +121,7 @@ def seed(number: int, kind: str, text: str = "", lines: Sequence[str] = ()) -> O
 
 
 def statuses(folder: Path) -> None:
-    """A search's status for each result of its seeds, also for `git bisect run`."""
+    """A search's status for each result of its seeds, including for `git bisect run`."""
     loop = seed(1, "lockup", "soft lockup, in ixgbe_clean_tx_ring")
     hung = seed(2, "hung task", "ip blocked", ["RIP: 0010:ixgbe_clean_tx_ring+0x90"])
     quiet, lost = seed(3, ""), seed(4, "frames", "out: 299 of 300")

@@ -21,8 +21,8 @@ calm() {
     done
 }
 
-# The function's check: numbered frames go out. Frames from the wire are sent to the physical function's address, so
-# pings check the receive side.
+# The virtual function's check: numbered frames go out. Frames from the wire are sent to the physical function's
+# address, so pings check the receive side.
 exchange() {
     doing exchange
     neighbour

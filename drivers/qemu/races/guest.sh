@@ -1,7 +1,7 @@
 # Commands for a guest of drivers/qemu/search, which busybox's sh reads after guest/library.sh. Lines "@search .." go to
 # the runner, "@control .." and "@await .." to the server, "@host .." to the guest with the physical function.
 
-# doing WORDS..: announces the current operation, also to the watcher.
+# doing WORDS..: announces the current operation, to the watcher too.
 doing() {
     echo "@search doing $*"
     step=$((step + 1))

@@ -413,9 +413,9 @@ impl Course {
     /// Sends a message to virtual function vf. Returns false if its mailbox isn't free now.
     fn mailbox_send(&self, platform: &Platform, vf: u8, words: &[u32]) -> bool {
         let vf = u16::from(vf);
-        // TODO 6: take the mailbox. If it contains a request of the function (is_asked), release it (write 0) and
-        // return false. Otherwise write the words, starting at PFMBMEM.at(16 * vf). pfmailbox::STS announces them and
-        // releases the mailbox.
+        // TODO 6: take the mailbox. If it contains a request from the virtual function (is_asked), release it (write 0)
+        // and return false. Otherwise write the words, starting at PFMBMEM.at(16 * vf). pfmailbox::STS announces them
+        // and releases the mailbox.
         if !self.take_mailbox(platform, vf) {
             return false;
         }
@@ -435,7 +435,7 @@ impl Course {
     fn mailbox_receive(&self, platform: &Platform, vf: u8) -> Option<[u32; MAILBOX_WORDS]> {
         let vf = u16::from(vf);
         // TODO 6: if there is a request, take the mailbox, so that the virtual function can't overwrite it. Clear the
-        // function's bit in PFMBICR by writing 1, read the 16 words, and acknowledge (pfmailbox::ACK).
+        // virtual function's bit in PFMBICR by writing 1, read the 16 words, and acknowledge (pfmailbox::ACK).
         if !self.is_asked(platform, vf) || !self.take_mailbox(platform, vf) {
             return None;
         }

@@ -4,7 +4,7 @@
 #include "inside.h"
 
 #define SWSM 0x10140u
-#define SWSM_SMBI 0x1u /* the drivers' semaphore: a read returns and sets it */
+#define SWSM_SMBI 0x1u /* the semaphore between drivers: a read returns it and sets it */
 #define ANLP1 0x042B0u
 #define FWSM 0x10148u
 #define FWSM_VALID 0x8000u

@@ -20,8 +20,8 @@
 #define BUS_PHYSICAL 0u
 #define BUS_FUNCTIONS 64 /* the physical function and up to 63 virtual ones */
 #define BUS_QUEUES 128
-#define BUS_SPACE 0x20000u         /* bytes of registers of the physical function */
-#define BUS_FUNCTION_SPACE 0x4000u /* bytes of registers of a virtual function */
+#define BUS_SPACE 0x20000u         /* bytes in the physical function's register window */
+#define BUS_FUNCTION_SPACE 0x4000u /* bytes in a virtual function's register window */
 #define BUS_PHASES 24
 #define BUS_SLOT 16 /* bytes of a descriptor */
 
@@ -29,7 +29,7 @@ struct bus;
 
 /* Answers that the bus returns in the device's place. bus_tell_answers prints the reason for each. */
 enum bus_answer {
-    BUS_SWSM = 1,      /* the drivers' semaphore */
+    BUS_SWSM = 1,      /* the semaphore between drivers */
     BUS_ANLP1 = 2,     /* the state of the negotiation with the link partner */
     BUS_EICS = 4,      /* a read of EICS returns EICR's causes and clears none */
     BUS_EERD = 8,      /* EEPROM reads complete while master disable is set */
@@ -161,7 +161,8 @@ void bus_transmit(struct bus *it, uint16_t queue);
 bool bus_enable(struct bus *it, bool is_transmit, uint16_t queue);
 bool bus_eeprom(struct bus *it);
 
-/* Returns a register's word at the physical function's address, without side effects; 0 if there is no register. */
+/* Returns the word in the physical function's register at this address, without side effects; 0 if there is no
+   register. */
 uint32_t bus_peek(const struct bus *it, uint32_t address);
 
 /* Returns the number of queues in a pool according to GCR_EXT: 8, 4 or 2; 0 without pools. */

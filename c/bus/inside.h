@@ -23,7 +23,7 @@ struct message {
     uint32_t words[MAILBOX_SHOWN];
 };
 
-/* Requests of virtual functions that share a number: how many there were, and the words of the first. */
+/* Requests from virtual functions that share a number: how many there were, and the words of the first. */
 struct request {
     struct mailbox_counts counts;
     struct message asked, answered;
@@ -68,7 +68,7 @@ void strays_end(struct bus *it);
 void stray_read(struct bus *it, unsigned int function, uint32_t offset);
 void stray_write(struct bus *it, unsigned int function, uint32_t offset, uint32_t word);
 
-/* mailbox.c: the requests of virtual functions. */
+/* mailbox.c: the requests from virtual functions. */
 void mailbox_written(struct bus *it, unsigned int function, uint32_t offset, uint32_t word);
 
 #endif

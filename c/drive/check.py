@@ -345,7 +345,7 @@ def check_listed(kit: Kit) -> str:
 
 
 def check_places(kit: Kit) -> str:
-    """The last step of a failed row names a line of the driver, even if the card's task `control` made the call."""
+    """The last step of a failed row names a line in the driver, even if the card's `control` task made the call."""
     head = "static bool suspend(void)\n{\n"
     text = (HERE / "corpus/driver.c").read_text()
     source = kit.folder / "rests_badly.c"
@@ -439,7 +439,8 @@ MISTAKES: list[tuple[str, str, list[str], str]] = [
     ("TX_DATA (3u << 20", "TX_DATA (2u << 20", [], r"tx 0: slot 6: the descriptor's DTYP is 2 .context. with EOP 1"),
     ("1u << 25 | 1u << 27)", "1u << 25)", [], r"tx 0: TDH\[0\] 63: no descriptor of the ring has RS"),
 ]
-# The function that wrote. The proved library has no unwind tables, so the stack may end at its first function.
+# The sanitizer's report with the function that wrote. The proved library has no unwind tables, so the stack may end at
+# the library's first function.
 SANITIZER_SAYS = r"use-after-poison .*\nWRITE of size (.*\n)*? +#\d+ .* in (nicl_rx_step|nic_device::)"
 MISTAKES_SANITIZED: list[tuple[str, str, list[str], str]] = [
     ("", "", ["-DROOM=1024"], SANITIZER_SAYS),

@@ -235,8 +235,8 @@ def made(said: str) -> int:
 
 
 def check_same_answer(kit: Kit) -> str:
-    """The exhaustive search finds the same failure in the same number of schedules with any number of processes, also
-    with a bound."""
+    """The exhaustive search finds the same failure in the same number of schedules with any number of processes, and
+    reports if a limit ended it early."""
     source, out = HERE / "corpus/eicr_cleared_after_poll.c", kit.folder / "reported-out"
     words = ["--quiet", "--no-shrink", "--strategy", "exhaustive", "--out", out]
     wrong, right = kit.build(source), kit.build(source, "FIXED")
@@ -265,7 +265,7 @@ def check_same_answer(kit: Kit) -> str:
 
 
 def check_reported(kit: Kit) -> list[str]:
-    """Runs all checks of this file."""
+    """Runs all checks in this file."""
     program = replace_flags(kit).build(SOURCE)
     return [
         check_shrinking(kit, program),

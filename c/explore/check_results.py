@@ -180,5 +180,5 @@ def is_taken(race: Path, out: Path, text: str) -> bool:
 
 
 def check_results(kit: Kit, tries: int) -> list[str]:
-    """Runs all checks of this file."""
+    """Runs all checks in this file."""
     return [check_sums(kit), check_causes(kit), check_refused(kit, tries)]

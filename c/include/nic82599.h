@@ -231,9 +231,9 @@ void nic_free_snapshot(nic_kept kept);
 uint8_t nic_read32(nic *n, uint32_t address, uint32_t *word);
 uint8_t nic_write32(nic *n, uint32_t address, uint32_t word);
 
-/* Reads and writes a register of virtual function `vf` in the same way, by its offset in the function's registers. It
-   also returns STRAY if the device doesn't have this function or the mode (GCR_EXT) has no pool for it; the register
-   then reads as 0xFFFFFFFF. */
+/* Reads and writes a register of virtual function `vf` in the same way, by its offset in the virtual function's
+   registers. It also returns STRAY if the device doesn't have this function or the mode (GCR_EXT) has no pool for it;
+   the register then reads as 0xFFFFFFFF. */
 uint8_t nic_vf_read32(nic *n, uint8_t vf, uint32_t offset, uint32_t *word);
 uint8_t nic_vf_write32(nic *n, uint8_t vf, uint32_t offset, uint32_t word);
 

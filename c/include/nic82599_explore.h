@@ -230,7 +230,7 @@ void nicx_frames(uint32_t count, size_t length);
 uint32_t nicx_rss_hash(const nicx_flow *flow);
 uint16_t nicx_rss_queue(const nicx_flow *flow);
 
-/* A virtual function's mailbox, as the function's driver keeps it: {.vf = 3}. It keeps the bits that a read clears. */
+/* A virtual function's mailbox, as its driver keeps it: {.vf = 3}. It keeps the bits that a read clears. */
 typedef struct nicx_mailbox {
     uint8_t vf;
     uint32_t seen;

@@ -39,7 +39,7 @@ static void frame_of(const kind *it, uint8_t *frame, size_t length)
     frame[it->ether_type == 0x0800 ? 23 : 20] = it->protocol;
 }
 
-/* A receive queue for every entry of the redirection table, and a transmit queue. */
+/* A receive queue for every entry in the redirection table, and a transmit queue. */
 static void bring_up(nic *n)
 {
     nic_outcome outcomes[8];

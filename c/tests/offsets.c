@@ -1,4 +1,4 @@
-/* The offsets of virtual functions: compares each register of the map in each mode with a table typed by hand. Then
+/* The offsets of virtual functions: compares each register in the map in each mode with a table typed by hand. Then
    checks for all offsets of all virtual functions that an access by the virtual function and one at the address show
    the same word. */
 #include "check.h"

@@ -56,7 +56,7 @@ bool function_is_busy(const struct function *it);
 void function_accept(struct function *it);
 /* Serves its client after these poll events of the socket. */
 void function_serve(struct function *it, short events);
-/* Handles a possible unmasking of the line by its client's eventfd. */
+/* Handles a possible unmasking of the line through its client's eventfd. */
 void function_unmask(struct function *it);
 /* Whether its client can receive messages. */
 enum function_ready {
@@ -69,7 +69,7 @@ enum function_ready {
 enum function_ready function_ready(const struct function *it, unsigned int vector);
 /* Sends its client a message from the device. */
 void function_message(struct function *it, unsigned int vector);
-/* Returns whether its client is notified of causes by the line or by MSI: there is a client, and its MSI-X is off.
+/* Returns whether its client is notified of causes through the line or MSI: there is a client, and its MSI-X is off.
    Virtual functions have neither. */
 bool function_has_line(const struct function *it);
 /* Signals these pending enabled causes. Returns whether the client was notified. */

@@ -13,9 +13,9 @@
 struct line {
     struct vectors pin, msi; /* at most one eventfd each; virtual functions have neither */
     struct vectors unmask;   /* an eventfd that the client signals when it unmasks the line, as KVM does */
-    bool is_masked;          /* the client knows the level or masked the line: it is notified after it unmasks */
+    bool is_masked;          /* the client was notified or masked the line: next notified after it unmasks */
     uint32_t seen;           /* causes for which MSI was sent and which have been pending since */
-    uint64_t unmasked;       /* how often the client unmasked the line by its eventfd */
+    uint64_t unmasked;       /* how often the client unmasked the line through its eventfd */
 };
 
 void line_begin(struct line *it, bool is_there, unsigned int owner);

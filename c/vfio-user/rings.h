@@ -61,7 +61,7 @@ const struct rings_counts *rings_counts(const struct rings *it);
 struct rings *rings_copy(const struct rings *it);
 void rings_become(struct rings *it, struct rings *copy);
 
-/* Translate a register's word on its way to the device, or back, in an access by this client. */
+/* Translate the word of a register access by this client, on its way to the device or back. */
 uint32_t rings_to_device(struct rings *it, struct dma client, const struct bus_access *at, uint32_t word);
 uint32_t rings_to_driver(const struct rings *it, const struct bus_access *at, uint32_t word);
 

@@ -8,7 +8,7 @@
 #include "../in_place/by_device.h"
 
 struct dropped {
-    struct nicl_of of; /* an unused entry of the pool if its device is null */
+    struct nicl_of of; /* an unused entry in the pool if its device is null */
     struct nicl_drops drops;
 };
 

@@ -214,7 +214,7 @@ def families(text: str) -> list[Family]:
 
 
 def of_functions() -> list[Family]:
-    """Virtual functions' families. Before a function's counters come the registers of queues that the function doesn't
+    """Virtual functions' families. Before a virtual function's counters come the registers of queues that it doesn't
     have."""
     found = families(VIRTUAL_FAMILIES)
     rest = [Family(f"{it.row}, not its own", it.offset, it.stride, it.count(8)) for it in FUNCTION if it.of == "k"]

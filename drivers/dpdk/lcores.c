@@ -21,7 +21,7 @@
 #include "verdict.h"
 
 enum { LCORES = 2, FIFO = 64, MEBIBYTES = 48, PACKETS = 4095, BUFFER = 2048, FRAMES_MOST = 1000000 };
-#define IN_FLIGHT (SLOTS / 2) /* frames of a queue waiting on the wire or in its ring */
+#define IN_FLIGHT (SLOTS / 2) /* a queue's frames that wait on the wire or in its ring */
 #define REST 10               /* microseconds */
 #define PATIENCE 20           /* seconds without a frame before a run gives up */
 

@@ -10,7 +10,7 @@
 
 #include "seam.h"
 
-/* every register access of the driver's osdep header */
+/* every register access in the driver's osdep header */
 #define rte_read32(address) seam_read(address)
 #define rte_read32_relaxed(address) seam_read(address)
 #define rte_write32(word, address) seam_write(word, address)

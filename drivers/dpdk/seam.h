@@ -1,4 +1,4 @@
-/* All calls that replace accesses of DPDK's driver (reroute.h). This file is included before each of the driver's
+/* All calls that replace accesses by DPDK's driver (reroute.h). This file is included before each of the driver's
    sources. */
 #ifndef SEAM_H
 #define SEAM_H

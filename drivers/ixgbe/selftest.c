@@ -26,7 +26,7 @@ struct test {
 #define ARRAY_STEP 0x40
 #define COUNT(array) (sizeof(array) / sizeof *(array))
 
-/* the result for a row of the table */
+/* the result for a row in the table */
 struct result {
     unsigned int passed, failed, absent; /* absent: failed registers at addresses without a register */
     uint32_t address, got, wanted;       /* the first failure's address and values */

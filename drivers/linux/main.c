@@ -80,7 +80,7 @@ static bool open_trace(const char *name, FILE **file)
     if (name && !*file)
         fprintf(stderr, "can't write %s: %s\n", name, strerror(errno));
     if (*file)
-        setvbuf(*file, NULL, _IOLBF, 0); /* lets a debugger's user see its last line */
+        setvbuf(*file, NULL, _IOLBF, 0); /* so that a user of a debugger sees the last line */
     return !name || *file;
 }
 

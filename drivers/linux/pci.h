@@ -32,7 +32,7 @@ void pci_message(void *of, unsigned int function, unsigned int vector);
 /* Return the number of messages that a function has sent, and the number of all messages. */
 uint64_t pci_messages(unsigned int function);
 
-/* Prints a line for each function: accesses of configuration space and of registers, messages by vector. */
+/* Prints a line for each function: accesses to configuration space and to registers, messages by vector. */
 void pci_tell(void);
 
 #endif

@@ -54,7 +54,7 @@ CARDS = [Card("82599", "ixgbe", "888"), Card("e1000e", "e1000e", "d8"), Card("ig
 
 @dataclass
 class Figure:
-    """A row of the table: its name and unit, and whether more is better."""
+    """A row in the table: its name and unit, and whether more is better."""
 
     name: str
     unit: str

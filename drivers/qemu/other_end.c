@@ -7,7 +7,7 @@
 
      frames COUNT MOST   sends COUNT frames of 60 to MOST bytes to the card
      expect COUNT MOST   expects as many from it
-     came                prints how many have arrived, and in what time
+     came                prints how many have arrived, and how long that took
 
    Each answer ends with "ok". The program ends when standard input does. */
 #define _POSIX_C_SOURCE 200809L

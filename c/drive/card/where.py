@@ -7,9 +7,9 @@ import sys
 from pathlib import Path
 
 DRIVE = Path(__file__).resolve().parents[1]
-# The archives that a program of the card links, in this order.
+# The archives that a program for the card links, in this order.
 ARCHIVES = ("libnic82599_drive.a", "libnic82599_explore.a", "libnic82599.a")
-# What it links if accesses are observed: the linker's options, and the files that they name.
+# What the program links if accesses are observed: the linker's options, and the files that they name.
 SEEN = ("nic82599_drive.opts", "nic82599_threads.ld", "libnic82599_drive_threads.a", "libnic82599_threads.a")
 # A driver with all functions, used by --list to list the rows.
 WHOLE = DRIVE / "corpus/driver.c"

@@ -1,5 +1,6 @@
-/* The bugs of driver.c: for each, the row that finds it, its reported cause as a regular expression, and a description;
-   and "weak" if it needs weak memory. driver.c uses only the names in this file; check.py uses all of it. */
+/* The bugs planted in driver.c: for each, the row that finds it, its reported cause as a regular expression, and a
+   description; and "weak" if it needs weak memory. driver.c uses only the names in this file; check.py uses all of
+   it. */
 WRONG(BUFFER_AGAIN_BEFORE_DD, "send-one", "reclaim reports all of queue 0 as transmitted, but frame 0 in slot 0 isn't",
       "A buffer is reclaimed before the device reports it as transmitted")
 WRONG(EICR_CLEARED_AFTER_POLL, "interrupt-receive",

@@ -68,7 +68,7 @@ struct rings {
     struct transmit tx[NICD_QUEUES];
 };
 
-/* Frames of one direction in the upper 24 bits and their bytes in the rest, so that one access reads both. */
+/* One direction's frame count in the upper 24 bits and its byte count in the rest, so that one access reads both. */
 struct count {
     uint64_t frames_and_bytes;
 #ifdef PLAIN_COUNTS

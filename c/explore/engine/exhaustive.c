@@ -9,7 +9,7 @@
 /* IDLE marks a listed actor that had nothing to do at that point. */
 enum { PATIENCE = 32, IDLE = 0x8000 };
 
-/* An entry of a sleep set: a step already explored at this point, with everything that follows it. */
+/* An entry in a sleep set: a step already explored at this point, with everything that follows it. */
 struct asleep {
     uint16_t actor;
     bool goes_on;  /* the step's actor could continue after it */

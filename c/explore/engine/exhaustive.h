@@ -6,7 +6,7 @@
 #include "engine.h"
 
 /* How processes share an exhaustive search: each takes the next part when it is done with its own. A part is another
-   choice at one point of the first schedule. */
+   choice at one point in the first schedule. */
 struct parts {
     uint64_t next;
     volatile uint64_t most; /* highest-numbered part of which a schedule was run */

@@ -13,7 +13,7 @@ static inline bool is(const char *name)
     return !strcmp(mode, name);
 }
 
-/* An entry of a test's table: what a mode does. */
+/* An entry in a test's table: what a mode does. */
 struct mode {
     const char *name;
     void (*run)(void);

@@ -213,7 +213,7 @@ static void offloads(struct peer *it)
 
 /* ---- pieces ---- */
 
-/* A tail that moves around the longest ring reads only a few descriptors each time. */
+/* When a tail moves around the longest ring, the server reads only a few descriptors each time. */
 static void tails(struct peer *it)
 {
     start_host(it, SLOTS_MOST);

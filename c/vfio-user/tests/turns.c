@@ -236,7 +236,7 @@ static void long_datagrams(const char *folder)
 
 #define GIBIBYTE (UINT64_C(1) << 30)
 
-/* Each client maps as much of one file, which costs nothing, as its limit allows, and no more. */
+/* Each client maps as much of one file as its limit allows, and no more. The file costs the client nothing. */
 static void bytes_of_memory(void)
 {
     static const char *const words[] = {"--functions=1", "--client-memory=1", "--quiet", NULL};

@@ -50,7 +50,7 @@ def said(it: Outcome) -> str:
 
 
 def again(it: Outcome) -> str:
-    """Returns the result of the second try: the same verdict, another, or none."""
+    """Returns the result of the second try: the same verdict, a different one, or none."""
     if it.again is None:
         return ""
     if it.again.verdict == it.verdict:

@@ -14,7 +14,8 @@ struct peer {
     uint16_t id;
 };
 
-/* Starts a server with these arguments, null-terminated, in addition to its socket's. Returns the socket's name. */
+/* Starts a server with these arguments, null-terminated, in addition to the argument for its socket. Returns the
+   socket's name. */
 const char *server_start(const char *const *words);
 /* Ends it with SIGTERM, and checks that it succeeded. */
 void server_stop(void);

@@ -158,8 +158,8 @@ static void forget_reset(const struct bus *it, unsigned int function, uint32_t o
     }
 }
 
-/* Returns whether the write disables a side of a queue. A driver that doesn't poll for the disable soon clears the
-   ring; by then, the queue of a real card is off. */
+/* Returns whether the write disables a side of a queue. A driver that doesn't poll for the disable clears the ring
+   shortly afterwards. By then, the queue is off on a real card. */
 static bool is_disable(struct place place, uint32_t word)
 {
     return place.part == BUS_SWITCH && !(word & NIC_RXDCTL_ENABLE);

@@ -6,7 +6,8 @@
 #include <stdbool.h>
 #include <stdint.h>
 
-/* A checksum that a legacy transmit descriptor requests: over the bytes starting at `start`, stored at `at`. */
+/* A checksum that a legacy transmit descriptor requests: it covers the bytes starting at `start`, and is stored at
+   `at`. */
 struct legacy_sum {
     bool is_wanted;
     uint8_t start, at;

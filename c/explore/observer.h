@@ -1,6 +1,6 @@
 /* The explorer, as seen by a program that judges a driver's schedules while they run. The program is notified of each
    step, queries the running thread and the device, and gives a verdict. The report card (c/drive) is an observer: it
-   knows no more of the explorer than this header and nic82599_explore.h. A process has one observer. Make these calls
+   uses nothing of the explorer except this header and nic82599_explore.h. A process has one observer. Make these calls
    where the nic82599_explore.h calls are allowed, and in the observer's own functions. */
 #ifndef NICXO_OBSERVER_H
 #define NICXO_OBSERVER_H

@@ -13,7 +13,7 @@ static struct nicl_by_device tables;
 /* Number of tables. nicl_table_of reads it on every call. */
 static size_t count;
 
-/* All memory of callers is at `lowest` or above, and below `beyond`. */
+/* All callers' memory is at `lowest` or above, and below `beyond`. */
 static uintptr_t lowest = UINTPTR_MAX, beyond;
 
 void rattle_dealloc(void *piece);
@@ -61,7 +61,7 @@ bool nicl_table_low_half(const struct nicl_table *it, uint64_t low, uint64_t *ad
     return false;
 }
 
-/* Extends the bounds by the caller's memory from one address up to another. They are reset when no memory of callers is
+/* Extends the bounds by the caller's memory from one address up to another. They are reset when no caller's memory is
    left. */
 static void widen(uintptr_t from, uintptr_t to)
 {

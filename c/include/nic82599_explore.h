@@ -54,8 +54,8 @@ typedef struct nicx_scenario {
     uint16_t queues;
 
     /* Runs once in each process. Sets the device up with nicx_ calls, which aren't points here. Returns null, or why it
-       failed. Every schedule starts from the device's state at this function's return. During a wait or a pause here,
-       or a loop that keeps reading the same value, the device runs its steps. */
+       failed. Every schedule starts from the state that the device has when this function returns. During a wait or a
+       pause here, or a loop that keeps reading the same value, the device runs its steps. */
     const char *(*bring_up)(void);
     /* Runs before each schedule. Initializes the driver's state, and names its tasks, its handlers, and the frames and
        link changes to come. Accesses take effect immediately; waits work as in bring_up. */

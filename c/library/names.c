@@ -9,7 +9,7 @@
 
 enum { SPACE = 0x20000 };
 
-/* For the word at each address, the index of its run plus 1, or 0 without a register. Filled at the first lookup,
+/* For the word at each address, the index of its run plus 1, or 0 if there is no register. Filled at the first lookup,
    because a recording looks up every access. */
 static uint8_t register_at[SPACE / 4], offset_at[SPACE / 4];
 

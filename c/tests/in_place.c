@@ -499,7 +499,8 @@ static void forks_beside_threads(uint8_t *own)
         CHECK(pthread_join(threads[k], NULL) == 0);
 }
 
-/* `without-forks` is for valgrind, because the memory of other threads is lost in a child; `record SEED`. */
+/* Arguments: `without-forks`, for valgrind, because the memory of other threads is lost in a child; or `record SEED`,
+   which makes a recording. */
 int main(int count, char **words)
 {
     uint8_t *bytes = malloc(OWN * BLOCK + 1);

@@ -31,7 +31,7 @@ struct card_options {
     bool has_check; /* report each access outside the guest's memory, with the register accesses before it */
     bool has_seed;  /* delay steps at random, with this seed */
     uint64_t seed;
-    bool is_recorded; /* nic_record or its variable records the device */
+    bool is_recorded; /* the device is recorded (nic_record, or its environment variable) */
     FILE *trace;
 };
 

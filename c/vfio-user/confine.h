@@ -7,7 +7,7 @@
 
 /* The process's only task after it is confined. */
 enum confine_as {
-    CONFINE_SERVER, /* serves what is open, and accepts */
+    CONFINE_SERVER, /* serves open files, and accepts connections */
     CONFINE_CALLER, /* connects UNIX sockets */
     CONFINE_JANITOR /* removes names of sockets */
 };

@@ -1,5 +1,5 @@
 /* A socket at which a person or a program requests device steps and inspects the device. A request is a line. Its
-   answer ends with a line "ok", or "error: " and the reason. docs/guests.md lists the requests. */
+   answer ends with an "ok" line, or with "error: " and the reason. docs/guests.md lists the requests. */
 #ifndef VFU_CONTROL_H
 #define VFU_CONTROL_H
 

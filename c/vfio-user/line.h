@@ -39,7 +39,7 @@ bool line_level(struct line *it, bool level);
 bool line_causes(struct line *it, uint32_t causes);
 /* Sets the pending causes after an access. A cause that is no longer pending counts as new when it is raised again. */
 void line_after_access(struct line *it, uint32_t causes);
-/* Called at a reset: no cause was seen, and no message waits. */
+/* Called at a reset: no cause has been seen, and no message is waiting. */
 void line_forget(struct line *it);
 
 #endif

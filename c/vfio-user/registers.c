@@ -34,7 +34,7 @@ static bool split(const char *text, char name[NAME_BYTES], uint32_t *index)
     return true;
 }
 
-/* Finds an address below `bytes`, or the register of this name in a list. */
+/* Finds an address below `bytes`, or the register with this name in a list. */
 static bool find(const char *text, uint32_t bytes, const struct run *list, size_t count, uint32_t *at)
 {
     char name[NAME_BYTES];

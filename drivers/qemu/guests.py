@@ -5,7 +5,7 @@
     guests.py --list | --needs [the same words]
 
 drivers/qemu/run calls this program and documents its options. A guest's script is part of its initial file system. When
-the script prints a line "@control WORDS", these words go to the server's control socket, and the answer goes to the
+the script prints an "@control WORDS" line, these words go to the server's control socket, and the answer goes to the
 guest's log.
 """
 

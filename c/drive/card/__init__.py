@@ -1,1 +1,1 @@
-"""The report card of a driver: runs its scenarios and writes the results as text, JUnit and a page."""
+"""The report card of a driver: runs its scenarios and writes the results as text, JUnit XML and an HTML page."""

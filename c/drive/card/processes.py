@@ -22,7 +22,7 @@ from nic82599.tools.printable import printable
 MOST_PRINTED, PIECE = 1 << 20, 1 << 16
 # How often to check whether a program has exited, in seconds.
 EACH = 0.05
-# A line of /proc/PID/stat is shorter: a name of 16 bytes and 51 numbers of at most 20 digits.
+# The line in /proc/PID/stat is shorter than this: a 16-byte name and 51 numbers of at most 20 digits.
 MOST_OF_STAT = 1 << 12
 PR_SET_CHILD_SUBREAPER = 36
 

@@ -103,7 +103,7 @@ struct thread {
     bool is_service;
     bool unwinds;       /* its stack has frames to unwind when the schedule leaves it (left.h) */
     bool is_void;       /* has changed nothing visible since it waited */
-    uint64_t voided;    /* the count of changes when it last acted without making one */
+    uint64_t voided;    /* the count of changes when it last acted without changing anything */
     bool pending;       /* a handler about to start, or an armed timer */
     bool is_timer;      /* a handler that no message starts */
     uint8_t older;      /* weak memory: how many changes old the value of the current load is */
@@ -351,7 +351,8 @@ void nicxi_is_made_here(void);
 extern const char *nicxi_calls;
 /* What reports call a condition. */
 extern const char *nicxi_condition;
-/* Advice printed for a driver with threads or locks of the process: the link form, unless the card sets other words. */
+/* Advice printed for a driver that uses the process's own threads or locks: the link form, unless the card sets other
+   words. */
 extern const char *nicxi_for_threads;
 /* Whether this process runs schedules for a search. */
 bool nicxi_is_in_search(void);

@@ -7,7 +7,7 @@
 
 #include <stdbool.h>
 
-/* Sets whether the running thread has frames to unwind; returns whether it had before. A no-op if no thread runs. */
+/* Sets whether the running thread has frames to unwind; returns the previous setting. A no-op if no thread runs. */
 bool nicxi_unwinds(bool it_does);
 /* Whether the schedule is over, and the thread runs only to unwind. */
 bool nicxi_is_left(void);

@@ -17,7 +17,7 @@ void nicxo_observe(const nicxo_observer *observer)
     nicxi.observer = observer;
 }
 
-/* Returns the thread that took the step itself. There is none for choosing a value, a store that reaches memory, or an
+/* Returns the thread that itself took the step. There is none for choosing a value, a store that reaches memory, or an
    older load. */
 static uint8_t thread_of(uint16_t actor)
 {

@@ -43,7 +43,7 @@ struct nicxi_races {
 
 /* The file of linker options for the link form; the report card has a different one. */
 extern const char *nicxi_form_options;
-/* Advice on making memory accesses visible to the search, for a driver in another language; null: C. */
+/* Advice on making memory accesses visible to the search, for a driver in another language; null for a driver in C. */
 extern const char *nicxi_to_be_seen;
 extern const struct nicxi_form *nicxi_form;
 extern const struct nicxi_races *nicxi_races;
@@ -76,7 +76,7 @@ void nicxi_call(enum thread_state state, const char *call, const void *object);
    without it. */
 void nicxi_call_until(bool (*condition)(void *), void *argument, bool timed, const char *call, const void *object);
 
-/* Notes that the running thread accesses packet memory by this call. */
+/* Notes that the running thread accesses packet memory with this call. */
 void nicxi_note_call(const void *at);
 
 /* Adds a point before an access to the driver's own memory. */

@@ -217,7 +217,7 @@ const char *nicxi_line_of_wait(const struct thread *thread, char room[MOST_PLACE
 
 /* --- the object of a wait or a lock: its source text if known, otherwise its symbol, otherwise a number --- */
 
-/* The arguments of a call in a line of source, up to its closing parenthesis. */
+/* The arguments of a call in a source line, up to its closing parenthesis. */
 static bool arguments_of(const char *text, const char *call, char *room, size_t size)
 {
     const char *from = strstr(text, call);

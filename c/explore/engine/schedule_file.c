@@ -1,5 +1,5 @@
 /* The first line that isn't a comment names the schedule's scenario. Next come lines about what the schedule leaves
-   out; each further line is an actor. A line "cycle" precedes the points that repeat. */
+   out; each further line is an actor. A "cycle" line precedes the points that repeat. */
 #include <inttypes.h>
 #include <stdlib.h>
 #include <string.h>

@@ -247,7 +247,7 @@ static void message(void)
         data.value = 1;
 }
 
-/* --- a timer's function runs after what armed it, but isn't ordered with what follows that --- */
+/* --- a timer's function is ordered after the call that arms it, but not with anything after that call --- */
 
 static int timer;
 

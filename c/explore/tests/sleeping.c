@@ -229,8 +229,8 @@ static uint32_t search(uint32_t preemptions, bool sleeps, uint64_t *sum)
     return runs == MOST_RUNS ? 0 : runs;
 }
 
-/* Returns a random action, often an access to what tasks share: loads and stores with weak memory, otherwise own
-   memory. */
+/* Returns a random action, often an access to what tasks share: a load or store with weak memory, otherwise an access
+   to own memory. */
 static uint8_t some_doing(bool is_weak)
 {
     static const uint8_t memory[] = {3, 6, 13, 22, 23};

@@ -149,7 +149,7 @@ static void x_of_other(void)
     put(X, 2);
 }
 
-/* Each task stores its own variable, and loads the other's. */
+/* Each task stores to its own variable, and loads the other task's variable. */
 static void store_load(void)
 {
     put(X, 1);

@@ -53,8 +53,8 @@ struct freed_list {
 
 static struct freed_list freed, kept_freed;
 
-/* Set under the address sanitizer, which keeps its own malloc so that it sees wrong accesses. Then what a schedule
-   doesn't free leaks. */
+/* Set under the address sanitizer, which keeps its own malloc so that it sees wrong accesses. Memory that a schedule
+   doesn't free then leaks. */
 void __asan_init(void) __attribute__((weak));
 
 static bool is_here(void)

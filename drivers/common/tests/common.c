@@ -640,7 +640,7 @@ static void strays_are_kept(void)
     run_close();
 }
 
-/* Two buses are open at the same time, and neither serves the other's accesses. */
+/* Two buses are open at the same time, and neither serves accesses to the other. */
 static void buses_are_apart(void)
 {
     const struct bus_options options = {.fifo = 16, .functions = 1, .answers = BUS_ALL};

@@ -1,4 +1,5 @@
-# The guest with the virtual function, after guest.sh. Broadcasts don't reach it, so it sets ARP entries itself.
+# For the guest with the virtual function, read after guest.sh. Broadcasts don't reach it, so it sets ARP entries
+# itself.
 start() {
     load ixgbevf
     ip link set eth0 address 02:00:00:00:00:55

@@ -1,5 +1,6 @@
-# Commands for a guest of drivers/qemu/search, which busybox's sh reads after guest/library.sh. Lines "@search .." go to
-# the runner, "@control .." and "@await .." to the server, "@host .." to the guest with the physical function.
+# Commands for a guest of drivers/qemu/search, which busybox's sh reads after guest/library.sh. "@search .." lines go to
+# the runner, "@control .." and "@await .." lines to the server, "@host .." lines to the guest with the physical
+# function.
 
 # doing WORDS..: announces the current operation, to the watcher too.
 doing() {
@@ -71,7 +72,7 @@ host() {
 round() { doing round "$@"; }
 
 # own SEED ROUND SECONDS: starts the reporter's script, with a limit of SECONDS. Each line of its output is printed with
-# "script: " in front; a line "@control WORDS" is a request to the server.
+# "script: " in front; an "@control WORDS" line is a request to the server.
 own() {
     doing own "$2"
     own_round=$2
@@ -157,7 +158,8 @@ calm() { :; }
 # Sets the other end's ARP entry, so that the kernel sends no requests, which aren't numbered frames.
 neighbour() { arp -s 10.0.0.1 02:00:00:00:00:01; }
 
-# Makes the other end print which frames have arrived. Only its last report counts, because a busy machine is late.
+# Makes the other end print which frames have arrived. Only its last report counts, because frames arrive late on a busy
+# machine.
 sent() {
     grep eth0 /proc/net/dev
     ethtool -S eth0 | grep -E "^ *(tx|rx)_[a-z_]*: [1-9]"

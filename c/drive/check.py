@@ -167,7 +167,7 @@ def check_bugs(kit: Kit, runs: int, each: int = 1) -> str:
 
 
 def check_planted(kit: Kit, runs: int, count: int | None) -> str:
-    """Each fault of planted.txt that a row finds, or a sample of `count`, fails in that row."""
+    """Each fault in planted.txt that a row finds, or a sample of `count`, fails in that row."""
     try:
         planted = [(fault, fault.source()) for fault in sample(count)]
     except Unplanted as wrong:

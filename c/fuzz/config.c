@@ -1,5 +1,5 @@
 /* Accesses to a function's configuration space. An operation is a byte (1, 2 or 4 bytes; read or write; what to
-   check after it), two bytes of offset, and four of value. A write must change no read-only bit, and nothing outside
+   check after it), two bytes of offset, and four of value. A write must not change a read-only bit, or anything outside
    its bytes. */
 #include "input.h"
 #include "pci_config.h"

@@ -53,7 +53,7 @@ static void call_streams(int line, int file, void *path)
     }
 }
 
-/* Tries again and again until the line is closed. The first attempt is answered. */
+/* Keeps trying until the line is closed. The first attempt is answered. */
 static void call_datagrams(int line, int file, void *peer)
 {
     struct sockaddr_un name;

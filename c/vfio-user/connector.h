@@ -21,8 +21,8 @@ struct connector {
 void connector_begin(struct connector *it);
 /* Starts the process, for a stream to this path. Returns false with errno set if it can't. */
 bool connector_start_stream(struct connector *it, const char *path, bool is_confined);
-/* Starts it for datagrams: the socket, which has its own name, is connected to the peer again and again, because
-   another program may own the peer's name by then. */
+/* Starts it for datagrams: the socket, which has its own name, is connected to the peer repeatedly, because another
+   program may take over the peer's name. */
 bool connector_start_datagrams(struct connector *it, int file, const char *peer, bool is_confined);
 void connector_end(struct connector *it);
 

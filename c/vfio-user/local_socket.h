@@ -32,8 +32,8 @@ const char *local_bind(int *file, int type, const char *path);
 const char *local_listen(int *file, const char *path, int backlog);
 /* Connects to a stream without blocking. Returns -1 if no process listens, or the listener's backlog is full. */
 int local_connect(const char *path);
-/* Accepts a connection that waits at a listener, or returns -1. If the process has no file left for it, all listeners
-   rest for LOCAL_REST_MS. */
+/* Accepts a connection that waits at a listener, or returns -1. If the process has no file descriptor left for it, all
+   listeners rest for LOCAL_REST_MS. */
 int local_accept(int listener);
 bool local_rests(void);
 /* Adds another process's name for this one to remove. Returns false if there is no room. */

@@ -10,7 +10,7 @@
 
 enum { RECEIVE = 0, TRANSMIT = 1, ENABLE = 1 << 25, MOST_LINE = 300 };
 
-/* Frames that the device accepted, in the order in which it processes them, and the index of the oldest waiting one.
+/* Frames that the device accepted, in the order in which it processes them, and the index of the oldest waiting frame.
    They show which frame a step is about even if its result doesn't name one, as for a receive step. */
 static struct {
     uint16_t frames[NICX_FRAMES], let_in, oldest;

@@ -263,7 +263,7 @@ static void begin_part(struct exhaustive *it)
         it->mine = next_part(it->parts);
 }
 
-/* Moves to the next choice at the last node. At a point of the first schedule, each choice is a part. The first step of
+/* Moves to the next choice at the last node. At a point in the first schedule, each choice is a part. The first step of
    another process's part is run too, because the sleep sets of later parts need to know what it did. So the process
    explores exactly the schedules of its parts that a single process would. */
 static bool advance(struct exhaustive *it, struct node *node)

@@ -284,7 +284,7 @@ static bool take_line(const char *text, struct source_line *line)
     return true;
 }
 
-/* Sends the address, then 0: the answer to 0 marks the end of the wanted one. An answer is a line with the address,
+/* Sends the address, then 0: the answer to 0 marks the end of the wanted answer. An answer is a line with the address,
    then pairs of lines with a function and a place. */
 static unsigned ask(uintptr_t at, struct source_line *lines, unsigned most)
 {

@@ -1,4 +1,4 @@
-/* Values that the driver chooses: whether an allocation fails, which input arrives. Choosing one is a point of the
+/* Values that the driver chooses: whether an allocation fails, which input arrives. Choosing one is a point in the
    schedule at which no other actor can run. In lists of actors, a value is represented by `VALUES` plus the value. */
 #include "engine.h"
 

@@ -32,8 +32,8 @@ struct host {
     struct nicp_way *way;
 };
 
-/* The main thread blocks in read rather than on a lock: a search would mistake a thread that waits for a lock for the
-   driver's. */
+/* The main thread blocks in read rather than on a lock: a search would mistake a thread that waits for a lock for a
+   thread of the driver. */
 static struct {
     pid_t process;
     int turn;

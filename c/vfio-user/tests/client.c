@@ -575,7 +575,7 @@ static void in_pieces(const char *path)
 }
 
 /* Requests 40 MB and doesn't read: the server keeps the remaining replies, serves another client, and continues when
-   this one reads. */
+   this client reads. */
 static void without_reading(const char *path, const char *other_path)
 {
     struct peer peer, other;

@@ -156,7 +156,7 @@ static void is_no_client(void)
     close(ends[0]);
 }
 
-/* The module itself: names that are too long, and a listener that rests when no file is left. */
+/* The module itself: names that are too long, and a listener that rests when no file descriptor is left. */
 static void module(void)
 {
     char longer[200];

@@ -60,8 +60,8 @@ static size_t fill_for_driver(uint8_t *bytes, unsigned int number)
 
 /* ---- receiving ---- */
 
-/* Reads the bytes of a packet, segment by segment. The first bytes are read at a point of their own. The others are
-   read at the same point, to keep scripts short. */
+/* Reads the bytes of a packet, segment by segment. Reading a segment's first bytes is a point. Its other bytes are
+   read without one, to keep scripts short. */
 static size_t read_packet(const struct rte_mbuf *packet, uint8_t *bytes)
 {
     size_t length = 0;

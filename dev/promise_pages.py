@@ -1,7 +1,7 @@
 #!/usr/bin/env python3
 """Writes the pages of docs/promises from the comments of the sources: each public contract with its sentences.
 
-    dev/promise_pages.py            rewrites what is below the line MARK on each page of the list PAGES
+    dev/promise_pages.py            rewrites what is below the MARK line on each page in PAGES
     dev/promise_pages.py --check    names the stale pages, and exits with status 1 if there are any
 
 A row of a page is a public function with its `ensures` clauses, which may be a law, or a public type with its

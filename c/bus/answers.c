@@ -21,21 +21,22 @@ static const struct {
     unsigned int bit;
     const char *what, *why;
 } answers[] = {
-    {"SWSM", BUS_SWSM, "SWSM (0x10140) answered by the shim: the value last written; each read sets bit 0",
+    {"SWSM", BUS_SWSM, "reads of SWSM (0x10140) with the value last written; each read sets bit 0",
      "the register table lacks it, and drivers wait for it"},
-    {"ANLP1", BUS_ANLP1, "ANLP1 (0x042B0) answered by the shim: bits 19:16 read 1",
+    {"ANLP1", BUS_ANLP1, "reads of ANLP1 (0x042B0) with 1 in bits 19:16",
      "the register table lacks it, and drivers treat 0 as an error"},
-    {"EICS", BUS_EICS, "reads of EICS (0x00808) return the causes of EICR without clearing any",
+    {"EICS", BUS_EICS, "reads of EICS (0x00808) with the causes in EICR, without clearing any",
      "the bench returns 0, but Linux looks there for the causes of its other vector"},
-    {"EERD", BUS_EERD, "EERD (0x10014) during master disable: CTRL bit 2 is cleared for the EEPROM's step",
+    {"EERD", BUS_EERD, "EEPROM reads (EERD, 0x10014) during master disable: it clears CTRL bit 2 for the EEPROM step",
      "the bench doesn't answer then, but drivers still read their EEPROM"},
-    {"ABSENT", BUS_ABSENT, "STATUS, LINKS, mailbox and causes of virtual functions without a pool in this mode",
+    {"ABSENT", BUS_ABSENT,
+     "accesses to status, link, mailbox and interrupt registers by virtual functions without a pool",
      "the bench returns all ones, which Linux takes for a removed card"},
-    {"FWSM", BUS_FWSM, "FWSM (0x10148) answered by the shim: bit 15, valid firmware",
+    {"FWSM", BUS_FWSM, "reads of FWSM (0x10148) with bit 15 set: the firmware is valid",
      "the register table lacks it, and Linux 6.12 warns of a firmware error every two seconds"},
-    {"RXPBSIZE", BUS_RXPBSIZE, "RXPBSIZE[0] (0x03C00) answered by the shim: 512 KB",
+    {"RXPBSIZE", BUS_RXPBSIZE, "reads of RXPBSIZE[0] (0x03C00) with 0x80000: 512 KB",
      "the register table lacks it, and Linux warns about missing headroom"},
-    {"IPSEC", BUS_IPSEC, "SECTXSTAT (0x08804) and SECRXSTAT (0x08D04) answered by the shim: ready, IPsec off",
+    {"IPSEC", BUS_IPSEC, "reads of SECTXSTAT (0x08804) and SECRXSTAT (0x08D04) with 3: ready, IPsec off",
      "the register table lacks them, and Linux takes 0 for a card that supports IPsec"},
 };
 

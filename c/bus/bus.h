@@ -27,7 +27,7 @@
 
 struct bus;
 
-/* Answers that the bus returns in the device's place. bus_tell_answers prints the reason for each. */
+/* Answers that the bus returns in the device's place. bus_tell_answers prints what they are. */
 enum bus_answer {
     BUS_SWSM = 1,      /* the semaphore between drivers */
     BUS_ANLP1 = 2,     /* the state of the negotiation with the link partner */

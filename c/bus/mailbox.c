@@ -93,5 +93,5 @@ void mailbox_tell(const struct bus *it)
         tell_message(&request->answered);
         printf("\n");
     }
-    printf("  messages that the PF's driver started: %" PRIu64 "\n", it->mailboxes.own_messages);
+    printf("  messages that the PF's driver initiated: %" PRIu64 "\n", it->mailboxes.own_messages);
 }

@@ -72,7 +72,8 @@ def faults() -> list[Fault]:
             found[-1].take(line)
     for fault in found:
         if fault.driver not in DRIVERS or not fault.hunks or bool(fault.row and fault.cause) == bool(fault.missed):
-            raise Unplanted(f"{TABLE.name}: {fault.name} needs a driver, lines, and a row with its cause or why not")
+            raise Unplanted(f"{TABLE.name}: {fault.name} needs a driver, lines, and either a row "
+                            "with its cause or the reason why it is missed")
     return found
 
 

@@ -188,7 +188,7 @@ static void try_row(size_t row)
 void requests(void)
 {
     bus_enter(run_bus, IN_REQUESTS);
-    printf("requests by virtual functions, and actions of the host\n");
+    printf("requests by virtual functions, and actions by the host\n");
     former = ports[F0].mac;
     tell_head();
     for (size_t row = 0; row < RTE_DIM(rows); row++)

@@ -256,7 +256,7 @@ static void down_under_functions(const struct interface *host)
     sleep(UNDER_SECONDS);
     for (unsigned int vf = 0; vf < functions; vf++)
         if (find_function(&it, vf))
-            equal("a virtual function's link, while its host is down", interface_has_link(&it), false);
+            equal("the link of a virtual function whose host is down", interface_has_link(&it), false);
     interface_set_up(host, true);
     interface_wait_link(host, true);
     redirect(host);

@@ -487,7 +487,7 @@ def links(place: Place) -> str:
     if passed != 8:
         raise Wrong(f"{passed} of 8 pings were answered:\n" + text[-2000:])
     has(output, "server", r"^device: .* faults 0$")
-    return "8 changes (link, reset, rings, queues, MTU, down and up, driver again), a ping after each"
+    return "8 changes (link, reset, rings, queues, MTU, interface down and up, driver reloaded), a ping after each"
 
 
 def removal(place: Place) -> str:
@@ -501,7 +501,7 @@ def removal(place: Place) -> str:
         text = guest.end()
     has(text, "guest", r"Adapter removed")
     has(text, "guest", r"^STILL HERE$")
-    return 'the driver reports "Adapter removed", the guest continues'
+    return 'the driver reports "Adapter removed", and the guest continues'
 
 
 def iommu(place: Place) -> str:
@@ -549,7 +549,7 @@ def function_reset(place: Place) -> str:
         text = guest.end()
     after = text.split("AFTER")[-1]
     has(after, "function", r"^3 packets transmitted, 3 packets received")
-    return "a function level reset under ixgbevf, down and up: 3 of 3 pings"
+    return "a function level reset under ixgbevf, then the interface down and up: 3 of 3 pings"
 
 
 def add_testpmd(place: Place) -> Callable[[Initrd], None]:

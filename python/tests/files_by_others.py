@@ -79,7 +79,7 @@ class Files(unittest.TestCase):
             with self.file(f"0 done\n{line}\n").open() as file:
                 made = started("nic2pcap", str(self.folder / "out"), stdin=file)
             self.assertEqual(made.returncode, 1, made.stderr)
-            self.assertRegex(made.stderr, r"^nic2pcap: standard input:2: not a frame's line: .{0,100}\n$")
+            self.assertRegex(made.stderr, r"^nic2pcap: standard input:2: not a frame line: .{0,100}\n$")
 
     def test_escapes(self) -> None:
         script = self.file(f"r STATUS # {ESCAPES}\nw RDT[0] 1 # {ESCAPES}\nexpect 5 # {ESCAPES}\n")

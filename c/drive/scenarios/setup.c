@@ -404,7 +404,7 @@ const struct scenario nicd_setup_rows[] = {
         "unless GPIE.OCD is 1",
         "Extended Interrupt Cause", RECEIVES | INTERRUPTS | PHYSICAL, .setup = {.interrupts = true}, .takes = true,
         .comes = 3, .see = see_cause_read),
-    ROW("setup-tails-in-use", "tails stay within the ring, also after a wrap",
+    ROW("setup-tails-in-use", "tails stay within the ring, even after a wrap",
         "A tail is a slot number within the ring; the last slot is followed by slot 0", "Receive Descriptor Tail",
         RECEIVES | PHYSICAL, .takes = true, .rings = 1, .sends = 2, .comes = 2, .see = see_ring),
     CHECKS("setup-long-frames", PHYSICAL, "the limits for longer frames", check_length,

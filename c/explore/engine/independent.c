@@ -241,17 +241,17 @@ static const struct row {
      "arrival_leaves_the_rest (memory), link_leaves_the_rest (link, memory)"},
     /* queue registers: a read changes nothing, a write only that side; a virtual function's access counts as the
        physical function's */
-    {READS, BY(RX) | BY(TX) | ENABLES, are_other_sides, "read of a side, rx, tx or qstep of another side",
+    {READS, BY(RX) | BY(TX) | ENABLES, are_other_sides, "read from a side, rx, tx or qstep of another side",
      "dev: read_changes_nothing, receiving_leaves_the_rest (rest), transmitting_leaves_the_rest (rest), "
      "switching_leaves_the_rest (sides)"},
-    {WRITES, BY(RX) | BY(TX) | ENABLES, are_other_sides, "write of a side, rx, tx or qstep of another side",
+    {WRITES, BY(RX) | BY(TX) | ENABLES, are_other_sides, "write to a side, rx, tx or qstep of another side",
      "dev: access_leaves_the_rest (write), receiving_leaves_the_rest (rest), transmitting_leaves_the_rest (rest), "
      "switching_leaves_the_rest (sides)"},
     {READS | WRITES, OTHERS, is_of_some_side, "access to a side, int, eestep, arrive or link",
      "dev: read_changes_nothing, access_leaves_the_rest (write), message_leaves_the_rest (queues), "
      "eeprom_step_gives_the_word (rest), arrival_leaves_the_rest (queues), link_leaves_the_rest (link, queues)"},
     /* mailboxes: no device step reads their memory; a write may raise a cause */
-    {FUNCTIONS_OWN, DEVICE, is_mailbox_memory, "function's access of VFMBMEM, step of the device",
+    {FUNCTIONS_OWN, DEVICE, is_mailbox_memory, "virtual function's access to VFMBMEM, device step",
      "dev: vf_stays_in_its_pool (changes), event_stays_within_its_reach, eeprom_step_gives_the_word (rest); reg: "
      "accesses_stay_with_their_owner"},
     {BY(VF_READ), DEVICE, is_mailbox, "virtual function's VFMAILBOX read, device step",
@@ -284,17 +284,17 @@ static const struct row {
     {BY(RX_ENABLE), BY(TX) | BY(LINK), NULL, "qstep rx, tx or link",
      "dev: switching_leaves_the_rest (sides), transmitting_leaves_the_rest (rest), link_leaves_the_rest (link, "
      "queues)"},
-    {BY(EEPROM), BY(RX) | BY(TX) | ENABLES | FROM_LINK, NULL, "eestep, another step but int",
+    {BY(EEPROM), BY(RX) | BY(TX) | ENABLES | FROM_LINK, NULL, "eestep, any other step except int",
      "dev: eeprom_step_gives_the_word (rest), event_stays_within_its_reach"},
     /* two driver steps without conflicting accesses to the driver's own memory */
-    {BY(LOCAL), DRIVER, are_other_locks, "own step, step of the driver", "no event: the device isn't involved"},
-    {READS | WRITES, MEMORY, NULL, "access of a register, peek or poke",
+    {BY(LOCAL), DRIVER, are_other_locks, "own step, driver step", "no event: the device isn't involved"},
+    {READS | WRITES, MEMORY, NULL, "register access, peek or poke",
      "dev: memory_call_leaves_the_rest, access_leaves_the_rest (write), read_changes_nothing"},
     {BY(PEEK), BY(PEEK), NULL, "two peeks", "dev: memory_call_leaves_the_rest"},
     {MEMORY, BY(POKE), are_other_bytes, "peek or poke, poke of other bytes", "dev: memory_call_leaves_the_rest"},
     {READS | WRITES, READS | WRITES, are_other_parts, "accesses to two sides, interrupts or mailbox words",
      "dev: access_leaves_the_rest (write), vf_access_is_the_physical_functions; reg: accesses_stay_with_their_owner"},
-    {READS, READS, are_reads_of_a_part, "reads of a side or a mailbox word",
+    {READS, READS, are_reads_of_a_part, "reads from a side or of a mailbox word",
      "dev: read_changes_nothing, vf_access_is_the_physical_functions"},
 };
 

@@ -187,7 +187,7 @@ static void changed(uint64_t bus, uint64_t length)
     if (!length || bus >= weak.size || length > weak.size - bus)
         return;
     if (!has_room(length)) {
-        nicxi_failed(NICX_MISUSE, "out of memory while saving memory's old contents");
+        nicxi_failed(NICX_MISUSE, "out of memory while saving the old contents of memory");
         return;
     }
     uint8_t *old = weak.old + weak.used, *now = weak.memory + bus;

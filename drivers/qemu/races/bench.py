@@ -273,7 +273,7 @@ class Bench:
             raise NoBoot(str(fault), guest.lines) from None
         if "@search no interface" in guest.lines:
             guest.kill()
-            raise NoBoot(f"the driver has no interface; last: {guest.lines[-8:]}", guest.lines)
+            raise NoBoot(f"the driver had no interface; last: {guest.lines[-8:]}", guest.lines)
         return guest
 
     # ---- a seed ----
@@ -312,11 +312,11 @@ class Bench:
             if is_locked(lines):
                 locked = locked or time.time()
                 if time.time() - locked > LOCKED_SECONDS * patience:
-                    return "a processor is locked up"
+                    return "a processor locked up"
             else:
                 locked = 0.0
             if "@search stuck was reported" in lines:
-                return f"an operation has taken more than {STUCK_SECONDS * patience} s"
+                return f"an operation took more than {STUCK_SECONDS * patience} s"
             if time.time() - self.guest.last > silent:
                 return f"the guest printed nothing for {silent} s"
             time.sleep(0.1)

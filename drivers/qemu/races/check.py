@@ -184,9 +184,9 @@ def reports(folder: Path) -> None:
     good = Outcome("linux-6.1", "ixgbe", 4, [Finding("slow", "c")], 4, 1.0)
     assert line(bad).endswith("s: lockup: a; fault: b") and line(good).endswith("s: ok (slow: c)")
     for second, text in (
-        (bad, "the same verdict when run alone"), (good, "not again when run alone: ok (slow: c)"),
+        (bad, "the same verdict when run alone"), (good, "it didn't recur when run alone: ok (slow: c)"),
         (Outcome("", "ixgbe", 3, [Finding("kernel", "d"), Finding("lockup", "a")], 4, 1.5),
-         "again when run alone: kernel: d; lockup: a"),
+         "it recurred when run alone: kernel: d; lockup: a"),
     ):  # fmt: skip
         assert line(dataclasses.replace(bad, again=second)).endswith(f"b; {text}"), text
     assert "| linux-6.1 | ixgbe | 2 | 8 | 1 | 1 | 1 | 1 |" in table([bad, good]), table([bad, good])

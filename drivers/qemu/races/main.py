@@ -116,7 +116,7 @@ class Search:
                 task.first.again = outcome
                 self.note(task.first)
             elif self.counts(outcome) and self.is_tried_again(outcome):
-                print(f"{line(outcome)}; again, alone", flush=True)
+                print(f"{line(outcome)}; trying it again, alone", flush=True)
                 self.tasks.appendleft(Task(outcome.seed, outcome))
             else:
                 self.note(outcome)
@@ -178,9 +178,10 @@ class Search:
     def tell_case(self) -> int:
         assert self.case
         if not self.found:
-            print(f"{NAME}: {self.words.case} wasn't found in these seeds")
+            print(f"{NAME}: {self.words.case} didn't occur with these seeds")
             return 1
-        print(f"{self.words.case}: {self.case.text}.\n  {self.found} has the console, the recording and its page")
+        print(f"{self.words.case}: {self.case.text}.\n"
+              f"  {self.found} contains the console log, the recording, and the recording as a page")
         return 0
 
 

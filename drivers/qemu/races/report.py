@@ -56,7 +56,8 @@ def again(it: Outcome) -> str:
     if it.again.verdict == it.verdict:
         return "; the same verdict when run alone"
     repeated = any(finding.kind == it.verdict for finding in it.again.findings)
-    return f"; {'again' if repeated else 'not again'} when run alone: {said(it.again)}"
+    how = "it recurred" if repeated else "it didn't recur"
+    return f"; {how} when run alone: {said(it.again)}"
 
 
 def line(it: Outcome) -> str:

@@ -314,7 +314,8 @@ class Session:
         if not tasks:
             raise ValueError("begin creates no task")
         if len(tasks) > MOST_TASKS or len(numbered) - len(tasks) > MOST_HANDLERS or len(self.frames) > MOST_FRAMES:
-            raise ValueError(f"begin has more than {MOST_TASKS} tasks, {MOST_HANDLERS} handlers, {MOST_FRAMES} frames")
+            most = f"{MOST_TASKS} tasks, {MOST_HANDLERS} handlers or {MOST_FRAMES} frames"
+            raise ValueError(f"begin creates more than {most}")
         for number, one in tasks:
             self.library.nicp_task(self._name(one.name), number, one.is_service)
         for number, one in numbered:

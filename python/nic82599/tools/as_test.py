@@ -64,7 +64,8 @@ def used_data(script: Script, steps: list[tuple[int, str]]) -> list[int]:
 # --- in C ---
 
 C_HEAD = """\
-/* A run of {name} on the bench, as a test: each call must return the same answer as there.{made}
+/* A run of {name} on the bench, as a test.
+   Each call must return the same answer as it did in that run.{made}
 
        cc -std=c99 {file} $(pkg-config --cflags --libs nic82599) && ./a.out    */
 #include <stdint.h>
@@ -241,7 +242,9 @@ def in_c(script: Script, printed: list[str], vfs: int, fifo: int, made: str = ""
 # --- in Python ---
 
 PYTHON_HEAD = '''\
-"""A run of {name} on the bench, as a test: each call must return the same answer as there.{made}
+"""A run of {name} on the bench, as a test.
+
+Each call must return the same answer as it did in that run.{made}
 
     python3 -m pytest {file}    or    python3 {file}
 """

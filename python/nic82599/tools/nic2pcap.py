@@ -3,16 +3,17 @@
     ./nicbench run < script.nic | tools/nic2pcap OUT.pcap [--queue Q]
     tools/nic2pcap OUT.pcapng RUN [--queue Q] [--limit N]
 
-The first form reads the output of `nicbench run`. It writes the frames that the script collected, the lines `frame
-queue Q HEX`, as a pcap. A frame's time is the number of its instruction, in microseconds. Other lines are ignored.
+The first form reads the output of `nicbench run`. It writes the frames that the script collected (the
+`frame queue Q HEX` lines) as a pcap. A frame's time is the number of its instruction, in microseconds. Other lines are
+ignored.
 
-RUN is a recording of the C library (NIC82599_RECORD) or a script. Its received and sent frames are written as a pcapng,
-including those that were dropped or not collected. A frame's time is its step, in microseconds; its comment has the
-direction, queue, slot, step and line. All steps of a recording are used, and 4,096 steps of a script, or as many as
---limit says.
+RUN is a script, or a recording made by the C library (NIC82599_RECORD). Its received and sent frames are written as a
+pcapng, including those that were dropped or not collected. A frame's time is its step, in microseconds; its comment
+contains the direction, queue, slot, step and line. Without --limit, all steps of a recording or 4,096 steps of a script
+are used.
 
 With --queue only the frames of that queue are written. Standard error says how many frames there were. Status 1: a
-frame's line is malformed, or the file can't be written; 2: the arguments are invalid, or RUN is refused or can't be
+frame line is malformed, or the file can't be written; 2: the arguments are invalid, or RUN is refused or can't be
 read; 4: ./nicbench didn't answer.
 """
 
@@ -35,7 +36,7 @@ FRAME = re.compile(r"([0-9]{1,15}) frame queue ([0-9]{1,5}) ([0-9a-f]*)")
 
 
 class NoFrame(Exception):
-    """A line starts like a frame's line but is malformed."""
+    """A line starts like a frame line but is malformed."""
 
 
 def frames_in(lines: Iterable[str]) -> Iterator[tuple[int, int, bytes]]:
@@ -45,7 +46,7 @@ def frames_in(lines: Iterable[str]) -> Iterator[tuple[int, int, bytes]]:
         if re.match(r"\d+ frame ", line):
             found = FRAME.fullmatch(line)
             if not found or len(found[3]) % 2:
-                raise NoFrame(f"standard input:{at}: not a frame's line: {shortened(line)}")
+                raise NoFrame(f"standard input:{at}: not a frame line: {shortened(line)}")
             yield int(found[1]), int(found[2]), bytes.fromhex(found[3])
 
 

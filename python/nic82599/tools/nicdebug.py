@@ -2,10 +2,10 @@
 
     tools/nicdebug SCRIPT [--vfs N] [--fifo N]
 
-SCRIPT is a register script, or a session of the debugger (the part before its line `%`). It may also be a recording of
-the C library (NIC82599_RECORD) of any length; its last N events are then debugged (--limit N). `help` lists the
-commands. An invalid command doesn't end the session. If standard input isn't a terminal, each command is printed after
-its prompt.
+SCRIPT is a register script, or a debugger session (only the part before the `%` line is used). It may also be a
+recording made by the C library (NIC82599_RECORD), of any length; its last N events are then debugged (--limit N).
+`help` lists the commands. An invalid command doesn't end the session. If standard input isn't a terminal, each command
+is printed after its prompt.
 
 Exit status: 0 the session ended; 2 the script is refused or can't be read; 3 the arguments are invalid; 4 ./nicbench
 didn't answer.

@@ -3,9 +3,9 @@
     tools/niclint SCRIPT            refusals, each with the wrong word and similar names; or warnings
     tools/niclint SCRIPT --trace    also runs it, and explains steps that were idle, dropped frames, faulted or failed
 
-SCRIPT is a register script, a session of the debugger (the part before its line `%`), or - for standard input. It may
-also be a recording of the C library (NIC82599_RECORD) of any length. All its lines are then checked for warnings.
---trace replays the recording's last N events on the library and explains them (--limit N).
+SCRIPT is a register script, a debugger session (only the part before the `%` line is used), or - for standard input.
+It may also be a recording made by the C library (NIC82599_RECORD), of any length; then all its lines are checked for
+warnings, and --trace replays its last N events on the library and explains them (--limit N).
 
 Exit status: 0 nothing is wrong; 1 there are warnings, or with --trace a failed expect, a fault, a dropped frame or a
 refused access; 2 the script is refused or can't be read; 3 the arguments are invalid; 4 ./nicbench didn't answer.

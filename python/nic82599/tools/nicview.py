@@ -9,9 +9,9 @@
     tools/nicview --live FILE                   a page that follows a recording as it grows; prints its address
     tools/nicview --live SOCKET                 the same for a guest's card, through the server's control socket
 
-SCRIPT is a register script, a session of the debugger (the part before its line `%`), or - for standard input. It may
-also be a recording of the C library (NIC82599_RECORD); its last N events are then replayed on the library and shown
-(--limit N).
+SCRIPT is a register script, a debugger session (only the part before the `%` line is used), or - for standard input.
+It may also be a recording made by the C library (NIC82599_RECORD); its last N events are then replayed on the library
+and shown (--limit N).
 
 A page opens at the first step that failed, faulted, dropped a frame or was refused, or otherwise at the last one. The
 explorer's script of a failure opens at the step that failed. With #152 after the page's name, it opens at step 152.

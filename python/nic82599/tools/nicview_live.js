@@ -22,7 +22,7 @@ function liveBar() {
   const past = make("input", { id: "past", type: "range", min: "0", title: "the events shown" });
   past.setAttribute("aria-label", "the last event shown");
   const bar = make("div", { id: "live", className: "bar", role: "toolbar", ariaLabel: "the file or card being followed" },
-    act("pause", "Pause", "pauses while the file grows (p)"), make("span", { id: "events", className: "mono" }),
+    act("pause", "Pause", "stop or resume following the file (p)"), make("span", { id: "events", className: "mono" }),
     act("older", "◀ Older", "earlier events"), past, act("newer", "Newer ▶", "later events"));
   const guest = make("div", { id: "guest", className: "bar", role: "toolbar", ariaLabel: "the guest's card", hidden: true },
     make("span", { className: "faint" }, "Card:"),
@@ -147,7 +147,7 @@ function beginLive() {
   document.addEventListener("keydown", (event) => {
     if (event.key === "p" && !event.ctrlKey && !event.metaKey && document.activeElement.id !== "search") pause();
   });
-  document.querySelector("#keys table").append(row([make("kbd", {}, "p"), "pause or follow the growing file"]));
+  document.querySelector("#keys table").append(row([make("kbd", {}, "p"), "stop or resume following the file"]));
   const header = document.querySelector("header");
   new ResizeObserver(() => {
     document.documentElement.style.setProperty("--under", `${header.offsetHeight + 4}px`);

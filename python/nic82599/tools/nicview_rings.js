@@ -173,7 +173,7 @@ function slots(state, ring, written) {
   });
   const table = make("table", {}, row(["Slot", "Whose", "Descriptor"], "th"), ...rows);
   const left = all.length - some.length + Math.max(0, ahead - most);
-  const more = left ? faint(`and ${left} more slots, of the device or with a descriptor`) : null;
+  const more = left ? faint(`and ${left} more slots, owned by the device or with a descriptor`) : null;
   const box = make("div", { className: "scroll descriptors", tabIndex: 0, ariaLabel: "descriptors" }, table, more);
   return box;
 }

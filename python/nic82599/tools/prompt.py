@@ -178,7 +178,8 @@ def moved(session: Session, before: int) -> list[str]:
     lines = []
     if session.at > before:
         steps = session.steps[before : session.at]
-        lines += [f"({len(steps) - SHOWN} more steps)"] if len(steps) > SHOWN else []
+        earlier = len(steps) - SHOWN
+        lines += [f"({earlier} earlier step{'s' if earlier > 1 else ''})"] if earlier > 0 else []
         for step in steps[-SHOWN:]:
             lines.append(f"{line_at(session, step.pc)}    -> {step.answer or 'no event'}")
     lines += watched(session)

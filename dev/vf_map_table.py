@@ -4,8 +4,8 @@
     dev/vf_map_table.py            rewrites the page
     dev/vf_map_table.py --check    names the page if it is stale, and exits with status 1
 
-A function's single registers are in crates/vf_map/specs/Map.antt. Its queue registers are the rows for the receive side
-and the transmit side in python/nic82599/tools/tables.py.
+A virtual function's single registers are in crates/vf_map/specs/Map.antt. Its queue registers are the rows for the
+receive side and the transmit side in python/nic82599/tools/tables.py.
 """
 
 from __future__ import annotations

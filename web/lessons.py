@@ -2,7 +2,7 @@
 """The lessons of the page; web/lessons/NN-name.txt are their only source.
 
     web/lessons.py check                     each answer solves its lesson, but no start does
-    web/lessons.py grade FILE.. > class.csv  runs submitted files again: a line for each lesson of each file
+    web/lessons.py grade FILE.. > class.csv  runs submitted files again: a line for each lesson in each file
 
 A submitted file is what the page saves: a JSON object with `student` and `lessons`, which maps numbers to `script` and
 `outcome`. ./nicbench determines the outcome again, whatever the file says.

@@ -116,7 +116,7 @@ static bool settle_refused(size_t k)
         return false;
     seen.refusals++;
     if (!asked.is_refused)
-        differ("out of memory, but nothing was refused");
+        differ("out of memory, but no memory request was made to fail");
     event.length = answers[k].count;
     make(1 - k, &event, &answers[1 - k], 0);
     answers[k].status = answers[1 - k].status; /* MORE if the array is full */

@@ -53,7 +53,7 @@ static bool probe(uint16_t device, uint16_t *port)
     if (*port == RTE_MAX_ETHPORTS || failed("rte_eth_macaddr_get", rte_eth_macaddr_get(*port, &mac)))
         return false;
     if (memcmp(mac.addr_bytes, card_mac, sizeof card_mac) != 0)
-        problem("the driver's address isn't the EEPROM's");
+        problem("the driver's address differs from the one in the EEPROM");
     printf("  %s drives device 8086:%04x, address " RTE_ETHER_ADDR_PRT_FMT " from the EEPROM\n",
            card_driver(BUS_PHYSICAL), device, RTE_ETHER_ADDR_BYTES(&mac));
     return true;

@@ -60,7 +60,7 @@ static bool begin_host(void)
     if (!port_probe(HOST))
         return false;
     if (memcmp(ports[HOST].mac.addr_bytes, card_mac, sizeof card_mac) != 0)
-        problem("the host's address isn't the EEPROM's");
+        problem("the host's address differs from the one in the EEPROM");
     return !failed("rte_eth_dev_callback_register",
                    rte_eth_dev_callback_register(ports[HOST].number, RTE_ETH_EVENT_VF_MBOX, on_mailbox, NULL));
 }
@@ -378,7 +378,7 @@ int main(int count, char **arguments)
 {
     struct words words;
     if (!read_words(count, arguments, &words)) {
-        fprintf(stderr, "functions: unknown arguments; its source file lists them\n");
+        fprintf(stderr, "functions: unknown arguments; its source file lists the valid ones\n");
         return 3;
     }
     FILE *trace = words.trace ? fopen(words.trace, "w") : NULL;

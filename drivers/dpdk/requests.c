@@ -193,7 +193,7 @@ void requests(void)
     tell_head();
     for (size_t row = 0; row < RTE_DIM(rows); row++)
         try_row(row);
-    printf("  (:77 and :78 are nobody's addresses, V100 and V200 are VF0's with a VLAN tag, group is a multicast "
+    printf("  (nobody has addresses :77 and :78, V100 and V200 are VF0's address with a VLAN tag, group is a multicast "
            "address)\n");
 }
 

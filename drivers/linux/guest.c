@@ -350,7 +350,7 @@ static void run(void)
     }
     printf("guest: %s is ixgbe's, address %02x:%02x:%02x:%02x:%02x:%02x\n", it.name, it.mac[0], it.mac[1], it.mac[2],
            it.mac[3], it.mac[4], it.mac[5]);
-    equal("the card's address, as the EEPROM has it", memcmp(it.mac, card_mac, sizeof card_mac) != 0, false);
+    equal("the card's address, as in the EEPROM", memcmp(it.mac, card_mac, sizeof card_mac) != 0, false);
     if (wanted & OFFLOADS)
         with_offloads(&it);
     make_ready(&it);
@@ -392,7 +392,7 @@ int main(void)
     }
     struct timespec clock;
     clock_gettime(CLOCK_MONOTONIC, &clock);
-    printf("guest: the end, at %ld.%03ld s of its clock\n", (long)clock.tv_sec, clock.tv_nsec / 1000000);
+    printf("guest: the end, at %ld.%03ld s on its clock\n", (long)clock.tv_sec, clock.tv_nsec / 1000000);
     sync();
     reboot(RB_POWER_OFF);
     return 0;

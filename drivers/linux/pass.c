@@ -233,8 +233,8 @@ void pass(const struct interface *it, unsigned int count, unsigned int most, uns
     equal("frames in correct, and sent", got, count);
     if (queues == 1)
         equal("frames in that arrived in order, and all", ordered, count);
-    equal("frames in by the driver's statistics, and by the run's", after.in - before.in, count);
-    equal("frames out by the driver's statistics, and by the run's", after.out - before.out, count);
+    equal("frames in according to the driver, and to the run", after.in - before.in, count);
+    equal("frames out according to the driver, and to the run", after.out - before.out, count);
     equal("interrupts that the kernel counts, and messages sent", after.interrupts - before.interrupts,
           after.messages - before.messages);
     check_socket(file);

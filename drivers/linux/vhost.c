@@ -247,7 +247,7 @@ static void set_ring(struct vhost *vhost, const struct request_message *message)
 {
     uint32_t value = message->body.ring.value;
     if (message->body.ring.index >= VHOST_RINGS) {
-        problem("the guest has a ring %u", message->body.ring.index);
+        problem("the guest set up ring %u, which doesn't exist", message->body.ring.index);
         return;
     }
     struct vhost_ring *ring = &vhost->rings[message->body.ring.index];

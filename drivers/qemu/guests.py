@@ -394,7 +394,7 @@ def ipxe(place: Place) -> str:
     has(text, "iPXE", r"using 82599")
     has(output, "server", r"^wire: out .*, of which replies 5,")
     has(output, "server", r"^device: received 5 frames in 5 descriptors, .* faults 0$")
-    return "4 of 4 pings, descriptors legacy both ways"
+    return "4 of 4 pings, legacy descriptors both ways"
 
 
 def arm64(place: Place) -> str:

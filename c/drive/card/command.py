@@ -9,7 +9,7 @@
 A driver is a source file that names its functions in a struct (nic82599_drive.h) and calls nicd_main; or several
 sources, objects, or a program. The card's folder receives card.html, card.txt, card.json and, for CI, card.xml in JUnit
 format. For each failed row it also receives the schedule, as text and as a page, and the run, as a script for nicbench
-and as a page of nicview. Each row is searched in its own process: if the driver crashes or hangs, its row fails, and
+and as a nicview page. Each row is searched in its own process: if the driver crashes or hangs, its row fails, and
 the others continue.
 
 Sources are compiled with -fsanitize=thread, so that each access to the driver's own memory is observed: two accesses
@@ -19,8 +19,8 @@ A row in which nothing failed passes if it reached what it tries, for example fr
 frames were in flight. Otherwise it is "not reached", with what is missing.
 
 A --require file lists rows, one per line, each with its points (1 by default); a comment begins with '#'. Only these
-rows and the rows of --rows run. The points are printed, and written to points.txt and, as JUnit, to points.xml. A row
-that isn't applicable earns no points.
+rows and the rows named by --rows run. The points are printed, and written to points.txt and, as JUnit, to points.xml. A
+row that isn't applicable earns no points.
 
 Exit status: 0 if each applicable row passed (with --require, each row in its files); 1 if a row didn't or, with
 --compare, if a row that passed no longer does; 2 if the driver or the arguments can't be used: one line says why.
@@ -74,7 +74,7 @@ def words() -> argparse.Namespace:
     parser.add_argument("--runs", type=int, default=Budget.runs, metavar="N", help=runs)
     seconds = "time limit for each row's random schedules, in seconds (%(default)s)"
     parser.add_argument("--seconds", type=float, default=Budget.seconds, metavar="S", help=seconds)
-    every = "at most N schedules of the exhaustive search for each row (%(default)s)"
+    every = "at most N schedules in the exhaustive search for each row (%(default)s)"
     parser.add_argument("--every", type=int, default=Budget.every, metavar="N", help=every)
     hang = "elapsed seconds without a call to the card, after which the driver counts as hung (%(default)s)"
     parser.add_argument("--hang", type=int, default=Budget.hang, metavar="S", help=hang)

@@ -115,7 +115,7 @@ def coverage(card: Card) -> str:
         rules[row.rule] = rules.get(row.rule, False) or row.state != NOT_APPLICABLE
     return (
         f"<h2>Registers in the table that the driver accessed: {sum(map(bool, registers.values()))} of {len(registers)}"
-        f"</h2>{chips(registers)}<h2>Distinct replies of the device: {sum(map(bool, replies.values()))} of "
+        f"</h2>{chips(registers)}<h2>Distinct device replies: {sum(map(bool, replies.values()))} of "
         f"{len(replies)}</h2>{chips(replies)}<h2>Rules that were tried: {sum(rules.values())} of {len(rules)}</h2>"
         + untried([rule for rule, is_tried in rules.items() if not is_tried])
     )

@@ -158,7 +158,7 @@ def text(card: Card) -> str:
     seen = [name for name, count in replies.items() if count]
     lines += [
         f"registers in the table that the driver accessed: {len(touched)} of {len(registers)}",
-        f"distinct replies of the device: {len(seen)} of {len(replies)}",
+        f"distinct device replies: {len(seen)} of {len(replies)}",
         "replies that never occurred: " + ", ".join(name for name, count in replies.items() if not count),
     ]
     return "\n".join(lines) + "\n"

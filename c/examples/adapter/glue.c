@@ -200,7 +200,7 @@ static void compare(const char *what, unsigned number, const uint8_t *bytes, uin
     uint8_t wanted[LONGEST];
     if (make(number, wanted) == length && !memcmp(bytes, wanted, length))
         return;
-    printf("frame %u: the bytes that were %s aren't the frame's\n", number, what);
+    printf("frame %u: wrong bytes were %s\n", number, what);
     exit(1);
 }
 

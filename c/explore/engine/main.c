@@ -109,7 +109,8 @@ static void show_cause(const struct options *options, struct cause *cause, uint3
     const struct keeping keeping = {options, &cause->failure, &turn, cause->seed, number};
     nicxi_keep_failure(&keeping, paths);
     nicxi_tell_failure(&cause->failure, &found, 0, &turn);
-    printf("%s: in %" PRIu32 " results; this schedule is from %s\n", nicxi.scenario->name, cause->count, cause->path);
+    printf("%s: fails in %" PRIu32 " results; this schedule is from %s\n", nicxi.scenario->name, cause->count,
+           cause->path);
     if (is_elsewhere)
         printf("%s: this program doesn't reproduce the failure: the schedule is %s\n", nicxi.scenario->name,
                paths->schedule);

@@ -20,7 +20,7 @@ const char nicxi_usage[] =
     "  --runs N           at most N schedules (10,000; for the exhaustive search, all)\n"
     "  --seconds S        at most S seconds\n"
     "  --seed N           seed of the random choices (1)\n"
-    "  --first N          the seed's first run (0), to repeat a single run\n"
+    "  --first N          number of the first run (0); with --runs 1, repeats that run alone\n"
     "  --depth D          for priorities: they change at D - 1 points, D from 1 to 16 (3; for mixed, 2 to 6 in turn)\n"
     "  --preemptions N    for the exhaustive search: at most N preemptions, or any number (2)\n"
     "  --no-sleep         for the exhaustive search: also tries each order of independent steps\n"

@@ -22,7 +22,7 @@ CASES = {
     "ixgbe-down-lockup": Case(
         "linux-6.1", "ixgbe", "lockup", "ixgbe_clean_tx_ring", 20,
         "ixgbe_watchdog_subtask checks __IXGBE_DOWN, finds that the link is up, and wakes the transmit queues. "
-        "In between, ixgbe_down, which doesn't wait for it, stopped them and emptied their rings. A frame enters "
-        "such a ring, and the next ixgbe_down loops over it forever",
+        "Between the check and the wake, ixgbe_down, which doesn't wait for it, stops the queues and empties their "
+        "rings. A frame then enters such a ring, and the next ixgbe_down loops over it forever",
     ),
 }  # fmt: skip

@@ -93,7 +93,7 @@ def add_own(it: Words) -> None:
                      help="a program from this machine for the guest's /bin, with its libraries, or another file")
     sought = it.add_argument_group("what to search for")
     sought.add_argument("--match", type=pattern, metavar="PATTERN",
-                        help="count only matches: a finding or, after a fatal finding, a line of the console")
+                        help="count only matches: a finding or, after a fatal finding, a console line")
     sought.add_argument("--bisect", action="store_true",
                         help="exit with a status for `git bisect run`, and stop at the first failing seed")
 

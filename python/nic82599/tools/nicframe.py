@@ -11,8 +11,8 @@ zero-padded to 60 bytes.
 
 Each frame is a `data` line, named NAME, or NAME1, NAME2 and so on with --count; the source port of TCP and UDP then
 increases by 1 with each frame. With --rss a comment before the line says how receive side scaling hashes the frame, and
-which queue of --table receives it. This is for MRQC bits 3:0 at 1, the key of --key in RSSRK, and the table, repeated
-to 128 entries, in RETA.
+which queue in --table receives it. This assumes that MRQC bits 3:0 are 1, that RSSRK contains the --key key, and that
+RETA contains the table, repeated to 128 entries.
 
     tools/nicframe tcp 10.0.0.1:1000 10.0.0.2:80 --rss --table 0,1,2,3
     tools/nicframe udp [2001:db8::1]:53 [2001:db8::2]:53 --tag 7:2 --hex

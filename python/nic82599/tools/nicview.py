@@ -4,7 +4,7 @@
     tools/nicview SCRIPT --text                 the same as lines, with the rings drawn in characters
     tools/nicview SCRIPT --svg STEP -o it.svg   a picture of the machine after a step
     tools/nicview SCRIPT --perfetto -o it.json  a trace for Perfetto: steps, their actors, messages, frames
-    tools/nicview RECORDING --script            a script of a recording, as far as nicbench can read one
+    tools/nicview RECORDING --script            the recording as a script, as far as nicbench can read it
     tools/nicview SCRIPT --test c               the same calls as a test: in C, or in Python (--test python)
     tools/nicview --live FILE                   a page that follows a recording as it grows; prints its address
     tools/nicview --live SOCKET                 the same for a guest's card, through the server's control socket
@@ -55,7 +55,7 @@ def words() -> argparse.Namespace:
     limit(parser, STEPS, "the maximum number of steps to show")
     parser.add_argument("-o", metavar="FILE", help="the output file (standard output)")
     form = parser.add_mutually_exclusive_group()
-    made = "a script of a recording, as far as nicbench can read one"
+    made = "the recording as a script, as far as nicbench can read it"
     form.add_argument("--script", action="store_true", dest="script_of", help=made)
     form.add_argument("--perfetto", action="store_true", help="a trace for Perfetto, in JSON")
     form.add_argument("--text", action="store_true", help="lines of text instead of a page")
@@ -64,7 +64,7 @@ def words() -> argparse.Namespace:
     form.add_argument("--test", choices=("c", "python"), help="a test in C or in Python that makes the same calls")
     form.add_argument("--live", action="store_true", help="a page that follows the file as it grows, until ctrl-C")
     parser.add_argument("--control", metavar="SOCKET", help="with --live: the control socket of the guest's card")
-    parser.add_argument("--port", type=number(1, 65_535), metavar="N", help="with --live: the port (one that is free)")
+    parser.add_argument("--port", type=number(1, 65_535), metavar="N", help="with --live: the port (any free one)")
     given = parser.parse_args()
     if not given.live and (given.control or given.port):
         parser.error("--control and --port need --live")

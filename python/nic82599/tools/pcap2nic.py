@@ -3,8 +3,8 @@
     tools/pcap2nic FILE [--first N] [--count N] [--name NAME] [--step]
 
 FILE is a capture of Ethernet frames as tcpdump, tshark or Wireshark write it: pcapng, or pcap of either byte order with
-microseconds or nanoseconds; `-` is standard input. The tool takes --count frames, starting with number N (default 1). A
-script can name at most 1,024 frames. The frames are named NAME1, NAME2 and so on (default `frame`). With --step each
+microseconds or nanoseconds; `-` is standard input. It converts --count frames, starting with frame --first (default 1).
+A script can name at most 1,024 frames. The frames are named NAME1, NAME2 and so on (default `frame`). With --step each
 `arrive` is followed by `rx`, one receive step.
 
 A script can't contain a frame that was captured in part, is empty, or is longer than 16,384 bytes. Status 1: there is
@@ -41,7 +41,7 @@ def arguments() -> argparse.Namespace:
     described, form = called(__doc__ or ""), argparse.RawDescriptionHelpFormatter
     parser = argparse.ArgumentParser(prog=called("tools/pcap2nic"), description=described, formatter_class=form)
     parser.add_argument("file", metavar="FILE")
-    first = "the number of the first frame to take (1)"
+    first = "the number of the first frame to convert (1)"
     parser.add_argument("--first", type=int, default=1, metavar="N", help=first)
     parser.add_argument("--count", type=int, metavar="N", help="the maximum number of frames")
     parser.add_argument("--name", default="frame", metavar="NAME", help="name of the frames (frame)")

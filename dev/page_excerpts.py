@@ -5,7 +5,7 @@
     dev/page_excerpts.py --check    names the stale pages, and exits with status 1 if there are any
 
 The pages are README.md, c/README.md, drivers/common/README.md and those of docs/. An excerpt is the indented block
-after a line '<!-- FILE: ITEM ITEM .. -->', where FILE is a file of the repository and ITEM one of these:
+after a '<!-- FILE: ITEM ITEM .. -->' line, where FILE is a file in the repository and ITEM one of these:
 
     NAME       a function or a constant, without the comment above it
     *          the whole file

@@ -4,7 +4,7 @@
     dev/promise_pages.py            rewrites what is below the MARK line on each page in PAGES
     dev/promise_pages.py --check    names the stale pages, and exits with status 1 if there are any
 
-A row of a page is a public function with its `ensures` clauses, which may be a law, or a public type with its
+A row on a page is a public function with its `ensures` clauses, which may be a law, or a public type with its
 invariants. It shows the doc comment, and for each clause its comment and the comment of the definition that it applies,
 in full. If clauses of several contracts on a page apply the same definition, its comment has a separate row at the end
 of the page.

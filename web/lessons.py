@@ -1,5 +1,5 @@
 #!/usr/bin/env python3
-"""The lessons of the page; web/lessons/NN-name.txt are their only source.
+"""The lessons on the page; web/lessons/NN-name.txt are their only source.
 
     web/lessons.py check                     each answer solves its lesson, but no start does
     web/lessons.py grade FILE.. > class.csv  runs submitted files again: a line for each lesson in each file

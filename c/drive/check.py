@@ -1,5 +1,5 @@
-"""Checks the report card: a correct driver passes each row; each bug planted in the corpus makes the row that finds it
-fail; a driver's forbidden access is reported, and the other rows continue.
+"""Checks the report card: a correct driver passes each row; each bug in the corpus fails the row that finds it; a
+driver's forbidden access is reported, and the other rows continue.
 
 `c/test` calls these checks. `c/drive/table` imports the bugs from this file.
 """

@@ -146,7 +146,7 @@ class Server:
             except OSError:
                 time.sleep(0.05)
         else:
-            raise Wrong(f"the server doesn't start: {self.output.read_text()}")
+            raise Wrong(f"the server didn't start: {self.output.read_text()}")
         self.answers = self.socket.makefile("r")
 
     def ask(self, words: str) -> list[str]:
@@ -217,7 +217,7 @@ class Guest:
         is_over = False
         while not any(text in it for it in list(self.lines)):
             if is_over:
-                raise Wrong(f"the guest doesn't print {text!r}; its last lines: {self.lines[-12:]}")
+                raise Wrong(f"the guest didn't print {text!r}; its last lines: {self.lines[-12:]}")
             time.sleep(0.05)
             is_over = time.time() > end or not self.reader.is_alive()
 

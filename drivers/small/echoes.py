@@ -56,7 +56,7 @@ class Kernel:
         limit = time.monotonic() + seconds
         while not (found := re.compile(pattern, re.MULTILINE).search(self.text, self.at)):
             if time.monotonic() > limit or not self.read(1.0):
-                raise Wrong(f"the kernel doesn't print {pattern!r}; so far:\n{self.text}")
+                raise Wrong(f"the kernel didn't print {pattern!r}; so far:\n{self.text}")
         self.at = found.end()
         return found
 

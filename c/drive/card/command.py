@@ -68,7 +68,7 @@ def words() -> argparse.Namespace:
     parser.add_argument("--rows", metavar="NAMES", help=rows)
     wanted = "a file that lists rows that must pass, with their points; may be repeated"
     parser.add_argument("--require", type=Path, action="append", default=[], metavar="FILE", help=wanted)
-    every = "lists the rows without running them; with a driver, also which of them aren't applicable"
+    every = "lists the rows without running them; with a driver, also says which aren't applicable"
     parser.add_argument("--list", action="store_true", help=every)
     runs = "random schedules for each row (%(default)s)"
     parser.add_argument("--runs", type=int, default=Budget.runs, metavar="N", help=runs)

@@ -282,7 +282,7 @@ static const char *fault_of(const nicd_driver *d)
 }
 
 static const char usage[] = "usage: %s --list\n"
-                            "       %s --row NAME [--coverage FILE] [options of a search: --help]\n"
+                            "       %s --row NAME [--coverage FILE] [search options: --help]\n"
                             "c/drive/nicdrive runs all rows and writes the card.\n";
 
 static const nicxo_words words = {

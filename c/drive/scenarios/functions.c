@@ -342,7 +342,7 @@ const struct scenario nicd_functions[] = {
         "Dynamic Disabling of Receive Queues", FUNCTIONS | RECEIVES, .ways = LOSSY | DROPS, .setup = {.port = PORT},
         .control = close_it, .takes = true, .sends = 4, .comes = 5, .see = see_foreign),
     ROW("function-reset-under-it", "the host resets the virtual function's pool during traffic",
-        "A pool's reset disables its queues; the virtual function's driver sets them up again",
+        "A pool reset disables the pool's queues; the virtual function's driver sets them up again",
         "Virtual Function Reset", FUNCTIONS | RECEIVES | RESET, .ways = LOSSY | DROPS, .setup = {.port = PORT},
         .control = be_reset, .begin = begin_host, .takes = true, .comes = 3, .late = 2, .see = see_foreign),
     ROW("mailbox-function-sends", "two mailbox messages to the host",

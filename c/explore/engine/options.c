@@ -15,7 +15,7 @@
 const char nicxi_usage[] =
     "usage: %s [options]\n"
     "Searches for a schedule of scenario %s that fails. Status 0: none failed; 1: one failed; 2: the arguments, the\n"
-    "scenario or a schedule's file can't be used; 3: with --strict, part of the scenario never ran.\n"
+    "scenario or a schedule file can't be used; 3: with --strict, part of the scenario never ran.\n"
     "  --strategy NAME    random, priorities, exhaustive, or mixed: random and priorities alternately (mixed)\n"
     "  --runs N           at most N schedules (10,000; for the exhaustive search, all)\n"
     "  --seconds S        at most S seconds\n"

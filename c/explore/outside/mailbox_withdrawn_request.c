@@ -154,7 +154,7 @@ static const char *end(void)
         return "the virtual function never learned its address";
     nic_vf_peek32(nicx_device(), VF, NIC_VFMAILBOX, &word);
     if (word & (NIC_PVFMAILBOX_VFU | NIC_PVFMAILBOX_PFU))
-        return "the mailbox is still held";
+        return "the mailbox is still locked";
     nic_peek32(nicx_device(), NIC_PFMBICR(0), &word);
     return word ? "a request was never read" : NULL;
 }

@@ -88,7 +88,7 @@ def add_own(it: Words) -> None:
                      help="a shell script that the guest runs each round in place of the drawn operations")
     own.add_argument("--beside", action="store_true", help="run --script concurrently with the drawn operations")
     own.add_argument("--limit", type=positive, metavar="SECONDS", help="time limit for --script in a round (60)")
-    own.add_argument("--no-traffic", action="store_true", help="send no frames except the script's and the check's")
+    own.add_argument("--no-traffic", action="store_true", help="send only the frames of the script and of the check")
     own.add_argument("--add", type=Path, action="append", default=[], metavar="FILE",
                      help="a program from this machine for the guest's /bin, with its libraries, or another file")
     sought = it.add_argument_group("what to search for")

@@ -1,7 +1,7 @@
 #!/usr/bin/env python3
 """The lessons on the page; web/lessons/NN-name.txt are their only source.
 
-    web/lessons.py check                     each answer solves its lesson, but no start does
+    web/lessons.py check                     each answer solves its lesson, but no starting script does
     web/lessons.py grade FILE.. > class.csv  runs submitted files again: a line for each lesson in each file
 
 A submitted file is what the page saves: a JSON object with `student` and `lessons`, which maps numbers to `script` and

@@ -80,7 +80,7 @@ static void compare_in(const struct rte_mbuf *packet, uint16_t queue, void *port
     if (packet->nb_segs == 1 && frame_is(&frame, rte_pktmbuf_mtod(packet, const void *), rte_pktmbuf_pkt_len(packet)))
         tallies[which].alike_in++;
     else
-        problem("%s, queue %u: a %u-byte frame arrives changed, with %u bytes", port_name(which), queue, frame.length,
+        problem("%s, queue %u: a %u-byte frame arrived changed (%u bytes)", port_name(which), queue, frame.length,
                 rte_pktmbuf_pkt_len(packet));
     enum hash hash = hash_compare(packet, &frame, &rss);
     tallies[which].hashes += hash == HASH_RIGHT;
@@ -130,7 +130,7 @@ static void compare_out(void *of, uint16_t device, const uint8_t *bytes, size_t 
     if (frame_is(&frame, bytes, length))
         tallies[which].alike_out++;
     else
-        problem("%s, queue %u: a %u-byte frame is sent changed, with %zu bytes", port_name(which), queue, frame.length,
+        problem("%s, queue %u: a %u-byte frame was sent changed (%zu bytes)", port_name(which), queue, frame.length,
                 length);
 }
 

@@ -90,7 +90,7 @@ static void compare(const struct rte_mbuf *packet, uint16_t queue, void *unused)
     if (is_alike(packet, &frame))
         alike++;
     else
-        problem("queue %u: a %u-byte frame arrives changed, with %u bytes", queue, frame.length,
+        problem("queue %u: a %u-byte frame arrived changed (%u bytes)", queue, frame.length,
                 rte_pktmbuf_pkt_len(packet));
     compare_hash(packet, &frame, queue);
 }
@@ -125,7 +125,7 @@ static void compare_sent(void *of, uint16_t queue, const uint8_t *bytes, size_t 
     if (frame_is(&frame, bytes, length))
         alike++;
     else
-        problem("queue %u: a %u-byte frame is sent changed, with %zu bytes", queue, frame.length, length);
+        problem("queue %u: a %u-byte frame was sent changed (%zu bytes)", queue, frame.length, length);
     sent[queue]++;
 }
 
@@ -238,8 +238,8 @@ void counters(uint16_t port)
         return;
     }
     for (unsigned int queue = 0; queue < QUEUES; queue++) {
-        same("frames of a queue in", frames_of_queue(port, &stats, false, queue), received[queue]);
-        same("frames of a queue out", frames_of_queue(port, &stats, true, queue), sent[queue]);
+        same("frames received by a queue", frames_of_queue(port, &stats, false, queue), received[queue]);
+        same("frames sent by a queue", frames_of_queue(port, &stats, true, queue), sent[queue]);
         all_in += received[queue];
         all_out += sent[queue];
     }

@@ -229,10 +229,10 @@ void pass(const struct interface *it, unsigned int count, unsigned int most, uns
     unsigned int sent = out(file, it, count, most);
     unsigned int got = in(file, it, count, most, &ordered);
     struct counters after = counters_of(it);
-    equal("frames out correct, and sent", sent, count);
-    equal("frames in correct, and sent", got, count);
+    equal("correct frames out, and frames sent", sent, count);
+    equal("correct frames in, and frames sent", got, count);
     if (queues == 1)
-        equal("frames in that arrived in order, and all", ordered, count);
+        equal("frames that arrived in order, and all frames", ordered, count);
     equal("frames in according to the driver, and to the run", after.in - before.in, count);
     equal("frames out according to the driver, and to the run", after.out - before.out, count);
     equal("interrupts that the kernel counts, and messages sent", after.interrupts - before.interrupts,

@@ -133,7 +133,7 @@ bool vhost_accept(struct vhost *vhost)
 {
     vhost->socket = accept4(vhost->listener, NULL, NULL, SOCK_CLOEXEC);
     if (vhost->socket < 0)
-        problem("the guest can't be accepted: %s", strerror(errno));
+        problem("can't accept the guest's connection: %s", strerror(errno));
     return vhost->socket >= 0;
 }
 

@@ -230,7 +230,7 @@ static void tell_strange_out(unsigned queue, uint16_t slot, uint64_t length, uin
         nicd_note("slot %u of queue %u didn't transmit frame %u: %u bytes instead of %u", slot, queue,
                   sent[next].number, (unsigned)length, (unsigned)sent[next].length);
     else
-        nicd_note("slot %u of queue %u didn't transmit frame %u: wrong starting at byte %u", slot, queue,
+        nicd_note("slot %u of queue %u didn't transmit frame %u: wrong bytes starting at byte %u", slot, queue,
                   sent[next].number, first_other(&sent[next], length));
 }
 

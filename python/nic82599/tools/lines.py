@@ -33,7 +33,7 @@ class Source:
                 self.file = os.open(path, os.O_RDONLY | getattr(os, "O_CLOEXEC", 0) | getattr(os, "O_BINARY", 0))
                 self._look()
         except OSError as error:
-            line = f"{path} can't be read ({error.strerror}): give the file of a script or a recording"
+            line = f"{path} can't be read ({error.strerror}): give a script file or a recording"
             raise Fault(line) from None
         self.size = os.fstat(self.file).st_size if self.file >= 0 else len(self.piece)
 

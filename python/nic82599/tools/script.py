@@ -291,7 +291,7 @@ def read_bytes(path: str) -> bytes:
     try:
         return sys.stdin.buffer.read() if path == "-" else Path(path).read_bytes()
     except OSError as error:
-        raise Fault(f"{path} can't be read ({error.strerror}): give the file of a script or a recording") from None
+        raise Fault(f"{path} can't be read ({error.strerror}): give a script file or a recording") from None
 
 
 def read_text(path: str) -> str:

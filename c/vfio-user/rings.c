@@ -575,7 +575,7 @@ static bool take_slot(struct rings *it, struct ring *ring, uint16_t queue, uint3
     }
     if (!descriptor->first && !descriptor->second) {
         it->counts.zeros++;
-        remark(it, &it->reported_zeros, "descriptor of zeros; is the guest's memory shared (share=on)? Ring",
+        remark(it, &it->reported_zeros, "all-zero descriptor; is the guest's memory shared (share=on)? Ring",
                ring->base.of, ring, queue);
     }
     return true;

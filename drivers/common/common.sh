@@ -133,7 +133,7 @@ get_source() {
         mkdir -p "$to"
         say "getting the source of $1 $2"
         (cd "$to" && apt-get -qq source "$1=$2" >"$to/log" 2>&1) || die "no source of $1 $2: see $to/log"
-        mv "$to"/*/ "$to/source" || die "the source of $1 isn't one folder: see $to"
+        mv "$to"/*/ "$to/source" || die "the source of $1 isn't a single folder: see $to"
         touch "$to/unpacked"
     fi
     echo "$to/source"

@@ -113,7 +113,7 @@ void *image_load(const char *name, void **base, size_t *length)
     if (read_whole(name, &file)) {
         entry = load(file, &image);
         if (!entry)
-            fprintf(stderr, "efi: %s isn't an x86-64 application that fits\n", name);
+            fprintf(stderr, "efi: %s isn't a loadable x86-64 application\n", name);
     }
     free(file.at);
     *base = image.at;

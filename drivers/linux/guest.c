@@ -370,7 +370,7 @@ static void mount_all(void)
     mkdir("/proc", 0755);
     mkdir("/sys", 0755);
     if (mount("proc", "/proc", "proc", 0, NULL) != 0 || mount("sysfs", "/sys", "sysfs", 0, NULL) != 0)
-        problem("no /proc or /sys: %s", strerror(errno));
+        problem("can't mount /proc or /sys: %s", strerror(errno));
     /* otherwise Linux hands IPv4 frames to a socket ahead of earlier ones */
     if (put_text("/proc/sys/net/core/gro_normal_batch", "1"))
         problem("gro_normal_batch can't be set");

@@ -55,7 +55,7 @@ static bool opens(uint8_t vfs, uint16_t fifo, uint32_t blocks, void **device)
     if (!nicxi_is_ours() || program.is_opened)
         return false;
     if (vfs != scenario->vfs || fifo != scenario->fifo || blocks != scenario->blocks)
-        nicxi_misuse("nic_open's arguments differ from the first run's: %u, %u, %u", vfs, fifo, blocks);
+        nicxi_misuse("the arguments of nic_open differ from those in the first run: %u, %u, %u", vfs, fifo, blocks);
     program.is_opened = true;
     *device = nicxi.device.device;
     return true;

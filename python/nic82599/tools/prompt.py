@@ -353,7 +353,7 @@ def do_rings(session: Session, words: list[str]) -> list[str]:
 
 def do_why(session: Session, words: list[str]) -> list[str]:
     if not session.at:
-        raise Wrong("no step was taken yet")
+        raise Wrong("no step has been taken yet")
     if session.at > len(session.steps):
         raise Wrong(f"only the first {len(session.steps)} steps can be explained; raise --limit for more")
     step, reasons = session.steps[session.at - 1], session.run().reasons[session.at - 1]

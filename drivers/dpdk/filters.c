@@ -82,7 +82,7 @@ static const char *verdict(uint16_t port, const struct rte_ether_addr *to, bool 
     bool in = comes_in(port, to);
     if (in != expected)
         problem("%s: a frame to " RTE_ETHER_ADDR_PRT_FMT " %s", what, RTE_ETHER_ADDR_BYTES(to),
-                in ? "arrives" : "doesn't arrive");
+                in ? "arrived" : "didn't arrive");
     return in ? "in" : "-";
 }
 
@@ -92,7 +92,7 @@ void filters(uint16_t port)
     printf("  %-20s %-5s %-5s %-10s %-10s %s\n", "frames to", "own", "other", "multicast", "multicast", "broadcast");
     for (size_t i = 0; i < RTE_DIM(rows); i++) {
         if (rows[i].ask(port) != 0)
-            problem("the driver refuses: %s", rows[i].what);
+            problem("the driver refused: %s", rows[i].what);
         printf("  %-20s %-5s ", rows[i].what, verdict(port, &own, true, rows[i].what));
         printf("%-5s %-10s ", verdict(port, &other, rows[i].other, rows[i].what),
                verdict(port, &group, rows[i].group, rows[i].what));

@@ -102,7 +102,7 @@ static bool restart_function(void)
     if (!port_stop(1))
         return false;
     if (who_gets(mac.addr_bytes, 0) >= 0)
-        problem("a stopped virtual function receives a frame");
+        problem("a stopped virtual function received a frame");
     known_drops++; /* its queue is disabled */
     if (!port_start(1))
         return false;
@@ -230,7 +230,7 @@ static bool second_probe(void)
     int status = port_try_probe(HOST);
     printf("a second probe of the same card returns %d\n", status);
     if (status != (is_answered ? 0 : -EIO))
-        problem("a second probe returns %d instead of the expected %d", status, is_answered ? 0 : -EIO);
+        problem("a second probe returned %d instead of the expected %d", status, is_answered ? 0 : -EIO);
     return status != 0 || (port_start(HOST) && port_stop(HOST) && port_remove(HOST));
 }
 
@@ -364,7 +364,7 @@ static void run(const struct words *words)
     bus_tell_answers(words->options.bus.answers);
     handlers_begin(words->way);
     if (!run_course(words->course)) {
-        problem("the run ends early");
+        problem("the run ended early");
         return;
     }
     pass_totals();

@@ -196,7 +196,7 @@ static void tell(const struct lcore *it)
     printf("  lcore %u, queue %u: %u in and %u out, unchanged and in order\n", it->queue + 1u, it->queue, it->alike_in,
            it->alike_out);
     if (it->other_in || it->other_out)
-        problem("queue %u: %u frames in and %u out are changed or out of order", it->queue, it->other_in,
+        problem("queue %u: %u frames in and %u out were changed or out of order", it->queue, it->other_in,
                 it->other_out);
 }
 

@@ -278,7 +278,8 @@ static void look(const struct packet *it, uint32_t number)
 {
     unsigned int wanted = it->mss ? (it->payload + it->mss - 1) / it->mss : 1;
     if (out_count != wanted) {
-        problem("packet %u, %u bytes long, is sent in %u frames instead of %u", number, it->payload, out_count, wanted);
+        problem("packet %u, %u bytes long, was sent in %u frames instead of %u", number, it->payload, out_count,
+                wanted);
         return;
     }
     for (unsigned int segment = 0; segment < wanted; segment++) {
@@ -295,7 +296,7 @@ static bool give(uint16_t port, const struct packet *it, uint32_t number)
     struct rte_mbuf *packet = packet_of(it, number);
     out_count = 0;
     if (!packet || rte_eth_tx_prepare(port, QUEUE, &packet, 1) != 1 || rte_eth_tx_burst(port, QUEUE, &packet, 1) != 1) {
-        problem("packet %u isn't accepted", number);
+        problem("packet %u wasn't accepted", number);
         return false;
     }
     payload_bytes += it->payload;

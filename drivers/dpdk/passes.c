@@ -64,7 +64,7 @@ static void arrive(unsigned int which, unsigned int frame_number)
     frame_make(&frame, number, FRAME_MAX, ports[which].mac.addr_bytes, peer_mac);
     line_up_put(&in[which][rss_queue(&rss, &frame, port_queues(which))], number);
     if (!bus_arrive(run_bus, frame.bytes, frame.length))
-        problem("%s: the device doesn't accept frame %u", port_name(which), frame_number);
+        problem("%s: the device didn't accept frame %u", port_name(which), frame_number);
 }
 
 static void compare_in(const struct rte_mbuf *packet, uint16_t queue, void *port_number)
@@ -74,7 +74,7 @@ static void compare_in(const struct rte_mbuf *packet, uint16_t queue, void *port
     tallies[which].by_queue_in[queue]++;
     all_in[which]++;
     if (!make_next(&in[which][queue], &frame, ports[which].mac.addr_bytes, peer_mac)) {
-        problem("%s, queue %u: an unexpected frame", port_name(which), queue);
+        problem("%s, queue %u: an unexpected frame arrived", port_name(which), queue);
         return;
     }
     if (packet->nb_segs == 1 && frame_is(&frame, rte_pktmbuf_mtod(packet, const void *), rte_pktmbuf_pkt_len(packet)))
@@ -85,7 +85,7 @@ static void compare_in(const struct rte_mbuf *packet, uint16_t queue, void *port
     enum hash hash = hash_compare(packet, &frame, &rss);
     tallies[which].hashes += hash == HASH_RIGHT;
     if (hash == HASH_WRONG)
-        problem("%s, queue %u: the hash of a %u-byte frame", port_name(which), queue, frame.length);
+        problem("%s, queue %u: the hash of a %u-byte frame is wrong", port_name(which), queue, frame.length);
 }
 
 static void frames_in(unsigned int first, unsigned int last)
@@ -122,7 +122,7 @@ static void compare_out(void *of, uint16_t device, const uint8_t *bytes, size_t 
     uint16_t queue;
     if (!find_queue(device, &which, &queue) ||
         !make_next(&out[which][queue], &frame, peer_mac, ports[which].mac.addr_bytes)) {
-        problem("device queue %u: an unexpected %zu-byte frame is sent", device, length);
+        problem("device queue %u: an unexpected %zu-byte frame was sent", device, length);
         return;
     }
     tallies[which].by_queue_out[queue]++;
@@ -159,7 +159,7 @@ static void send_burst(unsigned int which, uint16_t queue, unsigned int frame_nu
     }
     unsigned int sent = rte_eth_tx_burst(ports[which].number, queue, packets, (uint16_t)burst);
     if (sent < burst)
-        problem("%s, queue %u accepts %u of %u frames", port_name(which), queue, sent, burst);
+        problem("%s, queue %u accepted only %u of %u frames", port_name(which), queue, sent, burst);
     rte_pktmbuf_free_bulk(packets + sent, burst - sent);
 }
 
@@ -294,14 +294,14 @@ static void expect_the_one(const struct rte_mbuf *packet, uint16_t queue, void *
 {
     (void)queue;
     if (!is_known(known, packet))
-        problem("%s receives a frame that differs from the frame sent", port_name(((struct known *)known)->which));
+        problem("%s received a frame that differs from the frame sent", port_name(((struct known *)known)->which));
 }
 
 static void expect_one_of_them(const struct rte_mbuf *packet, uint16_t queue, void *known)
 {
     (void)queue;
     if (!is_known(known, packet))
-        problem("%s receives an unexpected %u-byte frame", port_name(((struct known *)known)->which),
+        problem("%s received an unexpected %u-byte frame", port_name(((struct known *)known)->which),
                 rte_pktmbuf_pkt_len(packet));
 }
 
@@ -316,7 +316,7 @@ int who_gets(const uint8_t to[6], uint16_t tag)
         struct known one = {which, 1, &frame};
         unsigned int count = port_take(which, expect_the_one, &one);
         if (count > 1 || (count == 1 && who >= 0))
-            problem("one frame arrives more than once, at %s", port_name(which));
+            problem("one frame arrived more than once, at %s", port_name(which));
         if (count)
             who = (int)which;
     }

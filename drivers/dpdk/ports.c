@@ -102,7 +102,7 @@ void port_probe_early(unsigned int which)
     printf("  the driver %s: %d, after %" PRIu64 " reads by a virtual function that has no pool yet\n",
            status ? "gives up" : "succeeds", status, bus_counts(run_bus)->absent_reads - before);
     if (status != expected || bus_counts(run_bus)->absent_reads == before)
-        problem("an early probe returns %d instead of the expected %d", status, expected);
+        problem("an early probe returned %d instead of the expected %d", status, expected);
 }
 
 /* ---- start ---- */

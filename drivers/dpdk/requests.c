@@ -180,9 +180,9 @@ static void try_row(size_t row)
     printf("%s\n", answer ? " refused by the driver" : "");
     known_refusals += rows[row].answer != 0;
     if (answer != rows[row].answer)
-        problem("%s: the driver returns %d", rows[row].what, answer);
+        problem("%s: the driver returned %d", rows[row].what, answer);
     if (strcmp(who, rows[row].who) != 0)
-        problem("%s: the frames arrive at %s, but %s was expected", rows[row].what, who, rows[row].who);
+        problem("%s: the frames arrived at %s, but %s was expected", rows[row].what, who, rows[row].who);
 }
 
 void requests(void)

@@ -98,7 +98,7 @@ int measure(uint16_t card, uint16_t null)
     const char *what;
     struct rte_eth_conf plain = {0};
     if (port_configure(null, &plain, QUEUES, SLOTS, &what) != 0 || rte_eth_dev_start(null) != 0) {
-        problem("the null driver doesn't start");
+        problem("the null driver didn't start");
         return -1;
     }
     double bench[ROUNDS], nothing[ROUNDS];

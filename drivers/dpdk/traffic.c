@@ -35,7 +35,7 @@ static void make_next(struct line_up *list, struct frame *frame, const uint8_t *
         frame_make(frame, number, FRAME_MAX, to, from);
         return;
     }
-    problem("an unexpected frame");
+    problem("there was an unexpected frame");
     frame->length = 0;
     frame->kind = FRAME_OTHER;
 }
@@ -60,7 +60,7 @@ static void arrive(unsigned int number)
     frame_make(&frame, number, FRAME_MAX, card_mac, peer_mac);
     line_up_put(&in[queue_of(&frame)], number);
     if (!bus_arrive(run_bus, frame.bytes, frame.length))
-        problem("the device doesn't accept frame %u", number);
+        problem("the device didn't accept frame %u", number);
 }
 
 static void compare_hash(const struct rte_mbuf *packet, const struct frame *frame, uint16_t queue)
@@ -68,7 +68,7 @@ static void compare_hash(const struct rte_mbuf *packet, const struct frame *fram
     switch (hash_compare(packet, frame, &rss)) {
     case HASH_RIGHT: hashes++; break;
     case HASH_NONE: unhashed++; break;
-    default: problem("queue %u: the hash of a %u-byte frame", queue, frame->length);
+    default: problem("queue %u: the hash of a %u-byte frame is wrong", queue, frame->length);
     }
 }
 
@@ -168,7 +168,7 @@ static void hand_over(uint16_t port, uint16_t queue, unsigned int number, unsign
     for (unsigned int tries = 0; gone < made && tries < BURST; tries++)
         gone += rte_eth_tx_burst(port, queue, packets + gone, (uint16_t)(made - gone));
     if (gone < made)
-        problem("queue %u accepts %u of %u frames", queue, gone, made);
+        problem("queue %u accepted only %u of %u frames", queue, gone, made);
     rte_pktmbuf_free_bulk(packets + gone, made - gone);
 }
 
@@ -260,7 +260,7 @@ static void restart_transmit(uint16_t port)
 {
     uint64_t before = sent[0];
     if (rte_eth_dev_tx_queue_stop(port, 0) != 0 || rte_eth_dev_tx_queue_start(port, 0) != 0)
-        problem("transmit queue 0 doesn't start again");
+        problem("transmit queue 0 didn't start again");
     hand_over(port, 0, 0, BURST);
     printf("  transmit queue 0: %" PRIu64 " of %u frames are sent after the restart\n", sent[0] - before, BURST);
     same("frames out of the queue that was started again", sent[0] - before, BURST);
@@ -282,7 +282,7 @@ static void restart_receive(uint16_t port)
 {
     unsigned int number = 0, frames = 0, written, later;
     if (rte_eth_dev_rx_queue_stop(port, 0) != 0 || rte_eth_dev_rx_queue_start(port, 0) != 0)
-        problem("receive queue 0 doesn't start again");
+        problem("receive queue 0 didn't start again");
     unsigned int head = bus_peek(run_bus, NIC_RDH(0)), tail = bus_peek(run_bus, NIC_RDT(0));
     while ((written = arrive_at(0, &number)) > 0)
         frames++;

@@ -46,14 +46,14 @@ static void compare_in(const uint8_t *bytes, size_t length)
     static struct frame frame;
     uint32_t number = 0;
     if (!line_up_take(&due_in, &number)) {
-        problem("an unexpected %zu-byte frame arrives", length);
+        problem("an unexpected %zu-byte frame arrived", length);
         return;
     }
     frame_make(&frame, number, FRAME_MAX, own, peer);
     if (frame_is(&frame, bytes, length))
         alike_in++;
     else
-        problem("frame %u arrives with %zu bytes, but differs from the frame sent, which has %u", number, length,
+        problem("frame %u arrived with %zu bytes, but differs from the frame sent, which has %u", number, length,
                 frame.length);
 }
 
@@ -67,7 +67,7 @@ static uint32_t give(uint32_t next, uint32_t end)
         if (bus_arrive(run_bus, frame.bytes, frame.length))
             line_up_put(&due_in, next);
         else
-            problem("the device doesn't accept frame %u", next);
+            problem("the device didn't accept frame %u", next);
     }
     return next;
 }
@@ -98,14 +98,14 @@ static void sent(void *of, uint16_t queue, const uint8_t *bytes, size_t length)
     uint32_t number = 0;
     (void)queue;
     if (!line_up_take(&due_out, &number)) {
-        problem("an unexpected %zu-byte frame is sent", length);
+        problem("an unexpected %zu-byte frame was sent", length);
         return;
     }
     frame_make(&frame, number, FRAME_MAX, peer, own);
     if (frame_is(&frame, bytes, length))
         alike_out++;
     else
-        problem("frame %u is sent with %zu bytes, but differs from the frame expected, which has %u", number, length,
+        problem("frame %u was sent with %zu bytes, but differs from the frame expected, which has %u", number, length,
                 frame.length);
 }
 
@@ -177,7 +177,7 @@ static void arrives(const char *what, const uint8_t to[6], bool is_wanted)
     bool is_let_in = bus_arrive(run_bus, frame.bytes, frame.length);
     unsigned int got = poll_all();
     if (is_let_in != is_wanted || got != is_wanted)
-        problem("a frame for %s: the device accepts %d, and the driver receives %u", what, is_let_in, got);
+        problem("a frame for %s: the device accepted %d, and the driver received %u", what, is_let_in, got);
 }
 
 static void addresses(void)
@@ -195,7 +195,7 @@ static void link_changes(void)
         card_link(is_up);
         poll_all();
         if (network->Mode->MediaPresent != is_up)
-            problem("the link is %s, but the driver doesn't report it", is_up ? "up" : "down");
+            problem("the link was %s, but the driver didn't report it", is_up ? "up" : "down");
     }
 }
 
@@ -227,7 +227,7 @@ static bool open_network(void)
         status = network->ReceiveFilters(network, UNICAST | MULTICAST | BROADCAST | PROMISCUOUS | ALL_MULTICAST, 0,
                                          FALSE, 0, NULL);
     if (status != EFI_SUCCESS)
-        problem("the network doesn't open: status 0x%llx", (unsigned long long)status);
+        problem("the network didn't open: status 0x%llx", (unsigned long long)status);
     return status == EFI_SUCCESS;
 }
 
@@ -235,7 +235,7 @@ static void close_network(void)
 {
     bus_enter(run_bus, CLOSE);
     if (network->Shutdown(network) != EFI_SUCCESS || network->Stop(network) != EFI_SUCCESS)
-        problem("the network doesn't close");
+        problem("the network didn't close");
 }
 
 static void pass(unsigned int number)
@@ -258,7 +258,7 @@ void traffic_run(void)
 {
     network = handle_find(&efi_network);
     if (!network) {
-        problem("the driver provides no network interface");
+        problem("the driver provided no network interface");
         return;
     }
     memcpy(own, network->Mode->CurrentAddress.Addr, sizeof own);

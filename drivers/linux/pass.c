@@ -110,7 +110,7 @@ static unsigned int out_batch(int socket, const struct interface *it, uint32_t f
         struct frame frame;
         frame_make(&frame, first + i, (uint16_t)most, peer_mac, it->mac);
         if (send(socket, frame.bytes, frame.length, 0) != frame.length)
-            problem("%s: frame %u isn't sent: %s", it->name, first + i, strerror(errno));
+            problem("%s: frame %u wasn't sent: %s", it->name, first + i, strerror(errno));
     }
     uint32_t alike = order(ORDER_SENT, 0);
     equal("frames that came out of the card, and frames sent", get_word(ORDER_RESULT_2), count);

@@ -77,7 +77,7 @@ void peer_filled(void *of, uint16_t queue, uint64_t descriptor, bool ends)
         return;
     all.compared_queues++;
     if (wanted_queue != queue)
-        problem("a frame goes to queue %u, but its hash selects queue %u", queue, wanted_queue);
+        problem("a frame went to queue %u, but its hash selects queue %u", queue, wanted_queue);
     wanted_queue = ANY_QUEUE;
 }
 
@@ -101,7 +101,7 @@ static void go_on(void)
         uint32_t number = now.next++;
         now.left--;
         if (!send_one(number))
-            problem("the device doesn't accept frame %" PRIu32, number);
+            problem("the device didn't accept frame %" PRIu32, number);
     }
 }
 
@@ -168,7 +168,7 @@ void peer_takes(void *of, uint16_t queue, const uint8_t *frame, size_t length)
         echo(frame, length);
     } else {
         all.others++;
-        problem("an unexpected %zu-byte frame on queue %u", length, queue);
+        problem("an unexpected %zu-byte frame arrived on queue %u", length, queue);
     }
 }
 

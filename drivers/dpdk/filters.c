@@ -77,7 +77,7 @@ static const struct {
     {"address removed", list_none, false, false, false},
 };
 
-static const char *verdict(uint16_t port, const struct rte_ether_addr *to, bool expected, const char *what)
+static const char *arrival(uint16_t port, const struct rte_ether_addr *to, bool expected, const char *what)
 {
     bool in = comes_in(port, to);
     if (in != expected)
@@ -93,10 +93,10 @@ void filters(uint16_t port)
     for (size_t i = 0; i < RTE_DIM(rows); i++) {
         if (rows[i].ask(port) != 0)
             problem("the driver refused: %s", rows[i].what);
-        printf("  %-20s %-5s ", rows[i].what, verdict(port, &own, true, rows[i].what));
-        printf("%-5s %-10s ", verdict(port, &other, rows[i].other, rows[i].what),
-               verdict(port, &group, rows[i].group, rows[i].what));
-        printf("%-10s %s\n", verdict(port, &second, rows[i].second, rows[i].what),
-               verdict(port, &everyone, true, rows[i].what));
+        printf("  %-20s %-5s ", rows[i].what, arrival(port, &own, true, rows[i].what));
+        printf("%-5s %-10s ", arrival(port, &other, rows[i].other, rows[i].what),
+               arrival(port, &group, rows[i].group, rows[i].what));
+        printf("%-10s %s\n", arrival(port, &second, rows[i].second, rows[i].what),
+               arrival(port, &everyone, true, rows[i].what));
     }
 }

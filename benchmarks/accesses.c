@@ -1,5 +1,5 @@
-/* Measures register reads and writes through the C library: all register addresses, shuffled, and the tails of 64
-   queues. benchmarks/frames counts the instructions of `reads`, `writes` and `tails`. */
+/* Measures register reads and writes through the C library: at all register addresses in random order, and at the tails
+   of 64 queues. benchmarks/frames counts the instructions of `reads`, `writes` and `tails`. */
 #define MEASURE_CLOCK CLOCK_PROCESS_CPUTIME_ID
 #include "measure.h"
 #include "nic82599.h"
@@ -10,7 +10,7 @@ enum { SPACE = 0x20000, QUEUES = 64, ROUNDS = 4 };
 static uint32_t addresses[SPACE / 4], address_count;
 static nic n;
 
-/* Opens a new controller with 32 functions that have their own queues. */
+/* Opens a new controller with 32 virtual functions that have their own queues. */
 static void open_device(void)
 {
     if (nic_open(&n, 32, 64, 256) != NIC_DONE || nic_write32(&n, NIC_GCR_EXT, 3) != NIC_DONE)

@@ -114,7 +114,7 @@ static void frames(void)
 
 /* --- snapshots, and the hash --- */
 
-/* Measures snapshots with `lent` of 256 blocks lent, no two with the same contents. */
+/* Measures snapshots of a controller with `lent` of its 256 blocks lent, no two of them with the same contents. */
 static void snapshots(const char *kept_name, const char *restored_name, uint32_t lent, unsigned rounds)
 {
     uint8_t bytes[60] = {0};

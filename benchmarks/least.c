@@ -1,6 +1,6 @@
 /* A minimal device for frames.c, with the same calls, replies and descriptors, but only the registers that frames.c
-   uses. It has no pools, functions, IPv6, VLANs, messages, resets or snapshots, no buffers across blocks, and one fault
-   for each ring instead of eight. It is a baseline for the library's frames, not a model of a card. */
+   uses. It has no pools, virtual functions, IPv6, VLANs, messages, resets or snapshots, no buffers that span blocks,
+   and one fault for each ring instead of eight. It is a baseline for the library's frames, not a model of a card. */
 #include "nic82599.h"
 #include <stdlib.h>
 #include <string.h>

@@ -1,7 +1,7 @@
-/* Measures the C library's calls: reads and writes of all addresses, shuffled, and of the tails of 64 queues; snapshots
-   and restores, both with the C library's default allocator settings and with freed memory kept in the process; taking
-   the lowest block and lending it again. It also prints whether the library is proved (1 or 0), in place of
-   nanoseconds. benchmarks/run prints the table. */
+/* Measures the C library's calls: register reads and writes at all addresses in random order, and at the tails of 64
+   queues; snapshots and restores, both with the C library's default allocator settings and with freed memory kept in
+   the process; taking the lowest block and lending it again. It also prints whether the library is proved (1 or 0), in
+   place of nanoseconds. benchmarks/run prints the table. */
 #include "measure.h"
 #include "nic82599.h"
 #include "same_table.h"
@@ -10,7 +10,7 @@
 #include <malloc.h>
 #endif
 
-/* Opens a new card, as in each measure of the device: 32 functions with their own queues. */
+/* Opens a new card with 32 virtual functions that have their own queues, as each measurement of the device does. */
 static int opened(nic *n)
 {
     return nic_open(n, 32, 64, 256) == NIC_DONE && nic_write32(n, NIC_GCR_EXT, 3) == NIC_DONE;

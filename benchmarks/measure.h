@@ -1,5 +1,5 @@
-/* Shared by the measuring programs in C: the clock (set MEASURE_CLOCK for another one), a list of addresses that is
-   shuffled, and the output lines. Each line has a measure's name, the number of operations, and the nanoseconds. */
+/* Code that the measuring programs in C share: the clock (set MEASURE_CLOCK for another one), a shuffled list of
+   addresses, and the output lines. Each line has a measure's name, the number of operations, and the nanoseconds. */
 #include <stdint.h>
 #include <stdio.h>
 #include <time.h>

@@ -103,8 +103,8 @@ def rows_of(milestone: Path) -> list[str]:
 
 
 def check_causes(name: str, out: Path, wanted: int) -> None:
-    """Checks that the skeleton loses the expected number of rows, none of them by a crash, a hang or another unnamed
-    cause."""
+    """Checks that the skeleton loses the expected number of rows, none of them because of a crash, a hang or another
+    unnamed cause."""
     causes = re.findall(r"^  (\S+) +\d+ points? lost: (.+)$", said(out), re.MULTILINE)
     for row, cause in causes:
         if NO_NAME.search(cause):

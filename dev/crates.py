@@ -2,7 +2,7 @@
 
 `nic82599-model` is pure Rust. In the repository, a build script writes its controller, and the crate compiles the API
 and the tests of the neighbouring crate. A packed crate contains all of them and no script. `nic82599` contains the
-sources of the C library in the folder `sources`; its build script builds the library from them if it finds no library.
+sources of the C library in its `sources` folder; its build script builds the library from them if it finds no library.
 """
 
 from __future__ import annotations

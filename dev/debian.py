@@ -18,7 +18,7 @@ from generated import ROOT
 
 ARCHITECTURES = {"x86_64": "amd64", "aarch64": "arm64"}
 DOC = "usr/share/doc/nic82599"
-# Debian stores the licence's text elsewhere; the package's file `copyright` refers to it.
+# Debian stores the licence's text elsewhere; the package's `copyright` file refers to it.
 LEFT_OUT = (f"{DOC}/LICENSE",)
 TO_LICENCE = re.compile(r"\]\(((?:\.\./)*)LICENSE\)")
 

@@ -267,7 +267,7 @@ def check_vector(look: Look, name: str, vector: str) -> None:
 
 
 def check_mailboxes(look: Look) -> None:
-    """Checks at each step that the panel shows the mailbox signals and words of the functions that the device has."""
+    """Checks at each step that the panel shows the mailbox signals and words of the device's virtual functions."""
     browser = look.browser
     browser.size(1_280, 800, False)
     browser.load(look.file, "#start")

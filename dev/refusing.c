@@ -2,9 +2,9 @@
    program, selected by its number, and reports its counts at exit.
 
    REFUSE_GROWTH, REFUSE_THREAD, FAIL_IO and SHORT_IO are numbers, counted from 1. With REFUSE_WITHIN, allocations count
-   only after a line `call` on standard output, and before the line that follows it. The first REFUSE_SKIP allocations
+   only after a `call` line on standard output, and before the line that follows it. The first REFUSE_SKIP allocations
    don't count, because they belong to the language's startup, before the program's own. With REFUSE_OWN, only
-   allocations of a thread that wrote a line `call` count; others belong to the test runner. With LATE_THREADS, each
+   allocations of a thread that wrote a `call` line count; others belong to the test runner. With LATE_THREADS, each
    thread is created but starts this many seconds later, as on a busy machine. At exit, one line goes to the file
    descriptor REFUSE_TELL: the numbers of allocations, threads, reads and writes; whether one was refused; how many
    blocks of memory weren't freed; and which allocation was the last before the first thread, because that one is for
@@ -174,7 +174,7 @@ ssize_t read(int file, void *bytes, size_t count)
     return some < 0 ? some : real(file, bytes, (size_t)some);
 }
 
-/* Starts counting allocations after a line `call`, and stops before the next line. */
+/* Starts counting allocations after a `call` line, and stops before the next line. */
 static void look(const char *bytes, size_t count)
 {
     static char line[8];

@@ -98,7 +98,7 @@ def cells() -> list[Row]:
 
 
 def check_table() -> None:
-    """Refuses a duplicate name, an address of two registers, and a row with a missing index."""
+    """Refuses a duplicate name, an address that two registers share, and a row with a missing index."""
     names: set[str] = set()
     taken: dict[int, str] = {}
     for row in TABLE:

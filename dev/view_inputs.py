@@ -65,9 +65,10 @@ ENDS = {
     "second.nic": (0, RECEIVES.format(**SLOT).replace("rx\n", "arrive frame\nrx\n")),
     # A counter that was assigned to a queue earlier counts, and a read clears it.
     "counted.nic": (0, "w RQSMR[0] 3\n" + RECEIVES.format(**SLOT) + "r QPRC[3]\nr QPRC[3]\n"),
-    # Frames that arrived earlier also wait: one for a function that resets itself, and one that is first in line.
+    # Frames that arrived earlier are also waiting: one for a virtual function that resets itself, and one that is first
+    # in line.
     "waits.nic": (2, WAITS.format(frame=FRAME, other=FRAME[:11] + "3" + FRAME[12:])),
-    # A function resets what it wrote earlier, and writes it again.
+    # A virtual function resets what it wrote earlier, and writes it again.
     "reset.nic": (1, "w GCR_EXT 3\nvw 0 0x108 7\nvw 0 0x120 0x8281\nvw 0 0 0x04000000\nvw 0 0x108 1\nvw 0 0x104 2\n"),
 }
 # Arguments, standard input, and what is expected: the status, and a part of the output.

@@ -226,7 +226,7 @@ def run_tool(words: list[object], text: str = "") -> tuple[int, str, str]:
 
 
 def check_tool(words: list[object], text: str, status: int, parts: list[str], expect: Expect) -> None:
-    """Checks that a tool ends with a status, and prints these parts."""
+    """Checks that a tool exits with this status, and prints these parts."""
     ended, out, errors = run_tool(words, text)
     for part in parts:
         is_right = ended == status and part in out + errors
@@ -334,7 +334,7 @@ def check_lent(folder: Path, expect: Expect) -> None:
 
 
 def check_no_bytes(folder: Path, expect: Expect) -> None:
-    """Checks that a script contains a frame without bytes as one byte, and that the tools show it without bytes."""
+    """Checks that a script represents an empty frame as one byte, and that the tools show it as empty."""
     file = folder / "empty.recording"
     with recorded(file) as nic:
         nic.link(True)
@@ -512,8 +512,8 @@ def check_cut(folder: Path, expect: Expect) -> None:
 
 
 def check_opening(folder: Path, expect: Expect) -> None:
-    """Checks where a page opens: at the first trouble; otherwise at an idle step, which is the first for a script and
-    the last for a recording; otherwise at the first access to a register that doesn't exist."""
+    """Checks where a page opens: at the first step in trouble; otherwise at an idle step, which is the first for a
+    script and the last for a recording; otherwise at the first access to a register that doesn't exist."""
     file = folder / "idle.recording"
     for steps, script_at, recorded_at in (
         ("r STATUS\nrx\nr STATUS\nint pf\nr STATUS", 1, 3),

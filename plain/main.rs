@@ -1,4 +1,4 @@
-//! The program `nicbench`.
+//! The `nicbench` program.
 
 #![cfg_attr(unix, no_main)]
 

@@ -114,7 +114,7 @@ static uint32_t some_word(void)
     }
 }
 
-/* Returns in most cases a register of the table, otherwise an address near one, or any address. */
+/* Usually returns a register in the table, otherwise an address near one, or any address. */
 static uint32_t some_address(void)
 {
     uint32_t address = chance_addresses[below((uint32_t)chance_address_count)];

@@ -2,7 +2,7 @@
 
        events COUNT SEED FROM FOLDER ONE.so [OTHER.so]
 
-   FOLDER is an empty folder for recordings. From event FROM on, each event is printed; 0 prints none. With only one
+   FOLDER is an empty folder for recordings. Event FROM and all later ones are printed; 0 prints none. With only one
    library, the program prints a digest of its answers: equal digests on two machines mean equal answers.
 
    For some calls, each memory request of one library fails in turn. Each failure must be reported and change nothing.

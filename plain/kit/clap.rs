@@ -243,7 +243,7 @@ impl<'a> ArgMatches<'a> {
     }
 }
 
-/// The command `help`, which every program with commands has.
+/// The `help` command, which every program with commands has.
 const HELP: &str = "help";
 
 impl<'a> Command<'a> {

@@ -3,7 +3,7 @@
 //! The sources name `std::..`, which is a separate library in Rattle. It uses Rust's names, and differs from Rust's
 //! library in three ways that this module reproduces:
 //!
-//! - Running out of memory is an error, not an abort. What allocates takes an allocator, `Global`, and returns a
+//! - Running out of memory is an error, not an abort. A call that allocates takes an allocator, `Global`, and returns a
 //!   `Result`; the error returns what couldn't be stored. Rust's `Vec` and `String` have fallible calls, which are used
 //!   here. Rust's `Box`, `Arc`, `VecDeque`, maps and sets abort the process, so the kit has its own.
 //! - Access to the process needs a handle, `HostRuntime`, which `main` receives.

@@ -79,7 +79,7 @@ impl<'a> Place<'_, 'a> {
             text.push_str("\n\n")?;
             self.push_usage(&mut text, used)?;
         }
-        // (The command `help` has no help itself.)
+        // (The `help` command itself has no help.)
         let has_help = self.command.name != HELP;
         text.push_str(if has_help { "\n\nFor more information, try '--help'.\n" } else { "\n" })?;
         Ok(Error { kind, text })

@@ -76,8 +76,7 @@ impl<T> Ring<T> {
         if more <= old - self.len {
             return true;
         }
-        // (Rattle's queue counts from the number of elements if these don't start the block, otherwise from the block's
-        // length.)
+        // (Rattle's queue doubles the number of elements if these don't start the block, otherwise the block's length.)
         let base = if self.head == 0 { old } else { self.len };
         let wanted = self.len.saturating_add(more).max(base.saturating_mul(2)).max(least::<T>());
         if self.slots.try_reserve_exact(wanted - old).is_err() {

@@ -40,13 +40,13 @@ AROUND = {"BAD_MEMORY", "BROKEN", "CLOSED"}
 # Names that differ between the crate and the header.
 OTHERWISE = {"DESC_TYPE": "TYPE"}
 HEAD_PYTHON = '''\
-"""The numbers that calls of the C library return, made from its header nic82599.h by dev/generate statuses: the
+"""The numbers that C library calls return, generated from the header nic82599.h by dev/generate statuses: the
 statuses and the faults, and by number the words for drop reasons, faults and steps.
 """
 
 '''
 HEAD_RUST = """\
-//! The numbers that calls of the C library return, made from its header nic82599.h by dev/generate statuses.
+//! The numbers that C library calls return, generated from the header nic82599.h by dev/generate statuses.
 // Some numbers are unused.
 #![allow(dead_code)]
 """

@@ -50,8 +50,8 @@ class Lesson:
 
 
 def read_one(path: Path) -> Lesson:
-    """Reads a lesson from its file: `NUMBER TITLE`, optionally `vfs N`, then its parts, each after a line `---
-    NAME`."""
+    """Reads a lesson from its file: `NUMBER TITLE`, optionally `vfs N`, then its parts, each after a `--- NAME`
+    line."""
     head, *rest = re.split(r"^--- (\w+)\n", path.read_text(encoding="utf-8"), flags=re.M)
     first, *more = head.strip().splitlines()
     number, _, title = first.partition(" ")

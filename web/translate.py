@@ -57,7 +57,7 @@ def text_of(value: str) -> str:
 
 
 class Names(ast.NodeVisitor):
-    """The names that a function assigns, except those of functions and comprehensions inside it."""
+    """The names that a function assigns, except names assigned in nested functions and comprehensions."""
 
     def __init__(self, body: list[ast.stmt]) -> None:
         self.found: dict[str, None] = {}

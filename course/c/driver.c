@@ -1,4 +1,5 @@
-/* A driver for the 82599 in six milestones, with the card's adapter at the end. README.md explains how to work on it.
+/* A driver for the 82599 in six milestones, with the report card's adapter at the end. README.md explains how to work
+   on it.
 
    Registers have the datasheet's names: NIC_CTRL is CTRL, and NIC_CTRL_RST is one of its bits (nic82599_regs.h,
    docs/REGISTERS.md). Fields of descriptors are named similarly: NIC_RXWB_DD (nic82599_desc.h, docs/DESCRIPTORS.md). */
@@ -159,7 +160,8 @@ static uint32_t bit_of(unsigned type)
     return type < sizeof bits / sizeof *bits ? bits[type] : 0;
 }
 
-/* Spreads flows over the queues according to driver.rss: key, table and types. Without types, nothing was requested. */
+/* Spreads flows over the queues according to driver.rss: key, table and types. If there are no types, RSS wasn't
+   requested. */
 static void set_rss(void)
 {
     uint32_t mode = NIC_MRQC_MRQE_IS(1);

@@ -1,4 +1,4 @@
-//! The program `nicbench` as a WebAssembly module, based on the plain edition: it takes the command-line arguments and
+//! The `nicbench` program as a WebAssembly module, based on the plain edition: it takes the command-line arguments and
 //! the input, and returns the output and the status. `nicbench.mjs` is the JavaScript interface.
 //!
 //! Each string has a number: 0 is the arguments, each terminated by a 0 byte; 1 the input; 2 the output; 3 the fault

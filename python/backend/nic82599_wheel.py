@@ -1,7 +1,7 @@
 """Builds the wheel of this package: the build backend for pip (PEP 517 and 660), also called by dev/release.
 
 It needs only the standard library, so pip needs no network. The wheel contains the modules, the shared libraries and
-the program `nicbench`: the proved ones if they exist, otherwise those of the plain edition, which rustc compiles. Its
+the `nicbench` program: the proved ones if they exist, otherwise those of the plain edition, which rustc compiles. Its
 bytes depend only on its contents and SOURCE_DATE_EPOCH.
 """
 

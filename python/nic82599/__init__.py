@@ -539,7 +539,7 @@ def vf_address(gcr_ext: int, function: int, offset: str | int) -> int:
 
 
 class _OneOwner:
-    """Owns memory of the library. Can't be copied, because the copy would free it again."""
+    """Owns memory that the library allocated. Can't be copied, because the copy would free it again."""
 
     _copied_by = ""
 

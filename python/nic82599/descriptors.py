@@ -1,7 +1,7 @@
 """Packs and parses descriptors as a driver does, like the functions of c/include/nic82599_desc.h.
 
 A descriptor is 16 bytes of packet memory: two little-endian 64-bit halves. docs/DESCRIPTORS.md says what the bench does
-with each field; the module `descriptor_fields` has the fields as tables.
+with each field; the `descriptor_fields` module has the fields as tables.
 
     >>> from nic82599 import Nic
     >>> with Nic() as nic:

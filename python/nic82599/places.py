@@ -1,4 +1,4 @@
-"""Finds the C library and the program `nicbench`.
+"""Finds the C library and the `nicbench` program.
 
 Both are searched for in the path of an environment variable (NIC82599_LIBRARY, NICBENCH); next to this package, where a
 wheel installs them; in the clone or the prefix that contains the package; and in the system, the library by its soname
@@ -88,7 +88,7 @@ def engine() -> str:
 
 
 def program() -> str:
-    """Returns the path of the program `nicbench`; in a clone, the path of its launcher. Raises Missing."""
+    """Returns the path of the `nicbench` program; in a clone, the path of its launcher. Raises Missing."""
     path = os.environ.get("NICBENCH")
     if path:
         return path

@@ -10,7 +10,7 @@ option `-p no:nic82599` disables the plugin.
     def test_poll():
         return Poll()                  # a nic82599.explore.Scenario
 
-The marker's arguments are those of `nic82599.explore.search`: runs, seed, strategy, depth, preemptions, hang, shrink,
+The marker takes the arguments of `nic82599.explore.search`: runs, seed, strategy, depth, preemptions, hang, shrink,
 jobs, strict, memory, shard. What never ran in a scenario is reported as a warning and as a property in the JUnit XML;
 with `strict` it is a failure. A failure is reported with its schedule. With --nic-out FOLDER the schedule is also
 written to NAME.schedule there, the device's side to NAME.nic, which nicview draws, and a page to NAME.html.

@@ -1,4 +1,4 @@
-"""The numbers that calls of the C library return, made from its header nic82599.h by dev/generate statuses: the
+"""The numbers that C library calls return, generated from the header nic82599.h by dev/generate statuses: the
 statuses and the faults, and by number the words for drop reasons, faults and steps.
 """
 

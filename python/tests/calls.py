@@ -158,7 +158,7 @@ gc.collect()
 
 
 class Copies(unittest.TestCase):
-    """An object that owns memory of the library can't be copied."""
+    """An object that owns memory from the library can't be copied."""
 
     def test_refused(self) -> None:
         with Nic(blocks=1) as nic, nic.snapshot() as kept:
@@ -205,7 +205,7 @@ class Registers(unittest.TestCase):
             nic["RXDCTRL[3]"] = 1
 
     def test_long_numbers(self) -> None:
-        """Numbers with more digits than Python prints are refused like others, in a short line."""
+        """Numbers with more digits than Python prints are refused like other numbers, with a short message."""
         nic, digits, number = self.nic, "9" * 5000, 10**5000
         for call, refusal in (
             (lambda: nic[f"RDT[{digits}]"], nic82599.NoSuchRegister),
@@ -247,8 +247,8 @@ class Registers(unittest.TestCase):
             nic.note("of a controller that was closed")
 
     def test_why_stray(self) -> None:
-        """The message says which case it is: no register, no such function, no pool for it, or no such queue in its
-        pool."""
+        """The message says which case it is: no register, no such virtual function, no pool for it, or no such queue in
+        its pool."""
         nic, none, one = Nic(vfs=40), Nic(), Nic(vfs=1)
         self.addCleanup(lambda: [it.close() for it in (nic, none, one)])
         expected = {0: "no pools", 1: "16 pools", 2: "32 pools", 3: "64 pools"}

@@ -21,7 +21,7 @@ COMMANDS = (0x2B30_0000,) * 12 + (0x2330_0000, 0x2230_0000, 0x2A30_0000, 0x2B20_
 
 
 def answered(call: Callable[[], Event | bool | None]) -> str:
-    """Returns the answer to a step, also if it is refused."""
+    """Returns the answer to a step, even if it is refused."""
     try:
         event = call()
     except nic82599.NoQueue:

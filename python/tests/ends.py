@@ -1,4 +1,4 @@
-"""Tests of how the tools end: if their output can't be written, if its reader is gone, and with --version."""
+"""Tests of how the tools exit: if their output can't be written, if its reader is gone, and with --version."""
 
 from __future__ import annotations
 

@@ -252,7 +252,7 @@ class Found(unittest.TestCase):
             self.assertIn("end: 1 and not 2", self.failure(Twice("add", "add"), 500, strategy=strategy), strategy)
 
     def test_traceback(self) -> None:
-        """An exception in a function is reported with its traceback; one in the bring-up is raised."""
+        """An exception in a scenario's function is reported with its traceback; one in the bring-up is raised."""
         class Ends(Faulty):
             def end(self) -> str | None:
                 return str(1 // 0)
@@ -318,7 +318,8 @@ class Found(unittest.TestCase):
         search(Faulty("pause", "pause"), 50)
 
     def test_never(self) -> None:
-        """What never ran in a scenario is reported in the same words as in C; a strict search raises it."""
+        """What never ran in a scenario is reported in the same words as in C; a strict search raises Vacuous with
+        it."""
         unsent = "handler isr never started: no message pf vector 5 was sent"
         wrong = ["task poll never got past its first wait", unsent]
         filtered = "no frame was ever written to memory: dropped filter"
@@ -662,7 +663,7 @@ class Files(unittest.TestCase):
         self.assertEqual(ran(script, "--vfs", "0", "--fifo", "64").splitlines()[-1].split()[0], "ok")
 
     def test_script(self) -> None:
-        """A script contains functions' accesses, memory writes and the link. If it is cut, it says so."""
+        """A script contains accesses by virtual functions, memory writes and link changes. If it is cut, it says so."""
         with tempfile.TemporaryDirectory() as folder:
             with self.assertRaises(Failure):
                 search(All(), 50, out=folder, seed=3)

@@ -39,8 +39,8 @@ class Driver(Points):
     defines those functions below that your driver supports. Rows that need any other function are shown as not
     applicable.
 
-    For one queue, the card calls `receive` on one thread at a time, and likewise `send` and `reclaim`; calls for other
-    queues may run concurrently. `interrupt` is called at any time between open and close: on top of any thread or
+    For one queue, the card calls each of `receive`, `send` and `reclaim` on one thread at a time; calls for other
+    queues may run concurrently. `interrupt` is called at any time between open and close: interrupting any thread or
     concurrently with all of them. The handler of one vector never runs concurrently with itself. One thread makes all
     other calls (close, reset, filter, rss, mtu, resize, suspend, resume), and no receive, send or reclaim runs during
     these calls. `mailbox_send` and `mailbox_receive` are called on one thread at a time; `mailbox_ready` may run

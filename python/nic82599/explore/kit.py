@@ -119,7 +119,7 @@ class Flow:
 
     def rss(self, nic: Nic) -> tuple[int, int]:
         """Returns the flow's hash and the queue of its frames, under the current MRQC, RSSRK and RETA. The hash is 0 if
-        the flow isn't hashed. The queue is 0 then, and also if MRQC bits 3:0 aren't 1."""
+        the flow isn't hashed. The queue is 0 in that case, and if MRQC bits 3:0 aren't 1."""
         key = b"".join(_peek(nic, f"RSSRK[{k}]").to_bytes(4, "little") for k in range(10))
         data = self._hashed(nic)
         found = rss_hash(key, data) if data else 0
@@ -182,7 +182,7 @@ class Mailbox:
 
     def _has_come_from(self, bit: int) -> bool:
         """Checks and clears this function's bit. Each PFMBICR register holds the requests and acknowledgements of 16
-        functions, cleared by writing ones."""
+        virtual functions, cleared by writing ones."""
         own, register = bit << self.vf % 16, f"PFMBICR[{self.vf // 16}]"
         if not self.scenario.read32(register) & own:
             return False

@@ -51,7 +51,7 @@ def absent_at(address: int) -> Absent | None:
 # Values that drivers write to clear all causes or masks, whichever bits a register has.
 ALL = (0x7FFF_FFFF, 0xFFFF_FFFF)
 CLEARED = ("EICR", "EIMC", "PVTEICR", "PVTEIMC")
-# The most values per register for which the warnings are cached.
+# The maximum number of values per register whose warnings are cached.
 MOST_WORDS = 1 << 16
 
 

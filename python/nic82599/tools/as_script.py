@@ -2,7 +2,7 @@
 
 Each block of a lent range has its own line, equal data strings are merged, and restoring a snapshot removes the lines
 since the snapshot was taken. The program then runs the script, which is cut before the first answer that differs from
-the recorded one. The remaining lines therefore have the answers in their comments.
+the recorded one. The remaining lines therefore get the answers that their comments show.
 """
 
 from __future__ import annotations

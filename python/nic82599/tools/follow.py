@@ -53,8 +53,8 @@ class Mark:
     snapshots: dict[str, Snapshot]
 
     def size(self, blocks: int) -> int:
-        """Returns an upper bound on the bytes that the mark needs. A snapshot that several marks hold is counted for
-        each."""
+        """Returns an upper bound on the bytes that the mark needs. A snapshot that several marks share is counted for
+        each of them."""
         return (1 + len(self.snapshots)) * (blocks * BLOCK_BYTES + (1 << 16)) + self.held.size
 
 

@@ -1,7 +1,7 @@
 """Explains why the bench refuses a line of a script: the wrong word, what was expected, and similar names.
 
 The bench decides whether a script is refused, for which fault, and at which line; this module only explains the
-decision. The forms are those of docs/script.md.
+decision. docs/script.md describes the forms.
 """
 
 from __future__ import annotations

@@ -195,7 +195,7 @@ class Replay:
 
 
 class Watch:
-    """Selects the 16-byte units of lent memory to read after each step: those of the rings in use that may have
+    """Selects the 16-byte units of lent memory to read after each step: the units of rings in use that may have
     changed."""
 
     def __init__(self, trace: Trace, sides: list[tuple[str, int]]) -> None:

@@ -204,7 +204,8 @@ function showInterrupts(state, before) {
   element("interrupts-part").hidden = !run.groups.length;
   element("interrupts").replaceChildren(...(parts.length ? parts : [faint("No cause, mask or vector is set.")]));
 }
-// Returns the mailboxes that the run touches, by function: the registers of both sides, and the words that aren't 0.
+// Returns the mailboxes that the run touches, by virtual function: the registers of both sides, and the words that
+// aren't 0.
 function mailboxesOf({ steps, vfs }) {
   const found = new Map(), touched = new Set(steps.flatMap((step) => step[3].map(([address]) => address)));
   for (const [address, [name, kind]] of registers) {

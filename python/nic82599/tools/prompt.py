@@ -1,4 +1,4 @@
-"""The commands of tools/nicdebug: a session of `nicbench debug`, one command at a time.
+"""The commands of tools/nicdebug: a `nicbench debug` session, one command at a time.
 
 The debugger reads all its commands in one go. So a session stores the commands so far and runs them again before each
 new one; they always lead to the same place.
@@ -88,7 +88,7 @@ class Session:
         return self.bench.debug(self.numbers, self.commands + more)[-count:]
 
     def take(self, command: str) -> str:
-        """Runs a command of the debugger and adds it to the session. Raises Wrong if it is refused."""
+        """Runs a debugger command and adds it to the session. Raises Wrong if it is refused."""
         answer = self.ask([command])[0]
         if answer.startswith("refused"):
             raise Wrong(answer + MEANINGS.get(answer.split()[-1], ""))

@@ -1,9 +1,9 @@
 """Explains why a step was idle, dropped a frame, faulted or failed: the documented conditions with the register values
 that decide them.
 
-The conditions are those of docs/REGISTERS.md and docs/script.md for the step's kind, in the order in which the device
-tests them. Each condition is shown with the register values before the step, and whether it held. The reply itself
-always comes from the program. The conditions and their texts come from reason_table.py.
+The conditions are the ones that docs/REGISTERS.md and docs/script.md list for the step's kind, in the order in which
+the device tests them. Each condition is shown with the register values before the step, and whether it held. The reply
+itself always comes from the program. The conditions and their texts come from reason_table.py.
 """
 
 from __future__ import annotations

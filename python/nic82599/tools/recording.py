@@ -1,4 +1,4 @@
-"""Replays a recording of the library (NIC82599_RECORD, nic_record) as a run.
+"""Replays a recording made by the library (NIC82599_RECORD, nic_record) as a run.
 
 A recording is a script of the calls that a program made on a controller, with the replies as comments, and without the
 limits of a script. Lines that begin with `#:` contain what a script can't express: the sizes, ranges of lent blocks,
@@ -367,7 +367,7 @@ def cut(made: Recording, limit: int) -> None:
         made.notes.append(f"{made.before:,} events precede the first step shown")
 
 
-# The operations that change the number of held bytes.
+# The operations that change the number of bytes in use.
 FOLLOWED = frozenset((Op.LEND, Op.UNLEND, Op.ARRIVE, Op.RX, Op.TX, Op.COLLECT))
 
 

@@ -1,4 +1,4 @@
-"""Runs the program `nicbench` for the tools, and parses a script with its object."""
+"""Runs the `nicbench` program for the tools, and parses a script with its object."""
 
 from __future__ import annotations
 
@@ -127,7 +127,7 @@ _STARTED = Lock()
 
 
 class Bench:
-    """The program `nicbench` with its device's sizes, and the most instructions in a script."""
+    """The `nicbench` program with its device's sizes, and the maximum number of instructions in a script."""
 
     is_made = False
     says_plain = False  # set when a clone's launcher reports that it starts the plain edition
@@ -278,7 +278,7 @@ def comment_of(line: str) -> str:
 
 
 def script_part(text: str) -> str:
-    """Returns a script, or the part of a session before the line `%`."""
+    """Returns a script, or the part of a session before its `%` line."""
     lines = text.splitlines(keepends=True)
     for n, line in enumerate(lines):
         if line.split("#")[0].split() == ["%"]:

@@ -107,7 +107,7 @@ def _ended(main: Callable[[], int], name: str, unwritten: int) -> int:
         try:
             return main()
         finally:
-            # also after --help and --version
+            # even after --help and --version
             sys.stdout.flush()
     except Refused as refused:
         print(called(f"{name}: {refused}: run tools/niclint SCRIPT for details"), file=sys.stderr)

@@ -171,12 +171,12 @@ class Plan:
         return both + [first("PFMBICR", i // 16), first("EICR")] if written is not None else both
 
     def causes(self, queue: int) -> list[int]:
-        """Returns the cause registers in which a queue may set bits: the physical function's, and those of functions
-        with a pool that may contain the queue."""
+        """Returns the cause registers in which a queue may set bits: the physical function's registers, and the
+        registers of virtual functions with a pool that may contain the queue."""
         return [first("EICR")] + [first("PVTEICR", v) for v in self.functions(queue)]
 
     def functions(self, queue: int) -> list[int]:
-        """Returns the functions with a pool that may contain this queue."""
+        """Returns the virtual functions with a pool that may contain this queue."""
         return sorted({v for v in (queue // k for k in POOL_SIZES) if v < self.vfs})
 
     def moved(self, reply: str, queue: int, rx: bool) -> list[int]:

@@ -214,7 +214,8 @@ impl Handle {
         matches!(self.step(Step::Eeprom), Ok(Some(_)))
     }
 
-    /// Sends the next message of an interrupt group. Group 0 is the physical function, group v + 1 is function v.
+    /// Sends the next message of an interrupt group. Group 0 is the physical function, group v + 1 is virtual function
+    /// v.
     pub(crate) fn int_step(&self, group: u8) -> Result<Option<Event>, Error> {
         self.step(Step::Int(group.checked_sub(1)))
     }

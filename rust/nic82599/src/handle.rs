@@ -187,7 +187,8 @@ impl Handle {
         self.calls.eeprom_step().0 == status::DONE
     }
 
-    /// Sends the next message of an interrupt group. Group 0 is the physical function, group v + 1 is function v.
+    /// Sends the next message of an interrupt group. Group 0 is the physical function, group v + 1 is virtual function
+    /// v.
     pub(crate) fn int_step(&self, group: u8) -> Result<Option<Event>, Error> {
         match self.calls.int_step(group) {
             (status::IDLE, _) => Ok(None),

@@ -41,8 +41,8 @@
 //! # Ok::<(), nic82599::Error>(())
 //! ```
 //!
-//! The feature `explore` adds the search for an order of steps that breaks your driver. Code that takes a [`Device`]
-//! runs on a [`Nic`] and in a search. The feature `drive` adds the report card, which runs your driver's functions in
+//! The `explore` feature adds the search for an order of steps that breaks your driver. Code that takes a [`Device`]
+//! runs on a [`Nic`] and in a search. The `drive` feature adds the report card, which runs your driver's functions in
 //! ready-made scenarios.
 //!
 //! The device's behavior is proved; this crate is tested. A refused call returns an [`Error`] and changes nothing. No

@@ -137,8 +137,8 @@ impl Nic {
         Ok(Snapshot { kept: self.handle.snapshot()?, sizes: self.sizes() })
     }
 
-    /// Restores a snapshot, which may come from another controller; the sizes become those of the snapshot. You can
-    /// restore the same snapshot again.
+    /// Restores a snapshot, which may come from another controller; this controller's sizes become the snapshot's
+    /// sizes. You can restore the same snapshot again.
     ///
     /// # Errors
     ///
@@ -436,7 +436,7 @@ pub struct Function<'a> {
 }
 
 impl Function<'_> {
-    /// Returns why the function has no register at an offset. `is_some` says whether some function has one there.
+    /// Returns why the function has no register at an offset. `is_some` says whether any function has one there.
     fn why_absent(&self, is_some: bool) -> Absent {
         why_absent(self.number, self.nic.sizes().vfs, self.nic.peek(regs::GCR_EXT), is_some)
     }
@@ -547,7 +547,7 @@ pub fn vf_address(gcr_ext: u32, number: u8, offset: u32) -> Result<u32, Error> {
 const POOLS: [(u8, u8); 4] = [(0, 0), (16, 8), (32, 4), (64, 2)];
 
 /// Returns why a virtual function has no register at an offset, for a controller with `vfs` functions and this value of
-/// GCR_EXT. If some function has the register (`is_some`), what is missing is its queue.
+/// GCR_EXT. If any function has the register (`is_some`), what is missing is its queue.
 pub(crate) fn why_absent(number: u8, vfs: u8, gcr_ext: u32, is_some: bool) -> Absent {
     let (pools, queues) = POOLS[gcr_ext as usize & 3];
     if number >= vfs {

@@ -1,4 +1,4 @@
-//! The numbers that calls of the C library return, made from its header nic82599.h by dev/generate statuses.
+//! The numbers that C library calls return, generated from the header nic82599.h by dev/generate statuses.
 // Some numbers are unused.
 #![allow(dead_code)]
 

@@ -1,7 +1,7 @@
-//! Random calls, compared with those of c/tests/differential.c: from the same seed both write the same script and the
-//! same answers. tests/digests.txt contains their digests (c/test writes and compares those of the C program). With
-//! NIC82599_TRANSCRIPTS=FOLDER, the transcripts of NIC82599_SEEDS (`1000:0 1002:2`, each a seed and a number of virtual
-//! functions) are also written to the folder, and c/test compares them byte for byte.
+//! Random calls, compared with the ones that c/tests/differential.c makes: from the same seed both write the same
+//! script and the same answers. tests/digests.txt contains their digests (c/test writes and compares the C program's
+//! digests). With NIC82599_TRANSCRIPTS=FOLDER, the transcripts of NIC82599_SEEDS (`1000:0 1002:2`, each a seed and a
+//! number of virtual functions) are also written to the folder, and c/test compares them byte for byte.
 
 mod common;
 

@@ -313,7 +313,8 @@ const fn unless<T: Copy>(left_out: bool, function: T) -> Option<T> {
     }
 }
 
-/// One past the functions' numbers: such a driver lacks none, but declares what it never does.
+/// One more than the last function's number: a driver with this number lacks no function, but declares what it never
+/// does.
 const NEVER: usize = 18;
 const NEVER_DOES: Can =
     Can::NO_MODERATION.and(Can::NO_HEADS).and(Can::ONE_VECTOR).and(Can::ONE_BUFFER).and(Can::NO_ADDRESS);

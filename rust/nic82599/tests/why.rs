@@ -47,7 +47,7 @@ fn bare(line: &str) -> &str {
     line.split('#').next().unwrap_or("").trim()
 }
 
-/// Returns the lines of a case: those of the base with the case's changes, then its own.
+/// Returns the lines of a case: the base's lines with the case's changes, then the case's own lines.
 fn set_up<'a>(base: &[(&'a str, &'a str)], lines: &[&'a str]) -> Vec<&'a str> {
     let mut made = if lines.contains(&"alone") { Vec::new() } else { base.to_vec() };
     let mut more = Vec::new();

@@ -1,6 +1,6 @@
 //! The only file between driver.rs and the bench. Run by itself, the program exercises the driver: it receives 10,000
 //! frames, or as many as its argument says, sends them back, and compares each byte. Run by nicdrive, it passes the
-//! driver to the report card. Either way the driver works in its own memory, and so does the device.
+//! driver to the report card. Either way, both the driver and the device work in the driver's own memory.
 //!
 //!     cargo build --features drive --example adapter
 //!     target/debug/examples/adapter

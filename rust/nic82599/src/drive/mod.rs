@@ -1,5 +1,5 @@
 //! A report card for a driver, like the one that docs/report-card.md describes for C: it runs the driver's functions in
-//! ready-made scenarios. It is the feature `drive` of the crate, and also links `libnic82599_drive.a`.
+//! ready-made scenarios. It is the crate's `drive` feature, and also links `libnic82599_drive.a`.
 //!
 //! A [`Driver`] is a type with `open` and `close`, and with constants that name its other functions. A function that it
 //! lacks is `None`, and rows that need it aren't applicable. Its program is one line:
@@ -73,10 +73,10 @@ pub const MAILBOX_WORDS: usize = 16;
 /// A driver's functions. A function given by a constant is `None` if the driver lacks it: rows that need it are
 /// reported as not applicable. The driver needs `RECEIVE`, `THREADS` or `SEND`.
 ///
-/// For each queue the card calls `RECEIVE` in one thread at a time, and likewise `SEND` and `RECLAIM`. Calls for
-/// different queues run concurrently. `INTERRUPT` may run at any time between open and close, on top of any thread or
-/// concurrently with all of them, but never concurrently with itself for one vector. One thread makes the other calls
-/// (close, reset, filter, rss, mtu, resize, suspend, resume), and no receive, send or reclaim runs during them.
+/// For each queue the card calls each of `RECEIVE`, `SEND` and `RECLAIM` in one thread at a time. Calls for
+/// different queues run concurrently. `INTERRUPT` may run at any time between open and close, interrupting any thread
+/// or concurrently with all of them, but never concurrently with itself for one vector. One thread makes the other
+/// calls (close, reset, filter, rss, mtu, resize, suspend, resume), and no receive, send or reclaim runs during them.
 /// `MAILBOX_SEND` and `MAILBOX_RECEIVE` are called by one thread at a time; `MAILBOX_READY` may run concurrently with
 /// them.
 pub trait Driver: Sized + 'static {

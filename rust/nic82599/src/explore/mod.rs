@@ -1,5 +1,5 @@
 //! The search for an order of steps that breaks a driver, like the one that docs/explore.md describes for C. It is the
-//! feature `explore` of the crate, and links `libnic82599_explore.a`.
+//! crate's `explore` feature, and links `libnic82599_explore.a`.
 //!
 //! A [`Scenario`] brings the device up. For each schedule it names the driver's tasks and handlers, and the frames that
 //! will arrive. Tasks are closures. Each call to their [`Bus`] is a point at which any actor may run: another task, a

@@ -617,8 +617,8 @@ impl Lock {
     }
 
     pub(super) fn lock(&self) {
-        // SAFETY: the lock and its name live at least as long as this one, which is borrowed, and longer if it is held.
-        // Only the explorer changes it.
+        // SAFETY: the explorer's lock and its name live at least as long as this `Lock`, which is borrowed, and longer
+        // if it is held. Only the explorer changes it.
         at_point(|| unsafe { nicx_lock(self.parts.raw.get()) });
     }
 

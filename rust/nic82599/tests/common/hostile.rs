@@ -48,7 +48,7 @@ fn registers(nic: &Nic, chance: &mut Chance) {
     }
 }
 
-/// In any mode, the address of an offset is one of the device's.
+/// In any mode, the address for an offset is the address of a device register.
 fn address_of(nic: &Nic, chance: &mut Chance) {
     let (mode, number) = (some32(chance), chance.below(70) as u8);
     match vf_address(mode, number, some32(chance)) {

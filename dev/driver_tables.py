@@ -63,8 +63,8 @@ def field_macros(row: Row) -> str:
 
 
 def offset_macros() -> str:
-    """Returns the macros for a virtual function's offsets. Its counters have the same names as the device's, so their
-    macros contain OFFSET."""
+    """Returns the macros for a virtual function's offsets. Its counters have the same names as the device's counters,
+    so their macros contain OFFSET."""
     lines = ""
     for it in places():
         macro = f"NIC_{it.name}" + ("_OFFSET" if it.name in {row.name for row in TABLE} else "")

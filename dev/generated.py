@@ -84,8 +84,8 @@ def with_each_macro_once(text: str) -> str:
 
 
 def renewed(texts: dict[Path, str], only_check: bool, left: Iterable[Path] = ()) -> bool:
-    """Rewrites the files whose text differs and removes leftover files, or only names both. Returns whether there were
-    any."""
+    """Rewrites the files whose text differs and removes leftover files, or only lists both kinds. Returns whether there
+    were any."""
     stale = [path for path, text in texts.items() if not path.exists() or path.read_text(encoding="utf-8") != text]
     gone = list(left)
     for path in stale + gone:

@@ -68,9 +68,9 @@ def check_walk(look: Look, rings: list[str], pictures: Path | None) -> None:
 
 
 def check_opening(look: Look) -> None:
-    """Checks that the page opens at the first failing step, and that the URL's number matches the header. Without a
-    failing step, it opens at the first step that did nothing; without that, at the first stray access; otherwise at the
-    last step."""
+    """Checks that the page opens at the first failing step, and that the URL's number matches the header. If no step
+    fails, it must open at the first step that did nothing; if there is none, at the first stray access; otherwise at
+    the last step."""
     numbers = [number for number in range(look.count) if look.kind(number) in TROUBLE]
     for kind in ("idle", "stray"):
         numbers = numbers or [number for number in range(look.count) if look.kind(number) == kind]
@@ -146,7 +146,7 @@ def check_words(look: Look) -> None:
 
 def check_lit(look: Look) -> None:
     """Checks for each step that exactly the changed digits are highlighted, and that the rows show the step's own
-    changes. The ring in front must be the step's."""
+    changes. The ring in front must be the one that the step concerns."""
     browser, data = look.browser, look.data
     known = {int(address): word for address, word in data["start"]}
     browser.load(look.file, "#start")

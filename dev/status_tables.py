@@ -94,7 +94,7 @@ def of_crate() -> tuple[Numbers, Numbers, Numbers]:
 
 
 def lists() -> dict[str, Numbers]:
-    """Returns the header's four lists, after comparing the first three with the crate's."""
+    """Returns the header's four lists, after comparing the first three with the crate's lists."""
     found = {name: numbers_of(name) for name in LISTS}
     for (name, mine), other in zip(list(found.items())[:3], of_crate(), strict=True):
         odd = {it for it, _ in mine.items() ^ other.items() if it not in AROUND}

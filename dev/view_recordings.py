@@ -373,8 +373,7 @@ def check_notes(folder: Path, expect: Expect) -> None:
 
 
 def check_names(folder: Path, expect: Expect) -> None:
-    """Checks that a recording contains the used addresses with their registers' names, and so do the views and a
-    script."""
+    """Checks that a recording, the views and a script contain the addresses used, with the names of their registers."""
     file = folder / "names.rec"
     with recorded(file, 1) as nic:
         nic.write32(0x010D8, 1)
@@ -426,8 +425,8 @@ def check_history(folder: Path, expect: Expect) -> None:
 
 
 def in_place_recording(folder: Path) -> Path | None:
-    """Records a ring in memory in place: the driver received three frames, and its last event returned slots 7, 0 and 1
-    to the device. Returns None if there is no library."""
+    """Records a ring in memory lent in place: the driver received three frames, and its last event returned slots 7, 0
+    and 1 to the device. Returns None if there is no library."""
     file, memory = folder / "in_place.recording", bytearray(16 * 2_048)
 
     def give(*slots: int) -> None:
@@ -453,7 +452,8 @@ def in_place_recording(folder: Path) -> Path | None:
 
 
 def check_in_place(folder: Path, expect: Expect) -> None:
-    """Checks that the views show what the device read and wrote in memory in place, and that the rest is unknown."""
+    """Checks that the views show what the device read and wrote in memory lent in place, and that the rest is
+    unknown."""
     file = in_place_recording(folder)
     expect("#: in place 0 to 15\n" in Path(str(file)).read_text(), "a recording doesn't mark memory in place")
     waits = ["read format"] * 4 + ["not read"]

@@ -128,7 +128,7 @@ def by_chance(checks: Checks) -> list[Input]:
 
 
 def compared(checks: Checks, what: str, inputs: list[Input], got: Iterable[tuple[int, bytes]]) -> None:
-    """Compares the page's statuses and bytes with the program's."""
+    """Compares the page's statuses and output bytes with nicbench's."""
     faults = []
     for (words, data), (status, out) in zip(inputs, got, strict=True):
         want = answer_of(checks.program, words, data)

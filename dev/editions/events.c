@@ -108,7 +108,8 @@ static void make_refused(size_t k)
     }
 }
 
-/* The steps that nic_settle ran before its memory request failed remain, so the other library runs as many steps. */
+/* The steps that nic_settle ran before its memory request failed aren't undone, so the other library runs as many
+   steps. */
 static bool settle_refused(size_t k)
 {
     struct asked asked = make(k, &event, &answers[k], 1 + (long)chance_below(3));

@@ -2,8 +2,8 @@
 //!
 //! `Global` is zero-sized: Rust's allocator does the work. In the C library (feature `c`), Rust's allocator uses the
 //! calls `rattle_alloc`, `rattle_realloc` and `rattle_dealloc`, which `c/Makefile` links and renames (`c/heap.syms`). A
-//! program that counts or refuses allocations in these calls sees all of the library's, as in a library that Rattle's
-//! compiler built.
+//! program that counts or refuses allocations in these calls sees all allocations in the library, as in a library that
+//! Rattle's compiler built.
 
 use core::fmt;
 

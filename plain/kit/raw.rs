@@ -29,7 +29,7 @@ pub(super) fn boxed<T>(value: T) -> Result<Box<T>, T> {
         return Ok(Box::new(value));
     }
     // SAFETY: the layout's size isn't 0. The memory is new and has that layout. It is written before it becomes a box,
-    // which frees it like any of Rust's boxes.
+    // which frees it like any Rust box.
     unsafe {
         let place = alloc(layout).cast::<T>();
         if place.is_null() {

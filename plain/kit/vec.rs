@@ -1,5 +1,5 @@
 //! `Vec`: a vector whose allocations may fail. It wraps Rust's vector, and grows it with fallible calls that request
-//! the same sizes as Rattle's.
+//! the same sizes as Rattle's vectors.
 
 use super::alloc::{AllocError, AllocFailed, Global};
 use super::raw;

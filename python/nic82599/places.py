@@ -77,7 +77,7 @@ def library() -> str:
 
 
 def engine() -> str:
-    """Returns the path of the explorer's library, which is next to the device's or in a subfolder there. Raises
+    """Returns the path of the explorer's library, which is next to the device's library or in a subfolder there. Raises
     Missing."""
     beside = Path(_loaded_from(library())).resolve().parent
     places = [beside / ENGINE, beside / "nic82599" / ENGINE]

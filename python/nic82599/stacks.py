@@ -94,7 +94,7 @@ class Conditions:
 
 
 class Mutex:
-    """A lock of the driver's own. It is free at the start of every schedule: `with self.holding(mutex):`."""
+    """A lock that belongs to the driver. It is free at the start of every schedule: `with self.holding(mutex):`."""
 
     def __init__(self, name: str = "a lock") -> None:
         self.name = name
@@ -142,7 +142,7 @@ class Points(Dma):
     # --- waiting ---
 
     def point(self) -> None:
-        """A point without an access, for use between two accesses of the driver's own memory."""
+        """A point without an access, for use between two accesses to the driver's own memory."""
         self._call("point")
 
     def wait(self) -> None:

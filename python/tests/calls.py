@@ -172,7 +172,7 @@ class Copies(unittest.TestCase):
                     copy.deepcopy(part)
 
     def test_ends_once(self) -> None:
-        """In a separate process, because freeing a device twice would crash it."""
+        """Runs in a separate process, because freeing a device twice would crash it."""
         paths = {**os.environ, "PYTHONPATH": str(Path(__file__).resolve().parents[1])}
         for which in ("nic", "snapshot"):
             call = [sys.executable, "-c", COPIES, which]

@@ -120,7 +120,7 @@ class Looking(Faulty):
 
 
 class Vector(Fixed):
-    """A cause whose vector isn't its handler's, or a filter that rejects all frames."""
+    """A cause whose vector isn't the vector of its handler, or a filter that rejects all frames."""
 
     def __init__(self, is_filtered: bool) -> None:
         self.is_filtered = is_filtered

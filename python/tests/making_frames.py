@@ -1,4 +1,5 @@
-"""Tests of nicframe and nic82599.frames: lengths and checksums, and that hash and queue match the device's."""
+"""Tests of nicframe and nic82599.frames: lengths and checksums, and that the hash and the queue match what the device
+computes."""
 
 from __future__ import annotations
 
@@ -103,8 +104,8 @@ class Scaling(unittest.TestCase):
         return nic
 
     def test_as_the_device(self) -> None:
-        """The type, the hash and the queue match the device's, for frames of all kinds, with all hash types and with
-        some."""
+        """The type, the hash and the queue match what the device computes, for frames of all kinds, with all hash types
+        and with some."""
         by_chance = random.Random(7)
         for types in (frames.ALL_TYPES, frozenset([RssType.IPV4, RssType.TCP_IPV6]), frozenset[RssType]()):
             table = tuple(by_chance.randrange(16) for _ in range(by_chance.choice((1, 4, 128))))

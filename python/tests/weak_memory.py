@@ -136,7 +136,7 @@ class Weak(unittest.TestCase):
 
 
 class Send(Scenario):
-    """The scenario of corpus/missing_wmb.c."""
+    """The scenario in corpus/missing_wmb.c."""
 
     name, blocks, memory, has_barrier = "missing_wmb", 16, "weak", False
 

@@ -14,7 +14,7 @@ use std::process::Command;
 
 const HELP: &str = "`make -C c` in a clone builds it, and a release contains it; NIC82599_DIR can name its folder";
 
-/// Each feature with a separate archive, and the archive's name. An archive precedes the ones that it calls.
+/// Each feature that has a separate archive, with the archive's name. An archive precedes the ones that it calls.
 const FEATURES: [(&str, &str); 2] = [("drive", "nic82599_drive"), ("explore", "nic82599_explore")];
 
 fn has_feature(name: &str) -> bool {

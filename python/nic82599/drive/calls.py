@@ -180,7 +180,7 @@ def _words_of(fault: BaseException) -> str:
 
 
 def library() -> Path:
-    """Returns the path of the card's library, which is next to the device's. Raises Refused."""
+    """Returns the path of the card's library, which is next to the device's library. Raises Refused."""
     try:
         place = Path(places.library()).resolve().with_name(NAME)
     except places.Missing as fault:

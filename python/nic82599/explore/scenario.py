@@ -94,8 +94,8 @@ class Scenario(Points):
     def handler(
         self, name: str, function: Callable[[], object], *, vector: int, vf: int | None = None, where: str | None = None
     ) -> None:
-        """Names the handler of a vector's messages, of the physical function or of virtual function `vf`. `where` is
-        the task that it interrupts; BESIDE to run concurrently with all tasks; None to interrupt any task or run
+        """Names the handler for a vector's messages, from the physical function or from virtual function `vf`. `where`
+        is the task that it interrupts; BESIDE to run concurrently with all tasks; None to interrupt any task or run
         concurrently."""
         if vf is not None and not 0 <= vf < self.vfs:
             raise ValueError(f"handler {name} belongs to a virtual function that doesn't exist")

@@ -14,7 +14,7 @@ from pathlib import Path
 from .printable import shortened
 from .script import Fault
 
-# The allowed requests: none names a file, sends frames or stores much.
+# The allowed requests: none of them names a file, sends frames or stores much.
 MAY_ASK = re.compile(
     r"hold|go|due|why|counts|rx|int|eestep|link (?:up|down)|tx [0-9]{1,3}|qstep [rt]x [0-9]{1,3}", re.ASCII
 )

@@ -32,7 +32,7 @@ class Slots:
         return descriptor(ring.side, self.memory.get(address), address >> 11 in self.lent)
 
     def look(self, ring: Ring, slot: int) -> str:
-        """Returns how a slot is shown: as the device's, done, or the driver's."""
+        """Returns how a slot is shown: as owned by the device, as done, or as owned by the driver."""
         owner = ring.owner(slot)
         return "done" if owner == "driver" and self.said(ring, slot).done else owner
 

@@ -151,8 +151,8 @@ function held(state, ring) {
   const slots = [...state.memory.keys()].map((unit) => (unit - ring.base) / 16);
   return slots.filter((slot) => slot >= 0 && slot < ring.slots && Number.isInteger(slot));
 }
-// Shows the slots of interest: the device's, and those with a descriptor. If there are many, shows those nearest to the
-// head.
+// Shows the slots of interest: the ones that the device owns or that contain a descriptor. If there are many, shows the
+// ones nearest to the head.
 function slots(state, ring, written) {
   const most = 32, distance = (slot) => (slot - ring.head + ring.slots) % ring.slots;
   const numbers = new Set(held(state, ring)), ahead = ring.outside ? 0 : distance(ring.tail);

@@ -216,8 +216,8 @@ class Place:
 
 
 def places_of_function(own: Iterable[tuple[int, str, bool]]) -> list[Place]:
-    """Returns the registers of a virtual function by offset, given those that exist once per function. The registers of
-    one side of a queue have the same spacing as in the device."""
+    """Returns the registers of a virtual function by offset, given the registers that exist once per function. The
+    registers of one side of a queue have the same spacing as in the device."""
     places = [Place(offset, name, "v" if is_by_function else "0") for offset, name, is_by_function in own]
     places += [Place(0x0120, "PVTIVAR", "k/2"), Place(0x0200, "PFMBMEM", "16")]
     for bank, offset in (("Receive", 0x1000), ("Transmit", 0x2000)):

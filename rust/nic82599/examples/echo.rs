@@ -119,7 +119,7 @@ impl Queue {
         Ok(true)
     }
 
-    /// Reclaims the transmit slots that the device has reported.
+    /// Reclaims the transmit slots that the device has reported as done.
     fn clean(&mut self, nic: &Nic) -> Answer<()> {
         while self.sending > 0 {
             let oldest = (self.tx.next + SLOTS - self.sending) % SLOTS;

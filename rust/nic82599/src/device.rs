@@ -1,4 +1,4 @@
-//! Driver code's accesses to the device, no matter what runs the device's steps.
+//! How driver code accesses the device, no matter what runs the device's steps.
 
 use crate::desc::Descriptor;
 use crate::error::Error;

@@ -16,7 +16,7 @@ pub enum Side {
 pub enum Step {
     /// A queue's enable step: [`Nic::queue_step`](crate::Nic::queue_step).
     Queue(Side, u16),
-    /// The EEPROM's answer: [`Nic::eeprom_step`](crate::Nic::eeprom_step).
+    /// The completion of an EEPROM read: [`Nic::eeprom_step`](crate::Nic::eeprom_step).
     Eeprom,
     /// A transmit step of a queue: [`Nic::tx_step`](crate::Nic::tx_step).
     Tx(u16),
@@ -48,7 +48,7 @@ pub enum Event {
         /// The queue.
         queue: u16,
     },
-    /// The EEPROM answered EERD.
+    /// The EEPROM read that EERD started was completed.
     EepromAnswered,
     /// The device wrote one buffer of a frame.
     Wrote {

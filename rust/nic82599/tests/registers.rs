@@ -1,4 +1,4 @@
-//! Compares names and fields with the C header's, and checks that the device has the registers.
+//! Compares names and fields with the C header, and checks that the device has the registers.
 
 mod common;
 

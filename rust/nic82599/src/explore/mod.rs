@@ -84,12 +84,13 @@ pub trait Scenario: 'static {
     /// The base name of the files written: letters, digits, '-' and '_', at most 63.
     fn name(&self) -> &str;
 
-    /// The sizes of the device. No script is written for a device with more than 256 blocks, the limit of a script.
+    /// The sizes of the device. No script is written for a device with more than 256 blocks, which is the limit for a
+    /// script.
     fn sizes(&self) -> Sizes {
         Sizes { blocks: 2, ..Sizes::default() }
     }
 
-    /// The number of queues (1 to 128): queues 0 to `queues` - 1 take enable and transmit steps.
+    /// The number of queues (1 to 128): queues 0 to `queues` - 1 have enable and transmit steps.
     fn queues(&self) -> u16 {
         1
     }
@@ -471,7 +472,7 @@ impl Bus {
         unless_lent(raw::take(block) == status::DONE, || Memory::block(block).start)
     }
 
-    /// A point without an access, to put between two accesses of the driver's own memory.
+    /// A point without an access, to put between two accesses to the driver's own memory.
     pub fn point(&self) {
         raw::point();
     }

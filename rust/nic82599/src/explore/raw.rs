@@ -403,7 +403,8 @@ pub(crate) fn unwinding<T>(action: impl FnOnce() -> T) -> T {
     let done = action();
     if is_left() && !outer {
         drop(done);
-        // SAFETY: everything on this stack since C's call was inside `action` and has been dropped; the stack is C's.
+        // SAFETY: everything on this stack since C's call was inside `action` and has been dropped; the stack belongs
+        // to C.
         unsafe { nicxi_unwound() }
     }
     // SAFETY: the call takes no pointer.

@@ -70,7 +70,7 @@ def points(out: Path) -> dict[str, tuple[int, int]]:
 
 
 def expect_points(out: Path, full: list[Path], none: list[Path]) -> None:
-    """Raises Wrong unless the lists in `full` have all points and those in `none` have none."""
+    """Raises Wrong unless the lists in `full` have all points and the lists in `none` have none."""
     for name, (got, most) in points(out).items():
         wanted = most if name in [it.stem for it in full] else 0 if name in [it.stem for it in none] else got
         if got != wanted:

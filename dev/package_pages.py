@@ -174,7 +174,7 @@ def dead_links(folder: Path) -> list[str]:
 
 
 def commands_of(text: str) -> Iterator[str]:
-    """Yields the commands of an installed page that build C programs, and those that start them."""
+    """Yields the commands of an installed page that build C programs, and the commands that start them."""
     for line in text.splitlines():
         words = line[4:]
         is_command = line.startswith("    ") and re.match(r"(?:NIC82599_RECORD=\S+ )?(?:cc |/tmp/[\w-]+( |$))", words)

@@ -526,7 +526,7 @@ def check_opening(folder: Path, expect: Expect) -> None:
         places_of = of_script(Bench(), str(folder / "idle.nic")).opening, of_recording(str(file)).opening
         expect(places_of == (script_at, recorded_at), f"with {steps.split()} the pages open at {places_of}")
 def check_place(script: Path, vfs: int | None, chance: random.Random, expect: Expect) -> None:
-    """Checks that the debugger's replies for a recording equal those of nicbench's debugger for its script."""
+    """Checks that the debugger's replies for a recording equal the replies of nicbench's debugger for its script."""
     bench = Bench(vfs)
     read = load(bench, str(script))
     count, commands = len(read.instructions), []

@@ -1,13 +1,13 @@
 //! The bench in plain Rust: its proved sources without their proofs, with each crate as a module that uses the kit.
 //!
-//! `dev/plain source` generated this from the sources of a clone; edit those. `plain/README.md` explains what was left
-//! out, what was replaced by what, and what you have to trust.
+//! `dev/plain source` generated this from the sources of a clone; edit the sources instead. `plain/README.md` explains
+//! what was left out, what was replaced by what, and what you have to trust.
 
 #![deny(unsafe_code, unsafe_op_in_unsafe_fn)]
 // Some items are used only by a proof or by another program.
 #![allow(dead_code, unstable_name_collisions, unused_imports, unused_labels, unused_variables)]
-// The sources are proved in their current form, and the kit has the names of Rattle's library. These lints require the
-// same code to be written differently, in some cases in a way that rustc 1.63 doesn't support.
+// The sources are proved in their current form, and the kit uses the names of Rattle's library. These lints would
+// require the same code to be written differently, in some cases in a way that rustc 1.63 doesn't support.
 #![allow(
     unknown_lints,
     clippy::collapsible_match,

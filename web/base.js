@@ -1,7 +1,7 @@
 "use strict";
 // What the parts of the page share: elements, browser storage, the worker, files.
 const given = JSON.parse(document.getElementById("given").textContent);
-/** @type {(id: string) => any} (each place knows which element that is) */
+/** @type {(id: string) => any} (the type depends on the element) */
 const element = (id) => document.getElementById(id);
 function make(tag, properties = {}, ...children) {
   const made = document.createElement(tag);

@@ -29,7 +29,7 @@ fn none<T>(_: usize) -> Option<T> {
     None
 }
 
-/// Inserts a value at an index of a row, and moves later values up. The last slot must be empty.
+/// Inserts a value at an index in a row, and moves later values up. The last slot must be empty.
 fn put<T>(row: &mut [Option<T>], at: usize, value: T) {
     row[at..].rotate_right(1);
     row[at] = Some(value);

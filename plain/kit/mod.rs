@@ -51,7 +51,7 @@ pub mod prelude {
     pub use super::{arrayvec, bitflags, byteorder, clap, hex, rtrb};
     pub use crate::{assert_eq_on, assert_on, format_in, panic_on, println_on, prove, vec_in};
 
-    /// Rattle's bound for types that may be dropped instead of destroyed by a call. In Rust every type may.
+    /// Rattle's bound for types that may be dropped instead of destroyed by a call. In Rust every type may be dropped.
     pub trait Drop {}
 
     impl<T: ?Sized> Drop for T {}

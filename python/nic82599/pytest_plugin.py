@@ -150,7 +150,7 @@ def pytest_pyfunc_call(pyfuncitem: pytest.Function) -> bool | None:
 
 
 class Watch:
-    """The controllers that a test creates, and why nothing happened in those that its failure closed."""
+    """The controllers that a test creates, and why nothing happened in the ones that its failure closed."""
 
     def __init__(self) -> None:
         self.made: weakref.WeakKeyDictionary[nic82599.Nic, None] = weakref.WeakKeyDictionary()

@@ -18,7 +18,7 @@ ALL_CAUSES = 0x7FFF_FFFF
 
 
 class Ring:
-    """Descriptors and their buffers. For a transmit ring, `used` counts those that belong to the device."""
+    """Descriptors and their buffers. For a transmit ring, `used` counts the descriptors that belong to the device."""
 
     def __init__(self, driver: Driver) -> None:
         self.driver = driver

@@ -1,4 +1,4 @@
-"""Makes random calls of the Python module and compares each answer with `nicbench run` of the same events."""
+"""Makes random calls to the Python module and compares each answer with `nicbench run` of the same events."""
 
 from __future__ import annotations
 

@@ -36,7 +36,7 @@ __all__ = ["Can", "Driver", "Filter", "MAILBOX_WORDS", "MOST_FRAME", "MOST_QUEUE
 
 class Driver(Points):
     """The base class of a driver. Your subclass defines `name`, `open`, `close`, and `receive` or `send`. It also
-    defines those functions below that your driver supports. Rows that need any other function are shown as not
+    defines the functions below that your driver supports. Rows that need any other function are shown as not
     applicable.
 
     For one queue, the card calls each of `receive`, `send` and `reclaim` on one thread at a time; calls for other

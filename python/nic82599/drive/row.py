@@ -91,7 +91,7 @@ def program(driver: type[Driver], words: list[str]) -> int:
 
 
 def patient(words: list[str]) -> list[str]:
-    """Increases `--hang` to at least ten seconds, because steps in Python take longer than those in C."""
+    """Increases `--hang` to at least ten seconds, because steps in Python take longer than steps in C."""
     if "--hang" not in words[:-1]:
         return words
     place = words.index("--hang") + 1

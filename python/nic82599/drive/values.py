@@ -44,7 +44,7 @@ class Setup:
 class Stats(NamedTuple):
     """A driver's counters since `open`."""
 
-    rx_frames: int  # frames that `receive` returned or `deliver` was passed
+    rx_frames: int  # frames that `receive` returned or that were passed to `deliver`
     rx_bytes: int
     tx_frames: int  # frames that `send` accepted
     tx_bytes: int
@@ -52,7 +52,7 @@ class Stats(NamedTuple):
 
 @dataclass(frozen=True)
 class Filter:
-    """The frames to receive, besides those to the port's own address."""
+    """The frames to receive, besides frames to the port's own address."""
 
     all_unicast: bool
     all_multicast: bool

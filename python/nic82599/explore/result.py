@@ -55,8 +55,8 @@ class Parting:
 
 @dataclass
 class Result:
-    """The result of a schedule. `outcome` is one of those in docs/explore.md, `fine` if nothing is wrong; `words` says
-    what is wrong; `points` are the actor and the action at each point."""
+    """The result of a schedule. `outcome` is one of the outcomes in docs/explore.md, `fine` if nothing is wrong;
+    `words` says what is wrong; `points` are the actor and the action at each point."""
 
     outcome: str = "fine"
     words: str = ""

@@ -116,7 +116,7 @@ class Scenario(Points):
             self.frame(numbered_frame(length, number))
 
     def frame(self, data: bytes) -> None:
-        """Names a frame that will arrive, after those named before."""
+        """Names a frame that will arrive, after the frames named earlier."""
         self._beginning().frames.append(bytes(data))
 
     def link_change(self, up: bool) -> None:
@@ -126,7 +126,7 @@ class Scenario(Points):
     @property
     def came(self) -> int:
         """The number of frames that have arrived so far, dropped ones included. Shrinking a failure leaves frames
-        out, so `end` should check for the frames that arrived, not for those that were named."""
+        out, so `end` should check for the frames that arrived instead of the frames that were named."""
         return self._session.came() if self._session else 0
 
     # --- the controller, for accesses that the explorer needn't see ---

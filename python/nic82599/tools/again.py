@@ -1,4 +1,4 @@
-"""Replays the most frequent calls of a long recording, and returns the replies that `nicbench run` prints.
+"""Replays the most frequent calls in a long recording, and returns the replies that `nicbench run` prints.
 
 This is a faster library.py: it skips the package's conveniences and reuses the ctypes objects of each call. Rare and
 refused calls go through the package.

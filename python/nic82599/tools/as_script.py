@@ -69,7 +69,7 @@ class Made:
 
 
 def _history(recording: Recording, made: Made) -> list[int]:
-    """Returns the numbers of the events that lead to the end, without those that restoring a snapshot undid."""
+    """Returns the numbers of the events that lead to the end, without the events that restoring a snapshot undid."""
     here: Past | None = None
     kept: dict[str, Past | None] = {}
     at = 0

@@ -21,7 +21,7 @@ MAY_ASK = re.compile(
 # Runs the first step that is due, according to the lines of `due`: `tx 0: head 3, tail 5`, `rx: ..`, `int: ..`.
 STEP = "step"
 DUE = re.compile(r"(tx [0-9]{1,3}|rx|int|eestep):", re.ASCII)
-# The timeout in seconds. `why` takes several if all rings are full.
+# The timeout in seconds. `why` takes several seconds if all rings are full.
 PATIENCE = 30.0
 MOST_BYTES, MOST_SHOWN = 1 << 18, 2_000
 

@@ -157,7 +157,7 @@ class Recorded:
         self.most = min(self.most, events)
 
     def part(self, end: int | None) -> Part:
-        """Returns the last events, or those up to `end`."""
+        """Returns the last events, or the ones up to `end`."""
         while True:
             until = self.total if end is None else max(0, min(end, self.total))
             try:

@@ -181,7 +181,7 @@ class Replay:
         return ["collect"] * (out - sum(step.reply.startswith("frame") for step in steps))
 
     def up_to(self, count: int, room: int) -> list[Step] | None:
-        """Returns the steps below a number. If they don't fit, leaves out those that don't affect memory; None if that
+        """Returns the steps below a number. If they don't fit, leaves out steps that don't affect memory; None if that
         isn't enough."""
         for steps in (self.steps, self.short):
             end = _below(steps, count)
@@ -274,7 +274,7 @@ class Watch:
         return set()
 
     def _received(self, step: Step, before: dict[int, int]) -> set[int]:
-        """Returns the descriptor that was written back, and those units of its buffer that are in a ring."""
+        """Returns the descriptor that was written back, and the units of its buffer that are in a ring."""
         queue, slot = number_after(step.reply, "queue") or 0, number_after(step.reply, "slot") or 0
         unit = ring_of(before, "rx", queue).base + 16 * slot
         poked = self.poked.get(unit)
@@ -437,8 +437,8 @@ def _account(trace: Trace, replay: Replay) -> tuple[list[Frame], list[Frame]]:
 
 
 class _Frames:
-    """Tracks the frames of a run step by step, according to the replies: all frames, those waiting, those sent but not
-    collected, and how many remain from before the run."""
+    """Tracks the frames of a run step by step, according to the replies: all frames, the waiting frames, the frames
+    sent but not collected, and how many frames remain from before the run."""
 
     def __init__(self, trace: Trace, replay: Replay) -> None:
         self.trace, self.replay = trace, replay
@@ -493,7 +493,7 @@ class _Frames:
 
 
 def _forgotten(trace: Trace, replay: Replay, step: Step, waiting: int, front: Frame | None) -> list[int]:
-    """Returns the places of those waiting frames that a step discarded: it was a reset, or it disabled the queue in the
+    """Returns the places of the waiting frames that a step discarded: it was a reset, or it disabled the queue in the
     middle of a frame."""
     one = trace.instruction(step)
     if one.op == Op.WRITE and one.a in (0, 4) and one.b & (1 << 3 | 1 << 26):
@@ -518,7 +518,7 @@ def _is_pool_reset(one: Instruction) -> bool:
 
 
 def _give_bytes(sent: list[Frame], answers: list[str]) -> None:
-    """Sets the bytes of the last sent frames, from those collected at the end."""
+    """Sets the bytes of the last sent frames, from the frames collected at the end."""
     collected = [answer for answer in answers if answer.startswith("frame")]
     for frame, answer in zip(reversed(sent), reversed(collected)):
         frame.data = bytes.fromhex(answer.split()[-1])

@@ -18,7 +18,7 @@ pinned = run.failed || null; // the ring that a finding names is in front until 
 
 // Elements and text.
 
-/** @type {(id: string) => any} (each place knows which element that is) */
+/** @type {(id: string) => any} (the type depends on the element) */
 const element = (id) => document.getElementById(id);
 /** @type {() => HTMLButtonElement[]} */
 const nexts = () => [...document.querySelectorAll("[data-next]")].map((it) => /** @type {any} */ (it));
@@ -93,7 +93,7 @@ function contentAfter(unit, n) {
 const blockOf = (address) => Math.floor(address / 2048);
 const unknown = (state, address) => (isLent(state.lent, blockOf(address)) ? "not read" : "not lent");
 
-// Changes: digits, fields and bits that differ are highlighted, and those that are gone are struck out.
+// Changes: digits, fields and bits that differ are highlighted, and the ones that are gone are struck out.
 
 function litDigits(old, word) {
   const [before, after] = [hex(old), hex(word)], shown = make("code", {});

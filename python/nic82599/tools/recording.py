@@ -3,8 +3,8 @@
 A recording is a script of the calls that a program made on a controller, with the replies as comments, and without the
 limits of a script. Lines that begin with `#:` contain what a script can't express: the sizes, ranges of lent blocks,
 snapshots, EEPROM images. The whole recording is replayed, but only the last steps after the last restored snapshot or
-installed image are shown. If there were earlier steps, the first step shown is a read of STATUS, which changes nothing
-and shows the state at that point.
+installed image are shown. If there were earlier steps, the first step shown reads STATUS, which changes nothing and
+shows the state at that point.
 """
 
 from __future__ import annotations
@@ -209,12 +209,12 @@ class Recording:
     data: Data
     directives: list[tuple[int, list[str]]] = field(default_factory=list)
     bad: list[BadLine] = field(default_factory=list)
-    begin: int = 0  # lines before those that are shown
-    before: int = 0  # events before those that are shown
+    begin: int = 0  # lines before the shown part
+    before: int = 0  # events before the shown part
     until: int | None = None  # events up to the end of what is shown; None for all
     notes: list[str] = field(default_factory=list)
     remarks: list[tuple[int, str]] = field(default_factory=list)  # the program's notes, with their line numbers
-    rings: list[tuple[int, str]] = field(default_factory=list)  # those about a guest's rings
+    rings: list[tuple[int, str]] = field(default_factory=list)  # the notes about a guest's rings
     names: Names = field(default_factory=Names)
     known: dict[str, int] = field(default_factory=dict)
     units: Units = field(default_factory=Units)
@@ -613,7 +613,7 @@ def in_rows(numbers: set[int]) -> Iterator[tuple[int, int]]:
 
 def _steps(player: Player, script: Script, bench: Library, start: dict[int, int], always: set[int]) -> list[Step]:
     """Runs the steps and returns them with the registers that each changed. After each step it checks the registers
-    that this kind of step can change, and those in `always`."""
+    that this kind of step can change, and the registers in `always`."""
     nic, plan, words, steps = player.nic, Plan(bench, script, start), dict(start), []
     nic.restore(bench.kept)
     held = copy.deepcopy(player.held)

@@ -61,7 +61,7 @@ def _is_too_many(lines: list[str], number: int, refused: Refused) -> bool:
 
 
 def _after(lines: list[str], number: int) -> list[str]:
-    """Removes the instructions up to this line, so that those after it are checked."""
+    """Removes the instructions up to this line, so that the instructions after it are checked."""
     return ["" if _is_instruction(line) else line for line in lines[: number - 1]] + ["", *lines[number:]]
 
 

@@ -3,7 +3,7 @@
 Everything comes from the program: the instructions from `asm`, the replies from `run`, the registers from `debug`.
 Showing every register after every step would take millions of lines. So only the registers that the step's instruction
 and reply can change, according to docs/REGISTERS.md, are shown after it. At the end all registers are shown; a second
-run shows those that were missed at every step.
+run shows the registers that were missed at every step.
 """
 
 from __future__ import annotations
@@ -30,7 +30,7 @@ TROUBLE = ("failed", "fault", "dropped", "refused")
 class Step:
     """A step: the instruction at `pc`, its reply, and what it changed. `changes` are (address, old, new) of registers.
     `memory` is (bus address, 16 bytes, or None if they are no longer read): what is known of lent memory after this
-    step. `written` are those addresses that the step itself wrote. `lent` is (+ or -, first block, last block);
+    step. `written` are the addresses that the step itself wrote. `lent` is (+ or -, first block, last block);
     `waiting` and `out` are (+ or -, frames); `ring` is the ring that the step concerns, if any. `acc` and `status` are
     set for a step that doesn't access the device; otherwise the reply has them."""
 
@@ -75,7 +75,7 @@ def _nothing(_unit: int) -> bytes:
 
 @dataclass
 class Trace:
-    """A whole run. `start` has the registers before the first step: those that a step can change, and those that differ
+    """A whole run. `start` has the registers before the first step: the registers that a step can change or that differ
     from their reset values. `lent` are the blocks lent at this point, and `memory_before` returns 16 bytes of them.
     `waiting` and `out` are how many frames are waiting and how many were sent; both are 0 in a fresh run. `warnings`
     are niclint's, with their lines, if the script is only a part of the checked one. `in_place` are blocks of the
@@ -326,8 +326,8 @@ Shown = list[tuple[int, int]]
 def _part(
     bench: Bench, script: Script, steps: list[Step], asked: list[list[int]], before: list[int], after: list[int]
 ) -> tuple[Shown, list[Shown], Shown]:
-    """Returns the registers after each of some consecutive steps, and those shown before and after all of them. Steps
-    run together with the next one if nothing is shown after them."""
+    """Returns the registers after each of some consecutive steps, and the registers shown before and after all of them.
+    Steps run together with the next one if nothing is shown after them."""
 
     def show(addresses: list[int]) -> list[str]:
         return [f"show 0x{address:x}" for address in addresses]

@@ -1,4 +1,4 @@
-//! The calls of `nic82599.h`. Controllers and snapshots are owned handles; their methods take slices and references,
+//! The calls in `nic82599.h`. Controllers and snapshots are owned handles; their methods take slices and references,
 //! and return the calls' answers.
 //!
 //! This file upholds what the header requires of a caller. A handle has a device from `open` to its drop, so every call

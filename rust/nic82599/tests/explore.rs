@@ -187,7 +187,7 @@ fn locks_in_two_orders() {
     fails(Simple { name: "locks", tasks: 0, begin, ..SIMPLE }, "deadlock", "waits for");
 }
 
-/// A handler for a virtual function's message, on a task. It doesn't interrupt the task while interrupts are off there.
+/// A handler for a virtual function's message that interrupts a task, but not while the task keeps interrupts off.
 #[test]
 fn handlers() {
     let begin = |begin: &Begin<State>| {
@@ -286,7 +286,7 @@ fn what_is_refused() {
 
 static LIVE: AtomicU32 = AtomicU32::new(0);
 
-/// A value that a task's closure captures. It counts those not dropped yet.
+/// A value that a task's closure captures. It counts the values not dropped yet.
 struct Counted;
 
 impl Counted {

@@ -278,7 +278,7 @@ fn a_scoped_thread_that_never_ends_is_a_failure() {
 }
 
 thread_local! {
-    /// The number of values created on tasks' stacks, and of those that were dropped.
+    /// The number of values created on tasks' stacks, and how many of them were dropped.
     static MADE: Cell<(u32, u32)> = const { Cell::new((0, 0)) };
 }
 

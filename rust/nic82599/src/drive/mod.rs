@@ -118,8 +118,8 @@ pub trait Driver: Sized + 'static {
     /// interrupts.
     const THREADS: &'static [fn(&Self, &Platform)] = &[];
 
-    /// Sets which frames to accept. This function and those below return whether they succeeded. If one returns false,
-    /// nothing has changed.
+    /// Sets which frames to accept. This function and the ones below return whether they succeeded. If one returns
+    /// false, nothing has changed.
     const FILTER: Option<fn(&Self, &Platform, &Filter) -> bool> = None;
     /// Configures receive side scaling.
     const RSS: Option<fn(&Self, &Platform, &Rss) -> bool> = None;
@@ -173,11 +173,11 @@ pub type MailboxReceive<D> = fn(&D, &Platform, u8) -> Option<[u32; MAILBOX_WORDS
 /// The counts of a driver since `open`.
 #[derive(Clone, Copy, Debug, Default, PartialEq, Eq)]
 pub struct Stats {
-    /// Received frames: those that `RECEIVE` returned or `deliver` was passed.
+    /// Received frames: frames that `RECEIVE` returned or that were passed to `deliver`.
     pub rx_frames: u64,
     /// Bytes in the received frames.
     pub rx_bytes: u64,
-    /// Sent frames: those that `SEND` accepted.
+    /// Sent frames: frames that `SEND` accepted.
     pub tx_frames: u64,
     /// Bytes in the sent frames.
     pub tx_bytes: u64,
@@ -255,7 +255,7 @@ pub struct Frame {
     pub hash: u32,
 }
 
-/// Which frames to accept, besides those to the port's own address.
+/// Which frames to accept, besides frames to the port's own address.
 #[derive(Clone, Debug, Default, PartialEq, Eq)]
 #[non_exhaustive]
 pub struct Filter {

@@ -1,4 +1,4 @@
-//! The calls of `nic82599_drive.h`, and the functions that the card calls: all `unsafe` code of the report card.
+//! The calls in `nic82599_drive.h`, and the functions that the card calls: all `unsafe` code of the report card.
 //!
 //! A process has one set of scenarios and one explorer, which run on the thread that called `nicd_main`. The driver's
 //! functions run on separate stacks, as the explorer's tasks do (explore/raw.rs). A panic is caught where C called, and
@@ -134,7 +134,7 @@ fn called<D: Driver, T>(failed: T, action: impl FnOnce(&D, &Platform) -> T) -> T
     })
 }
 
-/// Returns a function that the driver provides; the card only calls those.
+/// Returns a function that the driver provides; the card calls no others.
 fn of<T: Copy>(function: Option<T>) -> T {
     function.expect("the driver has this function")
 }

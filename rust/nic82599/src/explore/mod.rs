@@ -105,7 +105,7 @@ pub trait Scenario: 'static {
         262_144
     }
 
-    /// Returns whether a fault of a queue is allowed; by default it is a failure.
+    /// Returns whether a queue fault is allowed; by default it is a failure.
     fn allows_faults(&self) -> bool {
         false
     }
@@ -363,7 +363,7 @@ impl<S: 'static> Begin<S> {
         raw::choose(bound)
     }
 
-    /// Names a frame of at most 16,384 bytes, which arrives after those already named.
+    /// Names a frame of at most 16,384 bytes, which arrives after the frames already named.
     pub fn frame(&self, frame: &[u8]) {
         raw::frame(frame);
     }

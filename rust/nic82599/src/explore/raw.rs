@@ -1,4 +1,4 @@
-//! The calls of `nic82599_explore.h`, and the functions that the explorer calls: all `unsafe` code of the search.
+//! The calls in `nic82599_explore.h`, and the functions that the explorer calls: all `unsafe` code of the search.
 //!
 //! A process has one explorer, which runs on the thread that called `nicx_main`. [`within`] admits one at a time,
 //! and only this file creates a `Bus` or a `Look`, for functions that the explorer calls. Tasks have separate stacks.

@@ -24,7 +24,7 @@ static void keep_pages(void)
 #endif
 }
 
-/* Measures a snapshot of a card of 256 blocks, `lent` of them lent, no two with the same contents. Then measures a
+/* Measures a snapshot of a card with 256 blocks, `lent` of them lent, no two with the same contents. Then measures a
    restore after a register write and a 60-byte memory write. */
 static int snapshots(const char *kept_name, const char *restored_name, uint32_t lent)
 {

@@ -35,7 +35,7 @@ def first(lines: list[str], what: str, is_it: re.Pattern[str]) -> int:
 
 
 def item_of(text: str, item: str) -> list[str]:
-    """Returns the lines of one item of a file."""
+    """Returns the lines of one item in a file."""
     lines = text.rstrip("\n").split("\n")
     if item == "*":
         return lines

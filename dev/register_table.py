@@ -485,8 +485,8 @@ class Dispatch:
         function.arms.append((*arm, call))
 
     def gap(self, function: Function, low: int, high: int, rest: Rest = None) -> None:
-        """Adds the fact that no address from low up to high, with the given remainder if there is one, is a
-        register's."""
+        """Adds the fact that no address from low up to high, with the given remainder if there is one, belongs to a
+        register."""
         kind = f"NoSteps {rest[0]} 0x{rest[1]:02X} 0x{rest[2]:02X}" if rest else "NoWords"
         function.gaps.append(f"{kind} 0x{low:05X} 0x{high:05X}")
 

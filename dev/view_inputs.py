@@ -3,7 +3,7 @@
 from __future__ import annotations
 
 FRAME = "0200000000010200000000020800450000280000000040060000420995bba18e64500aea06e6" + "00" * 22
-# A ring of 256 slots, of which only the half in block 0 is lent. The device owns 200 slots, and nothing is written to
+# A 256-slot ring, of which only the half in block 0 is lent. The device owns 200 slots, and nothing is written to
 # them.
 LONG_RING = "lend 0\nw RDLEN[0] 4096\nw RXDCTL[0] 0x02000000\nqstep rx 0\nw RDT[0] 200\n"
 # A receive queue whose ring is at 0, with a buffer's address poked into its first slot.
@@ -149,7 +149,7 @@ WARNS_AT = {1: "no `qstep rx 0` follows", 4: "bits 0x00010000 are reserved"}
 
 
 def sixteen_script() -> str:
-    """Returns a script of sixteen queues, each with a receive and a transmit ring; one queue receives a frame, one
+    """Returns a script for sixteen queues, each with a receive and a transmit ring; one queue receives a frame, one
     sends, then everything is reset."""
     lines = [f"data frame {FRAME}", f"data rx 0080{'00' * 14}", "data tx 00800000000000003c00302b00000f00"]
     lines += [f"lend {block}" for block in range(17)]
@@ -167,7 +167,7 @@ def sixteen_script() -> str:
 
 
 def long_script() -> str:
-    """Returns a script of 4,096 instructions: rounds in which a frame is received and one is sent, with their
+    """Returns a 4,096-instruction script: rounds in which a frame is received and one is sent, with their
     interrupts."""
     lines = [f"data frame {FRAME}", "data tx 00100000000000003c00302b00000f00"]
     lines += [f"data rx{n} {(0x1000 + 0x800 * n).to_bytes(8, 'little').hex()}{'00' * 8}" for n in range(8)]

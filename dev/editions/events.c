@@ -142,7 +142,8 @@ static void why_refused(size_t k)
     make(k, &event, &answers[k], 0);
 }
 
-/* Makes one library's call with refusals. Returns whether the other library was called too. */
+/* Makes a call to one library, with refused memory requests if the call allows it. Returns whether the other library
+   was called too. */
 static bool make_under_refusals(size_t k)
 {
     if (event.call == CALL_nic_settle && side_count == 2)

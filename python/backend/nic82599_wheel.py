@@ -114,7 +114,7 @@ def write_wheel(
     provenance: str | None = None,
     platform: str = f"linux_{os.uname().machine}",
 ) -> str:
-    """Writes the wheel of these files into a folder, and returns its name. A wheel with binaries is for one
+    """Writes a wheel with these files into a folder, and returns its name. A wheel with binaries is for one
     platform, by default this machine's."""
     tag = f"py3-none-{platform if binaries else 'any'}"
     info = f"nic82599-{version}.dist-info"

@@ -18,7 +18,7 @@ c/out of the clone, where `make -C c` puts it; in the system.
 Several threads may call the same controller. If one of them closes it, the others' calls raise `Closed`. Each library
 call holds the GIL, so calls run one after the other, and each result goes to its caller. A method that makes several
 calls (`lend` of several blocks, `settle` with more than 256 events) lets other threads run between them. A signal
-handler may call too. If it raises, as Ctrl-C does, the interrupted call has either completed or had no effect.
+handler may make calls, too. If it raises, as Ctrl-C does, the interrupted call has either completed or had no effect.
 """
 
 from __future__ import annotations
@@ -569,15 +569,15 @@ class _Registers:
         raise NotImplementedError
 
     def read32(self, at: int) -> Word:
-        """Reads a register by number, with all side effects. Doesn't raise if no register is there."""
+        """Reads a register by number, with all side effects. Doesn't raise if there is no such register."""
         raise NotImplementedError
 
     def write32(self, at: int, word: int) -> bool:
-        """Writes a register by number. Returns whether a register was there."""
+        """Writes a register by number. Returns whether that register exists."""
         raise NotImplementedError
 
     def peek32(self, at: int) -> int | None:
-        """Returns the value that a read would, without its side effects; None if no register is there."""
+        """Returns the value that a read would return, without its side effects; None if there is no such register."""
         raise NotImplementedError
 
     def _why_stray(self, name: str | int, at: int) -> str:
@@ -599,7 +599,7 @@ class _Registers:
             raise Stray(self._why_stray(name, at))
 
     def peek(self, name: str | int) -> int:
-        """Returns the value that a read would, without its side effects. Raises Stray or NoSuchRegister."""
+        """Returns the value that a read would return, without its side effects. Raises Stray or NoSuchRegister."""
         at = self._at(name)
         word = self.peek32(at)
         if word is None:

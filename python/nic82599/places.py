@@ -1,6 +1,6 @@
 """Finds the C library and the `nicbench` program.
 
-Both are searched for in the path of an environment variable (NIC82599_LIBRARY, NICBENCH); next to this package, where a
+Both are searched for at the path in an environment variable (NIC82599_LIBRARY, NICBENCH); next to this package, where a
 wheel installs them; in the clone or the prefix that contains the package; and in the system, the library by its soname
 and the program on the PATH. If the variable is set, only it is used.
 """

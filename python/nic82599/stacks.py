@@ -122,7 +122,7 @@ class Points(Dma):
         return self._call("read32", at if isinstance(at, int) else address_of(at))
 
     def write32(self, at: int | str, word: int) -> bool:
-        """Writes a register by address or name. Returns whether a register was there."""
+        """Writes a register by address or name. Returns whether that register exists."""
         return self._call("write32", at if isinstance(at, int) else address_of(at), _word(word)) == DONE
 
     def vf_read32(self, vf: int, at: int | str) -> int:

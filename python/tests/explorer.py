@@ -638,7 +638,7 @@ class Single(unittest.TestCase):
 
 class Files(unittest.TestCase):
     def test_of_c(self) -> None:
-        """A schedule that the explorer in C found for the same scenario: each point does the same here."""
+        """A schedule that the explorer in C found for the same scenario: each point has the same effect here."""
         result = replay(Race(), HERE / "race.schedule")
         lines = [without_place(line).split("#") for line in (HERE / "race.schedule").read_text().splitlines()]
         wanted = [(line[0].strip(), line[1].strip()) for line in lines if len(line) == 2 and line[0]]

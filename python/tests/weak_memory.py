@@ -171,7 +171,7 @@ class Send(Scenario):
 
 class Files(unittest.TestCase):
     def test_of_c(self) -> None:
-        """A schedule under weak memory that C found: each point does the same here."""
+        """A schedule under weak memory that the explorer in C found: each point has the same effect here."""
         path = HERE / "missing_wmb.schedule"
         result = replay(Send(), path)
         lines = [line.split("#") for line in path.read_text().splitlines()]

@@ -28,7 +28,7 @@ impl HandleOut {
 }
 
 impl KeptHandleOut {
-    /// Creates an out-parameter that contains the handle of the kept card in a box with these parts.
+    /// Creates an out-parameter that contains the handle of the snapshot in a box with these parts.
     pub fn of(parts: Parts<Kept>) -> KeptHandleOut {
         KeptHandleOut { kept: ManuallyDrop::new(Some(parts.into_box())) }
     }

@@ -13,7 +13,7 @@ pub struct Handle {
     card: Option<Box<Card>>,
 }
 
-/// A handle of a kept card on the heap. In C it is a struct with one pointer.
+/// A handle of a snapshot on the heap. In C it is a struct with one pointer.
 #[repr(C)]
 pub struct KeptHandle {
     kept: Option<Box<Kept>>,
@@ -32,7 +32,7 @@ impl Handle {
 }
 
 impl KeptHandle {
-    /// Borrows the kept card. C makes no call with a null handle.
+    /// Borrows the snapshot. C makes no call with a null handle.
     #[inline]
     pub fn lend(&mut self) -> &mut Kept {
         self.kept.as_mut().expect("a handle of a kept card")

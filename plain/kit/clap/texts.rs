@@ -108,7 +108,7 @@ impl<'a> Place<'_, 'a> {
         Ok(Error { kind, text })
     }
 
-    /// Returns the help of the command that these names lead to from here.
+    /// Returns the help of the command that these names lead to, starting from this command.
     pub(super) fn help_of(&self, names: &[&str]) -> Result<Error, AllocError> {
         let (name, rest) = match names.split_first() {
             Some((name, rest)) => (*name, rest),

@@ -61,7 +61,7 @@ class Result:
     outcome: str = "fine"
     words: str = ""
     points: list[tuple[str, str]] = field(default_factory=list)
-    without: frozenset[str] = frozenset()  # what is left out: "task a", "handler b", "frame 2", "link 0"
+    without: frozenset[str] = frozenset()  # what the schedule leaves out: "task a", "handler b", "frame 2", "link 0"
     cycle: int = 0  # number of points at the end that repeat forever; 0 if none do
     places: list[str] = field(default_factory=list, compare=False)  # the source line of each point
     parting: Parting | None = field(default=None, compare=False)  # where a lenient replay diverges from the file
@@ -127,7 +127,7 @@ class Result:
         self.cycle = 0 if begin is None else len(self.points) - begin
 
     def lines(self) -> list[str]:
-        """Returns the schedule as lines: what is left out, the points, and the cycle."""
+        """Returns the schedule as lines: what it leaves out, its points, and its cycle."""
         lines = [f"without {name}" for name in sorted(self.without)]
         begin = len(self.points) - self.cycle if self.cycle else None
         for number, ((name, words), place) in enumerate(zip(self.points, self.places)):

@@ -453,7 +453,7 @@ class Session:
             os._exit(0)
 
     def search(self, words: list[str]) -> Found:
-        """Runs a search with these arguments of nicx_main and returns its result."""
+        """Runs a search with these arguments for nicx_main and returns its result."""
         self.shared = found = Found.from_buffer(mmap.mmap(-1, ctypes.sizeof(Found)))
         reads, writes = os.pipe()
         sys.stdout.flush()

@@ -1,4 +1,5 @@
-"""Converts a recording to a script that `nicbench` reads, from its beginning, as far as a script can express it.
+"""Converts a recording to a script that `nicbench` reads, from its beginning up to the first event that the script
+can't reproduce.
 
 Each block of a lent range has its own line, equal data strings are merged, and restoring a snapshot removes the lines
 since the snapshot was taken. The program then runs the script, which is cut before the first answer that differs from

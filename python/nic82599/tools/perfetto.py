@@ -1,7 +1,7 @@
 """Converts a run to a trace in Chrome's JSON format, which Perfetto opens. Its tracks are steps, actors, messages and
 frames.
 
-A step is a slice of one microsecond at its number, so a time is a step's number. Each step is on the track of all steps
+A step is a one-microsecond slice at its number, so a time is a step's number. Each step is on the track of all steps
 and on its actor's track. A script from the explorer names tasks, handlers and parts of the device as actors. In other
 runs the actors are the driver, a virtual function's driver, the link, and the parts of the device. Messages have their
 own track. So do the steps with a fault, a drop, a refusal, a stray access or nothing to do. A frame is a span from its

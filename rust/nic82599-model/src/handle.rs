@@ -49,7 +49,8 @@ pub(crate) struct Handle {
 /// The state of a controller.
 pub(crate) struct Kept {
     card: card::Kept,
-    // Not `Sync`, to match the crate that links the C library: code that compiles here compiles there.
+    // Not `Sync`, to match the crate that links the C library: code that compiles with this crate compiles with that
+    // one.
     _one: PhantomData<Cell<()>>,
 }
 

@@ -80,7 +80,7 @@ impl Machine for Bench<'_> {
     fn rmb(&self) {}
 }
 
-/// Generates a frame of 60 to 1,514 bytes from a number.
+/// Generates a 60- to 1,514-byte frame from a number.
 fn made(number: usize) -> Vec<u8> {
     let mut frame: Vec<u8> = (0..60 + number * 37 % 1455).map(|k| (number * 31 + k * 7) as u8).collect();
     frame[..6].copy_from_slice(&ADDRESS);

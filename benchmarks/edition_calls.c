@@ -1,6 +1,6 @@
-/* Measures the CPU time of a C library's calls, so that other load on the machine matters little: accesses to all
-   addresses and to tails, frames in and out, snapshots and restores, and the hash. benchmarks/editions links it with
-   several libraries and runs the programs alternately. */
+/* Measures the CPU time of a C library's calls, so that other load on the machine matters little: register accesses at
+   all addresses and at tails, frames received and sent, snapshots and restores, and the hash. benchmarks/editions links
+   it with several libraries and runs the programs alternately. */
 #define MEASURE_CLOCK CLOCK_PROCESS_CPUTIME_ID
 #include "measure.h"
 #include "nic82599.h"

@@ -26,7 +26,7 @@ Member = tuple[Row, Run]
 # A stride, and a range of remainders modulo that stride; the end is excluded.
 Rest = tuple[int, int, int] | None
 
-# The names of the banks on the page of registers.
+# The names of the banks on the page about registers.
 BANKS = {
     "Device": "device",
     "Counters": "counters",
@@ -778,7 +778,7 @@ use Rattle.reg_table.specs.declared.rows.RowId.TheVariants.{{{variants}}}
 
 
 def proof_cells() -> str:
-    """Returns the test that tells the cells' rows from all others."""
+    """Returns the test that distinguishes the cells' rows from all others."""
     are = "".join(f"is_cell {row.variant} = true\n" for row in cells())
     return f"""{GENERATED}
 use Rattle.std.specs.Prelude.{{Bool, true, false}}

@@ -25,7 +25,8 @@ ENTRY = re.compile(r"entry 0x([0-9A-F]+) (\w+) (vf|0)")
 
 
 def own_rows() -> list[tuple[int, str, bool]]:
-    """Returns a function's single registers: offset, name, and whether the index is the function's number."""
+    """Returns the single registers of a virtual function: offset, name, and whether the index is the function's
+    number."""
     names = {row.variant: row.name for row in TABLE}
     entries = ENTRY.findall(text_of("crates/vf_map/specs/Map.antt"))
     assert entries, "no entries in Map.antt"
@@ -40,7 +41,7 @@ def row_of(place: Place) -> list[str]:
 
 
 def places() -> list[Place]:
-    """Returns all registers of a function, sorted by offset."""
+    """Returns all registers of a virtual function, sorted by offset."""
     return places_of_function(own_rows())
 
 

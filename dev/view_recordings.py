@@ -174,7 +174,7 @@ def compare_waiting(where: str, whole: Run, part: Run, expect: Expect) -> None:
 
 
 def check_ends(folder: Path, expect: Expect) -> None:
-    """Checks pages of the last events of recordings in which these depend on earlier events."""
+    """Checks pages that show the last events of a recording, if these depend on earlier events."""
     for name, (vfs, text) in ENDS.items():
         script, recording = folder / name, folder / f"{name}.recording"
         script.write_text(text)

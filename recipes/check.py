@@ -3,9 +3,10 @@
 
     recipes/check.py        tries all of them; status 0: all passed; 1: at least one didn't
 
-The commands run in a folder like a runner's: a repository with a driver, an `apt-get` that records its arguments, and a
-`git` that provides this clone instead of fetching one. A card is produced, but no search runs: drivers/qemu/search
-checks its arguments and prints the workload of a seed. `make` is recorded, and creates an empty module.
+The commands run in a folder that resembles a runner's folder: a repository with a driver, an `apt-get` that records its
+arguments, and a `git` that provides this clone instead of fetching one. A card is produced, but no search runs:
+drivers/qemu/search checks its arguments and prints the workload of a seed. `make` is recorded, and creates an empty
+module.
 """
 
 from __future__ import annotations

@@ -1,4 +1,4 @@
-//! The crate `arrayvec`: an inline vector of at most N elements, for `Copy` elements.
+//! The `arrayvec` crate: an inline vector of at most N elements, for `Copy` elements.
 
 use super::raw::Slots;
 use core::fmt;

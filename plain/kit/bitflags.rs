@@ -1,4 +1,4 @@
-//! The crate `bitflags`: sets of named bits. `bitflag_items!` is Rattle's version of its macro: it adds the constants
+//! The `bitflags` crate: sets of named bits. `bitflag_items!` is Rattle's version of its macro: it adds the constants
 //! and their table to a struct that is declared separately.
 
 use core::ops::{BitAnd, BitOr, Not};

@@ -1,4 +1,4 @@
-//! The crate `byteorder`: little-endian numbers in bytes. A slice that is too short panics, as in the original.
+//! The `byteorder` crate: little-endian numbers in bytes. A slice that is too short panics, as in the original.
 
 /// Numbers in bytes.
 pub trait ByteOrder {

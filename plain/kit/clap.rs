@@ -1,4 +1,4 @@
-//! The crate `clap`: command lines of a program with commands, whose options have long names and take at most one
+//! The `clap` crate: command lines of a program with commands, whose options have long names and take at most one
 //! number. Help, messages and their tips match clap's output byte for byte.
 //!
 //! `try_get_matches_from` reads the arguments: `parse` scans them as clap does, `texts` formats the output, and

@@ -1,4 +1,4 @@
-//! The crate `hex`: bytes as hexadecimal digits.
+//! The `hex` crate: bytes as hexadecimal digits.
 
 use super::alloc::{AllocError, Global};
 use super::vec::Vec;

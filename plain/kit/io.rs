@@ -88,7 +88,7 @@ pub trait Write {
     }
 }
 
-/// A writer for text that keeps the error that stopped it.
+/// A text writer that stores the error that stopped it.
 struct Texts<'a, W> {
     inner: &'a mut W,
     ended: Result<()>,

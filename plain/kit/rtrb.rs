@@ -1,4 +1,4 @@
-//! The crate `rtrb`: a ring from one thread to another. The original has no locks. This one has a lock for each place,
+//! The `rtrb` crate: a ring from one thread to another. The original has no locks. This one has a lock for each place,
 //! but no thread waits for a lock: an end takes it only if the counts show that the other end is done with the place.
 
 use super::alloc::{AllocError, Global};

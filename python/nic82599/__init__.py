@@ -403,7 +403,7 @@ def edition() -> str:
 
 
 def library_version() -> str:
-    """Returns the library's version; `__version__` is the package's.
+    """Returns the library's version; `__version__` is the package's version.
 
     >>> library_version() == __version__
     True
@@ -458,7 +458,7 @@ def _side(side: str) -> str:
 
 # An index has at most three digits after any leading zeros.
 _NAME = re.compile(r"(\w+?)(?:\[(\d{1,9})\])?")
-# The most characters of an unknown name that are compared and shown.
+# The maximum number of characters of an unknown name that are compared and shown.
 _NAME_SHOWN = 40
 
 

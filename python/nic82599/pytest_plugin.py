@@ -206,8 +206,8 @@ def tell_why(item: pytest.Item, report: pytest.TestReport) -> None:
 def pytest_runtest_makereport(
     item: pytest.Item, call: pytest.CallInfo[None]
 ) -> Generator[None, Result[pytest.TestReport], None]:
-    """Reports a failed schedule without the traceback, because the place where `search` raised it is of no use. Reports
-    any other failure with why nothing happens."""
+    """Reports a failed schedule without the traceback, because the place where `search` raised it is of no use. To the
+    report of any other failure, adds why nothing happens."""
     outcome = yield
     if call.when != "teardown" and outcome.get_result().failed:
         tell_why(item, outcome.get_result())

@@ -176,7 +176,7 @@ class Interrupted(Scenario):
 
 
 class Traced(Scenario):
-    """Three tasks of two steps each. Each schedule adds a line with the order of its steps to a file."""
+    """Three tasks with two steps each. Each schedule adds a line with the order of its steps to a file."""
 
     name = "traced"
 

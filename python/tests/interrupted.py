@@ -188,7 +188,7 @@ class Interrupted(unittest.TestCase):
                 self.assertGreater(points, 5)
 
     def test_signals(self) -> None:
-        """Interrupts by a timer, until enough signals have hit a call."""
+        """Interrupts calls with a timer, until enough signals have hit a call."""
         found = by_signals(SIGNALS)
         self.assertGreater(found, 0)
 

@@ -245,7 +245,8 @@ class Places(unittest.TestCase):
         self.assertEqual(places.clone(), ROOT)
 
     def test_sonames_agree(self) -> None:
-        """The packer and the package agree on the libraries' names; the device's contains the major version."""
+        """The packer and the package agree on the libraries' names; the name of the device's library contains the major
+        version."""
         self.assertEqual((places.SONAME, places.ENGINE), (backend.SONAME, backend.ENGINE))
         self.assertEqual(places.SONAME, f"libnic82599.so.{backend.version().split('.')[0]}")
 

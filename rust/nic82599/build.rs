@@ -175,8 +175,8 @@ fn check_version(folder: &Path, found: Option<String>) -> Result<(), String> {
     }
 }
 
-/// Links only the needed members of each archive: the explorer's also contains the library's memory calls. (Rust 1.63
-/// would link all of it into tests.)
+/// Links only the needed members of each archive: the explorer's archive also contains the library's memory calls.
+/// (Rust 1.63 would link all of it into tests.)
 fn link(folder: &Path) -> Result<(), String> {
     println!("cargo:rustc-link-search=native={}", folder.display());
     let archive = folder.join("libnic82599.a");

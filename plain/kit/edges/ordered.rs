@@ -36,7 +36,7 @@ fn a_map_is_rusts() {
     }
 }
 
-/// A node has room for 15 pairs. A full node on the way of a new pair is split: at the sixteenth pair, its upper half
+/// A node has room for 15 pairs. A full node on the path of a new pair is split: at the sixteenth pair, its upper half
 /// moves to a new node below a new root.
 #[test]
 fn a_map_takes_a_node_where_one_is_full() {

@@ -49,8 +49,8 @@ class Driver(Points):
 
     name = ""  # 1 to 40 letters, digits, '-' and '_'
     can = Can.NOTHING
-    queues = 1  # the most queues that `open` accepts, 1 to MOST_QUEUES
-    slots = 8  # the fewest slots per ring that `open` accepts: 8, 16, .. 64
+    queues = 1  # the largest number of queues that `open` accepts, 1 to MOST_QUEUES
+    slots = 8  # the smallest number of slots per ring that `open` accepts: 8, 16, .. 64
     frame = 1514  # bytes of the longest frame supported, up to MOST_FRAME
     threads = 0  # the driver's own threads, 0 to 4, which run `thread`
 

@@ -125,7 +125,7 @@ class Scenario(Points):
 
     @property
     def came(self) -> int:
-        """The number of frames that have arrived so far, dropped ones included. Shrinking a failure leaves frames
+        """The number of frames that have arrived so far, including dropped ones. Shrinking a failure leaves frames
         out, so `end` should check for the frames that arrived instead of the frames that were named."""
         return self._session.came() if self._session else 0
 

@@ -23,7 +23,7 @@ OPS = {
 # A snapshot is kept after every APART steps, or less often if the snapshots would exceed ROOM bytes.
 APART, ROOM = 1_024, 128 << 20
 MOST_BLOCKS = 65_536
-# The most digits of a number in a recording.
+# The maximum number of digits of a number in a recording.
 MOST_DIGITS = 20
 
 

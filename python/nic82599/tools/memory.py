@@ -1,9 +1,9 @@
 """Derives the contents of lent memory after each step, which frames are waiting and for which queue, and which were
 sent.
 
-The debugger has no command for memory, so the script is run again with `peek` lines between its own; a peek changes
-nothing in the device. The instructions of this run are in the order in which they ran, without jumps and tests. If they
-don't fit into one script, several are run, each from the start to its own peeks.
+The debugger has no command for memory, so the script is run again with `peek` lines between its own lines; a peek
+changes nothing in the device. The instructions of this run are in the order in which they ran, without jumps and tests.
+If they don't fit into one script, several are run, each from the start to its own peeks.
 """
 
 from __future__ import annotations
@@ -125,7 +125,7 @@ def _below(steps: list[Step], count: int) -> int:
 
 
 class Replay:
-    """Runs of a trace's steps in their order, with further lines between and after them."""
+    """Runs of a trace's steps in order, with further lines between and after them."""
 
     def __init__(self, trace: Trace) -> None:
         self.trace = trace

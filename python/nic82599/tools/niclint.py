@@ -28,7 +28,7 @@ from .script import Bench, Refused, Script, of_text, text_of
 from .tool import Parser, called, ended, limit, limit_of_script, sizes
 from .trace import Step, trace_of
 
-# The most lines shown for the same warning.
+# The maximum number of lines shown for the same warning.
 SHOWN = 3
 
 

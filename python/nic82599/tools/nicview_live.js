@@ -87,7 +87,7 @@ async function ask(end, isChosen = true) {
   else askSoon();
   showLive();
 }
-// Requests what is new, after a pause of twice the time that the last request took, at most 3 seconds.
+// Requests what is new after a pause. The pause is twice the time that the last request took, at most 3 seconds.
 function askSoon() {
   if (live.isSoon || live.isAsking || !isFollowing() || live.until >= live.total) return;
   live.isSoon = true;

@@ -147,7 +147,7 @@ class Reasons:
         return self._why(f"{side}_queue_off", queue)
 
     def _asked(self, step: Step, row: str, queue: int) -> Step | None:
-        """Returns the earlier step that requested a queue's enable, unless a queue step has followed."""
+        """Returns the earlier step that requested that a queue be enabled, unless a queue step has followed."""
         control = regs.first(row, queue)
         side, asked = ("rx" if row == "RXDCTL" else "tx"), None
         for before in self.trace.steps[: step.number]:

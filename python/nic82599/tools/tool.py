@@ -15,7 +15,7 @@ from ..version import VERSION
 from .printable import Printable, shortened
 from .script import Fault, Refused
 
-# The most digits of a number on the command line.
+# The maximum number of digits of a number on the command line.
 MOST_DIGITS = 18
 # The maximum of --limit: for a script, which may run forever, and for a recording.
 MOST_OF_SCRIPT, MOST_STEPS = 100_000, 100_000_000

@@ -45,8 +45,8 @@ impl<R: Read> Reader<R> {
     ///
     /// # Errors
     ///
-    /// Any error of the file. [`ErrorKind::UnexpectedEof`] if it ends within the header, and [`ErrorKind::InvalidData`]
-    /// if it isn't a pcap file of Ethernet frames.
+    /// Any error from reading the file. [`ErrorKind::UnexpectedEof`] if it ends within the header, and
+    /// [`ErrorKind::InvalidData`] if it isn't a pcap file of Ethernet frames.
     pub fn new(mut file: R) -> io::Result<Reader<R>> {
         let mut head = [0; 24];
         whole(file.read_exact(&mut head), "not a pcap capture: it ends within its header")?;
@@ -111,7 +111,7 @@ impl<W: Write> Writer<W> {
     ///
     /// # Errors
     ///
-    /// Any error of the file.
+    /// Any error from writing the file.
     pub fn new(mut file: W) -> io::Result<Writer<W>> {
         file.write_all(&HEAD)?;
         Ok(Writer { file })
@@ -121,7 +121,7 @@ impl<W: Write> Writer<W> {
     ///
     /// # Errors
     ///
-    /// Any error of the file, and [`ErrorKind::InvalidInput`] for a frame longer than 262,144 bytes.
+    /// Any error from writing the file, and [`ErrorKind::InvalidInput`] for a frame longer than 262,144 bytes.
     pub fn put(&mut self, time: u64, frame: &[u8]) -> io::Result<()> {
         let length = match u32::try_from(frame.len()) {
             Ok(length) if length <= LONGEST => length,

@@ -48,7 +48,7 @@
 //! task panics, its calls are no-ops that return 0, false or `Ok`. A drop that then panics ends the process, which the
 //! search reports as a crash. With `panic = "abort"` this unwinding is impossible, so searches are refused.
 //!
-//! A [`Nic`] or a snapshot that your program opens isn't part of the search, like any other value. A scenario's
+//! Like any other value, a [`Nic`] or a snapshot that your program opens isn't part of the search. A scenario's
 //! functions may open and use one, no schedule resets it, and you may keep it after the search.
 
 mod kit;

@@ -92,7 +92,7 @@ class WebSocket:
 
 
 def plain(value: dict[str, Any]) -> Any:
-    """Converts a value of the page to Python."""
+    """Converts a value from the page to Python."""
     inner = value.get("value")
     if value["type"] == "array":
         return [plain(it) for it in inner or []]

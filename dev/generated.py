@@ -14,7 +14,7 @@ ROOT = Path(__file__).resolve().parent.parent
 
 
 def text_of(path: str) -> str:
-    """Returns the contents of a file of the repository."""
+    """Returns the contents of a file in the repository."""
     return (ROOT / path).read_text(encoding="utf-8")
 
 

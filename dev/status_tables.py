@@ -41,7 +41,7 @@ AROUND = {"BAD_MEMORY", "BROKEN", "CLOSED"}
 OTHERWISE = {"DESC_TYPE": "TYPE"}
 HEAD_PYTHON = '''\
 """The numbers that C library calls return, generated from the header nic82599.h by dev/generate statuses: the
-statuses and the faults, and by number the words for drop reasons, faults and steps.
+statuses and the faults, and, by number, the words for drop reasons, faults and steps.
 """
 
 '''

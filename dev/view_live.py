@@ -206,7 +206,8 @@ def addresses() -> list[str]:
 
 
 def check_hostile(folder: Path, expect: Expect) -> None:
-    """Tries tags in names and comments, lines of megabytes, clients that never read, and more clients than allowed."""
+    """Tries tags in names and comments, lines that are megabytes long, clients that never read, and more clients than
+    allowed."""
     file = folder / "<img src=x onerror=hacked=1>.rec"
     busy_recording(file, 2)
     long = b"r 0x00008 # word 0x00080000  # " + b"x" * 3_000_000 + b"\n"

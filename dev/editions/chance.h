@@ -12,7 +12,7 @@ uint32_t chance_below(uint32_t bound);
 /* Stores the next event, which is chosen only from what is open. */
 void chance_event(const struct side *side, struct event *event);
 
-/* All addresses of the register table. */
+/* All addresses in the register table. */
 extern const uint32_t chance_addresses[];
 extern const size_t chance_address_count;
 

@@ -89,7 +89,7 @@ static bool is_refusal(const struct answer *answer)
     return event_alike(&event, answer, &wanted);
 }
 
-/* Repeats the call with its request 1, 2, 3 .. refused, until it makes no further request. */
+/* Repeats the call, refusing its memory request 1, then 2, 3 and so on, until it makes no further request. */
 static void make_refused(size_t k)
 {
     for (long at = 1;; at++) {

@@ -1,4 +1,4 @@
-// Runs the program nicbench in a page, in a worker or in Node: takes arguments and input, and returns output and
+// Runs the nicbench program in a page, in a worker or in Node: takes arguments and input, and returns output and
 // status.
 //
 //     import { compile } from "./nicbench.mjs";

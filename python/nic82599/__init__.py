@@ -6,7 +6,7 @@
     ...     nic["RDT[3]"], hex(nic["SRRCTL[3]"]), nic.peek("GPRC")
     (0, '0x402', 0)
 
-A `Nic` is a controller in its power-up state. Access registers by the names of docs/REGISTERS.md or by address, and
+A new `Nic` is a controller in its power-up state. Access registers by the names of docs/REGISTERS.md or by address, and
 packet memory by bus address (`nic.memory[0x800:0x83c]`). Pass frames in with `arrive` and take them out with `collect`.
 The device acts in steps: `settle` runs every step that has work, and `why` explains why nothing happens. A refused call
 raises an exception named after the refusal and leaves the device unchanged. Events of the device are returned as small

@@ -247,7 +247,7 @@ class Command(unittest.TestCase):
             self.assertIn(r"red \x1b[31m", failure.get("message") if failure is not None else "")
 
     def test_nothing_is_left(self) -> None:
-        """Whatever a driver starts ends with its row, and doesn't keep the card from ending."""
+        """Every process that a driver starts ends with its row, and doesn't keep the card from finishing."""
         if places.clone() is None or not Path("/proc/self/stat").exists():
             self.skipTest("the command needs a clone, and the test /proc")
         for name in ("Forks", "ForksAndGoesOn", *(["LeavesADaemon"] if adopts() else [])):

@@ -74,7 +74,8 @@ class Result:
 
     @property
     def switches(self) -> int:
-        """The number of points at which the actor differs from the previous point's. Chosen values don't count."""
+        """The number of points at which the actor differs from the actor at the previous point. Chosen values don't
+        count."""
         names = [name for name in self.actors if not name.startswith("value ")]
         return sum(one != other for one, other in zip(names, names[1:]))
 

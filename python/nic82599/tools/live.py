@@ -124,7 +124,8 @@ class Server(ThreadingHTTPServer):
         return f"http://{ADDRESS}:{self.server_address[1]}/{self.token}/"
 
     def end(self, *_: object) -> None:
-        """Stops the server soon. An exception raised by a signal handler might be lost in one of Python's callbacks."""
+        """Makes the server stop soon. An exception raised by a signal handler might be lost in one of Python's
+        callbacks."""
         self.is_over = True
 
     def service_actions(self) -> None:

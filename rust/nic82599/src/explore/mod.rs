@@ -121,7 +121,7 @@ pub trait Scenario: 'static {
         MemoryOrder::default()
     }
 
-    /// Promises that tasks and handlers touch shared memory of the driver only under a common [`Lock`], and that no
+    /// Promises that tasks and handlers touch the driver's shared memory only under a common [`Lock`], and that no
     /// condition touches it. The exhaustive search then leaves out orders of steps that touch different parts of the
     /// device. If the promise doesn't hold, the search may miss a failure.
     fn is_race_free(&self) -> bool {

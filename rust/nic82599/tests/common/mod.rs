@@ -37,7 +37,7 @@ impl Chance {
     }
 }
 
-/// Returns every address of the register table, aliases included.
+/// Returns every address in the register table, including aliases.
 pub fn addresses() -> Vec<u32> {
     let runs = addresses::RUNS.iter();
     runs.flat_map(|&(first, stride, count)| (0..count).map(move |k| first + stride * k)).collect()

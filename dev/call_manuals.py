@@ -73,7 +73,7 @@ def function_of(found: re.Match[str]) -> Function:
 
 
 def groups_of(header: str) -> list[Group]:
-    """Returns the functions of a header, grouped by the comments that they follow."""
+    """Returns the functions in a header, grouped by the comments that they follow."""
     text, groups, section, at = text_of(f"c/include/{header}"), [], "", 0
     group = Group("", "")
     marks = sorted([*COMMENT.finditer(text), *FUNCTION.finditer(text)], key=lambda it: it.start())

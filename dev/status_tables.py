@@ -62,7 +62,7 @@ def numbers_of(name: str) -> Numbers:
 
 
 def words_of(function: str) -> list[str]:
-    """Returns the names that a function of the header returns, in the order of their numbers."""
+    """Returns the names that a function in the header returns, in the order of their numbers."""
     found = re.search(rf"{function}\(uint8_t \w+\)\n.*?names\[\] = \{{(.*?)\}};", text_of(HEADER), re.S)
     assert found, f"{HEADER} has no {function} with a list of names"
     return re.findall(r'"([^"]*)"', found[1])

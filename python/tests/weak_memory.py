@@ -34,7 +34,7 @@ Pair = tuple[int, int]
 
 
 class Litmus(Scenario):
-    """Two tasks of a few loads and stores, and the values that they loaded."""
+    """Two tasks with a few loads and stores each, and the values that they loaded."""
 
     name, blocks = "litmus", 2
 

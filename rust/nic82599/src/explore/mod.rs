@@ -517,9 +517,9 @@ impl Bus {
         raw::mb();
     }
 
-    /// Returns a value below the bound (1 to 256) that is part of the schedule: whether an allocation fails, which
-    /// input arrives. All strategies explore it, and shrinking tries lower values. In [`Scenario::bring_up`] the call
-    /// fails.
+    /// Returns a value below the bound (1 to 256) that is part of the schedule, for example whether an allocation fails
+    /// or which input arrives. All strategies explore it, and shrinking tries lower values. In [`Scenario::bring_up`]
+    /// the call fails.
     pub fn choose(&self, bound: u32) -> u32 {
         raw::choose(bound)
     }

@@ -661,8 +661,7 @@ def check_orders(kit: Kit, states: int) -> str:
     return ran([kit.build(HERE / "tests/orders.c"), states, 1], timeout=HANGS).strip().splitlines()[-1]
 
 
-# Modes of the test: the PF's driver or a virtual function's; tasks kept apart by the scenario's promise, or by the
-# memory that they are observed to access.
+# The modes of tests/sleeping.c, whose first comment explains them.
 SLEEPING = ("", "vf", "apart", "vf apart", "seen", "vf seen", "vf weak", "three", "four")
 
 

@@ -14,7 +14,7 @@ from typing import Any
 from explore.check import CRASHES, HERE, NO_HANG, Kit, Wrong, must_print, ran
 
 SOURCE = HERE / "tests/reported.c"
-FOUND = r"found by .*, (\d+) points? and (\d+) switch(?:es)?; shrunk by \d+ tr(?:y|ies) to (\d+) and (\d+)"
+FOUND = r"found by .*, (\d+) points? and (\d+) switch(?:es)?; shrunk in \d+ tr(?:y|ies) to (\d+) and (\d+)"
 RESOLVERS = ("addr2line", "llvm-symbolizer")
 
 

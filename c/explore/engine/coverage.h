@@ -39,7 +39,7 @@ void nicxi_cover_step(const struct step *step);
 void nicxi_cover_reset(void);
 /* Notes which queues are on after the bring-up. */
 void nicxi_cover_bring_up(void);
-/* Adds what another process saw to `all`. */
+/* Adds another process's coverage to `all`. */
 void nicxi_cover_more(struct coverage *all, const struct coverage *one);
 
 /* Passes a line to `tell` for each item that the scenario names but that never ran or occurred. Returns the number of

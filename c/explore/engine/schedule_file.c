@@ -206,7 +206,7 @@ static const char *take(struct schedule_file *file, const char *words, const cha
     return add(file, actor, description);
 }
 
-/* Whether a line is complete, without a zero byte, and has no control characters other than tabs and line ends. */
+/* Whether a line is complete and contains no NUL and no control characters other than tabs and line endings. */
 static bool is_text(const char *line, size_t length, bool is_last)
 {
     for (size_t k = 0; k < length; k++)

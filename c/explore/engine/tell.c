@@ -148,7 +148,7 @@ void nicxi_tell_failure(const struct failure *failure, const nicx_result *found,
     printf("%s: found by %s, %" PRIu32 " point%s and %" PRIu32 " switch%s", name, nicxi_where(failure, where),
            found->points, nicxi_s(found->points), found->switches, found->switches == 1 ? "" : "es");
     if (tries) /* a schedule with fewer switches may have more points */
-        printf("; %s by %" PRIu32 " %s to %" PRIu32 " and %" PRIu32,
+        printf("; %s in %" PRIu32 " %s to %" PRIu32 " and %" PRIu32,
                failure->result.points > found->points ? "reordered" : "shrunk", tries, tries == 1 ? "try" : "tries",
                failure->result.points, failure->result.switches);
     if (failure->cycle)

@@ -116,7 +116,7 @@ def lines_of(run: list[Access]) -> Iterator[str]:
         yield from (line_of(it) for it in run)
         return
     families = list(dict.fromkeys(it.family for it in run))
-    more = f", and {len(families) - FAMILIES} more kinds" if len(families) > FAMILIES else ""
+    more = f", and {len(families) - FAMILIES} more" if len(families) > FAMILIES else ""
     yield f"{run[0].line:8} .. {run[-1].line}: {len(run)} accesses: {', '.join(families[:FAMILIES])}{more}"
 
 

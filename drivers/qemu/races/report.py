@@ -62,7 +62,8 @@ def again(it: Outcome) -> str:
 
 def line(it: Outcome) -> str:
     """Returns the line for a seed."""
-    return f"{it.kernel} {it.driver} seed {it.seed}: {it.rounds} rounds in {it.seconds:.0f} s: {said(it)}{again(it)}"
+    rounds = f"{it.rounds} round{'' if it.rounds == 1 else 's'}"
+    return f"{it.kernel} {it.driver} seed {it.seed}: {rounds} in {it.seconds:.0f} s: {said(it)}{again(it)}"
 
 
 def table(outcomes: Sequence[Outcome]) -> str:

@@ -57,7 +57,7 @@ def check_shrinking(kit: Kit, program: Path) -> str:
 def check_cycle(kit: Kit, program: Path) -> str:
     """An endless schedule is reported with its cycle, which is shown once."""
     said, schedule = found_by(kit, program, "round")
-    must_print(said, r"FAILED endless: .*\n.*shrunk by \d+ tries to \d+ and \d+, the last \d points repeating", "round")
+    must_print(said, r"FAILED endless: .*\n.*shrunk in \d+ tries to \d+ and \d+, the last \d points repeating", "round")
     points, lines = points_of(schedule), schedule.splitlines()
     where = next(number for number, line in enumerate(lines) if line.startswith("cycle "))
     round_of = points_of("\n".join(lines[where + 1 :]))

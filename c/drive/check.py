@@ -359,6 +359,24 @@ def check_places(kit: Kit) -> str:
     return "a failed row names the driver's line"
 
 
+def check_second_delivery(kit: Kit) -> str:
+    """A frame that is delivered twice is reported with its slot and its queue, even if the two numbers differ."""
+    here = {'"bugs.h"': f'"{HERE}/corpus/bugs.h"', "BUG == SLOT_TAKEN_TWICE &&": "queue == 1 &&"}
+    source = changed(HERE / "corpus/driver.c", here, kit.folder / "slot_taken_twice.c")
+    row = kit.card(kit.build(source), 1, "--rows", "two-queues", "--runs", 20)["two-queues"]
+    expect(row, r"frame \d+ is delivered a second time, from slot 0 of queue 1", source.name)
+    return "a second delivery names slot and queue"
+
+
+def check_every(kit: Kit) -> str:
+    """A row whose schedules with at most one preemption were all run doesn't claim to have run all schedules."""
+    program = kit.build(HERE / "corpus/driver.c")
+    row = kit.card(program, 0, "--rows", "receive-empty", "--runs", 5, "--every", 100_000)["receive-empty"]
+    if row["state"] != "passed" or row["every"] != 1:
+        raise Wrong(f"receive-empty is {row['state']} with `every` {row['every']}, not 1")
+    return "schedules with one preemption aren't all schedules"
+
+
 # Registers written after reception was enabled, at every address that they have, and the names that the card reports.
 LATE = {
     "NIC_SRRCTL(0)": "SRRCTL.0.",
@@ -843,6 +861,8 @@ def check_all(kit: Kit, full: bool) -> list[str]:
         check_words(kit),
         check_listed(kit),
         check_places(kit),
+        check_second_delivery(kit),
+        check_every(kit),
         check_aliases(kit),
         check_pages(),
         check_patience(),

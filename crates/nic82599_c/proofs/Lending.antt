@@ -1,4 +1,4 @@
--- `lend` for any handle: it reads the pointer and lends the value that it points to; the handle follows. Assumes
+-- `get_mut` for any handle: it reads the pointer and lends the value that it points to; the handle follows. Assumes
 -- `Logic`.
 use Rattle.std.proofs.Common.{◌≡◌, ℕ, List, [], ◌∷◌, refl, sym}
 use seplogic.Ra.Ura.{Ura}

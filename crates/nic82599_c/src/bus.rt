@@ -17,7 +17,7 @@ pub extern "C" fn nic_dma_read(nic: &mut Handle, bus: u64, bytes: &mut [u8]) -> 
     ensures kept { result ≡ NOT_LENT → bytes.new ≡ bytes.old }
     ensures unchanged { nic.new.card ≡ nic.old.card }
 {
-    if nic.lend().dma_read(bus, bytes) {
+    if nic.get_mut().dma_read(bus, bytes) {
         DONE
     } else {
         NOT_LENT
@@ -32,7 +32,7 @@ pub extern "C" fn nic_dma_write(nic: &mut Handle, bus: u64, bytes: &[u8]) -> u8
     ensures written { result ≡ DONE → nic.new.card ≡ written nic.old.card bus bytes.now }
     ensures kept { result ≡ NOT_LENT → nic.new.card ≡ nic.old.card }
 {
-    if nic.lend().dma_write(bus, bytes) {
+    if nic.get_mut().dma_write(bus, bytes) {
         DONE
     } else {
         NOT_LENT

@@ -62,7 +62,7 @@ impl Handle {
     }
 
     /// Borrows the card. When the borrow ends, the handle contains the card that was last written through the borrow.
-    pub fn lend(&mut self) -> &mut Card
+    pub fn get_mut(&mut self) -> &mut Card
         ensures* writes_back { sem 𝓛 (lends handle_row card_row (λ h w. record h { card = w }) self.entry result) }
         ensures value { result.now ≡ self.old.card }
     {
@@ -88,7 +88,7 @@ impl KeptHandle {
 
     /// Borrows the kept card. When the borrow ends, the handle contains the kept card that was last written through the
     /// borrow.
-    pub fn lend(&mut self) -> &mut Kept
+    pub fn get_mut(&mut self) -> &mut Kept
         ensures* writes_back { sem 𝓛 (lends handle_row kept_row (λ h w. record h { kept = w }) self.entry result) }
         ensures value { result.now ≡ self.old.kept }
     {

@@ -77,7 +77,7 @@ pub extern "C" fn nic_install_image(alloc: Global, nic: &mut Handle, bytes: &[u8
 {
     match load(alloc, bytes) {
         Ok(image) => {
-            nic.lend().install(image);
+            nic.get_mut().install(image);
             DONE
         }
         Err(fault) => status_of_load(fault),
@@ -125,7 +125,7 @@ pub extern "C" fn nic_install_text(
     ensures unchanged { result ≢ DONE → nic.new.card ≡ nic.old.card }
 {
     match str::from_utf8(text) {
-        Ok(text) => install_text(alloc, nic.lend(), text, line),
+        Ok(text) => install_text(alloc, nic.get_mut(), text, line),
         Err(_) => {
             *line = 0;
             TEXT + NOT_UTF8

@@ -17,7 +17,7 @@ pub extern "C" fn nic_lend(nic: &mut Handle, block: u32) -> u8
     ensures memory { result ≡ OUT_OF_MEMORY → lend_status nic.old.card block ≡ DONE }
     ensures unchanged { result ≡ OUT_OF_MEMORY → nic.new.card ≡ nic.old.card }
 {
-    match nic.lend().lend(block) {
+    match nic.get_mut().lend(block) {
         Ok(true) => DONE,
         Ok(false) => NO_BLOCK,
         Err(_) => OUT_OF_MEMORY,
@@ -30,7 +30,7 @@ pub extern "C" fn nic_take(nic: &mut Handle, block: u32) -> u8
     ensures status { result ≡ take_status nic.old.card block }
     ensures taken { nic.new.card ≡ with_taken nic.old.card block }
 {
-    if nic.lend().take(block) {
+    if nic.get_mut().take(block) {
         DONE
     } else {
         NOT_LENT
@@ -47,7 +47,7 @@ pub extern "C" fn nic_lend_all(nic: &mut Handle) -> u8
     ensures stopped { result ≡ OUT_OF_MEMORY → (block : ℕ) × (block < count_of nic.old.card.arena)
         × (nic.new.card ≡ lent_below nic.old.card block) }
 {
-    match nic.lend().lend_all() {
+    match nic.get_mut().lend_all() {
         Ok(()) => DONE,
         Err(_) => OUT_OF_MEMORY,
     }

@@ -63,7 +63,7 @@ pub extern "C" fn nic_read32(nic: &mut Handle, address: u32, word: &mut u32) -> 
     ensures word { word.new ≡ word_of (reply_to nic.old.card.device (Event.Read Port.Pf address)) }
     ensures card { nic.new.card ≡ made nic.old.card (Event.Read Port.Pf address) }
 {
-    read(nic.lend(), Port::Pf, address, word)
+    read(nic.get_mut(), Port::Pf, address, word)
 }
 
 /// Writes a register of the physical function by its byte address. Returns DONE, or STRAY, which changes nothing.
@@ -72,7 +72,7 @@ pub extern "C" fn nic_write32(nic: &mut Handle, address: u32, word: u32) -> u8
     ensures status { result ≡ status_of (reply_to nic.old.card.device (Event.Write Port.Pf address word)) }
     ensures card { nic.new.card ≡ made nic.old.card (Event.Write Port.Pf address word) }
 {
-    write(nic.lend(), Port::Pf, address, word)
+    write(nic.get_mut(), Port::Pf, address, word)
 }
 
 /// Reads a register of a virtual function by its byte offset, with the read's side effects. Returns DONE and the value,
@@ -84,7 +84,7 @@ pub extern "C" fn nic_vf_read32(nic: &mut Handle, vf: u8, offset: u32, word: &mu
     ensures word { word.new ≡ word_of (reply_to nic.old.card.device (Event.Read (Port.Vf vf) offset)) }
     ensures card { nic.new.card ≡ made nic.old.card (Event.Read (Port.Vf vf) offset) }
 {
-    read(nic.lend(), Port::Vf(vf), offset, word)
+    read(nic.get_mut(), Port::Vf(vf), offset, word)
 }
 
 /// Writes a register of a virtual function by its byte offset. Returns DONE, or STRAY, which changes nothing.
@@ -93,7 +93,7 @@ pub extern "C" fn nic_vf_write32(nic: &mut Handle, vf: u8, offset: u32, word: u3
     ensures status { result ≡ status_of (reply_to nic.old.card.device (Event.Write (Port.Vf vf) offset word)) }
     ensures card { nic.new.card ≡ made nic.old.card (Event.Write (Port.Vf vf) offset word) }
 {
-    write(nic.lend(), Port::Vf(vf), offset, word)
+    write(nic.get_mut(), Port::Vf(vf), offset, word)
 }
 
 /// Returns in `word` what `nic_read32` would read, without its side effects: the card is unchanged. Returns DONE, or
@@ -105,7 +105,7 @@ pub extern "C" fn nic_peek32(nic: &mut Handle, address: u32, word: &mut u32) -> 
         (reported_word (reply_to nic.old.card.device (Event.Read Port.Pf address))) word.old }
     ensures unchanged { nic.new.card ≡ nic.old.card }
 {
-    peek(nic.lend(), Port::Pf, address, word)
+    peek(nic.get_mut(), Port::Pf, address, word)
 }
 
 /// Returns in `word` what `nic_vf_read32` would read, without its side effects: the card is unchanged. Returns DONE, or
@@ -118,7 +118,7 @@ pub extern "C" fn nic_vf_peek32(nic: &mut Handle, vf: u8, offset: u32, word: &mu
         (reported_word (reply_to nic.old.card.device (Event.Read (Port.Vf vf) offset))) word.old }
     ensures unchanged { nic.new.card ≡ nic.old.card }
 {
-    peek(nic.lend(), Port::Vf(vf), offset, word)
+    peek(nic.get_mut(), Port::Vf(vf), offset, word)
 }
 
 /// Finds the physical function's address of the register that virtual function `vf` has at an offset, in the mode that

@@ -206,5 +206,5 @@ pub extern "C" fn nic_settle(
         return NO_QUEUE;
     }
     let steps = round_of(queues);
-    rounds(nic.lend(), &steps, outcome, count)
+    rounds(nic.get_mut(), &steps, outcome, count)
 }

@@ -20,7 +20,7 @@ pub extern "C" fn nic_snapshot(alloc: Global, nic: &mut Handle, kept: &mut KeptH
     ensures unchanged { nic.new.card ≡ nic.old.card }
     ensures refused { result ≡ OUT_OF_MEMORY → kept.new ≡ kept.old }
 {
-    let Ok(card) = nic.lend().keep() else {
+    let Ok(card) = nic.get_mut().keep() else {
         return OUT_OF_MEMORY;
     };
     match Box::new(alloc, card) {
@@ -46,7 +46,7 @@ pub extern "C" fn nic_restore(alloc: Global, nic: &mut Handle, kept: &mut KeptHa
     ensures unchanged { result ≡ OUT_OF_MEMORY → nic.new.card ≡ nic.old.card }
     ensures kept { kept.new.kept ≡ kept.old.kept }
 {
-    let Ok(()) = kept.lend().restore(alloc, nic.lend()) else {
+    let Ok(()) = kept.get_mut().restore(alloc, nic.get_mut()) else {
         return OUT_OF_MEMORY;
     };
     DONE

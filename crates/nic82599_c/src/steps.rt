@@ -38,7 +38,7 @@ pub extern "C" fn nic_rx_step(nic: &mut Handle, outcome: &mut Outcome) -> u8
     ensures outcome { outcome.new ≡ outcome_of (reply_to nic.old.card.device Event.RxStep) }
     ensures card { nic.new.card ≡ made nic.old.card Event.RxStep }
 {
-    tell(nic.lend(), Event::RxStep, outcome)
+    tell(nic.get_mut(), Event::RxStep, outcome)
 }
 
 /// Runs a transmit step: fetches one descriptor of a queue, 0 to 127. Returns ADVANCED, SENT, FAULT, IDLE or NO_QUEUE;
@@ -53,7 +53,7 @@ pub extern "C" fn nic_tx_step(nic: &mut Handle, queue: u16, outcome: &mut Outcom
     ensures unchanged { result ≡ OUT_OF_MEMORY → (nic.new.card ≡ nic.old.card) × (outcome.new ≡ outcome.old) }
     ensures memory { result ≡ OUT_OF_MEMORY → TakesMemory nic.old.card.device (Event.TxStep queue) }
 {
-    tell(nic.lend(), Event::TxStep(queue), outcome)
+    tell(nic.get_mut(), Event::TxStep(queue), outcome)
 }
 
 /// Runs an enable step: enables or disables a side of a queue as its enable bit requests. The side is the transmit side
@@ -71,7 +71,7 @@ pub extern "C" fn nic_queue_step(
     ensures card { nic.new.card ≡ made nic.old.card (Event.QueueStep (dir_of transmit) queue) }
 {
     let dir = if transmit { Dir::Tx } else { Dir::Rx };
-    tell(nic.lend(), Event::QueueStep(dir, queue), outcome)
+    tell(nic.get_mut(), Event::QueueStep(dir, queue), outcome)
 }
 
 /// Runs an EEPROM step: the word that EERD requests becomes ready. Returns DONE or IDLE; `outcome` has the details.
@@ -81,7 +81,7 @@ pub extern "C" fn nic_eeprom_step(nic: &mut Handle, outcome: &mut Outcome) -> u8
     ensures outcome { outcome.new ≡ outcome_of (reply_to nic.old.card.device Event.EepromStep) }
     ensures card { nic.new.card ≡ made nic.old.card Event.EepromStep }
 {
-    tell(nic.lend(), Event::EepromStep, outcome)
+    tell(nic.get_mut(), Event::EepromStep, outcome)
 }
 
 /// Runs an interrupt step: sends the next due message of an interrupt group, 0 for the physical function or v + 1 for
@@ -92,5 +92,5 @@ pub extern "C" fn nic_int_step(nic: &mut Handle, group: u8, outcome: &mut Outcom
     ensures outcome { outcome.new ≡ outcome_of (reply_to nic.old.card.device (Event.IntStep (group_of group))) }
     ensures card { nic.new.card ≡ made nic.old.card (Event.IntStep (group_of group)) }
 {
-    tell(nic.lend(), Event::IntStep(group_of(group)), outcome)
+    tell(nic.get_mut(), Event::IntStep(group_of(group)), outcome)
 }

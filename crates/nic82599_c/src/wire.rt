@@ -33,7 +33,7 @@ pub extern "C" fn nic_arrive(
 {
     let mut bytes = Vec::new(alloc);
     match bytes.extend_from_slice(frame) {
-        Ok(()) => tell(nic.lend(), Event::Arrive(Octets::of(bytes)), outcome),
+        Ok(()) => tell(nic.get_mut(), Event::Arrive(Octets::of(bytes)), outcome),
         Err(_) => OUT_OF_MEMORY,
     }
 }
@@ -45,7 +45,7 @@ pub extern "C" fn nic_next_out(nic: &mut Handle) -> usize
     ensures next { result ≡ next_out_of nic.old.card.device.out }
     ensures unchanged { nic.new.card ≡ nic.old.card }
 {
-    nic.lend().next_out()
+    nic.get_mut().next_out()
 }
 
 /// Collects the oldest transmitted frame, if `room` is large enough.
@@ -95,7 +95,7 @@ pub extern "C" fn nic_collect(nic: &mut Handle, room: &mut [u8], outcome: &mut O
     ensures unchanged { length room.old < next_out_of nic.old.card.device.out
         → (nic.new.card ≡ nic.old.card) × (room.new ≡ room.old) × (outcome.new ≡ outcome.old) }
 {
-    collect(nic.lend(), room, outcome)
+    collect(nic.get_mut(), room, outcome)
 }
 
 /// Sets the link up or down. Returns DONE, or IDLE if it is already in that state.
@@ -104,7 +104,7 @@ pub extern "C" fn nic_link(nic: &mut Handle, up: bool) -> u8
     ensures status { result ≡ status_of (reply_to nic.old.card.device (Event.Link up)) }
     ensures card { nic.new.card ≡ made nic.old.card (Event.Link up) }
 {
-    match nic.lend().make(Event::Link(up)) {
+    match nic.get_mut().make(Event::Link(up)) {
         Ok(reply) => status_of(&reply),
         Err(_) => unreachable!(),
     }

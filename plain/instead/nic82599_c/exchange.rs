@@ -34,7 +34,7 @@ impl BlockHandleOut {
 /// `former` is the memory passed in. The old contents of `former` are leaked. The exchange also works on a broken
 /// handle, so that the caller gets its memory back.
 pub fn nic_exchange(nic: &mut Handle, block: u32, memory: BlockHandle, former: &mut BlockHandleOut) -> u8 {
-    let exchanged = nic.lend().exchange(block, memory.bytes);
+    let exchanged = nic.get_mut().exchange(block, memory.bytes);
     #[cfg(feature = "c")]
     crate::kit::c::planted("an exchange");
     match exchanged {

@@ -26,7 +26,7 @@ fn address_of<T>(boxed: &Option<Box<T>>) -> usize {
 impl Handle {
     /// Borrows the card. C makes no call with a null handle.
     #[inline]
-    pub fn lend(&mut self) -> &mut Card {
+    pub fn get_mut(&mut self) -> &mut Card {
         self.card.as_mut().expect("a handle of a card")
     }
 }
@@ -34,7 +34,7 @@ impl Handle {
 impl KeptHandle {
     /// Borrows the snapshot. C makes no call with a null handle.
     #[inline]
-    pub fn lend(&mut self) -> &mut Kept {
+    pub fn get_mut(&mut self) -> &mut Kept {
         self.kept.as_mut().expect("a handle of a kept card")
     }
 }

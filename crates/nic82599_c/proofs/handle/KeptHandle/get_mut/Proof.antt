@@ -1,0 +1,9 @@
+-- `get_mut` follows from the proof for any handle.
+use Rattle.nic82599_c.specs.contracts.handle.KeptHandle.get_mut.Key.{name as #self}
+use Rattle.nic82599_c.proofs.Handles.{of_kept}
+use Rattle.nic82599_c.proofs.Lending.{meets}
+use Rattle.nic82599_c.proofs.handle.KeptHandle.get_mut.Statement.{statement}
+use Rattle.nic82599_c.proofs.handle.KeptHandle.get_mut.Code.{unfolded}
+
+pub get_mut_spec : {M : Type 1} → statement M
+get_mut_spec 𝓤 𝓛 𝓜 𝓡 wired = meets of_kept 𝓛 𝓜 𝓡 #self (unfolded 𝓤 𝓛.H 𝓜 𝓡 wired)

@@ -63,7 +63,7 @@ def check_causes(kit: Kit) -> str:
         ran([race, "--quiet", "--jobs", 1, "--shard", f"{k + 1}/3", "--out", out, "--result", file], 1)
     ran([race, "--quiet", "--jobs", 1, "--seed", 2, "--runs", 5, "--out", out, "--result", files[3]])
     one = ran([race, "--quiet", "--jobs", 1, "--out", out], 1)
-    run = re.findall(r"found by (\w+ in run \d+)", one)[0]
+    run = re.findall(r"found by ([\w-]+ in run \d+)", one)[0]
     merged = ran([race, "--merge", *files, "--out", out, "--junit", out / "all.xml"], 1)
     if merged.count("FAILED") != 1 or f"found by {run}," not in merged or "in 3 results" not in merged:
         raise Wrong(f"the failure of three shards isn't reported once, as that {run}:\n{merged}")

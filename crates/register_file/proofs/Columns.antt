@@ -1,4 +1,5 @@
--- Columns: one register of all queues' sides, or of all virtual functions, in order.
+-- Lemmas about columns. A column is the list of one register's values, for all queues' sides or for all virtual
+-- functions.
 use Rattle.std.proofs.Common.{◌≡◌, ℕ, List, map, refl, sym, ◌∙◌, get_or}
 use Rattle.std.proofs.Math.ListN.{set}
 use Rattle.std.proofs.lemmas.List.{map-set}
@@ -7,7 +8,7 @@ use Rattle.intr_unit.specs.Interrupts.{Interrupts}
 use Rattle.register_file.specs.declared.side.ReceiveSide.{ReceiveSide}
 use Rattle.register_file.specs.declared.side.TransmitSide.{TransmitSide}
 
--- Writing an element of a column back leaves the column unchanged.
+-- Writing an element of a column back to its own position leaves the column unchanged.
 abbrev pub IsWrittenBack : {A B : Type 0} → (A → B) → Type 0
 IsWrittenBack {A} f = (xs : List A) (i : ℕ) (d : A) → set (map f xs) i (f (get_or xs i d)) ≡ map f xs
 
@@ -80,7 +81,7 @@ group-auto_mask = written_back (λ q. q.auto_mask)
 pub group-reported : IsWrittenBack (λ (q : Interrupts). q.reported)
 group-reported = written_back (λ q. q.reported)
 
--- Rules for setting a register of a receive side.
+-- Rules for setting a register on a receive side.
 pub ruleset receive_columns = (
   map-set,
   receive-base_low,
@@ -93,7 +94,7 @@ pub ruleset receive_columns = (
   receive-wanted,
 )
 
--- Rules for setting a register of a transmit side.
+-- Rules for setting a register on a transmit side.
 pub ruleset transmit_columns = (
   map-set,
   transmit-base_low,
@@ -107,7 +108,7 @@ pub ruleset transmit_columns = (
   transmit-wanted,
 )
 
--- Rules for setting a register of an interrupt group.
+-- Rules for setting a register in an interrupt group.
 pub ruleset group_columns = (
   map-set,
   group-causes,

@@ -1,4 +1,4 @@
--- Interrupts updated in place, as the registers show them.
+-- Updating a group's interrupts in place has the same effect on the registers as the specified step.
 use Rattle.std.proofs.Common.{◌≡◌, ℕ, ◌<◌, Bool, false, List, map, length, get_or, Option, Some, None, refl, ap, sym, ◌∙◌, subst, inl, inr, lit<}
 use Rattle.std.specs.Prelude.{is_some, if◌then◌else◌}
 use Rattle.std.proofs.lemmas.Bool.{cases_Bool, cond-true, cond-false}
@@ -24,7 +24,7 @@ pub changed : (a : Inside) (g : Group) (s : Interrupts) → s.group ≡ g
 changed a Pf s e clear mask = rw (e, clear, mask) refl
 changed a (Vf v) s e clear mask = rw e (simp (clear, mask, group_columns))
 
--- Replacing a group's auto-clear or auto-mask replaces that word in the registers.
+-- Replacing a group's auto-clear or auto-mask replaces only that word in the registers.
 pub auto_clear_changed : (a : Inside) (g : Group) (word : ℕ)
     → registers_of (record a { groups = with_group a.groups g (record (at_group a.groups g) { auto_clear = word }) })
     ≡ with_word (registers_of a) (auto_clear_row g) (index_of g) word
@@ -51,20 +51,20 @@ at_words xs v d b g =
       get_or-map (λ q. q.reported) xs v d 0 b,
     ) refl
 
--- The registers show a group's interrupts unchanged.
+-- The interrupts that the registers show for a group are the group's own.
 pub shown : (a : Inside) (g : Group) → index_of g < 64 → length a.groups.vf ≡ 64 → IsOwn g (at_group a.groups g)
     → interrupts_of (registers_of a) g ≡ at_group a.groups g
 shown a Pf b all own = own.by_words
 shown a (Vf v) b all own =
     at_words a.groups.vf v (reset_of (Vf v)) (subst (λ n. v < n) (sym all) b) (Vf v) ∙ own.by_words
 
--- A step of a group's interrupts that keeps the group, its auto-clear and its auto-mask.
+-- A step that changes interrupts but keeps their group, their auto-clear and their auto-mask.
 pub record IsStep (step : Interrupts → Interrupts) : Type 0 where
   pub group : (s : Interrupts) → (step s).group ≡ s.group
   pub auto_clear : (s : Interrupts) → (step s).auto_clear ≡ s.auto_clear
   pub auto_mask : (s : Interrupts) → (step s).auto_mask ≡ s.auto_mask
 
--- A step in place is the same step of the registers.
+-- Applying such a step in place changes the registers by the same step.
 pub stepped : (a : Inside) (r : Registers) (g : Group) (step : Interrupts → Interrupts) (one : Interrupts)
     (new : AllGroups) → registers_of a ≡ r → index_of g < 64 → length a.groups.vf ≡ 64 → one ≡ at_group a.groups g
     → IsOwn g one → new ≡ with_group a.groups g (step (at_group a.groups g)) → IsStep step
@@ -77,7 +77,7 @@ stepped a r g step one new is b all there owned steps keeps =
     ∙ ap (λ i. with_interrupts (registers_of a) (step i)) (sym (shown a g b all own))
     ∙ ap (λ q. with_interrupts q (step (interrupts_of q g))) is
 
--- Putting a group's interrupts back changes nothing.
+-- Replacing a group's interrupts with themselves changes nothing.
 put_back : (s : AllGroups) (g : Group) → with_group s g (at_group s g) ≡ s
 put_back s Pf = refl
 put_back s (Vf v) = ap (λ xs. record s { vf = xs }) (set-get_or s.vf v (reset_of (Vf v)))
@@ -96,7 +96,7 @@ message_step eiame misc = record {
   auto_mask = λ s. (step_after s eiame (next_bit s misc)).2;
 }
 
--- If there is no message, no bit is next.
+-- If there is no next message, there is no next bit.
 no_next : (s : Interrupts) (misc : ℕ) → next_vector s misc ≡ None → next_bit s misc ≡ None
 unfolding next_bit due_bits
 no_next s misc none =
@@ -108,7 +108,7 @@ none_of : (o : Option ℕ) → is_some o ≡ false → o ≡ None
 none_of None e = refl
 none_of (Some x) e = cc
 
--- A message sent in place is a message of the registers.
+-- Sending a message in place changes the registers as the specified message does.
 pub messaged : (a : Inside) (r : Registers) (g : Group) (eiame : Bool) (misc : ℕ) (one : Interrupts) (new : AllGroups)
     → registers_of a ≡ r → index_of g < 64 → length a.groups.vf ≡ 64 → one ≡ at_group a.groups g → IsOwn g one
     → new ≡ with_group a.groups g (after_message (at_group a.groups g) eiame misc)
@@ -132,7 +132,7 @@ messaged a r g eiame misc one new is b all there owned steps =
           ap (λ gs. registers_of (record a { groups = gs })) same ∙ is ∙ sym (cond-false test reported r f)
     ]
 
--- A message sent in place has the vector that the registers show.
+-- A message sent in place has the vector that the registers determine.
 pub vector_shown : (a : Inside) (r : Registers) (g : Group) (misc : ℕ) (one : Interrupts) → registers_of a ≡ r
     → index_of g < 64 → length a.groups.vf ≡ 64 → one ≡ at_group a.groups g → IsOwn g one
     → next_vector (at_group a.groups g) misc ≡ next_vector (interrupts_of r g) misc

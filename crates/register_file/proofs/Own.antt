@@ -1,4 +1,4 @@
--- A group's interrupts are given by the words of its registers.
+-- The words of a group's registers determine the group's interrupts.
 use Rattle.std.proofs.Common.{◌≡◌, ℕ, ◌^◌, ◌<◌, ◌&&◌, Bool, true, false, refl, ap, ◌∙◌}
 use Rattle.intr_unit.specs.BitSet.{BitSet, contains, intersection, IsSubset}
 use Rattle.intr_unit.specs.Group.{group_bits}
@@ -22,7 +22,7 @@ intersection-within inner outer small within =
     same_bits (intersection inner outer) inner (intersection-lt inner outer) small
     (λ k b. contains-intersection inner outer k b ∙ implied (contains inner k) (contains outer k) (within.member k))
 
--- Consistent interrupts with 32-bit words are given by these words.
+-- If interrupts are consistent and their words have 32 bits, these words determine the interrupts.
 pub own_words : (s : Interrupts) → IsConsistent s → s.causes < 2 ^ 32 → s.enabled < 2 ^ 32 → s.auto_clear < 2 ^ 32
     → s.auto_mask < 2 ^ 32 → s.reported < 2 ^ 32 → IsOwn s.group s
 own_words s c small_causes small_enabled small_clear small_mask small_reported =

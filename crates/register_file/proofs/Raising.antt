@@ -1,4 +1,4 @@
--- Raising causes changes nothing else of a group's interrupts.
+-- Raising causes changes nothing else in a group's interrupts.
 use Rattle.std.proofs.Common.{◌≡◌, ℕ, ◌^◌, ◌<◌, ◌≤◌, Bool, true, false, ◌==◌, ◌&&◌, ◌||◌, List, map, length, get_or, refl, ap, sym, ◌∙◌, subst, inl, inr, arith}
 use Rattle.std.specs.Prelude.{bit_or, nat_le}
 use Rattle.std.proofs.Math.Bool.{or-false}

@@ -3,7 +3,7 @@ use Rattle.std.proofs.Common.{◌≡◌, ℕ, zero, suc, ◌+◌, ap, ◌∙◌,
 use Rattle.std.specs.Prelude.{fold}
 use Rattle.std.specs.List.{range_with_len}
 
--- A fold over one more number takes one more step.
+-- If the range has one more number, the fold takes one more step.
 pub fold-range_more : {A : Type 0} (step : A → ℕ → A) (r : A) (a n j : ℕ) → a + n ≡ j
     → fold step r (range_with_len a (n + 1)) ≡ step (fold step r (range_with_len a n)) j
 fold-range_more step r a zero j e = let same : a ≡ j = omega arith in ap (step r) same

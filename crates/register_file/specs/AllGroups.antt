@@ -25,13 +25,13 @@ with_group s (Vf v) one = record s { vf = slice_set s.vf v one }
 abbrev pub all_reset : AllGroups
 all_reset = record { pf = reset_of Pf; vf = map (λ v. reset_of (Vf v)) (range_with_len 0 64) }
 
--- Every group is present and has the number of its position.
+-- Every group is present, and each group's number is its position.
 pub record AreNumbered (s : AllGroups) : Type 0 where
   pub all : length s.vf ≡ 64
   pub pf : s.pf.group ≡ Pf
   pub vf : (v : ℕ) → v < 64 → (at_group s (Vf v)).group ≡ Vf v
 
--- Interrupts that belong to a group and are given by the words of its registers and its reported bits.
+-- Interrupts that belong to a group and that the words of the group's registers and its reported bits determine.
 pub record IsOwn (group : Group) (s : Interrupts) : Type 0 where
   pub of_group : s.group ≡ group
   pub by_words : of_words group s.causes s.enabled s.auto_clear s.auto_mask s.reported ≡ s

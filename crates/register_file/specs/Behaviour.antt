@@ -13,9 +13,9 @@ use Rattle.register_file.specs.Registers.{Registers}
 use Rattle.register_file.specs.Words.{word_at, put}
 use Rattle.register_file.specs.declared.surroundings.Surroundings.{Surroundings}
 
--- How accesses affect a register of a kind, and what its words are.
+-- How accesses affect a register of one kind, and what the register's words are.
 pub record Behaviour : Type 0 where
-  -- The value that a read returns before the address masks it, and the registers after the read.
+  -- The value that a read returns, not yet masked to the bits that the address shows; and the registers after the read.
   pub gives : Registers → Surroundings → Place → ℕ
   pub leaves : Registers → Place → Registers
   -- Whether a write requests a reset of the device, or of the pool with the place's index, and has no other effect.
@@ -26,15 +26,15 @@ pub record Behaviour : Type 0 where
   -- What a read, and a write that requests no reset, may change.
   pub by_read : Place → Footprint
   pub by_write : Place → Footprint
-  -- `is_stored`: its words are stored as they are. `is_pending`: they are causes or masks. `is_alone`: no access to
-  -- another place changes them. `keeps_none`, below: it stores no word.
+  -- `is_stored`: the register's words are stored as they are. `is_pending`: the words are causes or masks. `is_alone`:
+  -- no access to another place changes the words. `keeps_none`, below: the register stores no word.
   pub is_stored : Bool
   pub is_pending : Bool
   pub is_alone : Bool
   -- Whether a write changes only what belongs to the owner of the place.
   pub is_own : Bool
   pub keeps_none : Bool
-  -- The bits of its words that can become 1, given the row's mask.
+  -- The bits of the register's words that can become 1, given the row's mask.
   pub bits : (mask : ℕ) → ℕ
 
 -- Reads as 0. No access changes anything.
@@ -91,11 +91,12 @@ interrupts change =
     }
 
 -- Reading a counter resets it to 0, unless it is read-only. Reading causes clears them. Writes don't change the base,
--- length and head of a queue's ring while its side is enabled. Bit 25 of a write to its enable register becomes the
--- enable request; the bit itself stays as it is until an enable step sets it. A write to CTRL with bit 3 or bit 26 set
--- requests a device reset, and a write to PVFCTRL with bit 26 set requests a pool reset. A write to EERD clears bit 1,
--- DONE, and the data that was read. PFMAILBOX stores no word: it shows and writes the word of PVFMAILBOX. A write to
--- CTRL_EXT with bit 14 set reports to all functions that a reset is done.
+-- length or head of a queue's ring while the ring's side is enabled. Bit 25 of a write to a side's enable register
+-- becomes the enable request; the register's own bit 25 is unchanged until an enable step sets it. A write to CTRL with
+-- bit 3 or bit 26 set requests a device reset, and a write to PVFCTRL with bit 26 set requests a pool reset. A write to
+-- EERD clears bit 1, DONE, and the data that was read. PFMAILBOX stores no word: reading it shows the word of
+-- PVFMAILBOX, and writing it changes that word. A write to CTRL_EXT with bit 14 set reports to all functions that a
+-- reset is done.
 abbrev pub behaviour_of : Kind → Behaviour
 behaviour_of kind.Rw = plain
 behaviour_of kind.Ro = kept

@@ -1,4 +1,4 @@
--- How an access to a place changes the registers, part by part.
+-- The parts of an access to a place: what each part changes in the registers.
 use Rattle.std.specs.Prelude.{ℕ, ◌+◌, ◌-◌, ◌*◌, Bool, false, Option, Some, None, bit_and, if◌then◌else◌}
 use Rattle.std.specs.Option.{option_map_or}
 use Rattle.intr_unit.specs.declared.group.Group.{Group}
@@ -30,7 +30,7 @@ calculated other r around = 0
 abbrev pub group_read : Registers → Group → Registers
 group_read r g = with_interrupts r (causes_read (interrupts_of r g) (clears_others r) (auto_masks r g))
 
--- The group that an owner is, if it is one.
+-- The interrupt group, if the owner is one.
 abbrev pub group_in : Owner → Option Group
 group_in owner.Device = None
 group_in owner.Counters = None
@@ -44,7 +44,7 @@ group_in (owner.Vectors number) = None
 abbrev pub in_group : Registers → Place → (Group → Registers) → Registers
 in_group r p change = option_map_or change (group_in (owner_of p)) r
 
--- Whether an owner is in use. The side of a queue is in use while it is enabled; no other owner is.
+-- Whether an owner is in use. The side of a queue is in use while the side is enabled; no other owner is ever in use.
 abbrev pub is_running : Registers → Owner → Bool
 is_running r owner.Device = false
 is_running r owner.Counters = false
@@ -73,8 +73,8 @@ stored r p view word =
 abbrev pub ones_cleared : Registers → Place → ℕ → Registers
 ones_cleared r p bits = record r { words = put r.words p (bit_and (word_at r.words p) (0xFFFFFFFF - bits)) }
 
--- The registers after a write to one of a group's registers: to its causes, where ones clear; to its masks, where ones
--- set; to its cause set register; and to its mask clear register.
+-- The registers after a write to one of a group's registers: to its cause register, which clears the bits written as 1;
+-- to its mask register, which sets the bits written as 1; to its cause set register; and to its mask clear register.
 abbrev pub causes_written : Registers → Group → ℕ → Registers
 causes_written r g bits = with_interrupts r (after_write_one (interrupts_of r g) bits (auto_masks r g))
 

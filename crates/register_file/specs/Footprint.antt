@@ -10,8 +10,8 @@ use Rattle.dma_ring.specs.declared.dir.Dir.{Dir}
 use Rattle.register_file.specs.declared.owner.Owner.{Owner}
 use Rattle.register_file.specs.declared.owner.Owner.TheVariants as owner
 
--- The parts of the registers that may change: bits of the words at places, the enable requests of sides, and the
--- reported bits of groups.
+-- The parts of the registers that may change: bits of words, enable requests of queues' sides, and reported bits of
+-- groups.
 pub record Footprint : Type 0 where
   pub bits : Place → ℕ → Bool
   pub wanted : Dir → ℕ → Bool

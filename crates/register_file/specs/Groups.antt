@@ -11,7 +11,7 @@ use Rattle.register_file.specs.Registers.{Registers, word_of, with_word}
 use Rattle.dma_ring.specs.declared.dir.Dir.{Dir}
 use Rattle.dma_ring.specs.declared.dir.Dir.TheVariants.{Rx, Tx}
 
--- The rows of a group's registers, and the group's index in them.
+-- The rows of a group's registers, and the group's index in these rows.
 abbrev pub cause_row : Group → RowId
 cause_row Pf = Eicr
 cause_row (Vf v) = Pvteicr
@@ -32,7 +32,7 @@ abbrev pub index_of : Group → ℕ
 index_of Pf = 0
 index_of (Vf v) = v
 
--- The bits of a group that a message reported.
+-- The bits of a group that messages have reported, and the registers with these bits replaced.
 abbrev pub reported_by : Registers → Group → ℕ
 reported_by r Pf = r.reported_pf
 reported_by r (Vf v) = slice_index r.reported_vf v
@@ -66,16 +66,16 @@ masks_by_message r = has_bit 30 (word_of r Gpie 0)
 abbrev pub auto_masks : Registers → Group → Bool
 auto_masks r g = auto_mask_acts g (masks_by_message r)
 
--- The registers after the device raises causes of a group.
+-- The registers after the device raises causes in a group.
 abbrev pub causes_raised : Registers → Group → ℕ → Registers
 causes_raised r g bits = with_interrupts r (raised (interrupts_of r g) bits false)
 
--- The row that names what queues raise: IVAR for the physical function, PVTIVAR for a virtual function.
+-- The row that names the causes that queues raise: IVAR for the physical function, PVTIVAR for a virtual function.
 abbrev pub vector_row : Group → RowId
 vector_row Pf = Ivar
 vector_row (Vf v) = Pvtivar
 
--- The byte that names what a side of a queue raises in a group. Each queue has two bytes, receive first.
+-- The byte that names the cause that a side of a queue raises in a group. Each queue has two bytes, receive first.
 abbrev pub vector_entry : Registers → Group → Dir → ℕ → ℕ
 vector_entry r g Rx queue = word_of r (vector_row g) (queue / 2) / 2 ^ (16 * (queue % 2)) % 256
 vector_entry r g Tx queue = word_of r (vector_row g) (queue / 2) / 2 ^ (16 * (queue % 2) + 8) % 256
@@ -84,7 +84,7 @@ vector_entry r g Tx queue = word_of r (vector_row g) (queue / 2) / 2 ^ (16 * (qu
 abbrev pub queue_raised : Registers → Group → Dir → ℕ → Registers
 queue_raised r g dir queue = causes_raised r g (queue_causes g (vector_entry r g dir queue))
 
--- The vector of a group's next message, and the registers after it. Without a message, nothing changes.
+-- The vector of a group's next message, and the registers after the message. If there is no message, nothing changes.
 abbrev pub message_of : Registers → Group → Option ℕ
 message_of r g = next_vector (interrupts_of r g) (word_of r IvarMisc 0)
 

@@ -1,5 +1,5 @@
--- The mailbox of a virtual function: one word, PVFMAILBOX, which it shares with the physical function, and the causes
--- that the mailbox raises on each side.
+-- The mailbox of a virtual function: one word, PVFMAILBOX, which the function shares with the physical function, and
+-- the causes that the mailbox raises in each of the two functions.
 use Rattle.std.specs.Prelude.{◌==◌, ℕ, ◌+◌, ◌/◌, ◌%◌, ◌^◌, Bool, ◌&&◌, ◌||◌, fold, bit_and, bit_or, if◌then◌else◌}
 use Rattle.std.specs.List.{range_with_len}
 use Rattle.reg_table.specs.declared.rows.RowId.TheVariants.{Eicr, Pvteicr, Pfmbicr, Pfmbimr, Pvfmailbox, PvtivarMisc}
@@ -21,15 +21,15 @@ use Rattle.register_file.specs.Registers.{Registers, word_of, with_word}
 abbrev pub set_if : Bool → (bit word : ℕ) → ℕ
 set_if condition bit word = if condition then bit_set bit word else word
 
--- The mailbox's word after a write by the function. With bit 2 set, it takes the mailbox unless the physical function
--- holds it. With bit 2 clear, it releases the mailbox.
+-- The mailbox's word after a write by the function. If bit 2 is written as 1, the function takes the mailbox unless the
+-- physical function holds it. If bit 2 is written as 0, the function releases the mailbox.
 abbrev pub function_wrote : (mail word : ℕ) → ℕ
 function_wrote mail word =
     if has_bit 2 word then (if has_bit 3 mail then mail else bit_set 2 mail) else bit_cleared 2 mail
 
--- The word after a write by the physical function. Bit 4 takes the mailbox from the function. Then bit 3 takes it for
--- the physical function unless the function holds it; if bit 3 is clear, the physical function releases it. Bit 0 sends
--- a status, bit 1 an acknowledgement.
+-- The word after a write by the physical function. Bit 4 takes the mailbox from the function. Then, if bit 3 is written
+-- as 1, the physical function takes the mailbox unless the function holds it. If bit 3 is written as 0, the physical
+-- function releases the mailbox. Bit 0 sends a status, bit 1 an acknowledgement.
 abbrev pub released : (mail word : ℕ) → ℕ
 released mail word = if has_bit 4 word then bit_cleared 2 mail else mail
 
@@ -40,11 +40,12 @@ taken mail word =
 abbrev pub physical_wrote : (mail word : ℕ) → ℕ
 physical_wrote mail word = set_if (has_bit 0 word) 4 (set_if (has_bit 1 word) 5 (taken (released mail word) word))
 
--- The word after a read by the function. What was sent, and that a reset is done, are reported only once.
+-- The word after a read by the function. A status, an acknowledgement and the end of a reset are reported only once, so
+-- the read clears their bits.
 abbrev pub reported_once : ℕ → ℕ
 reported_once mail = bit_cleared 4 (bit_cleared 5 (bit_cleared 7 mail))
 
--- The word after the end of a reset is reported: a function that read RSTI now reads RSTD.
+-- The word after the end of a reset is reported: a function that would have read RSTI now reads RSTD.
 abbrev pub reset_reported : ℕ → ℕ
 reset_reported mail = if has_bit 6 mail then bit_set 7 (bit_cleared 6 mail) else mail
 
@@ -55,7 +56,7 @@ with_mail r v mail = with_word r Pvfmailbox v mail
 abbrev pub mail_of : Registers → ℕ → ℕ
 mail_of r v = word_of r Pvfmailbox v
 
--- The registers with causes of a group set. Nothing else changes.
+-- The registers with some of a group's causes set. Nothing else changes.
 abbrev pub cause_set : Registers → Group → ℕ → Registers
 cause_set r g bits =
     with_word r (cause_row g) (index_of g) (bit_or (word_of r (cause_row g) (index_of g)) bits)
@@ -95,7 +96,7 @@ function_writes r v word =
 abbrev pub physical_writes : Registers → (v word : ℕ) → Registers
 physical_writes r v word = function_signalled (with_mail r v (physical_wrote (mail_of r v) word)) v word
 
--- What the physical function reads of a mailbox: who holds it.
+-- The bits of a mailbox that the physical function reads: they show who holds the mailbox.
 abbrev pub holders : Registers → ℕ → ℕ
 holders r v = bit_and (mail_of r v) 0xC
 
@@ -124,8 +125,8 @@ by_sending v = record nothing { bits = λ p bit. is_request v p bit || is_mail_c
 abbrev pub by_function : ℕ → Footprint
 by_function v = either (the_bits (place Pvfmailbox v) (λ bit. bit == 2)) (by_sending v)
 
--- What a write by the physical function may change: who holds the mailbox, what was sent to the function, and the
--- function's causes.
+-- What a write by the physical function may change: who holds the mailbox, the status and acknowledgement that were
+-- sent to the function, and the function's causes.
 abbrev pub by_physical : ℕ → Footprint
 by_physical v =
     either (the_bits (place Pvfmailbox v) (λ bit. bit == 2 || bit == 3 || bit == 4 || bit == 5))

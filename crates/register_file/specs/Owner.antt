@@ -12,7 +12,7 @@ use Rattle.dma_ring.specs.declared.dir.Dir.TheVariants.{Rx, Tx}
 use Rattle.register_file.specs.declared.owner.Owner.{Owner}
 use Rattle.register_file.specs.declared.owner.Owner.TheVariants as owner
 
--- The owner of a bank's register at an index. Each pool has 16 words of mailbox memory.
+-- The owner of the register at an index in a bank. Each pool has 16 words of mailbox memory.
 abbrev pub owner_in : Bank → ℕ → Owner
 owner_in bank.Device index = owner.Device
 owner_in bank.Counters index = owner.Counters
@@ -25,7 +25,7 @@ owner_in bank.VfCounters index = owner.VfCounters index
 owner_in bank.Vectors index = owner.Vectors index
 owner_in bank.Messages index = owner.Pool (index / 16)
 
--- The owner of a place, given by its row's bank and its index.
+-- The owner of a place, which the bank of the place's row and the place's index determine.
 abbrev pub owner_of : Place → Owner
 owner_of p = owner_in (row_of p.row).bank p.index
 

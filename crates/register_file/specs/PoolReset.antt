@@ -25,9 +25,9 @@ all_bits row = record { row = row; whole = true; mask = 0 }
 abbrev pub some_bits : RowId → ℕ → Renewal
 some_bits row mask = record { row = row; whole = false; mask = mask }
 
--- The tables of what a pool reset affects. They cover the rows that exist once per pool; the mailbox (the function's
--- hold on it, what was sent to it, and its vector); the rows of each side of a queue; and the word with the vectors of
--- two queues.
+-- The tables that list the rows and bits that a pool reset affects. They cover the rows that exist once per pool; the
+-- mailbox; the rows of each side of a queue; and the word with the vectors of two queues. For the mailbox, they cover
+-- the function's hold on it, what was sent to the function, and the mailbox's vector.
 abbrev pub own_renewals : List Renewal
 own_renewals =
     all_bits Pvfctrl ∷ all_bits Pvteicr ∷ all_bits Pvteics ∷ all_bits Pvteims ∷ all_bits Pvteimc ∷ all_bits Pvteiac
@@ -53,7 +53,8 @@ vector_renewals = all_bits Pvtivar ∷ []
 abbrev pub renewals : List Renewal
 renewals = function_renewals ++ (side_renewals Rx ++ (side_renewals Tx ++ vector_renewals))
 
--- Whether a renewal affects a bit, whether a table affects a bit of a row's words, and whether a pool reset does.
+-- Whether a renewal affects a bit, whether a table's renewals affect a bit of a row's words, and whether a pool reset
+-- affects that bit.
 abbrev pub takes : Renewal → ℕ → Bool
 takes renewal bit = renewal.whole || has_bit bit renewal.mask
 
@@ -67,19 +68,20 @@ is_renewed row bit = has_renewal renewals row bit
 abbrev pub mixed : (mask old new : ℕ) → ℕ
 mixed mask old new = bit_xor old (bit_and (bit_xor old new) mask)
 
--- A word after a renewal: the affected bits take the row's reset value.
+-- A word after a renewal: the affected bits take their values from the row's reset value.
 abbrev pub renewed : Renewal → ℕ → ℕ
 renewed renewal old =
     if renewal.whole then (row_of renewal.row).reset else mixed renewal.mask old (row_of renewal.row).reset
 
--- The registers after renewals of the words at an index.
+-- The registers after one renewal, and after a table of renewals, are applied to the words at an index.
 abbrev pub word_reset : ℕ → Registers → Renewal → Registers
 word_reset index r renewal = with_word r renewal.row index (renewed renewal (word_of r renewal.row index))
 
 abbrev pub rows_reset : Registers → List Renewal → ℕ → Registers
 rows_reset r table index = fold (word_reset index) r table
 
--- The registers after a side of a queue is reset: its words have their reset values, and it has no enable request.
+-- The registers after a side of a queue is reset: its registers have their reset values, and the side has no enable
+-- request.
 abbrev pub side_reset : Dir → Registers → ℕ → Registers
 side_reset dir r queue = with_wanted (rows_reset r (side_renewals dir) queue) dir queue false
 
@@ -102,7 +104,7 @@ queues_reset r (Some queues) =
     fold vectors_reset (fold queue_reset r (range_with_len queues.0 queues.1))
     (range_with_len (queues.0 / 2) (queues.1 / 2))
 
--- The registers after a pool reset: the words that exist once per pool, and the queues that the mode assigns to the
--- pool.
+-- The registers after a pool reset, which resets the words that exist once per pool and the queues that the mode
+-- assigns to the pool.
 unfoldable pub pool_reset : Mode → ℕ → Registers → Registers
 pool_reset mode v r = queues_reset (function_reset r v) (queues_of mode v)

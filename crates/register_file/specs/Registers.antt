@@ -16,7 +16,7 @@ pub record Registers : Type 0 where
   pub reported_pf : ℕ
   pub reported_vf : List ℕ
 
--- Registers are stored as nested pairs of their fields.
+-- Registers are encoded as nested pairs of their fields.
 abbrev pub registers_code : Coded Registers
 registers_code =
     code_by (Words × (List Bool × (List Bool × (ℕ × List ℕ))))

@@ -29,8 +29,8 @@ const EEPROM_PRESENT: u32 = 0x0000_0300;
 /// The lowest bit of EEC's EEPROM size field.
 const EEPROM_SIZE: u32 = 0x0000_0800;
 
-/// Whether writing this value to a place requests a device reset and has no other effect. True for CTRL with bit 3 or
-/// bit 26 set.
+/// Whether writing this value to a place requests a device reset and has no other effect. True if the place is CTRL and
+/// the value has bit 3 or bit 26 set.
 #[inline(always)]
 pub fn asks_reset(place: Place, word: u32) -> bool
     ensures { result ≡ asks_reset (row_of place.row).kind word }
@@ -39,8 +39,8 @@ pub fn asks_reset(place: Place, word: u32) -> bool
         && (has_flag(word, Ctrl::LRST) || has_flag(word, Ctrl::RST))
 }
 
-/// Whether writing this value to a place requests a reset of the pool with the place's index and has no other effect.
-/// True for PVFCTRL with bit 26 set.
+/// Whether writing this value to a place requests a pool reset and has no other effect. The place's index is the pool's
+/// number. True if the place is PVFCTRL and the value has bit 26 set.
 #[inline(always)]
 pub fn asks_pool_reset(place: Place, word: u32) -> bool
     ensures { result ≡ asks_pool_reset (row_of place.row).kind word }
@@ -61,11 +61,11 @@ fn group_of(place: Place) -> Option<Group>
 }
 
 impl RegisterFile {
-    /// Returns the value that a read of a place would return before the address masks it, without the read's side
-    /// effects. This is the stored value, with these exceptions. STATUS, LINKS and EEC are calculated from the
-    /// registers, the link and the size of the EEPROM image. PFMAILBOX[v] shows bits 2 and 3 of PVFMAILBOX[v]. A
-    /// register that only sets causes, clears masks or resets a pool returns 0. `around` is the state of the link and
-    /// the EEPROM. The index must be below the row's count.
+    /// Returns the value that a read of a place would return, without the read's side effects. The value isn't yet
+    /// masked to the bits that the address shows. It is the stored value, with these exceptions. STATUS, LINKS and EEC
+    /// are calculated from the registers, the link and the size of the EEPROM image. PFMAILBOX[v] shows bits 2 and 3 of
+    /// PVFMAILBOX[v]. A register that only sets causes, clears masks or resets a pool returns 0. `around` is the state
+    /// of the link and the EEPROM. The index must be below the row's count.
     pub fn peek(&self, around: Surroundings, place: Place) -> u32
         requires { place.index < (row_of place.row).count }
         ensures { result ≡ read_word (row_of place.row).kind self.now around place }
@@ -78,13 +78,13 @@ impl RegisterFile {
         }
     }
 
-    /// Reads a place. Returns the value that `peek` returns, before the address masks it. `around` is the state of the
-    /// link and the EEPROM. The index must be below the row's count.
+    /// Reads a place. Returns the value that `peek` returns, not yet masked to the bits that the address shows.
+    /// `around` is the state of the link and the EEPROM. The index must be below the row's count.
     ///
     /// Reading a clear-on-read counter resets it to 0. Reading a group's causes clears them; if GPIE bit 5 is set, a
-    /// read of EICR clears only bits 29 to 16. If the auto-mask acts on reads, the read also clears the masks that the
-    /// auto-mask selects. A bit whose cause or mask is then 0 is no longer reported. Reading PVFMAILBOX clears its bits
-    /// 4, 5 and 7. Nothing else changes.
+    /// read of EICR clears only bits 29 to 16. If the auto-mask acts on reads, reading the causes also clears the masks
+    /// that the auto-mask selects. A bit whose cause or mask is then 0 is no longer reported. Reading PVFMAILBOX clears
+    /// its bits 4, 5 and 7. Nothing else changes.
     #[inline(always)]
     pub fn read(&mut self, around: Surroundings, place: Place) -> u32
         requires { place.index < (row_of place.row).count }
@@ -118,25 +118,27 @@ impl RegisterFile {
     }
 
     /// Writes a place through an address that shows the bits of `view`. The write must not request a reset of the
-    /// device or of a pool. The index must be below the row's count. It changes only bits that are both shown by the
-    /// address and in the row's mask, with the exceptions below for some kinds of registers.
+    /// device or of a pool. The index must be below the row's count. The write changes only bits that the address shows
+    /// and that are in the row's mask. Some kinds of registers are exceptions:
     ///
-    /// Calculated registers, counters and PVFCTRL ignore writes. So do a ring's base, length and head while the ring's
-    /// side is enabled. An enable register stores the bits of its mask, which excludes bit 25; bit 25 of the written
-    /// value becomes the enable request. EERD stores bits 15 to 0 except bit 1, and clears its other bits. In PFMBICR,
-    /// bits written as 1 are cleared. For the cause and mask registers of a group, see `intr_unit`.
+    /// Calculated registers, counters and PVFCTRL ignore writes. A ring's base, length and head ignore writes while the
+    /// ring's side is enabled. An enable register stores the bits of its mask, which excludes bit 25; bit 25 of the
+    /// written value becomes the enable request. EERD stores bits 15 to 0 except bit 1, and clears its other bits. In
+    /// PFMBICR, bits written as 1 are cleared. For the cause and mask registers of a group, see `intr_unit`.
     ///
-    /// Writing PVFMAILBOX[v] with bit 2 set sets that bit if bit 3 is 0. Writing it with bit 2 clear clears the bit.
-    /// Bit 0 of the written value sets bit v mod 16 of PFMBICR[v/16], and bit 1 sets bit 16 + v mod 16. Either one sets
-    /// EICR bit 19 if bit v mod 32 of PFMBIMR[v/32] is 1.
+    /// Writing PVFMAILBOX[v] with bit 2 set sets the register's bit 2 if its bit 3 is 0. Writing PVFMAILBOX[v] with bit
+    /// 2 clear clears the register's bit 2. Bit 0 of the written value sets bit v mod 16 of PFMBICR[v/16], and bit 1
+    /// sets bit 16 + v mod 16. If bit 0 or bit 1 is written as 1 and bit v mod 32 of PFMBIMR[v/32] is 1, the write sets
+    /// EICR bit 19.
     ///
-    /// Writing PFMAILBOX[v] with bit 4 set first clears bit 2 of PVFMAILBOX[v]. Then bit 3 of PVFMAILBOX[v] is set if
-    /// bit 3 is written as 1 and bit 2 is 0, and cleared if bit 3 is written as 0. Bit 0 of the written value sets bit
-    /// 4 of PVFMAILBOX[v], and bit 1 sets bit 5. Either one sets in PVTEICR[v] the cause that bits 5:0 of
-    /// PVTIVAR_MISC[v] name, if bit 7 there is 1 and the cause is at most 2.
+    /// Writing PFMAILBOX[v] with bit 4 set first clears bit 2 of PVFMAILBOX[v]. If bit 3 is written as 1, the write
+    /// then sets bit 3 of PVFMAILBOX[v], provided that bit 2 of PVFMAILBOX[v] is 0. If bit 3 is written as 0, the write
+    /// clears bit 3 of PVFMAILBOX[v]. Bit 0 of the written value sets bit 4 of PVFMAILBOX[v], and bit 1 sets bit 5.
+    /// Bits 5:0 of PVTIVAR_MISC[v] name a cause. If bit 0 or bit 1 is written as 1, bit 7 of PVTIVAR_MISC[v] is 1 and
+    /// the cause is at most 2, the write sets the cause in PVTEICR[v].
     ///
-    /// CTRL_EXT is stored. If bit 14 is written as 1, each PVFMAILBOX with bit 6 set then has bit 6 cleared and bit 7
-    /// set.
+    /// A write to CTRL_EXT is stored. If bit 14 is written as 1, the write also changes each PVFMAILBOX whose bit 6 is
+    /// 1: it clears bit 6 and sets bit 7.
     #[inline(always)]
     pub fn write(&mut self, place: Place, view: u32, word: u32)
         requires { place.index < (row_of place.row).count }
@@ -198,8 +200,8 @@ impl RegisterFile {
         self.ask(owner_of(place), has_flag(word, Rxdctl::ENABLE));
     }
 
-    /// Writes the extended device control register, CTRL_EXT. With bit 14 set, it reports to all functions that a reset
-    /// is done.
+    /// Writes the extended device control register, CTRL_EXT. If bit 14 of the written value is 1, also reports to all
+    /// functions that a reset is done.
     fn write_extended(&mut self, place: Place, view: u32, word: u32)
         requires index { place.index < (row_of place.row).count }
         requires kind { (row_of place.row).kind ≡ Ctrlext }

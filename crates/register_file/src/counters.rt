@@ -9,17 +9,18 @@ use crate::register_file::RegisterFile;
 use dma_ring::Dir;
 use reg_table::{RowId, bump};
 
-/// The bits of an RQSMR or TQSM word that name one queue's counter.
+/// The number of bits per queue in an RQSMR or TQSM word. These bits name the queue's counter.
 const COUNTER_BITS: u32 = 8;
 
-/// The queues per word of RQSMR or TQSM.
+/// The number of queues per RQSMR or TQSM word.
 const QUEUES_IN_A_WORD: u16 = 4;
 
 /// The number of per-queue counters of each kind.
 const COUNTERS: u32 = 16;
 
 impl RegisterFile {
-    /// Increments a clear-on-read counter, at an index below the row's count. It saturates at 0xFFFFFFFF.
+    /// Increments a clear-on-read counter: the register of a row at an index below the row's count. The counter
+    /// saturates at 0xFFFFFFFF.
     #[inline(always)]
     pub fn count(&mut self, row: RowId, index: u16)
         requires index { index < (row_of row).count }
@@ -30,7 +31,8 @@ impl RegisterFile {
         self.set_word(row, index, bump(word));
     }
 
-    /// Increments a read-only counter, at an index below the row's count. It wraps from 0xFFFFFFFF to 0.
+    /// Increments a read-only counter: the register of a row at an index below the row's count. The counter wraps from
+    /// 0xFFFFFFFF to 0.
     pub fn count_wrapping(&mut self, row: RowId, index: u16)
         requires index { index < (row_of row).count }
         requires counter { (row_of row).kind ≡ Ro }

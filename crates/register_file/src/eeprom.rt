@@ -1,4 +1,4 @@
-//! EERD: EEPROM read requests and their answers.
+//! EERD: EEPROM read requests and their results.
 
 ghost use Rattle.std.specs.Prelude.{◌≡◌, ◌<◌, IfSome};
 ghost use Rattle.register_file.specs.Eeprom.{eeprom_asked, eeprom_answered};
@@ -6,7 +6,7 @@ ghost use Rattle.register_file.specs.Eeprom.{eeprom_asked, eeprom_answered};
 use crate::register_file::RegisterFile;
 use reg_table::{Eerd, RowId, has_flag};
 
-/// The lowest bit of EERD's word index, followed by the number of indices.
+/// The lowest bit of EERD's word index. `INDICES` is the number of indices.
 const INDEX: u32 = 0x0000_0004;
 
 const INDICES: u32 = 0x4000;
@@ -29,8 +29,8 @@ impl RegisterFile {
         }
     }
 
-    /// Stores the EEPROM's answer in EERD. The index is unchanged, bits 31 to 16 hold the word (below 65,536), DONE
-    /// becomes 1, and START becomes 0.
+    /// Stores the result of an EEPROM read in EERD. The index is unchanged, bits 31 to 16 hold the word (below 65,536),
+    /// DONE becomes 1, and START becomes 0.
     pub fn answer_eeprom(&mut self, word: u16)
         ensures { self.new ≡ eeprom_answered self.old word }
     {

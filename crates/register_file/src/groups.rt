@@ -81,7 +81,7 @@ impl Groups {
         }
     }
 
-    /// Raises causes of a group, with or without its auto-mask (`Causes::raise`).
+    /// Raises causes in a group, with or without the group's auto-mask (`Causes::raise`).
     pub(crate) fn raise(&mut self, group: Group, bits: u32, auto: bool)
         requires { index_of group < 64 }
         ensures { self.new ≡ with_group self.old group (raised (at_group self.old group) bits auto) }
@@ -114,7 +114,7 @@ impl Groups {
         }
     }
 
-    /// Sets masks of a group (`Causes::mask_set`).
+    /// Sets masks in a group (`Causes::mask_set`).
     pub(crate) fn mask_set(&mut self, group: Group, bits: u32)
         requires { index_of group < 64 }
         ensures { self.new ≡ with_group self.old group (after_mask_set (at_group self.old group) bits) }
@@ -125,7 +125,7 @@ impl Groups {
         }
     }
 
-    /// Clears masks of a group (`Causes::mask_clear`).
+    /// Clears masks in a group (`Causes::mask_clear`).
     pub(crate) fn mask_clear(&mut self, group: Group, bits: u32)
         requires { index_of group < 64 }
         ensures { self.new ≡ with_group self.old group (after_mask_clear (at_group self.old group) bits) }
@@ -158,7 +158,7 @@ impl Groups {
         }
     }
 
-    /// Sends a group's next message. Returns its vector, or `None` if no bit is due.
+    /// Sends a group's next message. Returns the message's vector, or `None` if no bit is due.
     pub(crate) fn message(&mut self, group: Group, eiame: bool, misc: u32) -> Option<u8>
         requires { index_of group < 64 }
         ensures vector { result ≡ next_vector (at_group self.old group) misc }

@@ -12,14 +12,14 @@ use dma_ring::Dir;
 use intr_unit::Group;
 use reg_table::{Gpie, RowId, has_flag};
 
-/// The bits of an IVAR or PVTIVAR word that name the cause of one side of a queue.
+/// The number of bits in an IVAR or PVTIVAR word that name the cause for one side of a queue.
 const ENTRY_BITS: u32 = 8;
 
-/// The queues per word of IVAR or PVTIVAR. Each has a receive byte followed by a transmit byte.
+/// The number of queues per IVAR or PVTIVAR word. Each queue has a receive byte followed by a transmit byte.
 const QUEUES_IN_A_WORD: u16 = 2;
 
 impl RegisterFile {
-    /// Raises the causes of a group that are 1 in `bits`, as the device does. A virtual function's number must be below
+    /// Raises in a group the causes that are 1 in `bits`, as the device does. A virtual function's number must be below
     /// 64.
     pub fn raise(&mut self, group: Group, bits: u32)
         requires { index_of group < 64 }
@@ -29,10 +29,10 @@ impl RegisterFile {
         self.groups.raise(group, bits, false);
     }
 
-    /// Raises the cause of a side of a queue below `QUEUES` in a group. Bits 5:0 of the side's byte name the cause; the
-    /// byte is in IVAR, or in PVTIVAR for a virtual function's group. Nothing is raised unless bit 7 of the byte is 1
-    /// and the cause is at most 15, or at most 2 in a virtual function's group. A virtual function's number must be
-    /// below 64.
+    /// Raises in a group the cause that is assigned to one side of a queue below `QUEUES`. Bits 5:0 of the side's byte
+    /// name the cause; the byte is in IVAR, or in PVTIVAR for a virtual function's group. The cause is raised if bit 7
+    /// of the byte is 1 and the cause is at most 15, or at most 2 in a virtual function's group. Otherwise, nothing is
+    /// raised. A virtual function's number must be below 64.
     pub fn raise_queue(&mut self, group: Group, dir: Dir, queue: u16)
         requires queue { queue < 128 }
         requires group { index_of group < 64 }
@@ -42,8 +42,8 @@ impl RegisterFile {
         self.raise(group, causes);
     }
 
-    /// Sends a group's next message. Returns its vector, 0 to 15, or `None` if no bit is due. A virtual function's
-    /// number must be below 64.
+    /// Sends a group's next message. Returns the message's vector, 0 to 15, or `None` if no bit is due. A virtual
+    /// function's number must be below 64.
     pub fn message(&mut self, group: Group) -> Option<u8>
         requires { index_of group < 64 }
         ensures vector { result ≡ message_of self.old group }
@@ -104,7 +104,7 @@ impl RegisterFile {
         self.groups.mask_clear(group, bits);
     }
 
-    /// Stores a word in a group's auto-clear register. The word must have only bits of the group.
+    /// Stores a word in a group's auto-clear register. The word must have only bits that the group implements.
     pub(crate) fn set_auto_clear(&mut self, group: Group, word: u32)
         requires index { index_of group < 64 }
         requires bits { IsSubset word (group_bits group) }
@@ -114,7 +114,7 @@ impl RegisterFile {
         self.groups.set_auto_clear(group, word);
     }
 
-    /// Stores a word in a group's auto-mask register. The word must have only bits of the group.
+    /// Stores a word in a group's auto-mask register. The word must have only bits that the group implements.
     pub(crate) fn set_auto_mask(&mut self, group: Group, word: u32)
         requires index { index_of group < 64 }
         requires bits { IsSubset word (group_bits group) }
@@ -145,7 +145,7 @@ impl RegisterFile {
         group.auto_mask_acts(self.masks_by_message())
     }
 
-    /// Returns the byte of IVAR or PVTIVAR that names the cause a side of a queue below `QUEUES` raises in a group.
+    /// Returns the byte of IVAR or PVTIVAR that names the cause for one side of a queue below `QUEUES` in a group.
     fn vector_entry(&self, group: Group, dir: Dir, queue: u16) -> u8
         requires { queue < 128 }
         ensures { result ≡ vector_entry self.now group dir queue }
@@ -159,7 +159,7 @@ impl RegisterFile {
     }
 }
 
-/// Returns the row that names the queue causes of a group.
+/// Returns the row that assigns a group's causes to queues: IVAR or PVTIVAR.
 fn vector_row(group: Group) -> RowId
     ensures { result ≡ vector_row group }
 {

@@ -9,12 +9,12 @@
 //!
 //! The remaining calls serve the device core. They query a queue (its ring, whether it is enabled, its counter), a pool
 //! (its queues, whether it is enabled) or single bits. They also move a head, enable a side of a queue, increment a
-//! counter, answer an EEPROM read, and reset a pool. The state of the link and the size of the EEPROM, which calculated
-//! registers report, are passed in as `Surroundings`. The definitions are in `specs/`.
+//! counter, complete an EEPROM read, and reset a pool. The caller passes the link state and the EEPROM size, which
+//! calculated registers report, as `Surroundings`. The definitions are in `specs/`.
 //!
-//! `Cells` stores the registers that reset to 0: a single register in a field, a row in an array. The sides of the
-//! queues, the interrupt groups, the hash key, and registers that a pool reset or a full reset treats specially have
-//! their own structs. `cell` and `set_word` map each row to its field. This crate doesn't allocate. Laws about the
+//! `Cells` stores the registers that reset to 0: a single register in a field, a row in an array. These registers have
+//! their own structs: the queues' sides, the interrupt groups, the hash key, and registers that a pool reset or a full
+//! reset treats specially. `cell` and `set_word` map each row to its field. This crate doesn't allocate. Laws about the
 //! registers as a whole are in `register_laws`.
 //!
 //! Source: Intel 82599 datasheet, sections on the device registers.

@@ -20,7 +20,7 @@ pub(crate) struct Mailboxes {
 }
 
 impl Mailboxes {
-    /// The registers after a reset: RSTI, reset in progress, is set for every function, and no function is masked.
+    /// The registers after a reset: RSTI, reset in progress, is set for every function, and PFMBIMR masks no function.
     pub(crate) const AT_RESET: Mailboxes = Mailboxes {
         pfmbimr: [0xFFFF_FFFF; 2],
         pvfmailbox: [Pvfmailbox::RSTI.0; 64],
@@ -33,10 +33,10 @@ const HOLDERS: u32 = Pvfmailbox::VFU.0 | Pvfmailbox::PFU.0;
 /// The EICR cause of mailbox events.
 const MAILBOX_CAUSE: u32 = 0x0008_0000;
 
-/// The functions per word of PFMBICR. Their requests are in the lower half, their acknowledgements in the upper half.
+/// The number of functions per PFMBICR word. Requests are in the word's lower half, acknowledgements in its upper half.
 const FUNCTIONS_ASKING: u16 = 16;
 
-/// The functions per word of PFMBIMR.
+/// The number of functions per PFMBIMR word.
 const FUNCTIONS_MASKED: u16 = 32;
 
 impl RegisterFile {
@@ -104,7 +104,7 @@ impl RegisterFile {
         self.set_word(RowId::Pvfmailbox, v, reset_reported(mail));
     }
 
-    /// Sets the bits of PFMBICR for what a function sends to the physical function.
+    /// Sets the PFMBICR bits for the request or acknowledgement that a function sends to the physical function.
     fn add_requests(&mut self, v: u16, word: u32)
         requires { v < 64 }
         ensures { self.new ≡ with_requests self.old v word }
@@ -114,7 +114,8 @@ impl RegisterFile {
         self.set_word(RowId::Pfmbicr, at, asked | requests(v, word));
     }
 
-    /// Raises the physical function's mailbox cause if the function sends and isn't masked.
+    /// Raises the physical function's mailbox cause if the virtual function's write sends something and PFMBIMR doesn't
+    /// mask the virtual function.
     fn tell_physical(&mut self, v: u16, word: u32)
         requires { v < 64 }
         ensures { self.new ≡ physical_signalled self.old v word }
@@ -125,7 +126,7 @@ impl RegisterFile {
         }
     }
 
-    /// Raises a function's mailbox cause if the physical function sends.
+    /// Raises a virtual function's mailbox cause if the physical function's write sends something.
     fn tell_function(&mut self, v: u16, word: u32)
         requires { v < 64 }
         ensures { self.new ≡ function_signalled self.old v word }
@@ -137,7 +138,7 @@ impl RegisterFile {
         }
     }
 
-    /// Raises causes of a group. `bits` must be bits of the group.
+    /// Raises causes in a group. `bits` must contain only bits that the group implements.
     fn set_cause(&mut self, group: Group, bits: u32)
         requires there { index_of group < 64 }
         requires bits { IsSubset bits (group_bits group) }
@@ -225,7 +226,7 @@ fn reported_once(mail: u32) -> u32
     )
 }
 
-/// Returns the mailbox value after the end of a reset is reported: RSTD replaces RSTI.
+/// Returns the mailbox value after the end of a reset is reported: RSTD replaces RSTI, if RSTI is set.
 fn reset_reported(mail: u32) -> u32
     ensures { result ≡ reset_reported mail }
 {
@@ -236,8 +237,8 @@ fn reset_reported(mail: u32) -> u32
     }
 }
 
-/// Whether a written value sends something to the other side. The physical function's STS and ACK are in the same bits
-/// as the function's REQ and ACK.
+/// Whether a mailbox write sends something to the other function. The physical function's STS and ACK are in the same
+/// bits as the virtual function's REQ and ACK.
 fn sends(word: u32) -> bool
     ensures { result ≡ sends word }
 {

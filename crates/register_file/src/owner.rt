@@ -8,7 +8,7 @@ use dma_ring::Dir;
 use intr_unit::Group;
 use reg_table::{Bank, Place, bank_of};
 
-/// The words of mailbox memory per function.
+/// The number of words of mailbox memory per function.
 const MESSAGE_WORDS: u16 = 16;
 
 /// The part of the device that a register belongs to.
@@ -30,7 +30,8 @@ pub enum Owner {
     Vectors(u16),
 }
 
-/// Returns the owner of a place, given by its row's bank and its index. The index must be below the row's count.
+/// Returns the owner of a place. The bank of the place's row and the place's index determine the owner. The index must
+/// be below the row's count.
 #[inline(always)]
 pub fn owner_of(place: Place) -> Owner
     requires { place.index < (row_of place.row).count }

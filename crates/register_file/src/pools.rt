@@ -15,10 +15,11 @@ use dma_ring::Dir;
 use reg_table::{Pvfmailbox, RowId};
 use vf_map::{Mode, mode_of, queues_of};
 
-/// The pools per word of VFRE or VFTE.
+/// The number of pools per VFRE or VFTE word.
 const POOLS_IN_A_WORD: u16 = 32;
 
-/// The PVFMAILBOX bits that a pool reset clears: the function's hold on the mailbox, and what was sent to the function.
+/// The PVFMAILBOX bits that a pool reset clears: the function's hold on the mailbox, and the status and acknowledgement
+/// that were sent to the function.
 const MAIL_RENEWED: u32 = Pvfmailbox::VFU.0 | Pvfmailbox::PFSTS.0 | Pvfmailbox::PFACK.0;
 
 /// The reset value of PVFMAILBOX.
@@ -32,7 +33,8 @@ impl RegisterFile {
         mode_of(self.word(RowId::GcrExt, 0))
     }
 
-    /// Whether a pool below 64 has reception enabled, by its VFRE bit, or transmission, by its VFTE bit.
+    /// Whether a pool below 64 is enabled for a direction: its bit is 1 in VFRE for reception, or in VFTE for
+    /// transmission.
     pub fn is_pool_on(&self, dir: Dir, pool: u16) -> bool
         requires { pool < 64 }
         ensures { result ≡ is_pool_on self.now dir pool }
@@ -41,11 +43,11 @@ impl RegisterFile {
         (word >> (pool % POOLS_IN_A_WORD)) % 2 == 1
     }
 
-    /// Resets pool v, below 64. This covers its virtual function's interrupts and reported bits, PSRTYPE, the mailbox,
-    /// and the function's counters. For the queues that the mode assigns to the pool, it also covers both sides, the
-    /// enable requests, and the vectors. If the mode doesn't have the pool, no queues are reset. In the mailbox,
-    /// PFMBMEM and all bits of PVFMAILBOX except 2, 4 and 5 are unchanged. Everything that it resets takes its row's
-    /// reset value; all else is unchanged.
+    /// Resets pool v, below 64. The reset covers the interrupts and reported bits of the pool's virtual function,
+    /// PSRTYPE, the mailbox, and the function's counters. For each queue that the mode assigns to the pool, the reset
+    /// also covers both sides, their enable requests, and the vectors. If the mode doesn't have the pool, no queues are
+    /// reset. In the mailbox, PFMBMEM and all bits of PVFMAILBOX except 2, 4 and 5 are unchanged. Each register or bit
+    /// that is reset takes its row's reset value; everything else is unchanged.
     #[tactic(auto, unfolding(crate::specs::PoolReset::pool_reset))]
     pub fn reset_pool(&mut self, mode: Mode, v: u8)
         requires { v < 64 }
@@ -67,7 +69,7 @@ impl RegisterFile {
         self.reset_mailbox(u16::from(v));
     }
 
-    /// Resets the interrupts of a pool's function, with the reported bits, PSRTYPE, and the function's counters.
+    /// Resets the interrupts and reported bits of a pool's virtual function, PSRTYPE, and the function's counters.
     fn reset_own(&mut self, v: u8)
         requires { v < 64 }
         ensures { self.new ≡ with_reported (rows_reset self.old own_renewals v) (Vf v) 0 }
@@ -79,7 +81,8 @@ impl RegisterFile {
         self.counters.vfgptc[at] = 0;
     }
 
-    /// Resets a pool's part of the mailbox: the function's hold on it, what was sent to the function, and the vector.
+    /// Resets a pool's mailbox state: the function's hold on the mailbox, the status and acknowledgement that were sent
+    /// to the function, and the mailbox's vector.
     fn reset_mailbox(&mut self, v: u16)
         requires { v < 64 }
         ensures { self.new ≡ rows_reset self.old mailbox_renewals v }
@@ -137,7 +140,7 @@ impl RegisterFile {
     }
 }
 
-/// Returns the row that enables pools for a side: VFRE or VFTE.
+/// Returns the row that enables pools for a direction: VFRE or VFTE.
 fn pool_row(dir: Dir) -> RowId
     ensures { result ≡ pool_row dir }
 {

@@ -1,4 +1,4 @@
-//! The two sides of a queue: their rings, and how they are enabled and disabled.
+//! The two sides of a queue: their rings, and how the sides are enabled and disabled.
 
 ghost use Rattle.std.specs.Prelude.{◌≡◌, ◌+◌, ◌*◌, ◌%◌, ◌^◌, ◌≤◌, ◌<◌};
 ghost use Rattle.dma_ring.specs.Ring.{slots_of};
@@ -11,7 +11,8 @@ use dma_ring::{Dir, Ring};
 use reg_table::{RowId, Rxdctl, Txdctl, has_flag, with_flag, without_flag};
 
 impl RegisterFile {
-    /// Returns the ring of a side of a queue below `QUEUES`, from its registers. It has at most 65,536 slots.
+    /// Returns the ring that the registers describe for one side of a queue below `QUEUES`. The ring has at most 65,536
+    /// slots.
     #[inline(always)]
     pub fn ring(&self, dir: Dir, queue: u16) -> Ring
         requires { queue < 128 }
@@ -36,7 +37,7 @@ impl RegisterFile {
         }
     }
 
-    /// Whether a side of a queue below `QUEUES` is enabled: bit 25 of RXDCTL or TXDCTL.
+    /// Whether a side of a queue below `QUEUES` is enabled: bit 25 of RXDCTL or TXDCTL is 1.
     #[inline(always)]
     pub fn is_on(&self, dir: Dir, queue: u16) -> bool
         requires { queue < 128 }
@@ -57,7 +58,7 @@ impl RegisterFile {
         }
     }
 
-    /// Enables or disables a side of a queue below `QUEUES`, as requested.
+    /// Enables a side of a queue below `QUEUES` if the side has an enable request; otherwise disables the side.
     pub fn switch(&mut self, dir: Dir, queue: u16)
         requires { queue < 128 }
         ensures { self.new ≡ switched self.old dir queue }

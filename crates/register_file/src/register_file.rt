@@ -42,9 +42,9 @@ impl Model for RegisterFile {
 }
 
 impl RegisterFile {
-    /// Returns the registers after a reset. Each has its row's reset value, no side of the 128 queues is enabled or has
-    /// an enable request, and no bit is reported for the physical function's group or the groups of the 64 virtual
-    /// functions.
+    /// Returns the registers after a reset. Each register has its row's reset value, no side of the 128 queues is
+    /// enabled or has an enable request, and no bit is reported for the physical function's group or the groups of the
+    /// 64 virtual functions.
     pub fn new() -> Self
         ensures { result ≡ reset_registers }
     {
@@ -76,8 +76,8 @@ impl RegisterFile {
         self.key = HashKey::zero();
     }
 
-    /// Returns the stored value of a row at an index below the row's count. For what a driver reads, with calculated
-    /// registers and side effects, see `peek` and `read`.
+    /// Returns the stored value of a row at an index below the row's count. For the value that a driver reads,
+    /// including calculated registers, see `peek`; for a read with its side effects, see `read`.
     #[inline(always)]
     pub fn word(&self, row: RowId, index: u16) -> u32
         requires { index < (row_of row).count }

@@ -15,7 +15,7 @@ const USUAL_LIMIT: u16 = 1514;
 const FRAME_CHECK: u32 = 4;
 
 impl RegisterFile {
-    /// Whether the device takes no steps: bus mastering is disabled (CTRL bit 2 is 1).
+    /// Whether the device is stopped: it takes no steps, because bus mastering is disabled (CTRL bit 2 is 1).
     #[inline(always)]
     pub fn is_stopped(&self) -> bool
         ensures { result ≡ is_stopped self.now }
@@ -59,7 +59,7 @@ impl RegisterFile {
         has_flag(self.word(RowId::Hlreg0, 0), Hlreg0::TXPADEN)
     }
 
-    /// Returns the value of SRRCTL of a receive queue below `QUEUES`.
+    /// Returns the SRRCTL value of a receive queue below `QUEUES`.
     #[inline(always)]
     pub fn receive_control(&self, queue: u16) -> u32
         requires { queue < 128 }
@@ -68,7 +68,7 @@ impl RegisterFile {
         self.word(RowId::Srrctl, queue)
     }
 
-    /// Whether a receive queue below `QUEUES` drops a frame when it has no free descriptor: SRRCTL bit 28 is 1.
+    /// Whether a receive queue below `QUEUES` drops a frame when the queue has no free descriptor: SRRCTL bit 28 is 1.
     #[inline(always)]
     pub fn drops(&self, queue: u16) -> bool
         requires { queue < 128 }

@@ -1,7 +1,7 @@
-//! The values of the registers: the field of each row.
+//! The fields that store the values of each row.
 //!
-//! `cell` and `set_word` are each one large match on the row. Splitting them by bank would match each row twice. This
-//! way, the mapping of rows to fields is in one place for reads and one for writes.
+//! `cell` and `set_word` are each one large match on the row. Splitting them by bank would match each row twice. With
+//! one match, the mapping of rows to fields is in one function for reads and in one for writes.
 
 ghost use Rattle.std.specs.Prelude.{◌≡◌, ◌<◌, IsTrue};
 ghost use Rattle.reg_table.specs.Rows.{row_of};
@@ -71,7 +71,7 @@ impl RegisterFile {
         }
     }
 
-    /// Stores a value in a row at an index below the row's count. The row must be able to hold it.
+    /// Stores a value in a row at an index below the row's count. The row must be able to hold the value.
     #[inline(always)]
     pub(crate) fn set_word(&mut self, row: RowId, index: u16, word: u32)
         requires index { index < (row_of row).count }

@@ -3,7 +3,7 @@ use Rattle.intr_unit.specs.Interrupts.{reset_of}
 use Rattle.intr_unit.specs.declared.group.Group.TheVariants.{Pf, Vf}
 use Rattle.register_file.proofs.groups.Groups.new.Given as goal
 
--- The groups built so far are numbered by position.
+-- Each group built so far has its position as its number.
 abbrev pub invariant-loop-v : goal.invariant-loop-v
 invariant-loop-v l =
     record {

@@ -11,7 +11,7 @@ use Rattle.reg_table.specs.Runs.{runs}
 use Rattle.reg_table.specs.Laws.{IsApart}
 use Rattle.reg_table.proofs.Steps.{last, starts_after, ends_before, in_step, has_address-true}
 
--- Whether two runs are disjoint, judged from their ends and strides.
+-- Whether two runs are disjoint, computed from their first and last addresses and their strides.
 abbrev pub apart : Run → Run → Bool
 apart r s =
     nat_lt (last r) s.first || nat_lt (last s) r.first

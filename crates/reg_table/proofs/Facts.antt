@@ -1,4 +1,4 @@
--- Facts about ranges of addresses that the table can be tested for.
+-- Facts about ranges of addresses, which a computation tests against the table.
 use Rattle.std.proofs.Common.{◌≡◌, ℕ, ◌+◌, ◌%◌, ◌<◌, ◌≤◌, Bool, true, ◌&&◌, ◌==◌, List, [], ◌∷◌, Some, None}
 use Rattle.std.specs.List.{list_all}
 use Rattle.std.proofs.lemmas.Bool.{and_parts, eqb-true}
@@ -10,15 +10,15 @@ use Rattle.reg_table.proofs.Reached.{covers, words_at, steps_at}
 use Rattle.reg_table.proofs.Missed.{misses, no_words_at, no_steps_at}
 
 -- A fact about the words from a low address up to a high address, which is excluded. `Words`: one run has all of these
--- words. `Steps`: one run has the words that are in step with it. `NoWords`: no run has any of them. `NoSteps`: no run
--- has a word whose address has a remainder, modulo the first number, from the second number up to the third.
+-- words. `Steps`: one run has the words that are in step with the run. `NoWords`: no run has any of them. `NoSteps`: no
+-- run has a word whose address has a remainder, modulo the first number, from the second number up to the third.
 pub data Fact : Type 0 where
   Words : Run → ℕ → ℕ → Fact
   Steps : Run → ℕ → ℕ → Fact
   NoWords : ℕ → ℕ → Fact
   NoSteps : ℕ → ℕ → ℕ → ℕ → ℕ → Fact
 
--- The meaning of the fact for accesses.
+-- What the fact states about accesses.
 abbrev pub Says : Fact → Type 0
 Says (Words r low high) = (a : ℕ) → low ≤ a → a < high → a % 4 ≡ 0 → access_at a ≡ Some (access_in r a)
 Says (Steps r low high) =
@@ -50,7 +50,7 @@ said (Steps r low high) e =
 said (NoWords low high) e = λ a. no_words_at low high a e
 said (NoSteps m x y low high) e = λ a. no_steps_at m x y low high a e
 
--- The meaning of all facts of a list.
+-- What the facts in a list state.
 abbrev pub AllSay : List Fact → Type 0
 AllSay [] = Unit {0}
 AllSay (f ∷ fs) = Says f × AllSay fs

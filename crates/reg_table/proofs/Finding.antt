@@ -1,4 +1,4 @@
--- Lemmas: searching the runs for an address.
+-- Lemmas about searching the runs for an address.
 use Rattle.std.proofs.Common.{◌≡◌, ℕ, true, false, List, [], ◌∷◌, Option, Some, None, refl, ap, sym, ◌∙◌, subst, inl, inr, ◌↔◌}
 use Rattle.std.specs.List.{list_all}
 use Rattle.std.proofs.lemmas.Bool.{cases_Bool, cond-true, cond-false, and_parts, false_from_ne_true}
@@ -10,7 +10,7 @@ use Rattle.reg_table.specs.Place.{SomeRunHas, Names, place_among}
 use Rattle.reg_table.proofs.Steps.{HasPlaceAt-place_in, has_address-true, place_in-unique}
 use Rattle.reg_table.proofs.Apart.{apart, all_apart, not_both, table_apart}
 
--- If a run has the address, the runs after it don't.
+-- If a run has the address and is disjoint from the runs after it, those runs don't have the address.
 pub none_else : (r : Run) (rs : List Run) (a : ℕ) (p : Place) → list_all (apart r) rs ≡ true → has_address r a ≡ true
     → SomeRunHas rs a p → ⊥
 none_else r [] a p e h n = n
@@ -63,7 +63,7 @@ none_when_free (Some p) free = absurd (free p refl)
 none_or_some : {A : Type 0} (o : Option A) (x : A) → o ≡ None → o ≡ Some x → ⊥
 none_or_some o x n s = cc
 
--- The search finds nothing if and only if the address names nothing.
+-- The search finds no place if and only if the address names no place.
 pub missed-free : (a : ℕ) → (place_among runs a ≡ None) ↔ ((p : Place) → Names a p → ⊥)
 missed-free a = (
   λ e p n. none_or_some (place_among runs a) p e ((found-named a p).1 n),

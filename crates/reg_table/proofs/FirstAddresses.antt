@@ -39,7 +39,7 @@ reported row =
     let test = All-get_or (λ x. tells x ≡ true) rows (number_of row) row there pass in
     and_parts _ _ (subst (λ x. tells x ≡ true) (row_numbered row row) test)
 
--- The indices of the row's first run begin at its first address.
+-- The addresses of the indices below the first run's count start at the row's first address.
 pub first_address : (p : Place) → p.index < (first_of p.row).count
     → address_among runs p ≡ Some ((first_of p.row).first + (first_of p.row).stride * p.index)
 first_address p h =
@@ -47,7 +47,7 @@ first_address p h =
     first_found runs p (number_of p.row) 0 f.count f.first f.stride refl (reported p.row).0 (omega arith) h
     ∙ ap (λ k. Some (f.first + f.stride * k)) (omega arith)
 
--- The remaining indices begin at the row's further address.
+-- The addresses of the remaining indices start at the row's further address.
 pub further_address : (p : Place) → p.index < (row_of p.row).count → (first_of p.row).count ≤ p.index
     → address_among runs p
     ≡ Some ((first_of p.row).further + (first_of p.row).stride * (p.index - (first_of p.row).count))
@@ -87,7 +87,7 @@ found_has_place (r ∷ rs) p a e =
           inr (found_has_place rs p a (sym later ∙ e))
     ]
 
--- The first address of a place names it.
+-- The first address of a place names that place.
 pub first_address_names : (p : Place) (a : ℕ) → address_among runs p ≡ Some a → Names a p
 first_address_names p a e = found_has_place runs p a e
 

@@ -1,4 +1,4 @@
--- Lemmas: the first run of a row that contains an index.
+-- Lemmas about the first run of a row that contains an index.
 use Rattle.std.proofs.Common.{◌≡◌, ℕ, ◌+◌, ◌-◌, ◌*◌, ◌<◌, ◌≤◌, Bool, true, false, ◌&&◌, nat_lt, nat_le, ◌==◌, List, [], ◌∷◌, Some, if◌then◌else◌, refl, sym, ◌∙◌, inl, inr, arith}
 use Rattle.std.proofs.lemmas.Bool.{cases_Bool, cond-true, cond-false, and_from, le-leb, lt-ltb, eq-eqb, and_parts, leb-true, eqb-true}
 use Rattle.std.proofs.lemmas.Bool.Decides.{nat_tests}
@@ -7,7 +7,7 @@ use Rattle.reg_table.specs.Rows.{number_of}
 use Rattle.reg_table.specs.Run.{Run, has_index, address_in}
 use Rattle.reg_table.specs.Place.{address_among}
 
--- Whether the first run that has any of a row's indices in a range has all of them, with this stride.
+-- Whether the first run that has any of a row's indices in a range has all of these indices, with this stride.
 abbrev pub has_all : ℕ → ℕ → ℕ → ℕ → ℕ → List Run → Bool
 has_all n from to first stride [] = nat_le to from
 has_all n from to first stride (r ∷ rs) =

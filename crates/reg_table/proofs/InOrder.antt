@@ -1,4 +1,4 @@
--- Lemmas: tables with one entry per row, in the rows' order.
+-- Lemmas about tables with one entry per row, in the rows' order.
 use Rattle.std.proofs.Common.{◌≡◌, ◌<◌, List, length, map, slice_index_or, get_or, sym, ap, ◌∙◌, subst}
 use Rattle.std.proofs.Math.ListN.{get_or-map, length-map}
 use Rattle.std.proofs.lemmas.List.{get_or-map as read-map}

@@ -9,7 +9,7 @@ use Rattle.reg_table.specs.Place.{place_among, view_among}
 use Rattle.reg_table.specs.Access.{access_of, access_at}
 use Rattle.reg_table.proofs.Steps.{last, starts_after, in_step, ends_before}
 
--- Whether the run has no address in a range with a remainder in a range, modulo `m`.
+-- Whether the run has no address that is in one range and whose remainder modulo `m` is in another range.
 abbrev pub misses : ℕ → ℕ → ℕ → ℕ → ℕ → Run → Bool
 misses low high m x y r =
     nat_lt (last r) low || nat_le high r.first

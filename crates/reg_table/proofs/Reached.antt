@@ -10,7 +10,7 @@ use Rattle.reg_table.proofs.Steps.{last}
 use Rattle.reg_table.proofs.Apart.{table_apart}
 use Rattle.reg_table.proofs.Standing.{stands, access_in, first_with}
 
--- Whether the run has each address from low up to high that is in step with it.
+-- Whether the run has each address from low up to high that is in step with the run.
 abbrev pub covers : ℕ → ℕ → Run → Bool
 covers low high r = nat_lt r.first (low + r.stride) && nat_le high (last r + r.stride)
 
@@ -25,7 +25,8 @@ next_step s a b e l =
           let v = mul-le-mul_left s u in absurd (omega arith)
     ]
 
--- Of two numbers in step, the one less than a step above the lower bound isn't the greater.
+-- Suppose that two numbers have the same remainder modulo a step. If the first is at least a lower bound and the second
+-- is less than a step above that bound, the second is at most the first.
 no_further_back : (s low a b : ℕ) → a % s ≡ b % s → low ≤ a → b < low + s → b ≤ a
 no_further_back s low a b e l h =
     elim (cases_Bool (nat_lt a b)) [
@@ -62,7 +63,7 @@ pub words_at : (r : Run) (low high : ℕ) → stands r runs ≡ true → covers 
     → (a : ℕ) → low ≤ a → a < high → a % 4 ≡ 0 → access_at a ≡ Some (access_in r a)
 words_at r low high s c by_four f a l h m = hit r low high a s c l h (rw by_four (m ∙ sym f))
 
--- Taking the remainder by a multiple of 4 keeps the remainder by 4.
+-- Taking the remainder modulo a multiple of 4 keeps the remainder modulo 4.
 rest_of_four : (s n : ℕ) → s % 4 ≡ 0 → (n % s) % 4 ≡ n % 4
 rest_of_four s n e =
     let x : s * (n / s) + n % s ≡ n = div-add-mod n s in

@@ -1,4 +1,4 @@
--- What the proofs require of a run, tested for all runs at the same time.
+-- The properties of runs that the proofs need, tested for all runs at the same time.
 use Rattle.std.specs.Prelude.{◌+◌, Bool, ◌&&◌, nat_lt, nat_le}
 use Rattle.reg_table.specs.Run.{Run}
 use Rattle.reg_table.specs.Rows.{row_of}

@@ -1,4 +1,4 @@
--- If a run in a list of disjoint runs has an address, it is the first one that has it.
+-- If a run in a list of disjoint runs has an address, that run is the first one that has the address.
 use Rattle.std.proofs.Common.{◌≡◌, ℕ, Bool, true, false, ◌&&◌, ◌==◌, List, [], ◌∷◌, Some, if◌then◌else◌, refl, sym, subst, inl, inr}
 use Rattle.std.specs.Bool.{beq}
 use Rattle.std.specs.List.{list_all, list_any}
@@ -67,7 +67,7 @@ passes test r (q ∷ rs) s t =
       | inr more ↦ passes test r rs more u.1
     ]
 
--- If a run in a list of disjoint runs has an address, it is the first one that has it.
+-- If a run in a list of disjoint runs has an address, that run is the first one that has the address.
 pub first_with : (r : Run) (rs : List Run) (a : ℕ) → stands r rs ≡ true → all_apart rs ≡ true → has_address r a ≡ true
     → access_of (place_among rs a) (view_among rs a) ≡ Some (access_in r a)
 first_with r [] a s d h = cc

@@ -1,4 +1,4 @@
--- Lemmas: the place and the view of an access.
+-- Lemmas about the place and the view of an access.
 use Rattle.std.proofs.Common.{◌≡◌, ℕ, ◌%◌, ◌<◌, ◌≢◌, ◌↔◌, Bool, true, false, List, [], ◌∷◌, Option, Some, None, if◌then◌else◌, refl, ap, sym, ◌∙◌, subst, inl, inr, arith, ◌⊎◌}
 use Rattle.std.specs.Prelude.{IfSome}
 use Rattle.std.specs.List.{list_all}
@@ -40,11 +40,11 @@ found_in_range : (a : ℕ) (o : Option Place) → place_among runs a ≡ o → I
 found_in_range a None e = tt
 found_in_range a (Some p) e = named_in_range a p ((found-named a p).0 e)
 
--- An access has the place that its address names.
+-- The place of an access is the place that the access's address names.
 pub place_met : (o : Option Access) (a : ℕ) → o ≡ access_at a → option_map (λ x. x.place) o ≡ place_among runs a
 place_met o a e = ap (option_map (λ x. x.place)) e ∙ places_of (place_among runs a) (view_among runs a)
 
--- An access has the view of its address.
+-- The view of an access is the view of the access's address.
 pub view_met : (o : Option Access) (a : ℕ) → o ≡ access_at a → IfSome o (λ x. x.view ≡ view_among runs a)
 view_met o a e =
     subst (λ y. IfSome y (λ x. x.view ≡ view_among runs a)) (sym e) (views_of (place_among runs a) (view_among runs a))
@@ -125,7 +125,7 @@ whole_where a = (
   ],
 )
 
--- An address that names nothing has a view of all bits.
+-- An address that names no place has a view of all bits.
 pub view_of_nothing : (a : ℕ) → None ≡ place_among runs a → 0xFFFFFFFF ≡ view_among runs a
 view_of_nothing a e = sym (whole_where_none runs a (sym e))
 

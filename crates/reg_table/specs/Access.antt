@@ -9,11 +9,11 @@ use Rattle.reg_table.specs.Place.{place_among, view_among}
 abbrev pub access : RowId → ℕ → ℕ → Access
 access row index view = record { place = record { row = row; index = index }; view = view }
 
--- The access to a place, showing the bits of `view`; `None` without a place.
+-- The access to a place, showing the bits of `view`, or `None` if there is no place.
 abbrev pub access_of : Option Place → ℕ → Option Access
 access_of None view = None
 access_of (Some p) view = Some (record { place = p; view = view })
 
--- What an access at the address reaches: the place that the table has there, and the bits that show.
+-- What an access at the address reaches: the place that the table has there, and the bits that the address shows.
 abbrev pub access_at : ℕ → Option Access
 access_at address = access_of (place_among runs address) (view_among runs address)

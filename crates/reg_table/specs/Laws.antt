@@ -18,7 +18,7 @@ AddressesAreAligned = (address : ℕ) (p : Place) → Names address p → addres
 abbrev pub IsApart : Run → Run → Type 0
 IsApart r s = (address : ℕ) (p q : Place) → HasPlaceAt r address p → HasPlaceAt s address q → ⊥
 
--- No two runs of addresses in the table overlap, aliases included.
+-- No two of the table's runs of addresses overlap, including the runs that are aliases.
 abbrev pub RunsAreApart : Type 0
 RunsAreApart = AllPairs IsApart runs
 

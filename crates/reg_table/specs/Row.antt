@@ -3,7 +3,7 @@ use Rattle.reg_table.specs.declared.bank.Bank.{Bank}
 use Rattle.reg_table.specs.declared.kind.Kind.{Kind}
 
 -- The table's entry for a row: its name, the number of its registers, what an access does, the part of the device that
--- it belongs to, the bits that a write can change, and the word after a reset.
+-- the row belongs to, the bits that a write can change, and the word after a reset.
 pub record Row : Type 0 where
   pub name : List ℕ
   pub count : ℕ

@@ -17,7 +17,7 @@ abbrev pub run : RowId → ℕ → ℕ → ℕ → ℕ → Bool → Run
 run row first stride first_index count low =
     record { row = row; first = first; stride = stride; first_index = first_index; count = count; low = low }
 
--- The run has the place at the address: one of its steps leads to both.
+-- The run has the place at the address: the same step number gives both the address and the place's index.
 pub record HasPlaceAt (r : Run) (address : ℕ) (p : Place) : Type 0 where
   pub step : ℕ
   pub below : step < r.count
@@ -25,7 +25,7 @@ pub record HasPlaceAt (r : Run) (address : ℕ) (p : Place) : Type 0 where
   pub row : p.row ≡ r.row
   pub index : p.index ≡ r.first_index + step
 
--- Whether a step of the run leads to the address.
+-- Whether the address is one of the run's addresses.
 abbrev pub has_address : Run → ℕ → Bool
 has_address r address =
     nat_le r.first address && nat_le address (r.first + r.stride * (r.count - 1))
@@ -35,7 +35,7 @@ has_address r address =
 abbrev pub place_in : Run → ℕ → Place
 place_in r address = record { row = r.row; index = r.first_index + (address - r.first) / r.stride }
 
--- Whether a step of the run leads to the place.
+-- Whether the place is one of the run's places.
 abbrev pub has_index : Run → Place → Bool
 has_index r p = (number_of r.row == number_of p.row) && nat_le r.first_index p.index
     && nat_lt p.index (r.first_index + r.count)

@@ -9,29 +9,30 @@ use crate::dispatch::aligned;
 use crate::place::Place;
 use crate::rows::RowId;
 
-/// What an access at an address reaches.
+/// The register that an access at an address reaches, and the bits that show there.
 #[derive(Clone, Copy, PartialEq, Eq, Debug)]
 pub struct Access {
     /// The register that is accessed.
     pub place: Place,
-    /// A mask of the bits that show at the address: 0xFFFF if it shows only bits 15:0, otherwise 0xFFFFFFFF.
+    /// A mask of the bits that show at the address: 0xFFFF if the address shows only bits 15:0, otherwise 0xFFFFFFFF.
     pub view: u32,
 }
 
-/// Returns the place at an address, a byte offset into the register space, with the bits that show there. Returns
-/// `None` if and only if no register has the address. An address that isn't a multiple of 4 has no register.
+/// Returns the place at an address, and the bits that show there. The address is a byte offset into the register space.
+/// Returns `None` if and only if no register has the address. An address that isn't a multiple of 4 has no register.
 #[inline(always)]
 pub fn resolve(address: u32) -> Option<Access>
     ensures value { result ≡ access_at address }
     ensures place { option_map (λ x. x.place) result ≡ place_among runs address }
     ensures view { IfSome result (λ x. x.view ≡ view_among runs address) }
-    // The index is below the row's count.
+    // The place's index is below its row's count.
     ensures in_range { IfSome result (λ x. x.place.index < (row_of x.place.row).count) }
 {
     at(address)
 }
 
-/// Returns the access at an address, as it is defined. `resolve` states what else holds for it.
+/// Returns the access that the specification defines at an address. The contract of `resolve` states the access's other
+/// properties.
 #[tactic(auto, using(crate::proofs::Views::no_part_of_a_word))]
 #[inline(always)]
 fn at(address: u32) -> Option<Access>
@@ -53,8 +54,8 @@ pub(crate) fn words(row: RowId, first_index: u16, offset: u32) -> Option<Access>
     seen(row, first_index + (offset / 4) as u16, 0xFFFF_FFFF)
 }
 
-/// Returns the access at an offset from the first address of a row with a 4-byte stride, if the addresses show only
-/// bits 15:0.
+/// Returns the access at an offset from the first address of a row with a 4-byte stride whose addresses show only bits
+/// 15:0.
 #[inline(always)]
 pub(crate) fn low_words(row: RowId, first_index: u16, offset: u32) -> Option<Access>
     requires near { offset < 0x10000 }

@@ -1,7 +1,7 @@
 ghost use Rattle.std.specs.Prelude.{◌≡◌};
 ghost use Rattle.reg_table.specs.Counter.{bumped};
 
-/// Returns a counter's word plus one; the largest word, 0xFFFFFFFF, stays as it is.
+/// Returns a counter's word plus one, or 0xFFFFFFFF if the word is already 0xFFFFFFFF.
 pub fn bump(word: u32) -> u32
     ensures { result ≡ bumped word }
 {

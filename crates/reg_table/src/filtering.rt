@@ -1,4 +1,4 @@
-//! The registers that select which frames are accepted, and by which pool.
+//! The registers that select which frames are accepted and which pool accepts them.
 
 ghost use Rattle.std.specs.Prelude.{⊤, ◌≡◌, [], ◌∷◌, codes};
 
@@ -14,7 +14,7 @@ impl Rxctrl {
     /// Bit 0: enables reception.
     pub const RXEN: Rxctrl = Rxctrl(0x0000_0001);
 
-    /// The named bits of RXCTRL, with their names.
+    /// A list of RXCTRL's named bits, each with its name and mask.
     pub const FLAGS: &'static [Flag<Rxctrl>] = &[Flag {
         name: "RXEN",
         value: Rxctrl::RXEN,
@@ -59,7 +59,7 @@ impl Fctrl {
     /// Bit 10: accepts broadcast frames.
     pub const BAM: Fctrl = Fctrl(0x0000_0400);
 
-    /// The named bits of FCTRL, with their names.
+    /// A list of FCTRL's named bits, each with its name and mask.
     pub const FLAGS: &'static [Flag<Fctrl>] = &[
         Flag {
             name: "MPE",
@@ -111,7 +111,7 @@ impl Mcstctrl {
     /// Bit 2: enables the multicast table, MTA.
     pub const MFE: Mcstctrl = Mcstctrl(0x0000_0004);
 
-    /// The named bits of MCSTCTRL, with their names.
+    /// A list of MCSTCTRL's named bits, each with its name and mask.
     pub const FLAGS: &'static [Flag<Mcstctrl>] = &[Flag {
         name: "MFE",
         value: Mcstctrl::MFE,
@@ -150,7 +150,7 @@ impl Rah {
     /// Bit 31: the address is valid.
     pub const AV: Rah = Rah(0x8000_0000);
 
-    /// The named bits of RAH, with their names.
+    /// A list of RAH's named bits, each with its name and mask.
     pub const FLAGS: &'static [Flag<Rah>] = &[Flag {
         name: "AV",
         value: Rah::AV,
@@ -189,7 +189,7 @@ impl Rxcsum {
     /// Bit 13: makes descriptors report hashes.
     pub const PCSD: Rxcsum = Rxcsum(0x0000_2000);
 
-    /// The named bits of RXCSUM, with their names.
+    /// A list of RXCSUM's named bits, each with its name and mask.
     pub const FLAGS: &'static [Flag<Rxcsum>] = &[Flag {
         name: "PCSD",
         value: Rxcsum::PCSD,
@@ -231,7 +231,7 @@ impl VtCtl {
     /// Bit 29: disables the default pool.
     pub const DIS_DEF_POOL: VtCtl = VtCtl(0x2000_0000);
 
-    /// The named bits of VT_CTL, with their names.
+    /// A list of VT_CTL's named bits, each with its name and mask.
     pub const FLAGS: &'static [Flag<VtCtl>] = &[
         Flag {
             name: "VT_ENA",

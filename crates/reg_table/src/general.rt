@@ -20,7 +20,7 @@ impl Ctrl {
     /// Bit 26: requests a device reset.
     pub const RST: Ctrl = Ctrl(0x0400_0000);
 
-    /// The named bits of CTRL, with their names.
+    /// A list of CTRL's named bits, each with its name and mask.
     pub const FLAGS: &'static [Flag<Ctrl>] = &[
         Flag {
             name: "MASTER_DISABLE",
@@ -72,7 +72,7 @@ impl Pvfctrl {
     /// Bit 26: requests a reset of the pool.
     pub const RST: Pvfctrl = Pvfctrl(0x0400_0000);
 
-    /// The named bits of PVFCTRL, with their names.
+    /// A list of PVFCTRL's named bits, each with its name and mask.
     pub const FLAGS: &'static [Flag<Pvfctrl>] = &[Flag {
         name: "RST",
         value: Pvfctrl::RST,
@@ -114,7 +114,7 @@ impl CtrlExt {
     /// Bit 28: a driver is loaded.
     pub const DRV_LOAD: CtrlExt = CtrlExt(0x1000_0000);
 
-    /// The named bits of CTRL_EXT, with their names.
+    /// A list of CTRL_EXT's named bits, each with its name and mask.
     pub const FLAGS: &'static [Flag<CtrlExt>] = &[
         Flag {
             name: "PFRSTD",
@@ -164,7 +164,7 @@ impl Eerd {
     /// Bit 1: the requested word is available.
     pub const DONE: Eerd = Eerd(0x0000_0002);
 
-    /// The named bits of EERD, with their names.
+    /// A list of EERD's named bits, each with its name and mask.
     pub const FLAGS: &'static [Flag<Eerd>] = &[
         Flag {
             name: "START",
@@ -214,7 +214,7 @@ impl Gpie {
     /// Bit 30: applies the auto-mask to messages instead of accesses to the physical function's registers.
     pub const EIAME: Gpie = Gpie(0x4000_0000);
 
-    /// The named bits of GPIE, with their names.
+    /// A list of GPIE's named bits, each with its name and mask.
     pub const FLAGS: &'static [Flag<Gpie>] = &[
         Flag {
             name: "OCD",

@@ -8,26 +8,28 @@ pub enum Kind {
     /// Calculated. A read returns a value computed from other registers, the link and the EEPROM. A write changes
     /// nothing.
     Calc,
-    /// A clear-on-read counter. A read returns the word and sets it to 0. A write changes nothing.
+    /// A clear-on-read counter. A read returns the word and sets the register to 0. A write changes nothing.
     Rc,
-    /// The interrupt causes of a group. A read returns the word and clears causes. A write clears each cause that has a
-    /// 1 in the written word.
+    /// The interrupt causes of a group. A read returns the word and clears causes. A write clears each cause whose bit
+    /// is 1 in the written word.
     Cause,
-    /// The interrupt masks of a group. A read returns the word. A write sets each mask that has a 1 in the written
+    /// The interrupt masks of a group. A read returns the word. A write sets each mask whose bit is 1 in the written
     /// word.
     Ones,
-    /// Sets interrupt causes of a group. A write sets each cause that has a 1 in the written word. A read returns 0.
+    /// Sets interrupt causes of a group. A write sets each cause whose bit is 1 in the written word. A read returns 0.
     Set,
-    /// Clears interrupt masks of a group. A write clears each mask that has a 1 in the written word. A read returns 0.
+    /// Clears interrupt masks of a group. A write clears each mask whose bit is 1 in the written word. A read returns
+    /// 0.
     Clear,
     /// Read-write while the register's side of its queue is disabled. While the side is enabled, a write changes
     /// nothing.
     Held,
-    /// The enable register of one side of a queue. Read-write except for bit 25, which a write only requests: it reads
-    /// as 1 while the side is enabled, and follows the request in a later step.
+    /// The enable register of one side of a queue. Read-write except for bit 25. Bit 25 of a write only requests that
+    /// the side be enabled or disabled. Bit 25 of the register reads as 1 while the side is enabled, and takes the
+    /// requested value in a later step.
     Enable,
-    /// Device control. A write that requests a reset resets the device and does nothing else. Any other write acts as
-    /// for `Rw`.
+    /// Device control. A write that requests a reset resets the device and does nothing else. Any other write has the
+    /// same effect as for `Rw`.
     Ctrl,
     /// Control of a virtual function. A read returns 0. A write that requests a reset resets the function's pool. Any
     /// other write changes nothing.
@@ -40,11 +42,11 @@ pub enum Kind {
     W1c,
     /// A virtual function's mailbox. A read returns the word and clears the bits that are reported only once: a status,
     /// an acknowledgement, a completed reset. A write takes the mailbox if the physical function doesn't hold it, or
-    /// releases it, and sends a request or an acknowledgement to the physical function.
+    /// releases the mailbox. The write also sends a request or an acknowledgement to the physical function.
     Vfmail,
     /// The physical function's view of a virtual function's mailbox. A read returns who holds the mailbox. A write
-    /// takes it from the function, takes it for the physical function if nobody holds it, or releases it, and sends a
-    /// status or an acknowledgement.
+    /// takes the mailbox from the virtual function, takes it for the physical function if nobody holds it, or releases
+    /// it. The write also sends a status or an acknowledgement.
     Pfmail,
     /// Extended device control. Like `Rw`; in addition, a write with bit 14 set reports to each virtual function that a
     /// reset is done.

@@ -12,7 +12,7 @@ pub fn addresses_are_aligned()
     ensures { AddressesAreAligned }
 {}
 
-/// No two runs of addresses in the table overlap, aliases included.
+/// No two of the table's runs of addresses overlap, including the runs that are aliases.
 pub fn runs_are_apart()
     ensures { RunsAreApart }
 {}

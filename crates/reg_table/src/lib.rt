@@ -1,15 +1,16 @@
-//! The register table of the Intel 82599: which register an address belongs to, and what an access to it does.
+//! The register table of the Intel 82599: which register an address belongs to, and what an access to the register
+//! does.
 //!
 //! A row is a register name with its indices. A place is one 32-bit register: a row and an index. An address belongs to
-//! at most one place. `resolve` maps an address to its place and to the bits that show there, with one dispatch on
-//! ranges of addresses and no search; the device core reads and writes through it. The other calls look up an address,
-//! a place or a row in the table. No call allocates. The device core, the script assembler and the driver depend on
-//! this crate.
+//! at most one place. `resolve` maps an address to its place and to the bits that show there. It uses one dispatch on
+//! ranges of addresses instead of a search. The device core calls `resolve` for its reads and writes. The other calls
+//! look up an address, a place or a row in the table. No call allocates. The device core, the script assembler and the
+//! driver depend on this crate.
 //!
-//! The named bits of the registers have the datasheet's names too. Each register with such bits has a type, a set of
-//! its bits, with a mask as a constant for each bit: `Fctrl::BAM.0` is the mask of BAM. [`has_flag`], [`with_flag`] and
-//! [`without_flag`] test and change a named bit in a word; [`has_bit`] tests a bit by its number. The contracts repeat,
-//! by number, which bit each name stands for.
+//! The named bits of the registers also have the datasheet's names. Each register with named bits has a type for sets
+//! of its bits. The type has a constant with the mask of each named bit: `Fctrl::BAM.0` is the mask of BAM.
+//! [`has_flag`], [`with_flag`] and [`without_flag`] test and change a named bit in a word; [`has_bit`] tests a bit by
+//! its number. The contracts state again, by bit number, which bit each name stands for.
 //!
 //! The table is defined in `specs/Rows.antt` and `specs/Runs.antt`, and implemented in `rows.rt`, `dispatch.rt` and
 //! `first_addresses.rt`. `dev/generate registers` writes all of these files from one list.

@@ -26,7 +26,7 @@ impl Pfmailbox {
     /// Bit 4: takes the mailbox from the function.
     pub const RVFU: Pfmailbox = Pfmailbox(0x0000_0010);
 
-    /// The named bits of PFMAILBOX, with their names.
+    /// A list of PFMAILBOX's named bits, each with its name and mask.
     pub const FLAGS: &'static [Flag<Pfmailbox>] = &[
         Flag {
             name: "STS",
@@ -109,7 +109,7 @@ impl Pvfmailbox {
     /// Bit 7: a reset is done.
     pub const RSTD: Pvfmailbox = Pvfmailbox(0x0000_0080);
 
-    /// The named bits of PVFMAILBOX, with their names.
+    /// A list of PVFMAILBOX's named bits, each with its name and mask.
     pub const FLAGS: &'static [Flag<Pvfmailbox>] = &[
         Flag {
             name: "REQ",
@@ -189,7 +189,7 @@ impl Pfmbicr {
     /// Bits 31:16: the acknowledgements of the same 16 functions.
     pub const VFACK: Pfmbicr = Pfmbicr(0xFFFF_0000);
 
-    /// The named bits of PFMBICR, with their names.
+    /// A list of PFMBICR's named bits, each with its name and mask.
     pub const FLAGS: &'static [Flag<Pfmbicr>] = &[
         Flag {
             name: "VFREQ",

@@ -11,10 +11,10 @@ use bitflags::{Flag, Flags};
 pub struct Srrctl(pub u32);
 
 impl Srrctl {
-    /// Bit 28: drops a frame if the ring has no free slot for it.
+    /// Bit 28: drops a frame if the ring has no free slot for the frame.
     pub const DROP_EN: Srrctl = Srrctl(0x1000_0000);
 
-    /// The named bits of SRRCTL, with their names.
+    /// A list of SRRCTL's named bits, each with its name and mask.
     pub const FLAGS: &'static [Flag<Srrctl>] = &[Flag {
         name: "DROP_EN",
         value: Srrctl::DROP_EN,
@@ -53,7 +53,7 @@ impl Rxdctl {
     /// Bit 25: the queue's receive side is enabled.
     pub const ENABLE: Rxdctl = Rxdctl(0x0200_0000);
 
-    /// The named bits of RXDCTL, with their names.
+    /// A list of RXDCTL's named bits, each with its name and mask.
     pub const FLAGS: &'static [Flag<Rxdctl>] = &[Flag {
         name: "ENABLE",
         value: Rxdctl::ENABLE,
@@ -92,7 +92,7 @@ impl Txdctl {
     /// Bit 25: the queue's transmit side is enabled.
     pub const ENABLE: Txdctl = Txdctl(0x0200_0000);
 
-    /// The named bits of TXDCTL, with their names.
+    /// A list of TXDCTL's named bits, each with its name and mask.
     pub const FLAGS: &'static [Flag<Txdctl>] = &[Flag {
         name: "ENABLE",
         value: Txdctl::ENABLE,
@@ -131,7 +131,7 @@ impl Tdwbal {
     /// Bit 0: enables head write-back.
     pub const HEAD_WB_EN: Tdwbal = Tdwbal(0x0000_0001);
 
-    /// The named bits of TDWBAL, with their names.
+    /// A list of TDWBAL's named bits, each with its name and mask.
     pub const FLAGS: &'static [Flag<Tdwbal>] = &[Flag {
         name: "HEAD_WB_EN",
         value: Tdwbal::HEAD_WB_EN,
@@ -170,7 +170,7 @@ impl Dmatxctl {
     /// Bit 0: enables transmission.
     pub const TE: Dmatxctl = Dmatxctl(0x0000_0001);
 
-    /// The named bits of DMATXCTL, with their names.
+    /// A list of DMATXCTL's named bits, each with its name and mask.
     pub const FLAGS: &'static [Flag<Dmatxctl>] = &[Flag {
         name: "TE",
         value: Dmatxctl::TE,
@@ -218,7 +218,7 @@ impl Hlreg0 {
     /// Bit 10: pads short frames.
     pub const TXPADEN: Hlreg0 = Hlreg0(0x0000_0400);
 
-    /// The named bits of HLREG0, with their names.
+    /// A list of HLREG0's named bits, each with its name and mask.
     pub const FLAGS: &'static [Flag<Hlreg0>] = &[
         Flag {
             name: "TXCRCEN",

@@ -26,7 +26,7 @@ pub fn count_of(row: RowId) -> u16
     entry_of(row).count
 }
 
-/// Returns what reads and writes of the row's registers do.
+/// Returns the row's kind: what reads and writes of the row's registers do.
 #[inline(always)]
 pub fn kind_of(row: RowId) -> Kind
     ensures { result ≡ (row_of row).kind }
@@ -72,7 +72,7 @@ pub fn all_rows() -> &'static [RowId]
     &ROWS
 }
 
-/// Returns the row with exactly this name, case included. Returns `None` if no row has it.
+/// Returns the row with exactly this name, in the same case. Returns `None` if no row has this name.
 pub fn row_named(name: &str) -> Option<RowId>
     ensures value { result ≡ row_with_name name.now }
     ensures exact { (row : RowId) → (result ≡ Some row) ↔ ((row_of row).name ≡ name.now) }

@@ -51,7 +51,7 @@ listed r frame e =
 listed-in : (r : Registers) (frame : List ℕ) → IsListed r frame → is_in_table r frame ≡ true
 listed-in r frame l = table-is r frame ∙ both_hold _ _ l.0 l.1
 
--- A multicast frame is accepted for one of the three reasons.
+-- A multicast frame is accepted for one of three reasons.
 by_several : (r : Registers) (frame : List ℕ) →
     ((lets_multicast r || is_some (first_match r frame)) ≡ true) ⊎ (is_in_table r frame ≡ true) →
     (lets_multicast r ≡ true) ⊎ (IsAddressed r frame ⊎ IsListed r frame)

@@ -1,4 +1,4 @@
--- Conjunctions and disjunctions of tests.
+-- Lemmas about conjunctions and disjunctions of Boolean tests.
 use Rattle.std.proofs.Common.{◌≡◌, ◌&&◌, ◌||◌, Bool, true, false, refl, ◌⊎◌, inl, inr}
 
 pub or_either : (a b : Bool) → (a || b) ≡ true → (a ≡ true) ⊎ (b ≡ true)

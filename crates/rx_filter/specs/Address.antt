@@ -1,4 +1,5 @@
--- The address filter: which frames are accepted by their destination, the first six bytes of a frame.
+-- The address filter: which frames are accepted, according to their destination. The destination is the first six bytes
+-- of a frame.
 use Rattle.std.specs.Prelude.{ℕ, ◌+◌, ◌*◌, ◌/◌, ◌%◌, ◌^◌, ◌==◌, ◌&&◌, ◌||◌}
 use Rattle.std.specs.Prelude.{Bool, List, slice_index, find, Option, is_some, if◌then◌else◌}
 use Rattle.std.specs.List.{range_with_len}
@@ -34,7 +35,7 @@ is_broadcast frame = destination_low frame == 0xFFFFFFFF && destination_high fra
 abbrev pub is_multicast : List ℕ → Bool
 is_multicast frame = slice_index frame 0 % 2 == 1
 
--- How far MCSTCTRL bits 1 to 0, MO, shift the last two bytes of a destination.
+-- The number of bits by which a destination's last two bytes are shifted, for each value of MCSTCTRL bits 1 to 0, MO.
 abbrev pub multicast_shift : ℕ → ℕ
 multicast_shift bits = if bits == 0 then 4 else (if bits == 1 then 3 else (if bits == 2 then 2 else 0))
 
@@ -43,7 +44,7 @@ abbrev pub multicast_number : Registers → List ℕ → ℕ
 multicast_number r frame =
     destination_high frame / 2 ^ multicast_shift (word_of r Mcstctrl 0 / 2 ^ MO % 4) % 2 ^ 12
 
--- Whether MTA contains a destination: MCSTCTRL bit 2, MFE, is 1, and so is the bit at the destination's index.
+-- Whether MTA contains a destination: MCSTCTRL bit 2, MFE, is 1, and the bit at the destination's index in MTA is 1.
 abbrev pub is_in_table : Registers → List ℕ → Bool
 is_in_table r frame =
     has_bit MFE (word_of r Mcstctrl 0)
@@ -59,7 +60,7 @@ lets_unicast r = has_bit UPE (word_of r Fctrl 0)
 abbrev pub lets_broadcast : Registers → Bool
 lets_broadcast r = has_bit BAM (word_of r Fctrl 0)
 
--- Whether a frame is accepted by its destination.
+-- Whether the filter accepts a frame, according to the frame's destination.
 unfoldable pub passes : Registers → List ℕ → Bool
 passes r frame =
     if is_broadcast frame then lets_broadcast r || lets_multicast r

@@ -62,13 +62,13 @@ IsListed r frame =
     IsTrue (has_bit MFE (word_of r Mcstctrl 0)) × IsTrue (has_bit (vector % 32) (word_of r Mta (vector / 32)))
 
 -- A multicast frame other than a broadcast is accepted if and only if FCTRL bit 8, MPE, is 1, a valid address equals
--- its destination, or MTA lists it.
+-- the frame's destination, or MTA lists the destination.
 abbrev pub MulticastIsLetIn : Type 0
 MulticastIsLetIn =
     (r : Registers) (frame : List ℕ) → IsFalse (is_broadcast frame) → IsTrue (is_multicast frame) →
     IsTrue (passes r frame) ↔ (IsTrue (has_bit MPE (word_of r Fctrl 0)) ⊎ (IsAddressed r frame ⊎ IsListed r frame))
 
--- A unicast frame is accepted if and only if FCTRL bit 9, UPE, is 1 or a valid address equals its destination.
+-- A unicast frame is accepted if and only if FCTRL bit 9, UPE, is 1 or a valid address equals the frame's destination.
 abbrev pub UnicastIsLetIn : Type 0
 UnicastIsLetIn =
     (r : Registers) (frame : List ℕ) → IsFalse (is_multicast frame) →
@@ -88,8 +88,8 @@ SingleIsQueue0 =
     (r : Registers) (frame : List ℕ) → uses_pools r ≡ false → queue_mode_of (word_of r Mrqc 0) ≡ Single →
     passes r frame ≡ true → sorted r frame ≡ Ok (record { queue = 0; rss = 0; hash = 0 })
 
--- The codes that give each pool its own queues, and the pool of a queue. Pools have eight queues each if GCR_EXT
--- selects 16 pools; otherwise four each with 32 pools, and two each with 64.
+-- The codes that give each pool its own queues, and the pool of a queue. Each pool has eight queues if GCR_EXT selects
+-- 16 pools. Otherwise, each pool has four queues with 32 pools, and two with 64.
 abbrev pub has_pools : QueueMode → Bool
 has_pools Single = false
 has_pools Rss = false
@@ -103,33 +103,33 @@ pool_of_queue Vmdq32Rss mode queue = queue / 4
 pool_of_queue code mode queue = queue / 2
 
 -- If frames are distributed among pools and MRQC has a code that gives pools their own queues, a queue receives frames
--- only while its pool's reception is enabled.
+-- only while reception is enabled for the queue's pool.
 abbrev pub OffPoolsGetNone : Type 0
 OffPoolsGetNone =
     (r : Registers) (frame : List ℕ) (t : Target) → uses_pools r ≡ true →
     has_pools (queue_mode_of (word_of r Mrqc 0)) ≡ true → sorted r frame ≡ Ok t →
     takes_frames r (pool_of_queue (queue_mode_of (word_of r Mrqc 0)) (mode_in r) t.queue) ≡ true
 
--- Address i is valid and equals the frame's destination, and the same holds for no lower address.
+-- Address i is the first address that is valid and equals the frame's destination.
 pub record IsFirstMatch (r : Registers) (frame : List ℕ) (i : ℕ) : Type 0 where
   pub within : i < 128
   pub matched : IsTrue (matches r frame i)
   pub first : (lower : ℕ) → lower < i → IsFalse (matches r frame lower)
 
--- Frames for address i go to this pool, and no lower pool is selected.
+-- This pool is the lowest pool that is selected for address i.
 pub record IsLowestPool (r : Registers) (i pool : ℕ) : Type 0 where
   pub within : pool < 64
   pub selected : IsTrue (selects r i pool)
   pub lowest : (lower : ℕ) → lower < pool → IsFalse (selects r i lower)
 
--- No valid address equals the frame's destination, or the first that does selects no pool.
+-- No valid address equals the frame's destination, or the first valid address that equals it selects no pool.
 abbrev pub HasNoPool : Registers → List ℕ → Type 0
 HasNoPool r frame =
     ((i : ℕ) → i < 128 → IsFalse (matches r frame i))
     ⊎ ((i : ℕ) × (IsFirstMatch r frame i × ((pool : ℕ) → pool < 64 → IsFalse (selects r i pool))))
 
--- A frame's pool is the lowest pool of the first address that equals its destination. Without such a pool, it is VT_CTL
--- bits 12 to 7, or none if VT_CTL bit 29, DIS_DEF_POOL, is 1.
+-- A frame's pool is the lowest pool of the first address that equals the frame's destination. If there is no such pool,
+-- the frame's pool is the number in VT_CTL bits 12 to 7, or none if VT_CTL bit 29, DIS_DEF_POOL, is 1.
 pub record PoolOfAFrame : Type 0 where
   pub matched : (r : Registers) (frame : List ℕ) (i pool : ℕ) → IsFirstMatch r frame i → IsLowestPool r i pool →
       selected_pool r frame ≡ Some pool
@@ -144,10 +144,10 @@ pub record GoesToPool (r : Registers) (frame : List ℕ) (pool : ℕ) (t : Targe
   pub meant : selected_pool r frame ≡ Some pool
   pub goes : sorted r frame ≡ Ok t
 
--- The queue that each code in MRQC selects. With hashing alone, it is the frame's redirection table entry. The entry is
--- the low four bits of the RETA byte that the low seven bits of the hash select, or 0 if the frame has no RSS type.
--- With a code for pools, if frames are distributed among them, it is one of the pool's own queues: eight each if
--- GCR_EXT selects 16 pools, otherwise four or two each.
+-- The queue that each code in MRQC selects. With hashing alone, the queue is the frame's redirection table entry. The
+-- entry is the low four bits of the RETA byte that the low seven bits of the hash select, or 0 if the frame has no RSS
+-- type. With a code for pools, if frames are distributed among pools, the queue is one of the pool's own queues. Each
+-- pool has eight queues if GCR_EXT selects 16 pools, otherwise four or two.
 pub record QueuesByMode : Type 0 where
   pub hashing : (r : Registers) (frame : List ℕ) (t : Target) → sorted r frame ≡ Ok t →
       queue_mode_of (word_of r Mrqc 0) ≡ Rss → t.queue ≡ rss_entry r frame
@@ -169,8 +169,8 @@ pub record QueuesByMode : Type 0 where
   pub pools_16 : (r : Registers) (frame : List ℕ) (pool : ℕ) (t : Target) → GoesToPool r frame pool t →
       mode_in r ≡ mode.Pools16 → queue_mode_of (word_of r Mrqc 0) ≡ Vmdq64 → t.queue ≡ 8 * pool
 
--- The pool has no queues, in one of two cases. It is above 15, GCR_EXT selects 16 pools, and MRQC has a code for pools.
--- Or it is above 31, GCR_EXT doesn't select 16 pools, and MRQC has the code for 32.
+-- The pool has no queues, in one of two cases. The pool is above 15, GCR_EXT selects 16 pools, and MRQC has a code for
+-- pools. Or the pool is above 31, GCR_EXT doesn't select 16 pools, and MRQC has the code for 32 pools.
 abbrev pub IsBeyond : Registers → ℕ → Type 0
 IsBeyond r pool =
     ((mode_in r ≡ mode.Pools16) × (has_pools (queue_mode_of (word_of r Mrqc 0)) ≡ true) × (15 < pool))
@@ -184,7 +184,7 @@ PoolsBeyondGetNone =
     selected_pool r frame ≡ Some pool → IsBeyond r pool → sorted r frame ≡ Err NoPool
 
 -- If GCR_EXT selects 16 pools, frames are distributed among pools and MRQC has a code for pools, a frame reaches only
--- queues of its pool's virtual function.
+-- queues that belong to the virtual function of the frame's pool.
 abbrev pub FunctionsGetTheirs : Type 0
 FunctionsGetTheirs =
     (r : Registers) (frame : List ℕ) (pool : ℕ) (t : Target) → mode_in r ≡ mode.Pools16 →

@@ -27,17 +27,17 @@ uses_pools r = has_bit VT_ENA (word_of r VtCtl 0)
 abbrev pub selects : Registers → ℕ → ℕ → Bool
 selects r i pool = pool_bit (λ k. word_of r Mpsar (2 * i + k)) pool
 
--- The lowest pool of an address, if it has one.
+-- The lowest pool that receives frames for an address, if any.
 unfoldable pub lowest_pool : Registers → ℕ → Option ℕ
 lowest_pool r i = find (selects r i) (range_with_len 0 64)
 
--- The pool of a frame for which no address selects one: VT_CTL bits 12 to 7, DEF_PL, or none if bit 29, DIS_DEF_POOL,
--- is 1.
+-- The pool of a frame for which no address selects a pool: VT_CTL bits 12 to 7, DEF_PL, or none if bit 29,
+-- DIS_DEF_POOL, is 1.
 abbrev pub default_pool : Registers → Option ℕ
 default_pool r =
     if has_bit DIS_DEF_POOL (word_of r VtCtl 0) then None else Some (word_of r VtCtl 0 / 2 ^ DEF_PL % 64)
 
--- The lowest pool of the first address that a frame matches, or else the default pool.
+-- The lowest pool of the first address that a frame matches. If there is no such pool, the default pool.
 abbrev pub matched_pool : Registers → Option ℕ → Option ℕ
 matched_pool r None = None
 matched_pool r (Some i) = lowest_pool r i
@@ -49,8 +49,8 @@ or_default r (Some pool) = Some pool
 abbrev pub selected_pool : Registers → List ℕ → Option ℕ
 selected_pool r frame = or_default r (matched_pool r (first_match r frame))
 
--- The number of pools under each of MRQC's codes for pools: 16 if GCR_EXT selects 16; otherwise 32 with code 0xA, and
--- 64 with the others.
+-- The number of pools with each of MRQC's codes for pools: 16 if GCR_EXT selects 16; otherwise 32 with code 0xA, and 64
+-- with the other codes for pools.
 abbrev pub sixteen_or : Mode → Mode → Mode
 sixteen_or Pools16 by_code = Pools16
 sixteen_or other by_code = by_code
@@ -65,12 +65,13 @@ parting code.Vmdq64Rss mode = sixteen_or mode Pools64
 abbrev pub parting_in : Registers → Mode
 parting_in r = parting (queue_mode_of (word_of r Mrqc 0)) (mode_in r)
 
--- Whether a pool has queues: every pool while the queues aren't divided into pools, otherwise the pools of the mode.
+-- Whether a pool has queues. While the queues aren't divided into pools, every pool has queues; otherwise only the
+-- mode's pools have queues.
 abbrev pub has_queues : Mode → ℕ → Bool
 has_queues Off pool = true
 has_queues mode pool = nat_lt pool (pools_in mode)
 
--- A frame's pool, if it has queues and its reception is enabled; otherwise the reason for the drop.
+-- A frame's pool, if the pool has queues and reception is enabled for the pool; otherwise the reason for the drop.
 abbrev pub checked_pool : Registers → Option ℕ → Result ℕ Unwanted
 checked_pool r None = Err NoPool
 checked_pool r (Some pool) =

@@ -37,13 +37,13 @@ abbrev pub rss_hash : Registers → List ℕ → ℕ
 rss_hash r frame =
     toeplitz_hash (bytes_of_registers (row_words r.words Rssrk)) (hashed_part (rss_type r frame) (flow_of frame).input)
 
--- The RETA entry that the hash selects; 0 for a frame of type 0.
+-- The RETA entry that the hash selects, or 0 for a frame of RSS type 0.
 abbrev pub rss_entry : Registers → List ℕ → ℕ
 rss_entry r frame =
     if code_of (rss_type r frame) == 0 then 0 else entry_of (row_words r.words Reta) (rss_hash r frame)
 
--- Where a frame of a pool goes, and what its descriptors report: the RSS type, and the hash if RXCSUM bit 13, PCSD, is
--- 1.
+-- The queue for a frame that goes to a pool, and what the frame's descriptors report: the RSS type, and the hash if
+-- RXCSUM bit 13, PCSD, is 1.
 unfoldable pub target_of : Registers → List ℕ → ℕ → Target
 target_of r frame pool =
     record {
@@ -56,6 +56,7 @@ abbrev pub pool_target : Registers → List ℕ → Result ℕ Unwanted → Resu
 pool_target r frame (Ok pool) = Ok (target_of r frame pool)
 pool_target r frame (Err why) = Err why
 
--- A frame's receive queue: the filter checks its destination first, then the pool is chosen, then the queue.
+-- A frame's receive queue. The filter checks the frame's destination first; then the pool is chosen, and then the
+-- queue.
 unfoldable pub sorted : Registers → List ℕ → Result Target Unwanted
 sorted r frame = if passes r frame then pool_target r frame (chosen_pool r frame) else Err Filter

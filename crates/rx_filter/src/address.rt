@@ -51,7 +51,7 @@ fn matches(registers: &RegisterFile, frame: &[u8], index: u16) -> bool
         && high % 0x1_0000 == destination_high(frame)
 }
 
-/// Returns a byte of a frame, or 0 past its end.
+/// Returns a byte of a frame, or 0 past the frame's end.
 fn byte(frame: &[u8], at: usize) -> u8
     ensures { result ≡ slice_index frame.now at }
 {
@@ -90,7 +90,7 @@ fn is_multicast(frame: &[u8]) -> bool
     byte(frame, 0) % 2 == 1
 }
 
-/// Whether the multicast table is enabled and has the bit of a frame's destination set.
+/// Whether the multicast table is enabled and the bit for a frame's destination is 1 in the table.
 fn is_in_table(registers: &RegisterFile, frame: &[u8]) -> bool
     ensures { result ≡ is_in_table registers.now frame.now }
 {

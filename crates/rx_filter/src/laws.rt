@@ -15,12 +15,12 @@ pub fn broadcast_is_let_in()
 {}
 
 /// A multicast frame other than a broadcast is accepted if and only if FCTRL MPE is 1, a valid receive address equals
-/// its destination, or both MCSTCTRL MFE and its MTA bit are 1.
+/// the frame's destination, or both MCSTCTRL MFE and the destination's bit in MTA are 1.
 pub fn multicast_is_let_in()
     ensures { MulticastIsLetIn }
 {}
 
-/// A unicast frame is accepted if and only if FCTRL UPE is 1 or a valid receive address equals its destination.
+/// A unicast frame is accepted if and only if FCTRL UPE is 1 or a valid receive address equals the frame's destination.
 pub fn unicast_is_let_in()
     ensures { UnicastIsLetIn }
 {}
@@ -41,36 +41,36 @@ pub fn single_queue_is_queue_0()
     ensures { SingleIsQueue0 }
 {}
 
-/// If VT_CTL bit 0 is 1 and MRQC has a code that gives pools their own queues, a queue receives frames only while its
-/// pool has reception enabled in VFRE.
+/// If VT_CTL bit 0 is 1 and MRQC has a code that gives pools their own queues, a queue receives frames only while
+/// reception is enabled in VFRE for the queue's pool.
 pub fn off_pools_get_none()
     ensures { OffPoolsGetNone }
 {}
 
-/// A frame's pool is the lowest pool of the first receive address that equals its destination. Otherwise it is the
-/// default pool, if any.
+/// A frame's pool is the lowest pool of the first receive address that equals the frame's destination. If there is no
+/// such pool, the frame's pool is the default pool, if any.
 pub fn pool_is_the_lowest_of_the_first_match()
     ensures { PoolOfAFrame }
 {}
 
 /// While VT_CTL bit 0 is 1, an accepted frame for a pool without queues is dropped for the reason `NoPool`. If GCR_EXT
-/// selects 16 pools and MRQC has a code for pools, these are the pools above 15. Otherwise, if MRQC has the code for 32
-/// pools, these are the pools above 31.
+/// selects 16 pools and MRQC has a code for pools, the pools above 15 have no queues. If GCR_EXT doesn't select 16
+/// pools and MRQC has the code for 32 pools, the pools above 31 have no queues.
 pub fn pools_beyond_get_none()
     ensures { PoolsBeyondGetNone }
 {}
 
-/// If GCR_EXT selects 16 pools, VT_CTL bit 0 is 1 and MRQC has a code for pools, a frame reaches only queues of its
-/// pool's virtual function.
+/// If GCR_EXT selects 16 pools, VT_CTL bit 0 is 1 and MRQC has a code for pools, a frame reaches only queues that
+/// belong to the virtual function of the frame's pool.
 pub fn functions_get_theirs()
     ensures { FunctionsGetTheirs }
 {}
 
 /// The queue that receives a frame depends on the mode. With MRQC's code for hashing alone, the queue is the frame's
-/// entry: bits 3 to 0 of the RETA byte that the low seven bits of its hash select, or 0 if its RSS type is 0. If VT_CTL
-/// bit 0 is 1 and MRQC has a code for pools, it is a queue of the frame's pool p. If GCR_EXT selects 16 pools, it is
-/// 8p + entry mod 8 with hashing, and 8p without. Otherwise it is 4p + entry mod 4 with 32 pools, 2p + entry mod 2 with
-/// 64 pools and hashing, and 2p with 64 pools alone.
+/// entry. The entry is bits 3 to 0 of the RETA byte that the low seven bits of the frame's hash select, or 0 if the
+/// frame's RSS type is 0. If VT_CTL bit 0 is 1 and MRQC has a code for pools, the queue belongs to the frame's pool p.
+/// If GCR_EXT selects 16 pools, the queue is 8p + entry mod 8 with hashing, and 8p without hashing. Otherwise, the
+/// queue is 4p + entry mod 4 with 32 pools, 2p + entry mod 2 with 64 pools and hashing, and 2p with 64 pools alone.
 pub fn queue_is_by_the_mode()
     ensures { QueuesByMode }
 {}

@@ -1,8 +1,9 @@
 //! Where a received frame goes: the address filter, the pool, and the queue.
 //!
-//! [`sort`] decides these from the registers: whether the frame's destination address is accepted (RAL and RAH, MTA,
-//! FCTRL), which pool gets it (MPSAR, VT_CTL, VFRE), and which queue (MRQC, GCR_EXT, and the frame's RSS hash with
-//! RSSRK and RETA). The definitions are in `specs/`. No call allocates. The device core depends on this crate.
+//! [`sort`] makes three decisions from the registers. It decides whether the frame's destination address is accepted
+//! (RAL and RAH, MTA, FCTRL). It decides which pool receives the frame (MPSAR, VT_CTL, VFRE). It decides which queue
+//! receives the frame (MRQC, GCR_EXT, and the frame's RSS hash with RSSRK and RETA). The definitions are in `specs/`.
+//! No call allocates. The device core depends on this crate.
 //!
 //! Source: Intel 82599 datasheet, sections on packet filtering and on receive queue assignment.
 #![tactic(auto)]

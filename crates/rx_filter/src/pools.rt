@@ -12,8 +12,8 @@ use register_file::{Dir, Mode, QueueMode, RegisterFile, RowId, queues_of};
 /// The maximum number of pools.
 const POOLS: u16 = 64;
 
-/// Returns the pool that receives a frame. It is below 64 and has queues according to MRQC; it is 0 if pools aren't in
-/// use.
+/// Returns the pool that receives a frame. The pool is below 64 and has queues according to MRQC. If pools aren't in
+/// use, the pool is 0.
 #[tactic(auto, unfolding(crate::specs::Pools::chosen_pool))]
 pub(crate) fn chosen_pool(registers: &RegisterFile, frame: &[u8]) -> Result<u16, Unwanted>
     ensures chosen { result ≡ chosen_pool registers.now frame.now }
@@ -34,7 +34,8 @@ pub fn uses_pools(registers: &RegisterFile) -> bool
     has_flag(registers.word(RowId::VtCtl, 0), VtCtl::VT_ENA)
 }
 
-/// Returns the lowest pool of the first receive address that a frame matches, or else the default pool.
+/// Returns the lowest pool of the first receive address that a frame matches. If there is no such pool, returns the
+/// default pool, if any.
 fn selected_pool(registers: &RegisterFile, frame: &[u8]) -> Option<u16>
     ensures pool { result ≡ selected_pool registers.now frame.now }
     ensures range { IfSome result (λ pool. pool < 64) }
@@ -75,7 +76,7 @@ fn selects(registers: &RegisterFile, index: u16, pool: u16) -> bool
     )
 }
 
-/// Returns the pool of a frame for which no receive address selects one.
+/// Returns the default pool, if any: the pool of a frame for which no receive address selects a pool.
 fn default_pool(registers: &RegisterFile) -> Option<u16>
     ensures pool { result ≡ default_pool registers.now }
     ensures range { IfSome result (λ pool. pool < 64) }
@@ -88,7 +89,7 @@ fn default_pool(registers: &RegisterFile) -> Option<u16>
     }
 }
 
-/// Checks that a frame's pool has queues and that its reception is enabled.
+/// Checks that a frame's pool has queues and that reception is enabled for the pool.
 fn checked_pool(registers: &RegisterFile, pool: Option<u16>) -> Result<u16, Unwanted>
     requires { IfSome pool (λ pool. pool < 64) }
     ensures checked { result ≡ checked_pool registers.now pool }
@@ -108,8 +109,9 @@ fn checked_pool(registers: &RegisterFile, pool: Option<u16>) -> Result<u16, Unwa
     Ok(pool)
 }
 
-/// Returns how the queues are divided into pools. With one of MRQC's codes for pools, there are 16 pools if GCR_EXT
-/// selects 16; otherwise 32 with code 0xA, and 64 with the others. `Off` with any other code.
+/// Returns how the queues are divided into pools. If MRQC has a code for pools, there are 16 pools if GCR_EXT selects
+/// 16. Otherwise, there are 32 pools with code 0xA, and 64 with the other codes for pools. With any other code, the
+/// result is `Off`.
 pub(crate) fn parting(code: QueueMode, mode: Mode) -> Mode
     ensures { result ≡ parting code mode }
 {
@@ -124,7 +126,7 @@ pub(crate) fn parting(code: QueueMode, mode: Mode) -> Mode
     }
 }
 
-/// Whether a pool has queues under this division.
+/// Whether a pool has queues when the queues are divided by this mode.
 fn has_queues(mode: Mode, pool: u16) -> bool
     requires { pool < 64 }
     ensures { result ≡ has_queues mode pool }

@@ -19,11 +19,12 @@ use register_file::{
     Mode, QueueMode, RegisterFile, RowId, choose_bytes, classify, entry, queue_in,
 };
 
-/// Returns the receive queue of a frame, or why the frame is dropped. The frame excludes its frame check sequence. It
-/// may contain any bytes, and bytes past its end are read as 0.
+/// Returns the receive queue of a frame, or why the frame is dropped. The frame excludes its frame check sequence. The
+/// frame may contain any bytes, and bytes past its end are read as 0.
 ///
-/// Errors: `Filter` if the frame's destination isn't accepted. While VT_CTL bit 0 is 1, also `NoPool` if no pool is
-/// selected or the pool has no queues; and, after that check, `PoolOff` if the pool's reception is disabled.
+/// Errors: `Filter` if the frame's destination isn't accepted. While VT_CTL bit 0 is 1, two more errors are possible:
+/// `NoPool` if no pool is selected or the selected pool has no queues; and, after that check, `PoolOff` if reception is
+/// disabled for the pool.
 ///
 /// Intel 82599 datasheet, sections on packet filtering and on receive queue assignment.
 #[tactic(auto, unfolding(crate::specs::Sorting::sorted))]
@@ -39,7 +40,7 @@ pub fn sort(registers: &RegisterFile, frame: &[u8]) -> Result<Target, Unwanted>
     Ok(target(registers, frame, pool))
 }
 
-/// Returns the receive queue of a frame of this pool, and its RSS type and hash.
+/// Returns the receive queue of a frame that goes to this pool, and the frame's RSS type and hash.
 #[tactic(auto, unfolding(crate::specs::Sorting::target_of))]
 fn target(registers: &RegisterFile, frame: &[u8], pool: u16) -> Target
     requires range { pool < 64 }
@@ -70,7 +71,7 @@ fn entry_at(registers: &RegisterFile, rss: u8, hash: u32) -> u8
     entry(registers.redirection(), hash)
 }
 
-/// Returns the hash that descriptors report: 0 unless RXCSUM enables it.
+/// Returns the hash that descriptors report: the frame's hash if RXCSUM enables hashes, otherwise 0.
 fn reported(registers: &RegisterFile, hash: u32) -> u32
     ensures { result ≡ (if has_bit PCSD (word_of registers.now Rxcsum 0) then hash else 0) }
 {

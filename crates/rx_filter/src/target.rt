@@ -5,6 +5,6 @@ pub struct Target {
     pub queue: u16,
     /// The RSS type, 0 to 15.
     pub rss: u8,
-    /// The RSS hash, or 0 if descriptors report none.
+    /// The RSS hash, or 0 if descriptors report no hash.
     pub hash: u32,
 }

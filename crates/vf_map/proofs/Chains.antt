@@ -1,4 +1,4 @@
--- Lemmas: finding an offset in a list of entries that consists of parts.
+-- Lemmas about finding an offset in a list of entries that consists of parts.
 use Rattle.std.proofs.Common.{◌≡◌, ◌≢◌, ℕ, zero, suc, ◌+◌, ◌<◌, ◌≤◌, true, ◌==◌, nat_lt, List, [], ◌∷◌, ◌++◌, map, find, Some, None, refl, ap, sym, ◌∙◌, inl, inr, arith}
 use Rattle.std.specs.List.{flat_map, range_with_len, list_all}
 use Rattle.std.proofs.lemmas.Bool.{cases_Bool, cond-true, cond-false, eqb-true, eq-eqb, and_parts, ltb-true, false_from_ne_true, both_ways}
@@ -8,7 +8,7 @@ use Rattle.vf_map.specs.Map.{Entry, found, distance, side_entries}
 use Rattle.vf_map.specs.Parts.{place_at, row_after, of_queue}
 use Rattle.vf_map.proofs.LocatedAt.{located_at}
 
--- The first part has the offset.
+-- If the first part has the offset, searching the list finds the first part's place.
 pub in_first : (es fs : List Entry) (o : ℕ) (a : Place) → place_at es o ≡ Some a → place_at (es ++ fs) o ≡ Some a
 in_first [] fs o a e = cc
 in_first (x ∷ es) fs o a e =
@@ -17,7 +17,7 @@ in_first (x ∷ es) fs o a e =
       | inr f ↦ cond-false (x.0 == o) _ _ f ∙ in_first es fs o a (sym (cond-false (x.0 == o) _ _ f) ∙ e)
     ]
 
--- The first part doesn't have the offset.
+-- If the first part doesn't have the offset, searching the list gives the same result as searching the second part.
 pub in_second : (es fs : List Entry) (o : ℕ) → place_at es o ≡ None → place_at (es ++ fs) o ≡ place_at fs o
 in_second [] fs o e = refl
 in_second (x ∷ es) fs o e =
@@ -26,7 +26,7 @@ in_second (x ∷ es) fs o e =
       | inr f ↦ cond-false (x.0 == o) _ _ f ∙ in_second es fs o (sym (cond-false (x.0 == o) _ _ f) ∙ e)
     ]
 
--- No entry has the offset.
+-- If no entry has the offset, the search finds nothing.
 pub in_no_word : (key : ℕ → ℕ) (value : ℕ → Place) (k n o : ℕ) → ((w : ℕ) → k ≤ w → w < k + n → key w ≢ o) →
     place_at (map (λ x. (key x, value x)) (range_with_len k n)) o ≡ None
 in_no_word key value k zero o free = refl
@@ -36,7 +36,7 @@ in_no_word key value k (suc n) o free =
     cond-false (key k == o) _ _ (false_from_ne_true _ (λ t. free k low high (eqb-true _ _ t)))
     ∙ in_no_word key value (k + 1) n o (λ w l h. free w (omega arith) (omega arith))
 
--- One entry has the offset.
+-- If exactly one entry has the offset, the search finds that entry's place.
 pub in_word : (key : ℕ → ℕ) (value : ℕ → Place) (k n o w : ℕ) → key w ≡ o → k ≤ w → w < k + n →
     ((y : ℕ) → key y ≡ o → y ≡ w) →
     place_at (map (λ x. (key x, value x)) (range_with_len k n)) o ≡ Some (value w)
@@ -50,7 +50,7 @@ in_word key value k (suc n) o w e l h one =
           cond-false (key k == o) _ _ f ∙ in_word key value (k + 1) n o w e (omega arith) (omega arith) one
     ]
 
--- No piece has the offset.
+-- If no part has the offset, searching the list finds nothing.
 pub in_no_piece : (g : ℕ → List Entry) (k n o : ℕ) → ((w : ℕ) → k ≤ w → w < k + n → place_at (g w) o ≡ None) →
     place_at (flat_map g (range_with_len k n)) o ≡ None
 in_no_piece g k zero o free = refl
@@ -58,7 +58,7 @@ in_no_piece g k (suc n) o free =
     in_second (g k) (flat_map g (range_with_len (k + 1) n)) o (free k (omega arith) (omega arith))
     ∙ in_no_piece g (k + 1) n o (λ w l h. free w (omega arith) (omega arith))
 
--- The second part doesn't have the offset.
+-- If the second part doesn't have the offset, searching the list gives the same result as searching the first part.
 pub in_either : (es fs : List Entry) (o : ℕ) → place_at fs o ≡ None → place_at (es ++ fs) o ≡ place_at es o
 in_either [] fs o e = e
 in_either (x ∷ es) fs o e =
@@ -67,7 +67,7 @@ in_either (x ∷ es) fs o e =
       | inr f ↦ cond-false (x.0 == o) _ _ f ∙ in_either es fs o e ∙ sym (cond-false (x.0 == o) _ _ f)
     ]
 
--- At most one piece has the offset.
+-- If all parts except one lack the offset, searching the list gives the same result as searching that part.
 pub in_piece : (g : ℕ → List Entry) (k n o w : ℕ) → k ≤ w → w < k + n →
     ((y : ℕ) → k ≤ y → y < k + n → y ≢ w → place_at (g y) o ≡ None) →
     place_at (flat_map g (range_with_len k n)) o ≡ place_at (g w) o
@@ -84,7 +84,7 @@ in_piece g k (suc n) o w l h free =
           ∙ in_piece g (k + 1) n o w (omega arith) (omega arith) (λ y a b c. free y (omega arith) (omega arith) c)
     ]
 
--- The registers of a side, starting at an offset.
+-- Searching a side's registers, which start at an offset, finds the register at the given distance from that offset.
 pub in_side : (c q r : ℕ) (first : RowId) (rs : List RowId) →
     place_at (side_entries c first rs q) (c + r) ≡ of_queue (row_after first rs r) q
 in_side c q r first [] = refl
@@ -102,7 +102,7 @@ in_side c q r first (x ∷ rs) =
           ∙ ap (λ o. of_queue o q) (sym (cond-false (distance first x == r) (Some x) (row_after first rs r) f))
     ]
 
--- The offset is outside the side's registers.
+-- If the offset is outside the side's registers, searching the side's registers finds nothing.
 pub in_no_side : (c q o : ℕ) (first : RowId) (rs : List RowId) →
     list_all (λ x. nat_lt (distance first x) 0x40) rs ≡ true →
     ((x : ℕ) → x < 0x40 → c + x ≢ o) → place_at (side_entries c first rs q) o ≡ None

@@ -1,4 +1,4 @@
--- Lemmas: the pool of a queue, the queues of a pool, and the listed offsets.
+-- Lemmas about the pool of a queue, the queues of a pool, and the listed offsets.
 use Rattle.std.proofs.Common.{◌≡◌, ◌≢◌, ℕ, ◌*◌, ◌-◌, ◌+◌, ◌<◌, ◌≤◌, Bool, true, ◌==◌, ◌&&◌, not, nat_lt, List, [], ◌∷◌, Some, None, refl, ap, sym, ◌∙◌, subst, inl, inr, arith, ◌↔◌}
 use Rattle.std.specs.Prelude.{All, AllPairs}
 use Rattle.std.specs.List.{list_all}
@@ -16,7 +16,7 @@ use Rattle.vf_map.specs.Map.{Entry, entries}
 pub Some-one : {A : Type 0} {x y : A} → Some x ≡ Some y → x ≡ y
 Some-one e = cc
 
--- A queue in one of the pools belongs to the pool with its quotient.
+-- The queue is one of the queues of pool `v`, if each pool has `each` queues.
 pub record IsWithin (pools each v queue : ℕ) : Type 0 where
   pub pool : v < pools
   pub low : v * each ≤ queue
@@ -60,7 +60,7 @@ among_within mode v queue a =
           absurd (subst (λ o. IsAmong o queue) is a)
     ]
 
--- A queue's pool is the pool that contains the queue.
+-- `pool_of` returns pool v for a queue if and only if `queues_of` returns a range that contains the queue for v.
 pub inverse : (mode : Mode) (v queue : ℕ) → (pool_of mode queue ≡ Some v) ↔ IsAmong (queues_of mode v) queue
 inverse mode v queue = (
   λ e. within_among mode v queue (pool_within mode v queue e),

@@ -1,4 +1,4 @@
--- Lemmas: the numbers of pools and queues in each mode.
+-- Lemmas about the numbers of pools and queues in each mode.
 use Rattle.std.proofs.Common.{◌≡◌, ℕ, ◌+◌, ◌*◌, ◌/◌, ◌%◌, ◌<◌, ◌≤◌, Bool, true, false, cond, ◌&&◌, nat_lt, Some, None, refl, ap, ◌∙◌, arith}
 use Rattle.std.specs.Prelude.{nat_le}
 use Rattle.std.proofs.lemmas.Bool.{cond-true, lt-ltb, ltb-true}
@@ -15,13 +15,13 @@ few_pools Pools16 v h = omega (arith, h)
 few_pools Pools32 v h = omega (arith, h)
 few_pools Pools64 v h = omega (arith, h)
 
--- Queue `x` of the pool is this queue of the device.
+-- Queue `x` of the pool is queue `queue` of the device.
 pub record IsQueue (mode : Mode) (v x queue : ℕ) : Type 0 where
   pub pool : v < pools_in mode
   pub own : x < queues_each mode
   pub is : queue ≡ v * queues_each mode + x
 
--- The queue belongs to the pool and is below 128, and its word for a pair of queues is one of the pool's.
+-- The queue belongs to the pool and is below 128, and the vector word that serves the queue is one of the pool's words.
 pub record IsPlaced (mode : Mode) (v x queue : ℕ) : Type 0 where
   pub pool : pool_of mode queue ≡ Some v
   pub word : v * queues_each mode / 2 + x / 2 ≡ queue / 2

@@ -1,4 +1,4 @@
--- Each register of the map belongs to the virtual function's pool or is shared.
+-- Each register in the map belongs to the virtual function's pool or is shared.
 use Rattle.std.proofs.Common.{◌≡◌, ◌≢◌, ℕ, zero, suc, ◌+◌, ◌*◌, ◌%◌, ◌<◌, ◌≤◌, Bool, true, ◌==◌, ◌&&◌, ◌||◌, nat_lt, List, [], ◌∷◌, Option, Some, None, refl, sym, ◌∙◌, subst, ◌⊎◌, inl, inr, arith}
 use Rattle.std.specs.List.{list_all, range_with_len}
 use Rattle.std.proofs.lemmas.Bool.{cases_Bool, cond-true, cond-false, eqb-true, ltb-true, and_parts, or_cases, ltb-false, eq-eqb, both_ways}
@@ -14,11 +14,11 @@ use Rattle.vf_map.specs.Parts.{place_at}
 use Rattle.vf_map.proofs.LocatedAt.{located_at}
 use Rattle.vf_map.proofs.Whole.{located_beyond, located_none, located_some}
 
--- Whether an entry is at an aligned offset, and its place is valid and either the pool's or shared.
+-- Whether an entry's offset is aligned, and its place is valid and either belongs to the pool or is shared.
 is_sound : Mode → (v offset : ℕ) → Place → Bool
 is_sound mode v o p = (o % 4 == 0) && nat_lt p.index (row_of p.row).count && (is_of_pool mode v p || is_shared p)
 
--- Whether this holds for all entries of a function.
+-- Whether `is_sound` is true for all entries of a function.
 all_sound : Mode → (v : ℕ) → Bool
 all_sound mode v = list_all (λ e. is_sound mode v e.0 e.1) (entries v (v * queues_each mode) (queues_each mode))
 
@@ -59,7 +59,7 @@ located_place : (m : Option Place) (p : Place) → located_at m ≡ Register p �
 located_place None p e = cc
 located_place (Some q) p e = cc
 
--- A located offset is an entry's offset, and the function has a pool.
+-- If an offset reaches a register, the function has a pool, and one of the function's entries has the offset.
 located_entry : (mode : Mode) (vfs v o : ℕ) (p : Place) → located mode vfs v o ≡ Register p →
     (v < pools_in mode) × (place_at (entries v (v * queues_each mode) (queues_each mode)) o ≡ Some p)
 located_entry mode vfs v o p e =

@@ -1,4 +1,4 @@
--- Lemmas: the number of queues in a pool, and where a function finds its queues' registers.
+-- Lemmas about the number of queues in a pool, and about the offsets at which a function finds its queues' registers.
 use Rattle.std.proofs.Common.{◌≡◌, ◌≢◌, ℕ, ◌+◌, ◌-◌, ◌*◌, ◌/◌, ◌%◌, ◌<◌, ◌≤◌, true, nat_lt, List, Option, Some, None, refl, ap, sym, ◌∙◌, subst, inl, inr, arith}
 use Rattle.std.proofs.lemmas.Bool.{cases_Bool, cond-true, cond-false, ne_eqb, lt-ltb}
 use Rattle.reg_table.specs.Rows.{rows}
@@ -57,7 +57,7 @@ each_queue mode queue other small =
 
 -- ---- the registers of queues
 
--- A row at this distance from the first row of its side.
+-- A row of a side is at distance `b`, in bytes, from the side's first row.
 record StandsAt (first row : RowId) (rows : List RowId) (b : ℕ) : Type 0 where
   same : distance first row ≡ b
   near : b < 0x40
@@ -90,7 +90,8 @@ transmit_stands Tdwbal e = (0x38, record { same = refl; near = omega arith; own 
 transmit_stands Tdwbah e = (0x3C, record { same = refl; near = omega arith; own = omega arith; is = refl })
 transmit_stands other e = cc
 
--- An offset after the interrupt registers that isn't one of the function's single registers.
+-- If an offset is after the interrupt registers and isn't the offset of a single register, searching the single
+-- registers finds nothing.
 own_absent : (v o : ℕ) → 0x120 ≤ o → o ≢ 0x140 → o ≢ 0x2FC → o ≢ 0x300 → o ≢ 0x101C → o ≢ 0x201C
     → place_at (own_entries v) o ≡ None
 own_absent v o past a b c d e =
@@ -111,7 +112,8 @@ own_absent v o past a b c d e =
       ne_eqb 0x201C o (omega arith),
     ) refl
 
--- An offset that isn't in mailbox memory either: a queue's register, or a vector register.
+-- The next lemmas are for offsets that aren't in mailbox memory either: those of queues' registers and of vector
+-- registers.
 function_absent : (v o : ℕ) → 0x1000 ≤ o → o % 0x40 ≢ 0x1C → place_at (function_entries v) o ≡ None
 function_absent v o high other =
     in_second (own_entries v) (message_entries v) o

@@ -28,7 +28,7 @@ in_range Located.Absent mode vfs v o e = tt
 in_range Located.Hole mode vfs v o e = tt
 in_range (Register p) mode vfs v o e = located_in_range mode vfs v o p (sym e)
 
--- The address of a located place.
+-- If an offset reaches a place, the offset is mapped to an address that has this place and shows all its bits.
 pub reads_back : (mode : Mode) (vfs v o : ℕ) (p : Place) → located mode vfs v o ≡ Register p →
     (a : ℕ) × (mapped mode vfs v o ≡ Pf a) × (place_among runs a ≡ Some p) × (view_among runs a ≡ 0xFFFFFFFF)
 reads_back mode vfs v o p e =

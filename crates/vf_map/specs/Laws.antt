@@ -1,4 +1,4 @@
--- The laws of the map of the virtual functions.
+-- The laws about the map from virtual functions' offsets to registers.
 use Rattle.std.specs.Prelude.{ℕ, ◌≡◌, ◌≢◌, ◌↔◌, ◌+◌, ◌*◌, ◌/◌, ◌%◌, ◌<◌, ◌≤◌, ◌⊎◌, IsTrue, Option, Some, None, AllPairs}
 use Rattle.reg_table.specs.Place.{place_among, view_among}
 use Rattle.reg_table.specs.Rows.{row_of}
@@ -27,14 +27,15 @@ OffsetsHaveOneRegister =
     (mode : Mode) (v first count : ℕ) → queues_of mode v ≡ Some (first, count) →
     AllPairs (λ e f. e.0 ≢ f.0) (entries v first count)
 
--- If an offset reaches a register, it is mapped to an address of that register, which shows all bits of the word.
+-- If an offset reaches a register, the offset is mapped to an address of that register, and this address shows all bits
+-- of the register's word.
 abbrev pub AddressesReadBack : Type 0
 AddressesReadBack =
     (mode : Mode) (vfs v offset : ℕ) (p : Place) → located mode vfs v offset ≡ Register p →
     (address : ℕ) × (mapped mode vfs v offset ≡ Pf address) × (place_among runs address ≡ Some p)
     × (view_among runs address ≡ 0xFFFFFFFF)
 
--- A register that a virtual function reaches belongs to its pool, or is STATUS or LINKS.
+-- A register that a virtual function reaches belongs to that function's pool, or is STATUS or LINKS.
 abbrev pub RegistersAreThePools : Type 0
 RegistersAreThePools =
     (mode : Mode) (vfs v offset : ℕ) (p : Place) → located mode vfs v offset ≡ Register p →
@@ -59,7 +60,7 @@ PoolsAreApart =
     x < queues_each mode → y < queues_each mode →
     (v * queues_each mode + x ≢ w * queues_each mode + y) × (v * queues_each mode + x < 128)
 
--- The queue is one of the given number of queues starting at the first.
+-- The queue is in a range of queues, given as the first queue and the number of queues.
 abbrev pub IsAmong : Option (ℕ × ℕ) → (queue : ℕ) → Type 0
 IsAmong None queue = ⊥
 IsAmong (Some queues) queue = (queues.0 ≤ queue) × (queue < queues.0 + queues.1)
@@ -71,9 +72,9 @@ EachQueueHasOnePool =
     (v : ℕ) × (v < pools_in mode) × IsAmong (queues_of mode v) queue
     × ((w : ℕ) → IsAmong (queues_of mode w) queue → w ≡ v)
 
--- The registers of a function's queue are at offsets given by the queue's index `x` among the function's queues. The
--- receive registers are at 0x1000 + 0x40 * x and the transmit registers at 0x2000 + 0x40 * x, with the same distances
--- as in the device. Each pair of queues has one vector register: that of pair `y` is at 0x120 + 4 * y.
+-- The offsets of a queue's registers depend on the queue's index `x` among the function's queues. The receive registers
+-- start at 0x1000 + 0x40 * x and the transmit registers at 0x2000 + 0x40 * x, with the same distances between registers
+-- as in the device. Each pair of queues has one vector register: the register for pair `y` is at 0x120 + 4 * y.
 pub record QueueRegistersAreThere : Type 0 where
   pub receive : (mode : Mode) (vfs v first count x : ℕ) (row : RowId) → v < vfs →
       queues_of mode v ≡ Some (first, count) → x < count → IsTrue (is_receive row) →
@@ -85,6 +86,6 @@ pub record QueueRegistersAreThere : Type 0 where
       queues_of mode v ≡ Some (first, count) → x < count / 2 →
       located mode vfs v (0x120 + 4 * x) ≡ Register (record { row = Pvtivar; index = first / 2 + x })
 
--- A queue's pool is the pool that contains the queue.
+-- `pool_of` returns pool v for a queue if and only if `queues_of` returns a range that contains the queue for v.
 abbrev pub PoolIsWhereTheQueueIs : Type 0
 PoolIsWhereTheQueueIs = (mode : Mode) (v queue : ℕ) → (pool_of mode queue ≡ Some v) ↔ IsAmong (queues_of mode v) queue

@@ -71,7 +71,7 @@ entries vf first count =
     function_entries vf ++ vector_entries first count
     ++ flat_map (λ x. queue_entries x (first + x)) (range_with_len 0 count)
 
--- What an offset reaches, from the entry that has it.
+-- What an offset reaches, given the entry that has the offset, if any.
 abbrev pub found : Option Entry → Located
 found None = located_as.Hole
 found (Some entry) = located_as.Register entry.1
@@ -80,13 +80,13 @@ abbrev pub located_in : ℕ → Option (ℕ × ℕ) → ℕ → Located
 located_in vf None offset = located_as.Absent
 located_in vf (Some queues) offset = found (find (λ entry. entry.0 == offset) (entries vf queues.0 queues.1))
 
--- What an offset of a virtual function reaches, if there are `vfs` functions. It is absent if the function doesn't
--- exist or the mode has no pool for it; otherwise it is a register or a hole.
+-- What an offset of a virtual function reaches, if there are `vfs` functions. The result is `Absent` if the function
+-- doesn't exist or the mode has no pool for the function; otherwise it is a register or a hole.
 unfoldable pub located : Mode → (vfs vf offset : ℕ) → Located
 located mode vfs vf offset =
     if nat_lt vf vfs then located_in vf (queues_of mode vf) offset else located_as.Absent
 
--- What an offset is mapped to, like `located`, but with the register's first address.
+-- What an offset is mapped to: the same as for `located`, but with a register's first address instead of its place.
 abbrev pub at_address : Option ℕ → Mapped
 at_address None = mapped_as.Hole
 at_address (Some address) = mapped_as.Pf address

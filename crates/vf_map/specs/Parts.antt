@@ -1,4 +1,4 @@
--- The map by its parts, in the order in which the code searches them.
+-- The parts of the map, in the order in which the code searches them.
 use Rattle.std.specs.Prelude.{ℕ, ◌+◌, ◌==◌, List, [], ◌∷◌, find, Option, Some, None, if◌then◌else◌}
 use Rattle.std.specs.List.{flat_map, range_with_len}
 use Rattle.reg_table.specs.declared.place.Place.{Place}
@@ -10,7 +10,7 @@ abbrev pub place_at : List Entry → ℕ → Option Place
 place_at [] offset = None
 place_at (entry ∷ entries) offset = if entry.0 == offset then Some entry.1 else place_at entries offset
 
--- The row of a side at this distance from the first one.
+-- The row of a side that is at this distance, in bytes, from the side's first row.
 abbrev pub row_after : (first : RowId) → List RowId → ℕ → Option RowId
 row_after first rows bytes = find (λ row. distance first row == bytes) rows
 

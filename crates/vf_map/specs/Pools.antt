@@ -27,16 +27,17 @@ queues_each Pools64 = 2
 abbrev pub most_queues : ℕ
 most_queues = 8
 
--- The pool's queue that a number selects: its index in the pool is the number modulo the number of queues in a pool.
+-- The queue that a number selects in a pool. The queue's index in the pool is the number modulo the number of queues in
+-- a pool.
 abbrev pub queue_in : Mode → (pool number : ℕ) → ℕ
 queue_in mode pool number = pool * queues_each mode + number % queues_each mode
 
--- The first queue of a pool and the number of its queues; `None` if the mode doesn't have the pool.
+-- The first queue of a pool and the number of its queues, or `None` if the mode doesn't have the pool.
 abbrev pub queues_of : Mode → ℕ → Option (ℕ × ℕ)
 queues_of mode pool =
     if nat_lt pool (pools_in mode) then Some (pool * queues_each mode, queues_each mode) else None
 
--- The pool of a queue; `None` if the mode has no pool for it.
+-- The pool of a queue, or `None` if the mode has no pool for the queue.
 abbrev pub pool_of : Mode → ℕ → Option ℕ
 pool_of mode queue =
     if nat_lt queue (pools_in mode * queues_each mode) then Some (queue / queues_each mode) else None

@@ -1,4 +1,5 @@
-//! Laws of the map of the virtual functions. Each law is the contract of a function with an empty body.
+//! Laws about the map from virtual functions' offsets to registers. Each law is the contract of a function with an
+//! empty body.
 
 ghost use Rattle.vf_map.specs.Laws.{OffsetsHaveOneRegister, AddressesReadBack, RegistersAreThePools, FunctionsAreApart, AddressesAreAligned, PoolsAreApart, EachQueueHasOnePool, QueueRegistersAreThere, PoolIsWhereTheQueueIs};
 
@@ -7,12 +8,13 @@ pub fn offsets_have_one_register()
     ensures { OffsetsHaveOneRegister }
 {}
 
-/// If an offset reaches a register, it is mapped to an address of that register, which shows all bits of the word.
+/// If an offset reaches a register, the offset is mapped to an address of that register, and this address shows all
+/// bits of the register's word.
 pub fn addresses_read_back()
     ensures { AddressesReadBack }
 {}
 
-/// A register that a virtual function reaches belongs to its pool, or is STATUS or LINKS.
+/// A register that a virtual function reaches belongs to that function's pool, or is STATUS or LINKS.
 pub fn registers_are_the_pools()
     ensures { RegistersAreThePools }
 {}
@@ -37,14 +39,15 @@ pub fn each_queue_has_one_pool()
     ensures { EachQueueHasOnePool }
 {}
 
-/// The registers of a function's queue are at offsets given by the queue's index `x` among the function's queues. The
-/// receive registers are at 0x1000 + 0x40 * x and the transmit registers at 0x2000 + 0x40 * x, with the same distances
-/// as in the device. Each pair of queues has one vector register: that of pair `y` is at 0x120 + 4 * y.
+/// The offsets of a queue's registers depend on the queue's index `x` among the function's queues. The receive
+/// registers start at 0x1000 + 0x40 * x and the transmit registers at 0x2000 + 0x40 * x, with the same distances
+/// between registers as in the device. Each pair of queues has one vector register: the register for pair `y` is at
+/// 0x120 + 4 * y.
 pub fn queue_registers_are_there()
     ensures { QueueRegistersAreThere }
 {}
 
-/// A queue's pool is the pool that contains the queue.
+/// `pool_of` returns pool v for a queue if and only if `queues_of` returns a range that contains the queue for v.
 pub fn pool_is_where_the_queue_is()
     ensures { PoolIsWhereTheQueueIs }
 {}

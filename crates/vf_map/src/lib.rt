@@ -1,10 +1,11 @@
 //! The virtual functions of the Intel 82599: which register of the device an offset in a virtual function's register
 //! space reaches.
 //!
-//! GCR_EXT divides the 128 queues into 16, 32 or 64 pools, and virtual function v has pool v: [`mode_of`],
-//! [`queues_of`], [`pool_of`] and [`queue_in`]. [`locate`] maps a function's offsets to registers of the device,
-//! following a table in `specs/Map.antt`; [`map`] returns their addresses, from the register table. `specs/Owner.antt`
-//! says which registers belong to a pool. No call allocates. The registers and the device core depend on this crate.
+//! GCR_EXT divides the 128 queues into 16, 32 or 64 pools, and virtual function v has pool v. [`mode_of`],
+//! [`queues_of`], [`pool_of`] and [`queue_in`] compute this division. [`locate`] maps a function's offsets to registers
+//! of the device, following a table in `specs/Map.antt`; [`map`] returns their addresses, from the register table.
+//! `specs/Owner.antt` defines which registers belong to a pool. No call allocates. The registers and the device core
+//! depend on this crate.
 //!
 //! Source: Intel 82599 datasheet, section on the registers of virtual functions, with this project's profile.
 #![tactic(auto)]

@@ -19,16 +19,16 @@ const MESSAGES: u32 = 0x200;
 
 const MESSAGE_WORDS: u16 = 16;
 
-/// The size in bytes of the register space of each side's queues. The receive queues are in the second block of this
-/// size, the transmit queues in the third.
+/// The size in bytes of the register space for all queues' receive sides, and of the space for all queues' transmit
+/// sides. The receive queues are in the second block of this size, the transmit queues in the third.
 const SIDE: u32 = 0x1000;
 
 /// The size in bytes of the register space of one side of a queue.
 const QUEUE: u32 = 0x40;
 
-/// Maps an offset of virtual function v, if there are `vfs` functions. Returns `Absent` if v isn't below `vfs` or the
-/// mode has no pool v; otherwise the `Register` at the offset, or `Hole` if there is none. Offsets are in bytes. An
-/// offset that isn't a multiple of 4 is a hole.
+/// Maps an offset of virtual function v, given that there are `vfs` functions. Returns `Absent` if v isn't below `vfs`
+/// or the mode has no pool v; otherwise the `Register` at the offset, or `Hole` if no register is there. Offsets are in
+/// bytes. An offset that isn't a multiple of 4 is a hole.
 ///
 /// Intel 82599 datasheet, section on the registers of virtual functions.
 pub fn locate(mode: Mode, vfs: u8, v: u8, offset: u32) -> Located
@@ -59,7 +59,7 @@ pub fn map(mode: Mode, vfs: u8, v: u8, offset: u32) -> Mapped
     }
 }
 
-/// Returns the register at an offset of function v, which has `count` queues, starting at `first`.
+/// Returns the register at an offset of function v. The function has `count` queues, starting with queue `first`.
 fn place(v: u8, first: u8, count: u8, offset: u32) -> Option<Place>
     requires { count ≤ most_queues }
     ensures { result ≡ place_at (entries v first count) offset }
@@ -134,7 +134,8 @@ fn message_place(v: u8, offset: u32) -> Option<Place>
     }
 }
 
-/// Returns the vector register, PVTIVAR, at an offset; there is one for each pair of queues of the function.
+/// Returns the vector register, PVTIVAR, at an offset. The function has one vector register for each pair of its
+/// queues.
 fn vector_place(first: u8, count: u8, offset: u32) -> Option<Place>
     ensures { result ≡ place_at (vector_entries first count) offset }
 {

@@ -10,10 +10,10 @@ const MODE_MASK: u32 = 0x3;
 /// The number of queues, each with a receive and a transmit side.
 pub const QUEUES: u16 = 128;
 
-/// The maximum number of virtual functions of a device.
+/// The maximum number of virtual functions in a device.
 pub const MAX_VFS: u8 = 63;
 
-/// Returns the mode in a word of GCR_EXT: its bits 1:0. The other bits are ignored.
+/// Returns the mode that bits 1:0 of a GCR_EXT word select. The other bits are ignored.
 pub fn mode_of(gcr_ext: u32) -> Mode
     ensures { result ≡ mode_of gcr_ext }
 {
@@ -51,8 +51,9 @@ pub fn pool_of(mode: Mode, queue: u16) -> Option<u8>
     }
 }
 
-/// Returns the queue of a pool, below 128, that a number selects, for example an entry of the redirection table. The
-/// queue's index in the pool is the number modulo the pool's number of queues. The mode must have the pool.
+/// Returns the queue, below 128, that a number selects in a pool. The number is, for example, an entry in the
+/// redirection table. The queue's index in the pool is the number modulo the pool's number of queues. The mode must
+/// have the pool.
 pub fn queue_in(mode: Mode, pool: u16, number: u8) -> u16
     requires { pool < pools_in mode }
     ensures queue { result ≡ queue_in mode pool number }
@@ -66,7 +67,8 @@ pub fn queue_in(mode: Mode, pool: u16, number: u8) -> u16
     }
 }
 
-/// Whether a queue belongs to a pool. In a mode without pools, no queue does; queues 128 and above never do.
+/// Whether a queue belongs to a pool. In a mode without pools, no queue belongs to a pool. Queues 128 and above never
+/// belong to a pool.
 pub fn has_queue(mode: Mode, pool: u16, queue: u16) -> bool
     ensures { result ≡ has_queue mode pool queue }
 {

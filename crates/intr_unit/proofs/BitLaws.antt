@@ -1,4 +1,4 @@
--- Lemmas: what each call except a message does to each bit.
+-- Lemmas about what each call, except a message, does to each bit.
 use Rattle.std.proofs.Common.{◌≡◌, ℕ, ◌<◌, Bool, true, false, not, ◌&&◌, refl, sym, ap, ◌∙◌}
 use Rattle.intr_unit.specs.declared.group.Group.{Group}
 use Rattle.intr_unit.specs.declared.group.Group.TheVariants.{Pf, Vf}
@@ -66,7 +66,7 @@ auto_writes_change = record {
 
 -- ---- reads
 
--- Removing a set that contains everything leaves nothing.
+-- Removing a superset of a set leaves no bits of the set.
 outside : (inner outer : Bool) → (inner ≡ true → outer ≡ true) → (inner && not outer) ≡ (inner && false)
 outside true true h = refl
 outside true false h = sym (h refl)

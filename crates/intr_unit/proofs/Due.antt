@@ -1,4 +1,4 @@
--- Lemmas: the due bits as set operations, and the lowest of them, which is reported next.
+-- Lemmas about the due bits, computed by set operations, and about the lowest due bit, which is reported next.
 use Rattle.std.proofs.Common.{◌≡◌, ℕ, Bool, true, false, not, ◌&&◌, ◌<◌, refl, ap, sym, ◌∙◌, arith}
 use Rattle.std.specs.Prelude.{Some, None, is_some}
 use Rattle.std.proofs.lemmas.Bool.{false_from_ne_true}
@@ -12,7 +12,7 @@ use Rattle.intr_unit.proofs.SetLaws.{contains-difference}
 use Rattle.intr_unit.proofs.Subsets.{both_left, both_right}
 use Rattle.intr_unit.proofs.Finding.{IsFirst, find-first, find-first_of, find-none_of}
 
--- Unmasked causes that aren't reported and are routed.
+-- The causes that are enabled in the mask register, aren't reported, and are routed.
 abbrev remaining : Interrupts → ℕ → BitSet
 remaining s misc = intersection (difference (intersection s.causes s.enabled) s.reported) (routed_bits s.group misc)
 
@@ -32,7 +32,7 @@ remaining-is s misc =
     same_bits (remaining s misc) (due_bits s misc) (bits_where-lt _) (bits_where-lt _)
     (λ k h. contains-remaining s misc k h ∙ sym (contains-bits_where (is_due s misc) k h))
 
--- The bit that the code finds is the one reported next.
+-- The bit that the code finds is the bit that is reported next.
 pub lowest_of-remaining : (s : Interrupts) (misc : ℕ) →
     lowest_of (intersection (difference (intersection s.causes s.enabled) s.reported) (routed_bits s.group misc))
     ≡ next_bit s misc

@@ -1,4 +1,4 @@
--- Lemmas: searching a range of numbers for the first that passes a test.
+-- Lemmas about searching a range of numbers for the first number that passes a test.
 use Rattle.std.proofs.Common.{◌≡◌, ℕ, zero, suc, ◌+◌, ◌<◌, ◌≤◌, Bool, true, false, cond, refl, sym, ap, ◌∙◌}
 use Rattle.std.proofs.Common.{arith, inl, inr}
 use Rattle.std.specs.Prelude.{Option, Some, None}
@@ -20,7 +20,7 @@ find-none test zero from none = refl
 find-none test (suc n) from none =
     rw (none from (omega arith)) (find-none test n (from + 1) (λ i h. none i (omega arith)))
 
--- The number is what `find` returns for a range: the first that passes the test.
+-- The number is what `find` returns for a range: the first number that passes the test.
 pub record IsFirst (test : ℕ → Bool) (from below k : ℕ) : Type 0 where
   pub low : from ≤ k
   pub high : k < below

@@ -1,4 +1,4 @@
--- Lemmas: the bits of each group's registers, and the bits that a read clears, as words.
+-- Lemmas about the bits of each group's registers, and about the bits that a read clears, written as words.
 use Rattle.std.proofs.Common.{◌≡◌, ℕ, Bool, true, false, refl}
 use Rattle.intr_unit.specs.declared.group.Group.TheVariants.{Pf, Vf}
 use Rattle.intr_unit.specs.BitSet.{bits_below, bits_where, bits_from_to}

@@ -19,7 +19,7 @@ second_false : (a b : Bool) → b ≡ false → (a && b) ≡ false
 second_false true b p = p
 second_false false b p = refl
 
--- After masks are cleared and set again, all of them are 1 and none of their bits is marked as reported.
+-- After masks are cleared and set again, all these masks are 1, and none of their bits is marked as reported.
 unmasked : (enabled bits group bit : ℕ) → bit < 32 → contains bits bit ≡ true → contains group bit ≡ true →
     contains (union (difference enabled bits) (intersection bits group)) bit ≡ true
 unmasked enabled bits group bit h chosen exists =

@@ -1,4 +1,4 @@
--- Lemmas: which bit a message reports, and what it does to each bit.
+-- Lemmas about which bit a message reports, and what the message does to each bit.
 use Rattle.std.proofs.Common.{◌≡◌, ℕ, ◌<◌, Bool, false, refl, sym, ap, ◌∙◌, arith}
 use Rattle.std.proofs.Common.{inl, inr}
 use Rattle.std.specs.Prelude.{Option, Some, None, is_some}

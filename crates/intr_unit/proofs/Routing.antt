@@ -1,11 +1,11 @@
--- Lemmas: the bits that have a vector, as sets.
+-- Lemmas about the bits that have a vector, written as sets.
 use Rattle.std.proofs.Common.{◌≡◌, ℕ, refl}
 use Rattle.std.specs.Prelude.{Option, Some, None, is_some, nat_le, ◌==◌, if◌then◌else◌}
 use Rattle.intr_unit.specs.declared.group.Group.TheVariants.{Pf, Vf}
 use Rattle.intr_unit.specs.BitSet.{contains, bits_below, bits_where, union, when, only}
 use Rattle.intr_unit.specs.Group.{vector_of, other_vector, timer_vector, routed_bits}
 
--- The same holds for any vector of the other causes and of the TCP timer.
+-- The routed bits are the same for any vector of the other causes and any vector of the TCP timer.
 by_vectors : (other timer : Option ℕ) →
     union (union 0xFFFF (when (is_some other) 0x3FFF0000)) (when (is_some timer) (only 30))
     ≡ bits_where (λ bit. is_some (

@@ -1,4 +1,4 @@
--- Lemmas: what the results of set operations contain.
+-- Lemmas about what the results of set operations contain.
 use Rattle.std.proofs.Common.{◌≡◌, ℕ, suc, zero, ◌+◌, ◌-◌, ◌*◌, ◌^◌, ◌<◌, ◌≤◌, Bool, true, false, not, ◌&&◌, ◌||◌}
 use Rattle.std.proofs.Common.{eqb, leb, refl, sym, ap, ◌∙◌, subst, inl, inr, arith}
 use Rattle.std.specs.Prelude.{if◌then◌else◌}
@@ -12,11 +12,11 @@ use Rattle.intr_unit.specs.BitSet.{contains, bits_below, bits_where, union, inte
 use Rattle.intr_unit.specs.BitSet.{when, no_bits, bits_from_to}
 use Rattle.intr_unit.specs.Laws.{SetsHoldTheirBits}
 
--- The outcome of a test as a digit, 0 or 1.
+-- The result of a test as a digit, 0 or 1.
 abbrev digit : Bool → ℕ
 digit b = if b then 1 else 0
 
--- A digit above a number of `n` bits.
+-- If a digit is put above a number of `n` bits, the result has `n + 1` bits.
 digit_above-lt : (b : Bool) (n low : ℕ) → low < 2 ^ n → digit b * 2 ^ n + low < 2 ^ suc n
 digit_above-lt true n low h = omega (arith, two-pow-succ n)
 digit_above-lt false n low h = omega (arith, two-pow-succ n)
@@ -57,7 +57,7 @@ contains-bits_below (suc n) test k h =
           (ap (λ d. eqb d 1) (bit_at-digit_above (test n) n rest (bits_below-lt n test)) ∙ eqb-digit (test n))
     ]
 
--- What a set defined by a test contains.
+-- A set that is defined by a test contains a bit below 32 if and only if the bit passes the test.
 pub contains-bits_where : (test : ℕ → Bool) (k : ℕ) → k < 32 → contains (bits_where test) k ≡ test k
 unfolding bits_where
 contains-bits_where test k h = contains-bits_below 32 test k h
@@ -120,7 +120,7 @@ unfolding when
 contains-when true set k = refl
 contains-when false set k = contains-no_bits k
 
--- The bits that are in the auto-mask, if it acts.
+-- The given bits that are in the auto-mask, if the auto-mask acts.
 pub contains-acting : (acts : Bool) (bits mask k : ℕ) → k < 32 →
     contains (when acts (intersection bits mask)) k ≡ (acts && contains bits k && contains mask k)
 unfolding when

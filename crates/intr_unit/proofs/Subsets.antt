@@ -1,4 +1,4 @@
--- Lemmas: which sets are subsets of which.
+-- Lemmas that state which sets are subsets of other sets.
 use Rattle.std.proofs.Common.{◌≡◌, Bool, true, false, not, ◌&&◌, ◌||◌, refl, sym, ◌∙◌, ◌⊎◌, inl, inr}
 use Rattle.std.proofs.lemmas.Bool.{false≢true}
 use Rattle.intr_unit.specs.BitSet.{BitSet, no_bits, contains, union, intersection, difference, when, IsSubset}

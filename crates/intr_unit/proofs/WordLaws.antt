@@ -51,7 +51,7 @@ pub test-is : (word k : ℕ) → eqb (bit_and (word / 2 ^ k) 1) 1 ≡ contains w
 unfolding contains
 test-is word k = ap (λ d. eqb d 1) (shr_and_one word k)
 
--- The words that the machine computes are these sets.
+-- The word that each machine operation computes is the set that the matching set operation returns.
 pub bit_or-is : (a b : ℕ) → a < 2 ^ 32 → b < 2 ^ 32 → bit_or a b ≡ union a b
 unfolding union
 bit_or-is a b p q =

@@ -1,4 +1,4 @@
--- Lists of accesses to one group, by driver and device.
+-- Lists of accesses to one group, made by the driver and the device.
 use Rattle.std.specs.Prelude.{ℕ, Bool, IsTrue, List, [], ◌∷◌}
 use Rattle.intr_unit.specs.BitSet.{BitSet, contains}
 use Rattle.intr_unit.specs.Interrupts.{Interrupts, reset_of, raised, after_read, after_write_one, after_mask_set}
@@ -38,7 +38,7 @@ pub record IsPending (s : Interrupts) (bit : ℕ) : Type 0 where
   pub cause : IsTrue (contains s.causes bit)
   pub mask : IsTrue (contains s.enabled bit)
 
--- The bit's cause and mask are 1 at first and after each of the accesses.
+-- The bit's cause and mask are 1 before the accesses and after each access.
 abbrev pub StaysPending : Interrupts → List Access → ℕ → Type 0
 StaysPending s [] bit = IsPending s bit
 StaysPending s (access ∷ rest) bit = IsPending s bit × StaysPending (after s access) rest bit

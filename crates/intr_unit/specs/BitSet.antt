@@ -1,5 +1,5 @@
--- Sets of bits 0 to 31 of a register. A set is represented by the word with a 1 at each of its bits; no other file
--- depends on this.
+-- Sets of bits 0 to 31 of a register. A set is represented by the word in which exactly the set's bits are 1. No other
+-- file depends on this representation.
 use Rattle.std.specs.Prelude.{ℕ, suc, zero, ◌+◌, ◌*◌, ◌^◌, ◌==◌, Bool, IsTrue, not, ◌&&◌, ◌||◌, nat_le, if◌then◌else◌}
 use Rattle.std.specs.Prelude.{Option}
 use Rattle.std.specs.Int.{bit_at}
@@ -13,7 +13,7 @@ BitSet = ℕ
 abbrev pub no_bits : BitSet
 no_bits = 0
 
--- Whether the bit is in the set: it is 1 in the word.
+-- Whether the bit is in the set: the bit is 1 in the word.
 unfoldable pub contains : BitSet → ℕ → Bool
 contains set bit = bit_at set bit == 1
 
@@ -42,7 +42,7 @@ difference left right = bits_where (λ bit. contains left bit && not (contains r
 unfoldable pub when : Bool → BitSet → BitSet
 when condition set = if condition then set else no_bits
 
--- The set of one bit.
+-- The set that contains only one bit.
 unfoldable pub only : ℕ → BitSet
 only chosen = bits_where (λ bit. bit == chosen)
 
@@ -50,7 +50,7 @@ only chosen = bits_where (λ bit. bit == chosen)
 unfoldable pub bits_from_to : ℕ → ℕ → BitSet
 bits_from_to high low = bits_where (λ bit. nat_le low bit && nat_le bit high)
 
--- The lowest bit of the set; `None` if it is empty.
+-- The lowest bit of the set, or `None` if the set is empty.
 unfoldable pub lowest_of : BitSet → Option ℕ
 lowest_of set = find (contains set) (range_with_len 0 32)
 

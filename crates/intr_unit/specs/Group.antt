@@ -1,4 +1,4 @@
--- The differences between the physical function's group and a virtual function's.
+-- The differences between the physical function's group and a virtual function's group.
 use Rattle.std.specs.Prelude.{ℕ, ◌+◌, ◌-◌, ◌/◌, ◌%◌, ◌^◌, ◌==◌, Bool, true, not, ◌&&◌, nat_lt, nat_le, if◌then◌else◌}
 use Rattle.std.specs.Prelude.{Option, None, Some, is_some}
 use Rattle.intr_unit.specs.declared.group.Group.{Group}
@@ -25,7 +25,7 @@ auto_mask_acts (Vf v) eiame = true
 abbrev pub field : ℕ → ℕ → ℕ → ℕ
 field word high low = word / 2 ^ low % 2 ^ (high + 1 - low)
 
--- The vector if it is valid and below 16.
+-- The vector, if the vector is valid and below 16.
 abbrev pub vector_if : Bool → ℕ → Option ℕ
 vector_if valid vector = if valid && nat_lt vector 16 then Some vector else None
 
@@ -37,7 +37,7 @@ other_vector misc = vector_if (contains misc 15) (field misc 13 8)
 abbrev pub timer_vector : ℕ → Option ℕ
 timer_vector misc = vector_if (contains misc 7) (field misc 5 0)
 
--- The vector of the bit; `None` if the bit isn't routed. `misc` is the word IVAR_MISC.
+-- The vector of the bit, or `None` if the bit isn't routed. `misc` is the word IVAR_MISC.
 unfoldable pub vector_of : Group → ℕ → ℕ → Option ℕ
 vector_of Pf misc bit =
     if nat_le bit 15 then Some bit

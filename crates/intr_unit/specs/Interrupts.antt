@@ -6,7 +6,7 @@ use Rattle.intr_unit.specs.BitSet.{BitSet, no_bits, contains, bits_where, union,
 use Rattle.intr_unit.specs.BitSet.{lowest_of, IsSubset}
 use Rattle.intr_unit.specs.Group.{group_bits, bits_cleared_by_read, vector_of}
 
--- The words of a group as sets of bits, and the bits that a message reported.
+-- The words of a group as sets of bits, and the bits that messages have reported.
 pub record Interrupts : Type 0 where
   pub group : Group
   pub causes : BitSet
@@ -15,7 +15,7 @@ pub record Interrupts : Type 0 where
   pub auto_mask : BitSet
   pub reported : BitSet
 
--- Between calls each word has only bits of the group, and each reported bit has its cause and its mask at 1.
+-- Between calls, each word has only bits of the group, and the cause and the mask of each reported bit are 1.
 pub record IsConsistent (s : Interrupts) : Type 0 where
   pub causes_exist : IsSubset s.causes (group_bits s.group)
   pub masks_exist : IsSubset s.enabled (group_bits s.group)
@@ -35,8 +35,8 @@ reset_of group =
       reported = no_bits;
     }
 
--- A group from its words and its reported bits. Bits that the group doesn't have are dropped, and so are reported bits
--- with their cause or mask at 0.
+-- A group with the given words and reported bits. Bits that the group doesn't have are dropped. Reported bits whose
+-- cause or mask is 0 are dropped too.
 abbrev pub of_words : Group → (causes enabled auto_clear auto_mask reported : ℕ) → Interrupts
 of_words group causes enabled auto_clear auto_mask reported =
     let bits = group_bits group in
@@ -49,16 +49,16 @@ of_words group causes enabled auto_clear auto_mask reported =
       reported = intersection reported (intersection (intersection causes bits) (intersection enabled bits));
     }
 
--- The group with these causes and masks. Reported marks are removed if their cause or mask is 0.
+-- The group with these causes and masks. A bit whose cause or mask is 0 is no longer reported.
 abbrev pub settled : Interrupts → BitSet → BitSet → BitSet → Interrupts
 settled s causes enabled reported =
     record s { causes = causes; enabled = enabled; reported = intersection reported (intersection causes enabled) }
 
--- The bits that are in the auto-mask, if it acts; otherwise none.
+-- The given bits that are in the auto-mask, if the auto-mask acts; otherwise no bits.
 abbrev pub auto_masked : Interrupts → BitSet → Bool → BitSet
 auto_masked s bits auto = when auto (intersection bits s.auto_mask)
 
--- After a raise: these causes are set, and the auto-mask sets the masks of the causes that are in it.
+-- After a raise: these causes are set. If the auto-mask acts, the masks of these causes in the auto-mask are set.
 abbrev pub raised : Interrupts → BitSet → Bool → Interrupts
 raised s bits auto =
     settled s
@@ -66,7 +66,7 @@ raised s bits auto =
     (union s.enabled (auto_masked s bits auto))
     s.reported
 
--- After a read: causes are cleared, and the auto-mask clears the masks that are in it.
+-- After a read: causes are cleared. If the auto-mask acts, the masks in the auto-mask are cleared.
 abbrev pub after_read : Interrupts → Bool → Bool → Interrupts
 after_read s ocd auto =
     settled s
@@ -74,7 +74,8 @@ after_read s ocd auto =
     (difference s.enabled (when auto s.auto_mask))
     s.reported
 
--- After a write of ones: these causes are cleared, and the auto-mask clears the masks of the causes that are in it.
+-- After a write of ones: these causes are cleared. If the auto-mask acts, the masks of these causes in the auto-mask
+-- are cleared.
 abbrev pub after_write_one : Interrupts → BitSet → Bool → Interrupts
 after_write_one s bits auto =
     settled s (difference s.causes bits) (difference s.enabled (auto_masked s bits auto)) s.reported
@@ -95,7 +96,7 @@ with_auto_clear s word = record s { auto_clear = intersection word (group_bits s
 abbrev pub with_auto_mask : Interrupts → BitSet → Interrupts
 with_auto_mask s word = record s { auto_mask = intersection word (group_bits s.group) }
 
--- Whether the bit is due: its cause and its mask are 1, it isn't reported, and it is routed.
+-- Whether the bit is due: its cause and its mask are 1, the bit isn't reported, and the bit is routed.
 abbrev pub is_due : Interrupts → ℕ → ℕ → Bool
 is_due s misc bit =
     contains s.causes bit && contains s.enabled bit && not (contains s.reported bit)
@@ -113,8 +114,8 @@ next_bit s misc = lowest_of (due_bits s misc)
 abbrev pub next_vector : Interrupts → ℕ → Option ℕ
 next_vector s misc = option_and_then (vector_of s.group misc) (next_bit s misc)
 
--- After the bit is reported: its cause is cleared if it is in the auto-clear. Its mask is cleared if EIAME is 1 and it
--- is in the auto-mask.
+-- After the bit is reported: the bit's cause is cleared if the bit is in the auto-clear. The bit's mask is cleared if
+-- EIAME is 1 and the bit is in the auto-mask.
 abbrev pub after_telling : Interrupts → Bool → ℕ → Interrupts
 after_telling s eiame bit =
     settled s
@@ -122,7 +123,7 @@ after_telling s eiame bit =
     (difference s.enabled (auto_masked s (only bit) eiame))
     (union s.reported (only bit))
 
--- The group after a message for this bit; unchanged without a bit.
+-- The group after a message for this bit. If there is no bit, the group is unchanged.
 abbrev pub after_message_of : Interrupts → Bool → Option ℕ → Interrupts
 after_message_of s eiame None = s
 after_message_of s eiame (Some bit) = after_telling s eiame bit

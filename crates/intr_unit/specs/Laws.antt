@@ -10,42 +10,42 @@ use Rattle.intr_unit.specs.Interrupts.{after_mask_clear, with_auto_clear, with_a
 use Rattle.intr_unit.specs.Interrupts.{is_due, next_bit, next_vector}
 use Rattle.intr_unit.specs.Accesses.{Access, after, after_all, IsPending, StaysPending}
 
--- A set that is defined by a test contains exactly the bits 0 to 31 that pass it, and a 32-bit word is determined by
--- its bits.
+-- A set that is defined by a test contains exactly the bits 0 to 31 that pass the test. The bits of a 32-bit word
+-- determine the word.
 pub record SetsHoldTheirBits : Type 0 where
   pub member : (test : ℕ → Bool) (bit : ℕ) → bit < 32 → contains (bits_where test) bit ≡ test bit
   pub same : (left right : BitSet) → left < 2 ^ 32 → right < 2 ^ 32 →
       ((bit : ℕ) → bit < 32 → contains left bit ≡ contains right bit) → left ≡ right
 
--- The bit's cause and its mask are 1, it isn't reported, and this is its vector.
+-- The bit's cause and mask are 1, the bit isn't reported, and this is the bit's vector.
 pub record IsDueBy (s : Interrupts) (misc bit vector : ℕ) : Type 0 where
   pub cause : IsTrue (contains s.causes bit)
   pub mask : IsTrue (contains s.enabled bit)
   pub unreported : IsFalse (contains s.reported bit)
   pub routed : vector_of s.group misc bit ≡ Some vector
 
--- The message with this vector is for this bit, the lowest due one.
+-- The message with this vector is for this bit, which is the lowest due bit.
 pub record IsMessageOf (s : Interrupts) (misc vector bit : ℕ) : Type 0 where
   pub within : bit < 32
   pub due : IsDueBy s misc bit vector
   pub lowest : (other : ℕ) → IsTrue (is_due s misc other) → bit ≤ other
 
--- Each message reports the lowest bit that has its cause and its mask at 1, isn't reported, and is routed. If there is
--- no message, no bit is due.
+-- Each message reports the lowest due bit. A bit is due if its cause and its mask are 1, the bit isn't reported, and
+-- the bit is routed. If there is no message, no bit is due.
 pub record MessagesTellDueBits : Type 0 where
   pub reported : (s : Interrupts) (misc vector : ℕ) → next_vector s misc ≡ Some vector →
       (bit : ℕ) × IsMessageOf s misc vector bit
   pub idle : (s : Interrupts) (misc bit : ℕ) → next_vector s misc ≡ None → bit < 32 → IsFalse (is_due s misc bit)
 
--- After a message reports a bit, no other message reports it while its cause and its mask stay 1.
+-- After a message reports a bit, no other message reports that bit while the bit's cause and mask stay 1.
 abbrev pub BitsAreReportedOnce : Type 0
 BitsAreReportedOnce =
     (s : Interrupts) (eiame : Bool) (misc bit : ℕ) → next_bit s misc ≡ Some bit →
     (run : List Access) → StaysPending (after_message s eiame misc) run bit →
     (misc_then : ℕ) → next_bit (after_all (after_message s eiame misc) run) misc_then ≢ Some bit
 
--- Clearing masks loses no cause. If the same masks are set again next, each of their causes that is 1 and has a vector
--- is due, reported or not.
+-- Clearing masks loses no cause. If the same masks are set again next, each of these bits whose cause is 1 and that has
+-- a vector is due, even if the bit was reported before.
 pub record MaskingLosesNoCause : Type 0 where
   pub causes : (s : Interrupts) (bits : BitSet) → (after_mask_clear s bits).causes ≡ s.causes
   pub due_again : (s : Interrupts) (bits : BitSet) (misc bit : ℕ) → bit < 32 →
@@ -53,14 +53,14 @@ pub record MaskingLosesNoCause : Type 0 where
       IsSome (vector_of s.group misc bit) →
       IsTrue (is_due (after_mask_set (after_mask_clear s bits) bits) misc bit)
 
--- For each bit: whether its cause is 1, whether its mask is 1, and whether it is marked as reported.
+-- For each bit: whether the bit's cause is 1, whether its mask is 1, and whether the bit is marked as reported.
 pub record Bits : Type 0 where
   pub cause : ℕ → Bool
   pub mask : ℕ → Bool
   pub mark : ℕ → Bool
 
--- A call leaves these causes and masks. It keeps only the marks that have their cause and mask at 1. The auto-clear and
--- the auto-mask are unchanged.
+-- After a call, the group has these causes and masks. Of these marks, the group keeps only the marks of bits whose
+-- cause and mask are 1. The auto-clear and the auto-mask are unchanged.
 pub record Leaves (before left : Interrupts) (bits : Bits) : Type 0 where
   pub causes : (bit : ℕ) → bit < 32 → contains left.causes bit ≡ bits.cause bit
   pub masks : (bit : ℕ) → bit < 32 → contains left.enabled bit ≡ bits.mask bit
@@ -68,8 +68,8 @@ pub record Leaves (before left : Interrupts) (bits : Bits) : Type 0 where
   pub auto_clear : left.auto_clear ≡ before.auto_clear
   pub auto_mask : left.auto_mask ≡ before.auto_mask
 
--- A raise, bit by bit: the raised causes that belong to the group are set. If the auto-mask acts, the masks of the
--- raised bits that are in it become 1. Reported bits stay if their cause and mask are 1.
+-- The effect of a raise on each bit: the raised causes that belong to the group are set. If the auto-mask acts, the
+-- masks of the raised bits in the auto-mask become 1. A reported bit stays reported if its cause and mask are 1.
 abbrev pub RaisesChangeBits : Type 0
 RaisesChangeBits =
     (s : Interrupts) (raise : BitSet) (auto : Bool) → Leaves s (raised s raise auto)
@@ -79,14 +79,15 @@ RaisesChangeBits =
       mark = λ bit. contains s.reported bit;
     })
 
--- Whether a read keeps a bit's cause: for the PF with other-cause clearing, outside bits 29 to 16; otherwise never.
+-- Whether a read keeps a bit's cause: for the PF with other-cause clearing, if the bit is outside bits 29 to 16;
+-- otherwise never.
 abbrev pub keeps_cause : Group → Bool → ℕ → Bool
 keeps_cause Pf ocd bit = ocd && not (nat_le 16 bit && nat_le bit 29)
 keeps_cause (Vf v) ocd bit = false
 
--- A read of the cause register of a consistent group, bit by bit: all causes are cleared; for the PF with other-cause
--- clearing, only bits 29 to 16. If the auto-mask acts, exactly the masks that are in it are cleared. Reported bits stay
--- if their cause and mask are 1.
+-- The effect on each bit if the cause register of a consistent group is read: all causes are cleared; for the PF with
+-- other-cause clearing, only bits 29 to 16. If the auto-mask acts, exactly the masks in the auto-mask are cleared. A
+-- reported bit stays reported if its cause and mask are 1.
 abbrev pub ReadsChangeBits : Type 0
 ReadsChangeBits =
     (s : Interrupts) (ocd auto : Bool) → IsConsistent s → Leaves s (after_read s ocd auto)
@@ -96,8 +97,9 @@ ReadsChangeBits =
       mark = λ bit. contains s.reported bit;
     })
 
--- A write of ones to the cause register, bit by bit: these causes are cleared. If the auto-mask acts, the masks of
--- these causes that are in it are cleared. Reported bits stay if their cause and mask are 1.
+-- The effect on each bit if ones are written to the cause register: the causes written as 1 are cleared. If the
+-- auto-mask acts, the masks of these causes in the auto-mask are cleared. A reported bit stays reported if its cause
+-- and mask are 1.
 abbrev pub WritesOfOnesChangeBits : Type 0
 WritesOfOnesChangeBits =
     (s : Interrupts) (ones : BitSet) (auto : Bool) → Leaves s (after_write_one s ones auto)
@@ -107,7 +109,7 @@ WritesOfOnesChangeBits =
       mark = λ bit. contains s.reported bit;
     })
 
--- A write to the mask register sets the named masks that the group has.
+-- A write to the mask register sets the masks written as 1 that the group has.
 abbrev pub MaskSetsChangeBits : Type 0
 MaskSetsChangeBits =
     (s : Interrupts) (ones : BitSet) → Leaves s (after_mask_set s ones)
@@ -117,7 +119,7 @@ MaskSetsChangeBits =
       mark = λ bit. contains s.reported bit;
     })
 
--- A write to the mask clear register clears the named masks.
+-- A write to the mask clear register clears the masks written as 1.
 abbrev pub MaskClearsChangeBits : Type 0
 MaskClearsChangeBits =
     (s : Interrupts) (ones : BitSet) → Leaves s (after_mask_clear s ones)
@@ -127,8 +129,8 @@ MaskClearsChangeBits =
       mark = λ bit. contains s.reported bit;
     })
 
--- The bits after one is reported: its cause becomes 0 if it is in the auto-clear. Its mask becomes 0 if EIAME is 1 and
--- it is in the auto-mask.
+-- The bits after the chosen bit is reported: its cause becomes 0 if the bit is in the auto-clear. Its mask becomes 0 if
+-- EIAME is 1 and the bit is in the auto-mask.
 abbrev pub reported_bits : Interrupts → Bool → ℕ → Bits
 reported_bits s eiame chosen =
     record {
@@ -137,15 +139,16 @@ reported_bits s eiame chosen =
       mark = λ bit. contains s.reported bit || bit == chosen;
     }
 
--- A message, bit by bit: it changes only the reported bit. The auto-clear clears its cause, and with EIAME the
--- auto-mask clears its mask. Without a message nothing changes.
+-- The effect of a message on each bit: only the bit that the message reports changes. The bit's cause is cleared if the
+-- bit is in the auto-clear. The bit's mask is cleared if EIAME is 1 and the bit is in the auto-mask. If there is no
+-- message, nothing changes.
 pub record MessagesChangeBits : Type 0 where
   pub reported : (s : Interrupts) (eiame : Bool) (misc vector chosen : ℕ) → IsMessageOf s misc vector chosen →
       Leaves s (after_message s eiame misc) (reported_bits s eiame chosen)
   pub idle : (s : Interrupts) (eiame : Bool) (misc : ℕ) → next_vector s misc ≡ None → after_message s eiame misc ≡ s
 
--- A write to the auto-clear or the auto-mask, bit by bit: that word takes the written bits that the group has, and
--- nothing else changes.
+-- The effect on each bit if the auto-clear or the auto-mask is written: that register takes the written bits that the
+-- group has, and nothing else changes.
 pub record AutoWritesChangeBits : Type 0 where
   pub auto_clear : (s : Interrupts) (word : BitSet) (bit : ℕ) → bit < 32 →
       contains (with_auto_clear s word).auto_clear bit ≡ (contains word bit && contains (group_bits s.group) bit)
@@ -155,7 +158,7 @@ pub record AutoWritesChangeBits : Type 0 where
       record (with_auto_clear s clear) { auto_clear = s.auto_clear } ≡ s
       × record (with_auto_mask s mask) { auto_mask = s.auto_mask } ≡ s
 
--- After each access to a consistent group, every reported bit has its cause and its mask at 1.
+-- After each access to a consistent group, the cause and the mask of every reported bit are 1.
 abbrev pub ReportedBitsArePending : Type 0
 ReportedBitsArePending =
     (s : Interrupts) (access : Access) (bit : ℕ) → IsConsistent s → IsTrue (contains (after s access).reported bit) →

@@ -1,4 +1,4 @@
-//! Sets of the bits of a register. Only this module treats words as sets.
+//! Sets of register bits. Only this module treats words as sets.
 
 ghost use Rattle.std.specs.Prelude.{◌≡◌, ◌<◌, IfSome};
 ghost use Rattle.intr_unit.specs.BitSet.{contains, union, intersection, difference, when, only, lowest_of};
@@ -62,7 +62,7 @@ impl BitSet {
         }
     }
 
-    /// Returns the bits of this set that aren't in the other.
+    /// Returns the bits of this set that aren't in the other set.
     #[inline(always)]
     pub(crate) fn difference(self, other: BitSet) -> Self
         ensures { result ≡ difference self other }
@@ -89,7 +89,7 @@ impl BitSet {
         (self.word >> bit) & 1 == 1
     }
 
-    /// Returns the set of one bit.
+    /// Returns the set that contains only this bit.
     #[inline(always)]
     pub(crate) fn only(bit: u8) -> Self
         requires { bit < 32 }
@@ -98,7 +98,7 @@ impl BitSet {
         BitSet { word: 1 << bit }
     }
 
-    /// Returns the lowest bit of the set; `None` if it is empty.
+    /// Returns the lowest bit of the set, or `None` if the set is empty.
     #[inline(always)]
     pub(crate) fn lowest(self) -> Option<u8>
         ensures bit { result ≡ lowest_of self }

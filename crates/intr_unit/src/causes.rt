@@ -12,9 +12,9 @@ use std::marker::Model;
 
 /// The interrupts of one group, which belongs to the physical function or to a virtual function.
 ///
-/// A message reports a bit only once; the bit is reported again only after its cause or its mask has been 0. In
-/// contracts, this is the group, its words as sets of bits, and the set of reported bits. Each reported bit has its
-/// cause and its mask at 1.
+/// A message reports a bit only once; the bit is reported again only after its cause or its mask has been 0. Contracts
+/// view a `Causes` as the group, the words of its registers as sets of bits, and the set of reported bits. The cause
+/// and the mask of each reported bit are 1.
 ///
 /// Intel 82599 datasheet, sections on interrupt registers and on clearing interrupt causes. This project's profile
 /// defines what a read of EICR clears and what the auto-mask does.
@@ -80,7 +80,7 @@ impl Causes {
 
     /// Returns a group with the given register words and reported bits, as [`Causes::causes`], [`Causes::enabled`],
     /// [`Causes::auto_clear`], [`Causes::auto_mask`] and [`Causes::reported`] return them. Bits that the group doesn't
-    /// have are dropped, and so are reported bits with their cause or mask at 0.
+    /// have are dropped. Reported bits whose cause or mask is 0 are dropped too.
     pub fn of_words(
         group: Group,
         causes: u32,
@@ -145,8 +145,8 @@ impl Causes {
         self.auto_mask.word()
     }
 
-    /// Returns the bits that messages have reported. Each has its cause and its mask at 1, and isn't reported again
-    /// until one of them has been 0.
+    /// Returns the bits that messages have reported. The cause and the mask of each of these bits are 1. A bit isn't
+    /// reported again until its cause or its mask has been 0.
     #[inline(always)]
     pub fn reported(&self) -> u32
         ensures { result ≡ self.now.reported }
@@ -154,10 +154,10 @@ impl Causes {
         self.reported.word()
     }
 
-    /// Raises causes, for the device (`auto` is false) or for a write to the set register (EICS, PVTEICS). For such a
-    /// write, `bits` is the written word without the bits that the address doesn't show, and `auto` comes from
-    /// [`Group::auto_mask_acts`]. If `auto` is true, the masks of the raised bits that are in the auto-mask become 1.
-    /// Bits that the group doesn't have are dropped.
+    /// Raises causes, for the device (`auto` is false) or for a write to the set register (EICS, PVTEICS). For a write
+    /// to the set register, `bits` is the written word without the bits that the address doesn't show, and `auto` comes
+    /// from [`Group::auto_mask_acts`]. If `auto` is true, the masks of the raised bits that are in the auto-mask become
+    /// 1. Bits that the group doesn't have are dropped.
     #[inline]
     pub fn raise(&mut self, bits: u32, auto: bool)
         ensures { self.new ≡ raised self.old bits auto }
@@ -168,9 +168,10 @@ impl Causes {
         self.settle(causes, enabled, self.reported);
     }
 
-    /// Reads the cause register: returns its word and clears it. For the PF, if GPIE bit 5 (`ocd`) is 1, it clears only
-    /// bits 29 to 16; `ocd` has no effect for a VF. If `auto`, from [`Group::auto_mask_acts`], is true, the masks of
-    /// all bits in the auto-mask become 0, whichever causes were set.
+    /// Reads the cause register: returns the register's word and clears the register. For the PF, if GPIE bit 5 (`ocd`)
+    /// is 1, the read clears only bits 29 to 16. For a VF, `ocd` has no effect. If `auto`, from
+    /// [`Group::auto_mask_acts`], is true, the masks of all bits in the auto-mask become 0, regardless of which causes
+    /// were set.
     #[inline]
     pub fn read(&mut self, ocd: bool, auto: bool) -> u32
         ensures word { result ≡ self.old.causes }
@@ -217,7 +218,7 @@ impl Causes {
     }
 
     /// Sets the auto-clear register (EIAC, PVTEIAC) to a word, dropping bits that the group doesn't have. For a write
-    /// at an address that doesn't show all bits, `word` must contain the other bits as they are.
+    /// at an address that doesn't show all bits, `word` must contain the hidden bits unchanged.
     #[inline]
     pub fn set_auto_clear(&mut self, word: u32)
         ensures { self.new ≡ with_auto_clear self.old word }
@@ -226,7 +227,7 @@ impl Causes {
     }
 
     /// Sets the auto-mask register (EIAM, PVTEIAM) to a word, dropping bits that the group doesn't have. For a write at
-    /// an address that doesn't show all bits, `word` must contain the other bits as they are.
+    /// an address that doesn't show all bits, `word` must contain the hidden bits unchanged.
     #[inline]
     pub fn set_auto_mask(&mut self, word: u32)
         ensures { self.new ≡ with_auto_mask self.old word }
@@ -234,10 +235,11 @@ impl Causes {
         self.auto_mask = BitSet::of_word(word).intersection(self.existing());
     }
 
-    /// Sends the next message: reports the lowest due bit and returns its vector, 0 to 15. If no bit is due, returns
-    /// `None` and changes nothing. A bit is due if its cause and its mask are 1, it isn't reported, and
-    /// [`Group::vector_of`] returns a vector for it. The reported bit's cause becomes 0 if it is in the auto-clear. Its
-    /// mask becomes 0 if GPIE bit 30 (`eiame`) is 1 and it is in the auto-mask. `misc` is the word of IVAR_MISC.
+    /// Sends the next message: reports the lowest due bit and returns the bit's vector, 0 to 15. If no bit is due,
+    /// returns `None` and changes nothing. A bit is due if its cause and its mask are 1, the bit isn't reported, and
+    /// [`Group::vector_of`] returns a vector for the bit. If the bit that the message reports is in the auto-clear, its
+    /// cause becomes 0. If GPIE bit 30 (`eiame`) is 1 and the bit is in the auto-mask, its mask becomes 0. `misc` is
+    /// the word of IVAR_MISC.
     pub fn message(&mut self, eiame: bool, misc: u32) -> Option<u8>
         ensures vector { result ≡ next_vector self.old misc }
         ensures state { self.new ≡ after_message self.old eiame misc }
@@ -270,7 +272,7 @@ impl Causes {
         BitSet::of_word(self.group.bits())
     }
 
-    /// Returns the given bits that are in the auto-mask, if the auto-mask acts; otherwise none.
+    /// Returns the given bits that are in the auto-mask, if the auto-mask acts; otherwise returns no bits.
     #[inline(always)]
     fn auto_masked(&self, bits: BitSet, auto: bool) -> BitSet
         ensures { result ≡ auto_masked self.now bits auto }
@@ -278,7 +280,7 @@ impl Causes {
         bits.intersection(self.auto_mask).when(auto)
     }
 
-    /// Stores these causes and masks. Keeps only the reported bits that have their cause and mask at 1.
+    /// Stores these causes and masks. Keeps only the reported bits whose cause and mask are 1.
     #[inline(always)]
     fn settle(&mut self, causes: BitSet, enabled: BitSet, reported: BitSet)
         requires causes { IsSubset causes (group_bits self.old.group) }

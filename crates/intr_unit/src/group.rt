@@ -32,7 +32,7 @@ const ENTRY_VALID: u8 = 7;
 /// The bits of a vector number, or of the cause in a byte of IVAR or PVTIVAR.
 const NUMBER_BITS: u32 = 0x3F;
 
-/// The number of vectors; every vector is below it.
+/// The number of vectors. Every vector is below this number.
 const VECTORS: u8 = 16;
 
 /// A group of interrupts with its own registers.
@@ -60,8 +60,8 @@ impl Group {
     }
 
     /// Whether the auto-mask acts on reads of and writes to the cause register, and on writes to the set register. For
-    /// the PF it acts while GPIE bit 30 (EIAME, the argument `eiame`) is 0. For a VF it always acts, as this project's
-    /// profile defines.
+    /// the PF, the auto-mask acts while GPIE bit 30 (EIAME, the argument `eiame`) is 0. For a VF, the auto-mask always
+    /// acts, as this project's profile defines.
     #[inline(always)]
     pub fn auto_mask_acts(self, eiame: bool) -> bool
         ensures { result ≡ auto_mask_acts self eiame }
@@ -73,7 +73,8 @@ impl Group {
     }
 
     /// Returns the causes that a queue raises through its byte of IVAR (for the PF) or PVTIVAR (for a VF), as a word
-    /// with at most one bit. If bit 7 is 1, bits 5:0 name the cause, up to bit 15 for the PF and bit 2 for a VF.
+    /// with at most one bit. If bit 7 of the byte is 1, bits 5:0 of the byte name the cause. The cause is at most bit
+    /// 15 for the PF, or bit 2 for a VF; otherwise the word is 0.
     ///
     /// Intel 82599 datasheet, section on interrupt causes and their allocation.
     #[tactic(auto, unfolding(crate::specs::Group::queue_causes))]
@@ -91,7 +92,7 @@ impl Group {
     }
 
     /// Returns the vector (0 to 15) that reports a bit, or `None` if the bit isn't routed. `misc` is the word of
-    /// IVAR_MISC, which routes bits 29 to 16 and bit 30 of the PF. It has no effect for a VF.
+    /// IVAR_MISC, which routes bits 29 to 16 and bit 30 for the PF. `misc` has no effect for a VF.
     ///
     /// Intel 82599 datasheet, section on MSI-X vectors.
     #[tactic(auto, unfolding(crate::specs::Group::vector_of))]
@@ -122,8 +123,8 @@ impl Group {
         }
     }
 
-    /// Returns the bits that a read of the cause register clears: all of them, or for the PF with other-cause clearing
-    /// (`ocd`) only the other causes.
+    /// Returns the bits that a read of the cause register clears: all bits of the group, or only the other causes for
+    /// the PF with other-cause clearing (`ocd`).
     #[tactic(auto, using(crate::proofs::Groups::group_words))]
     pub(crate) fn bits_cleared_by_read(self, ocd: bool) -> BitSet
         ensures { result ≡ bits_cleared_by_read self ocd }

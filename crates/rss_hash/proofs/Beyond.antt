@@ -1,4 +1,4 @@
--- Writing a word of the key changes nothing for the half bytes that use none of its bits.
+-- Writing a word of the key changes nothing for the half bytes that use no bit of that word.
 use Rattle.std.proofs.Common.{◌≡◌, ◌≢◌, ℕ, zero, suc, ◌+◌, ◌*◌, ◌-◌, ◌/◌, ◌%◌, ◌<◌, inl, inr, List, length, slice_index, set, refl, sym, ap, ◌∙◌, arith}
 use Rattle.std.specs.Int.{bit_at, to_le_bytes, w32}
 use Rattle.std.proofs.lemmas.List.{get_or-set_other, length-set}
@@ -10,7 +10,7 @@ use Rattle.rss_hash.proofs.Sliding.{no_bits}
 use Rattle.rss_hash.proofs.WindowTables.{half_share-joined}
 use Rattle.rss_hash.proofs.Windows.{bits_from_more}
 
--- The two keys have the same bits at and after bit `k`.
+-- The two keys have the same `count` bits, starting at bit `k`.
 abbrev AgreeFrom : (old new : List ℕ) (k count : ℕ) → Type 0
 AgreeFrom old new k count = (j : ℕ) → j < count → bit_of new (k + j) ≡ bit_of old (k + j)
 
@@ -59,7 +59,8 @@ module _ (words : List ℕ) (index word : ℕ) (ten : length words ≡ 10) where
       (sym (half_share-joined (bytes_of_registers words) k v))
       )
 
--- Beyond the written word, tables with the windows of the old key have the windows of the new key.
+-- For half bytes that use no bit of the written word, tables with the old key's windows also contain the new key's
+-- windows.
 pub beyond_a_word : (tables : List (List ℕ)) (words : List ℕ) (index word : ℕ) → length words ≡ 10
     → AreItsWindows tables words → FitBeyond tables (set words index word) index
 beyond_a_word tables words index word ten held = record {

@@ -1,4 +1,4 @@
--- Lemmas: the type and the packet of a built frame, and the ports after a header.
+-- Lemmas about the type and the packet of a built frame, and about the ports after a header.
 use Rattle.std.proofs.Common.{◌≢◌, ◌==◌}
 use Rattle.std.proofs.Common.{◌≡◌, ℕ, ◌+◌, ◌-◌, ◌/◌, ◌%◌, ◌≤◌, Bool, true, false}
 use Rattle.std.proofs.Common.{List, ◌∷◌, ◌++◌, length, take, drop, slice_index, slice_range, refl, sym, ap, ◌∙◌, arith}
@@ -36,7 +36,7 @@ packet_of-ethernet to from type packet are =
     sym (drop-drop 2 12 (to ++ from ++ rest))
     ∙ ap (drop 2) (drop_at (to ++ from) rest 12 (length-addresses to from are))
 
--- A frame of a known type is classified like its packet.
+-- The flow of a frame with a known type is the flow of the frame's packet.
 pub flow_of-ipv4 : (to from packet : List ℕ) → AreStations to from → is_ipv4 packet ≡ true →
     flow_of (ethernet to from 0x0800 packet) ≡ ipv4_flow packet
 unfolding flow_of
@@ -57,7 +57,7 @@ flow_of-other to from type packet are not_four not_six =
     let six : (type == 34525) ≡ false = grind (arith, nat_tests) in
     rw (ether_type-ethernet to from type packet are, four, six) refl
 
--- The four port bytes are right after the header.
+-- If the two ports directly follow the header, the four bytes after the header are these ports.
 pub ports_after : (packet source destination payload : List ℕ) (header : ℕ) →
     drop header packet ≡ source ++ (destination ++ payload) → ArePorts source destination →
     slice_range packet header (header + 2) ++ slice_range packet (header + 2) (header + 4) ≡ source ++ destination
@@ -74,7 +74,7 @@ pub room_ports : (source destination payload : List ℕ) → ArePorts source des
     4 ≤ length (source ++ (destination ++ payload))
 room_ports source destination payload are = simp length-append (omega (arith, are.source, are.destination))
 
--- Two addresses of one length, after a header's first fields.
+-- If two addresses have `n` bytes each, the first `n` bytes and the next `n` bytes are these two addresses.
 pub addresses_after : (source destination rest : List ℕ) (n : ℕ) → length source ≡ n → length destination ≡ n →
     take n (source ++ (destination ++ rest)) ++ take n (drop n (source ++ (destination ++ rest)))
     ≡ source ++ destination
@@ -82,7 +82,7 @@ addresses_after source destination rest n first second =
     let others = destination ++ rest in
     rw (take_at source others n first, drop_at source others n first, take_at destination rest n second) refl
 
--- Flows with equal parts are equal.
+-- IP flows whose fields are equal are equal.
 pub ip_flow_of : (version : ℕ) (tcp udp tcp' udp' : Bool) (addresses ports addresses' ports' : List ℕ) →
     tcp ≡ tcp' → udp ≡ udp' → addresses ≡ addresses' → ports ≡ ports' →
     ip_flow version tcp udp addresses ports ≡ ip_flow version tcp' udp' addresses' ports'

@@ -1,4 +1,4 @@
--- Lemmas: testing one bit of a register with a mask.
+-- Lemmas about testing one bit of a register with a mask.
 use Rattle.std.proofs.Common.{◌≡◌, ℕ, zero, suc, ◌*◌, ◌^◌, ◌<◌, ◌==◌, bit_and, ap, ◌∙◌, arith}
 use Rattle.std.specs.Int.{bit_at}
 use Rattle.std.proofs.lemmas.Nat.{pow_pos}

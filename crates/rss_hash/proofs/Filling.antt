@@ -1,4 +1,4 @@
--- Lemmas: appending bytes to an input.
+-- Lemmas about appending bytes to an input.
 use Rattle.std.proofs.Common.{◌≡◌, ℕ, ◌-◌, ◌≤◌, List, ◌++◌, length, take, drop, replicate, refl, sym, ap, ◌∙◌, arith}
 use Rattle.std.proofs.lemmas.List.{append_assoc, length-append, take_at, drop_at, drop-replicate, length-take-le, length-replicate}
 use borrow.Rule.Slice.PartMut.{put_mid}
@@ -8,7 +8,7 @@ use Rattle.rss_hash.specs.declared.input.Input.TheInside.{Inside}
 pub length-bytes_of : (input : Inside) → IsFilled input → length (bytes_of input) ≡ input.len
 length-bytes_of input filled = length-take-le input.len input.bytes (omega (arith, filled.fits, filled.whole))
 
--- Bytes written over the padding.
+-- Writing bytes over the start of the padding appends these bytes to the padded bytes.
 put_mid-padded : (bytes more part : List ℕ) (start len : ℕ) → start ≡ length bytes → len ≡ length more → part ≡ more
     → put_mid start len (padded bytes) part ≡ padded (bytes ++ more)
 put_mid-padded bytes more part start len at_end same_len same_part =
@@ -26,7 +26,7 @@ put_mid-padded bytes more part start len at_end same_len same_part =
       left,
     ) (sym (append_assoc bytes more (replicate (36 - length (bytes ++ more)) 0)))
 
--- What `copy_from_slice` leaves after the bytes of an input.
+-- Copying bytes to the end of an input with `copy_from_slice` appends these bytes to the input.
 pub put_mid-filled : (input : Inside) (more part : List ℕ) (len : ℕ) → IsFilled input → part ≡ more → len ≡ length more
     → put_mid input.len len input.bytes part ≡ padded (bytes_of input ++ more)
 put_mid-filled input more part len filled same_part same_len =

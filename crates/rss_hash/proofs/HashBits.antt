@@ -15,7 +15,7 @@ bit_at-double_low n bit small = bit_at_lowest (2 * n + bit) ∙ omega arith
 bit_at-double_high : (n bit i : ℕ) → bit < 2 → bit_at (2 * n + bit) (suc i) ≡ bit_at n i
 bit_at-double_high n bit i small = bit_at-suc (2 * n + bit) i ∙ ap (λ half. bit_at half i) (omega arith)
 
--- Bit `j` of a window, counted from its highest.
+-- Bit `j` of a window, counted from the window's highest bit, is bit `k + j` of the byte string.
 bit_at-bits_from : (bytes : List ℕ) (k n j i : ℕ) → j + i + 1 ≡ n
     → bit_at (bits_from bytes k n) i ≡ bit_of bytes (k + j)
 bit_at-bits_from bytes k zero j i place = absurd (omega arith)
@@ -37,7 +37,7 @@ bit-from_test zero small = refl
 bit-from_test (suc zero) small = refl
 bit-from_test (suc (suc bit)) small = absurd (omega arith)
 
--- The parity of the key bits at these offsets.
+-- Bit `j` of the combined windows is the parity of the key bits that are `j` after the windows' first bits.
 parity : (key : List ℕ) (j : ℕ) → j < 32 → (ks : List ℕ)
     → bit_at (xor_of (map (λ k. bits_from key k 32) ks)) (31 - j) ≡ count_by (λ k. bit_of key (k + j) == 1) ks % 2
 parity key j within [] = bit_at-zero (31 - j)

@@ -48,8 +48,8 @@ share-xor (suc zero) (suc zero) n p q = sym (xor_self n)
 share-xor (suc (suc a)) b n p q = absurd (omega arith)
 share-xor a (suc (suc b)) n p q = absurd (omega arith)
 
--- If the bits of `c` are the sums of the bits of `a` and `b`, the exclusive or over `c` is the sum of the two over `a`
--- and `b`.
+-- If the bits of `c` are the sums of the bits of `a` and `b`, the exclusive or over `c` is the exclusive or of the one
+-- over `a` and the one over `b`.
 pub xor_where-sum : (f a b c : ℕ → ℕ) → ((k : ℕ) → a k < 2) → ((k : ℕ) → b k < 2) → ((k : ℕ) → c k ≡ (a k + b k) % 2)
     → (ks : List ℕ) → xor_where f c ks ≡ bit_xor (xor_where f a ks) (xor_where f b ks)
 xor_where-sum f a b c small_a small_b sums [] = sym (xor_zero_l 0)
@@ -111,7 +111,7 @@ filter-same p q same (k ∷ ks) =
     ap (λ t. cond t (k ∷ filter p ks) (filter p ks)) (same k)
     ∙ ap (λ rest. cond (q k) (k ∷ rest) rest) (filter-same p q same ks)
 
--- Numbers that fail the test add nothing.
+-- If all numbers from `n` on fail the test, extending the range beyond `n` doesn't change the filtered list.
 filter-range_past : (p : ℕ → Bool) (n more : ℕ) → ((k : ℕ) → n ≤ k → p k ≡ false)
     → filter p (range_with_len 0 (n + more)) ≡ filter p (range_with_len 0 n)
 filter-range_past p n zero past = ap (λ m. filter p (range_with_len 0 m)) (omega arith)

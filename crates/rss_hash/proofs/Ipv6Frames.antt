@@ -1,4 +1,4 @@
--- Lemmas: how a built IPv6 packet is classified.
+-- Lemmas about how a built IPv6 packet is classified.
 use Rattle.std.proofs.Common.{◌≡◌, ◌≢◌, ℕ, ◌+◌, ◌/◌, ◌≤◌, true, false}
 use Rattle.std.proofs.Common.{List, ◌++◌, length, drop, slice_index, refl, sym, ap, ◌∙◌, arith}
 use Rattle.std.proofs.lemmas.Bool.Decides.{nat_tests}

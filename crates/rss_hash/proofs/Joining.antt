@@ -1,4 +1,4 @@
--- Lemmas: combining a hash byte by byte from the tables of a key.
+-- Lemmas about computing a hash byte by byte from a key's tables.
 use Rattle.std.proofs.Common.{◌≡◌, ℕ, ◌+◌, ◌-◌, ◌*◌, ◌/◌, ◌%◌, ◌<◌, ◌==◌, true, false, List, [], cond}
 use Rattle.std.proofs.Common.{slice_index, get_or, bit_xor, refl, sym, ap, ◌∙◌, arith}
 use Rattle.std.specs.Int.{bit_at}
@@ -10,7 +10,7 @@ use Rattle.rss_hash.proofs.HashLaws.{xor_swap}
 use Rattle.rss_hash.proofs.WindowTables.{half_share-joined}
 use Rattle.rss_hash.proofs.Windows.{hash_below, hash_below_more}
 
--- One more input bit.
+-- Combining the hash over the bits below `k` with the window of bit `k` gives the hash that includes bit `k`.
 bit_joined : (key input : List ℕ) (k next bit : ℕ) → bit_of input k ≡ bit → k + 1 ≡ next →
     bit_xor (hash_below key input k) (where_one bit (bits_from key k 32)) ≡ hash_below key input next
 bit_joined key input k next bit is follows =
@@ -35,7 +35,8 @@ record IsHalf (input : List ℕ) (n v : ℕ) : Type 0 where
   third : bit_of input (4 * n + 2) ≡ bit_at v 1
   fourth : bit_of input (4 * n + 3) ≡ bit_at v 0
 
--- One more half byte.
+-- Combining the hash over the half bytes before `n` with the table entry of half byte `n` gives the hash that includes
+-- half byte `n`.
 half_joined : (tables : List (List ℕ)) (words input : List ℕ) (n v : ℕ) → AreItsWindows tables words →
     n < 72 → v < 16 → IsHalf input n v →
     bit_xor (hash_below (bytes_of_registers words) input (4 * n)) (slice_index (get_or tables n []) v)
@@ -56,7 +57,7 @@ half_joined tables words input n v held low small half =
     ∙ ap (λ h. bit_xor h d) (bit_joined key input (k + 2) (k + 3) _ half.third (omega arith))
     ∙ bit_joined key input (k + 3) (4 * (n + 1)) _ half.fourth (omega arith)
 
--- Bit `j` of byte `i`.
+-- Bit `k` of the input is bit `j` of byte `i`, counted from the byte's highest bit.
 bit_in_byte : (input : List ℕ) (i j k : ℕ) → j < 8 → k ≡ 8 * i + j →
     bit_of input k ≡ bit_at (slice_index input i) (7 - j)
 bit_in_byte input i j k within is =
@@ -80,7 +81,8 @@ low_half input i = record {
   fourth = bit_in_byte input i 7 (4 * (2 * i + 1) + 3) (omega arith) (omega arith) ∙ omega arith;
 }
 
--- One more byte.
+-- Combining the hash over the bytes before `i` with the two table entries of byte `i` gives the hash that includes byte
+-- `i`.
 pub byte_joined : (tables : List (List ℕ)) (words input : List ℕ) (i high low first second : ℕ)
     → AreItsWindows tables words → i < 36 → slice_index input i < 256
     → first ≡ high_share tables i (slice_index input i)

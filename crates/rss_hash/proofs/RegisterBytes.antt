@@ -1,4 +1,4 @@
--- Byte `n` of a run of registers is byte `n mod 4` of register `n / 4`.
+-- Byte `n` of consecutive registers is byte `n mod 4` of register `n / 4`.
 use Rattle.std.proofs.Common.{◌≡◌, ℕ, ◌+◌, ◌*◌, ◌/◌, ◌%◌, ◌<◌, List, [], ◌∷◌, length, take, slice_index, refl, sym, ap, ◌∙◌, arith}
 use Rattle.std.specs.Int.{to_le_bytes, w32}
 use Rattle.std.specs.List.{flat_map}

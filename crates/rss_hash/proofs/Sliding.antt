@@ -1,4 +1,4 @@
--- Lemmas: the window that starts at the next bit.
+-- Lemmas about the window that starts at the next bit.
 use Rattle.std.proofs.Common.{◌≡◌, ℕ, zero, suc, ◌+◌, ◌*◌, ◌%◌, ◌^◌, ◌<◌, List, refl, ap, arith}
 use Rattle.std.proofs.lemmas.Nat.{pow-add}
 use Rattle.std.proofs.lemmas.Nat.Bits.{bit_at-lt}
@@ -22,7 +22,7 @@ doubled zero n small = omega arith
 doubled (suc zero) n small = omega (arith, pow-add 2 n 1)
 doubled (suc (suc bit)) n small = absurd (omega arith)
 
--- The first bit is the highest.
+-- The first bit of a window is the window's highest bit.
 first_highest : (bytes : List ℕ) (k n : ℕ) →
     bits_from bytes k (n + 1) ≡ bit_of bytes k * 2 ^ n + bits_from bytes (k + 1) n
 first_highest bytes k zero =
@@ -37,7 +37,7 @@ first_highest bytes k (suc n) =
     let double = doubled (bit_of bytes k) n (bit_at-lt _ _) in
     rw next (omega (arith, last, last_after, same, double, first_highest bytes k n))
 
--- The highest bit is dropped, and the next one is appended.
+-- To get the next window, the highest bit is dropped and the next bit is appended.
 pub bits_from_next : (bytes : List ℕ) (k : ℕ) →
     bits_from bytes (k + 1) 32 ≡ 2 * (bits_from bytes k 32 % 2147483648) + bit_of bytes (k + 32)
 bits_from_next bytes k =

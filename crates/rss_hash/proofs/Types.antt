@@ -1,4 +1,4 @@
--- Lemmas: the first enabled type of a flow, by IP version.
+-- Lemmas about the first enabled type of a flow, for each IP version.
 use Rattle.std.proofs.Common.{◌≡◌, ◌≢◌, ℕ, ◌==◌, ◌&&◌, Bool, true, false, cond, Some, None, unwrap_or, refl, arith}
 use Rattle.std.proofs.lemmas.Bool.Decides.{nat_tests}
 use Rattle.rss_hash.specs.Mrqc.{enables}

@@ -1,4 +1,4 @@
--- What a half byte adds to the hash is the exclusive or of the key windows at its 1 bits.
+-- The number that a half byte adds to the hash is the exclusive or of the key's windows at the half byte's 1 bits.
 use Rattle.std.proofs.Common.{◌≡◌, ℕ, ◌+◌, ◌*◌, ◌-◌, ◌<◌, List, [], ◌∷◌, map, slice_index, bit_xor, sym, ap, ◌∙◌, arith}
 use Rattle.std.specs.Int.{bit_at}
 use Rattle.std.specs.Int.Bits.{xor_assoc, xor_zero_r}
@@ -38,7 +38,7 @@ half_share-joined key k v =
     over_half_bits (λ j. window key (4 * k + j)) v
     ∙ ap (λ n. joined (window key n) (window key (4 * k + 1)) (window key (4 * k + 2)) (window key (4 * k + 3)) v) first
 
--- The table entries of half byte `k` are its shares of the hash.
+-- Each table entry of half byte `k` is the number that the half byte adds to the hash.
 pub choice_is_share : (a b c d : ℕ) (key : List ℕ) (k v : ℕ) → v < 16 →
     a ≡ bits_from key (4 * k) 32 → b ≡ bits_from key (4 * k + 1) 32 →
     c ≡ bits_from key (4 * k + 2) 32 → d ≡ bits_from key (4 * k + 3) 32 →

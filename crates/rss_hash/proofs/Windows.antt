@@ -1,4 +1,4 @@
--- Lemmas: the bits of a window one by one, and the hash over the input bits processed so far.
+-- Lemmas about adding single bits to a window, and about the hash over the input bits processed so far.
 use Rattle.std.proofs.Common.{◌≡◌, ℕ, ◌+◌, ◌*◌, ◌==◌, Bool, true, false, List, [], ◌∷◌, ◌++◌, cond, map, filter, bit_xor, refl, arith}
 use Rattle.std.specs.List.{range_with_len}
 use Rattle.std.proofs.lemmas.Int.Digits.{number_push}
@@ -26,7 +26,7 @@ pub filter-range_more : (p : ℕ → Bool) (n : ℕ)
 filter-range_more p n =
     simp map-id at (filter_of_map_range_with_len_more p (λ (k : ℕ). k) 0 n n (omega arith))
 
--- The exclusive or of `f` over some numbers, and perhaps over one more.
+-- The exclusive or of `f` over some numbers and, if `b` is true, over one more number.
 xor_of-map_more : (f : ℕ → ℕ) (ks : List ℕ) (n : ℕ) (b : Bool)
     → xor_of (map f (ks ++ cond b (n ∷ []) [])) ≡ cond b (bit_xor (xor_of (map f ks)) (f n)) (xor_of (map f ks))
 xor_of-map_more f ks n true = rw (map_push f ks n) (fold_push bit_xor 0 (map f ks) (f n))

@@ -5,7 +5,7 @@ use Rattle.std.specs.Prelude.{◌≡◌, ℕ, ◌+◌, ◌*◌, ◌/◌, ◌%◌
 unfoldable pub ethernet : (destination source : List ℕ) (type : ℕ) (packet : List ℕ) → List ℕ
 ethernet destination source type packet = destination ++ source ++ type / 256 ∷ type % 256 ∷ packet
 
--- The fields of an IPv4 header. Addresses are 4 bytes each, options are whole words, and the offset is below 2^13.
+-- The fields of an IPv4 header. Each address has 4 bytes, the options are whole words, and the offset is below 2^13.
 pub record Ipv4Header : Type 0 where
   pub service : ℕ
   pub total_length : ℕ
@@ -33,8 +33,8 @@ abbrev pub fragment_field : Ipv4Header → ℕ
 fragment_field header =
     (if header.dont_fragment then 16384 else 0) + (if header.more_fragments then 8192 else 0) + header.offset
 
--- An IPv4 packet: version 4 and the header's length in words, the other fields, the addresses, the options, and the
--- payload.
+-- An IPv4 packet: version 4 and the header's length in words, followed by the other fields, the addresses, the options,
+-- and the payload.
 unfoldable pub ipv4 : Ipv4Header → List ℕ → List ℕ
 ipv4 header payload =
     (16 * 4 + (5 + length header.options / 4)) ∷ header.service ∷ header.total_length / 256 ∷ header.total_length % 256
@@ -43,7 +43,7 @@ ipv4 header payload =
     ∷ header.time_to_live ∷ header.protocol ∷ header.checksum / 256 ∷ header.checksum % 256
     ∷ (header.source ++ (header.destination ++ (header.options ++ payload)))
 
--- The fields of an IPv6 header. Addresses are 16 bytes each.
+-- The fields of an IPv6 header. Each address has 16 bytes.
 pub record Ipv6Header : Type 0 where
   pub traffic_class : ℕ
   pub flow_label : ℕ
@@ -59,7 +59,7 @@ pub record IsIpv6Header (header : Ipv6Header) : Type 0 where
   pub destination : length header.destination ≡ 16
   pub traffic_class : header.traffic_class < 256
 
--- An IPv6 packet: version 6, the other fields, the addresses, and the payload.
+-- An IPv6 packet: version 6, followed by the other fields, the addresses, and the payload.
 unfoldable pub ipv6 : Ipv6Header → List ℕ → List ℕ
 ipv6 header payload =
     (16 * 6 + header.traffic_class / 16) ∷ (16 * (header.traffic_class % 16) + header.flow_label / 65536)

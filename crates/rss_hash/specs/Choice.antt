@@ -5,7 +5,7 @@ use Rattle.rss_hash.specs.declared.flow.Flow.{Flow}
 use Rattle.rss_hash.specs.declared.choice.RssType.{RssType}
 use Rattle.rss_hash.specs.declared.choice.RssType.TheVariants.{NoHash, TcpIpv4, Ipv4, TcpIpv6, Ipv6, UdpIpv4, UdpIpv6}
 
--- The number of a type in a receive descriptor.
+-- The number that stands for a type in a receive descriptor.
 abbrev pub code_of : RssType → ℕ
 code_of NoHash = 0
 code_of TcpIpv4 = 1
@@ -43,7 +43,7 @@ by_precedence = TcpIpv4 ∷ UdpIpv4 ∷ TcpIpv6 ∷ UdpIpv6 ∷ Ipv4 ∷ Ipv6 �
 unfoldable pub first_enabled : ℕ → Flow → RssType
 first_enabled mrqc flow = unwrap_or (find (λ t. suits t flow && is_enabled mrqc t) by_precedence) NoHash
 
--- The type of a flow; `NoHash` in a mode that doesn't hash.
+-- The type of a flow, or `NoHash` in a mode that doesn't hash.
 unfoldable pub rss_type_of : ℕ → Flow → RssType
 rss_type_of mrqc flow = if is_hashing (queue_mode_of mrqc) then first_enabled mrqc flow else NoHash
 

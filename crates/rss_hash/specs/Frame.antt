@@ -1,11 +1,11 @@
 -- An Ethernet frame without its frame check sequence.
 use Rattle.std.specs.Prelude.{ℕ, ◌+◌, ◌*◌, List, drop, slice_index}
 
--- The 16-bit number at byte `i`, in network order.
+-- The 16-bit number in bytes `i` and `i + 1`, in network order.
 abbrev pub number_at : List ℕ → ℕ → ℕ
 number_at bytes i = 256 * slice_index bytes i + slice_index bytes (i + 1)
 
--- The type, which follows the two addresses.
+-- The EtherType, which follows the two addresses.
 abbrev pub ether_type : List ℕ → ℕ
 ether_type frame = number_at frame 12
 

@@ -1,4 +1,4 @@
--- The hashed part of a frame: at most 36 bytes, in an array that is 0 after them.
+-- The hashed part of a frame: at most 36 bytes, in an array whose remaining bytes are 0.
 use Rattle.std.specs.Prelude.{◌≡◌, ℕ, ◌-◌, ◌≤◌, List, ◌++◌, length, take, replicate}
 use Rattle.std.proofs.Common.{ap, sym, ◌∙◌, arith}
 use Rattle.std.proofs.lemmas.List.{length-take-le}
@@ -12,7 +12,7 @@ padded bytes = bytes ++ replicate (36 - length bytes) 0
 abbrev pub bytes_of : Inside → List ℕ
 bytes_of input = take input.len input.bytes
 
--- The length is at most 36, and the array is 0 after the bytes.
+-- The length is at most 36, and the array is 0 after the hashed bytes.
 pub record IsFilled (input : Inside) : Type 0 where
   pub fits : input.len ≤ 36
   pub whole : length input.bytes ≡ 36

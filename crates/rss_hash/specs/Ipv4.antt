@@ -2,7 +2,7 @@
 use Rattle.std.specs.Prelude.{ℕ, ◌+◌, ◌*◌, ◌/◌, ◌%◌, ◌^◌, ◌==◌, nat_le, ◌&&◌, Bool, List, ◌++◌, length, slice_index, slice_range}
 use Rattle.rss_hash.specs.Frame.{number_at}
 
--- The header's length in bytes; its first byte counts it in words.
+-- The header's length in bytes. The header's first byte contains this length in words.
 abbrev pub header_len : List ℕ → ℕ
 header_len packet = 4 * (slice_index packet 0 % 16)
 
@@ -15,7 +15,7 @@ is_ipv4 packet =
 abbrev pub is_whole : List ℕ → Bool
 is_whole packet = number_at packet 6 % 2 ^ 14 == 0
 
--- An unfragmented packet of this protocol, with the four port bytes after its header.
+-- An unfragmented packet with this protocol, and with the four port bytes after the packet's header.
 unfoldable pub ipv4_carries : ℕ → List ℕ → Bool
 ipv4_carries protocol packet =
     (slice_index packet 9 == protocol) && is_whole packet && nat_le (header_len packet + 4) (length packet)

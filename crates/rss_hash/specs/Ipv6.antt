@@ -5,7 +5,7 @@ use Rattle.std.specs.Prelude.{ℕ, ◌/◌, ◌==◌, nat_le, ◌&&◌, Bool, Li
 unfoldable pub is_ipv6 : List ℕ → Bool
 is_ipv6 packet = (slice_index packet 0 / 16 == 6) && nat_le 40 (length packet)
 
--- The next header of the IPv6 header is this protocol, and the four port bytes follow.
+-- The next header field of the IPv6 header contains this protocol, and the four port bytes follow the header.
 unfoldable pub ipv6_carries : ℕ → List ℕ → Bool
 ipv6_carries protocol packet = (slice_index packet 6 == protocol) && nat_le 44 (length packet)
 

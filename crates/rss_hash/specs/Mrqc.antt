@@ -8,7 +8,7 @@ use Rattle.rss_hash.specs.declared.mrqc.QueueMode.TheVariants.{Single, Rss, Vmdq
 abbrev pub enables : ℕ → ℕ → Bool
 enables mrqc bit = bit_at mrqc bit == 1
 
--- The mode in bits 3:0.
+-- The mode that bits 3:0 select.
 unfoldable pub queue_mode_of : ℕ → QueueMode
 queue_mode_of mrqc =
     if mrqc % 16 == 0x1 then Rss

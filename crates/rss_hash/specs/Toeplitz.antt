@@ -7,7 +7,7 @@ use Rattle.rss_hash.specs.Bits.{bit_of, set_bits, window}
 abbrev pub xor_of : List ℕ → ℕ
 xor_of numbers = fold bit_xor 0 numbers
 
--- The exclusive or, over the input bits `k` that are 1, of the key's windows at bit `k`, 32 bits each.
+-- The exclusive or, over the input bits `k` that are 1, of the key's 32-bit windows at bit `k`.
 unfoldable pub toeplitz_hash : List ℕ → List ℕ → ℕ
 toeplitz_hash key input = xor_of (map (λ k. window key k) (set_bits input))
 
@@ -15,8 +15,8 @@ toeplitz_hash key input = xor_of (map (λ k. window key k) (set_bits input))
 abbrev pub xor_bytes : List ℕ → List ℕ → List ℕ
 xor_bytes a b = map (λ p. bit_xor p.0 p.1) (zip a b)
 
--- Bit `j` of the hash, counted from its highest, is the parity of the number of input bits `k` that are 1 and for which
--- key bit `k + j` is 1.
+-- Bit `j` of the hash, counted from the hash's highest bit, is a parity. It is the parity of the number of input bits
+-- `k` that are 1 and for which key bit `k + j` is 1.
 abbrev pub HasParityBits : List ℕ → (List ℕ → ℕ) → Type 0
 HasParityBits key hash =
     (input : List ℕ) (j : ℕ) → j < 32

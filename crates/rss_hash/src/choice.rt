@@ -28,8 +28,9 @@ pub enum RssType {
 }
 
 impl RssType {
-    /// Returns the type of a flow for a value of MRQC. In a mode that hashes, this is the type with ports if it is
-    /// enabled, otherwise the type with addresses if it is enabled. In all other cases it is `NoHash`.
+    /// Returns the type of a flow for a value of MRQC. In a mode that hashes, the result is the flow's type with ports
+    /// if that type is enabled. Otherwise, it is the flow's type with addresses if that type is enabled. In all other
+    /// cases the result is `NoHash`.
     #[tactic(auto, using(crate::proofs::Types::no_types), unfolding(crate::specs::Choice::rss_type_of))]
     pub fn of(mrqc: u32, flow: &Flow) -> RssType
         ensures { result ≡ rss_type_of mrqc flow.now }
@@ -69,8 +70,8 @@ impl RssType {
     }
 }
 
-/// Returns the RSS type of a flow for a value of MRQC, and the part of the flow that is hashed. For type 0 this part is
-/// empty, so the hash is 0.
+/// Returns the RSS type of a flow for a value of MRQC, and the part of the flow that is hashed. For type 0, the hashed
+/// part is empty, so the hash is 0.
 pub fn choose(mrqc: u32, flow: &Flow) -> (u8, Input)
     ensures rss_type { result.0 ≡ code_of (rss_type_of mrqc flow.now) }
     ensures input { result.1 ≡ hashed_part (rss_type_of mrqc flow.now) flow.now.input }
@@ -82,7 +83,8 @@ pub fn choose(mrqc: u32, flow: &Flow) -> (u8, Input)
 
 /// Returns the RSS type of a flow for a value of MRQC, and the hashed bytes as they are stored in the flow.
 pub fn choose_bytes(mrqc: u32, flow: &Flow) -> (u8, &[u8])
-    // The type is the first enabled one that applies to the flow, ports before addresses.
+    // The type is the first enabled type that applies to the flow. Types with ports come before types with only
+    // addresses.
     ensures rss_type { result.0 ≡ code_of (rss_type_of mrqc flow.now) }
     ensures bytes { result.1.now ≡ hashed_part (rss_type_of mrqc flow.now) flow.now.input }
     // There are at most 36 bytes.
@@ -101,7 +103,7 @@ pub fn choose_bytes(mrqc: u32, flow: &Flow) -> (u8, &[u8])
     (rss_type.code(), bytes)
 }
 
-/// Returns the first `len` bytes, or all if there are fewer.
+/// Returns the first `len` bytes, or all bytes if there are fewer than `len`.
 fn first(bytes: &[u8], len: usize) -> &[u8]
     ensures value { result.now ≡ take len bytes.now }
     ensures fits { length result.now ≤ length bytes.now }
@@ -109,7 +111,7 @@ fn first(bytes: &[u8], len: usize) -> &[u8]
     &bytes[..len.min(bytes.len())]
 }
 
-/// The length of an address pair in bytes.
+/// The length of a source and a destination address together, in bytes.
 const IPV4_ADDRESSES: usize = 8;
 
 const IPV6_ADDRESSES: usize = 32;

@@ -11,11 +11,11 @@ use crate::{ipv4, ipv6};
 pub struct Flow {
     /// The version of IP: 4, 6, or 0 for any other frame.
     pub version: u8,
-    /// Whether it is TCP with known ports.
+    /// Whether the frame is TCP with known ports.
     pub tcp: bool,
-    /// Whether it is UDP with known ports.
+    /// Whether the frame is UDP with known ports.
     pub udp: bool,
-    /// The source and destination addresses, followed with `tcp` or `udp` by the source and destination ports.
+    /// The source and destination addresses. If `tcp` or `udp` is true, the source and destination ports follow.
     pub input: Input,
 }
 
@@ -37,7 +37,8 @@ pub fn classify(frame: &[u8]) -> Flow
     }
 }
 
-/// A frame with the EtherType of a VLAN tag, 0x8100, is neither IPv4 nor IPv6, whatever it carries, so it isn't a flow.
+/// A frame with the EtherType of a VLAN tag, 0x8100, is neither IPv4 nor IPv6, whatever the frame carries, so the frame
+/// isn't a flow.
 pub fn tagged_frames_are_no_flow()
     ensures { (frame : List ℕ) → ether_type frame ≡ 0x8100 → flow_of frame ≡ no_flow }
 {}

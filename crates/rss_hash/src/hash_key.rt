@@ -5,9 +5,10 @@ ghost use Rattle.rss_hash.specs.Toeplitz.{toeplitz_hash};
 use crate::tables::{refill_tables, shares};
 use std::marker::Model;
 
-/// The hash key in the registers RSSRK, with tables. For each half byte `k` of an input and each value `v` of it, the
-/// tables contain the exclusive or, over the bits `j` of `v` that are 1, of the 32 key bits starting at bit `4k + j`. A
-/// hash therefore combines only two numbers for each byte. In contracts, a hash key is the list of its ten words.
+/// The hash key in the registers RSSRK, with tables. For each half byte `k` of an input and each value `v` of that half
+/// byte, the tables contain one number. The number is the exclusive or, over the bits `j` of `v` that are 1, of the 32
+/// key bits starting at bit `4k + j`. Computing a hash therefore combines only two numbers for each byte. Contracts
+/// view a hash key as the list of its ten words.
 ///
 /// Intel 82599 datasheet, section on receive side scaling.
 #[derive(Drop)]
@@ -46,7 +47,7 @@ impl HashKey {
         &self.words
     }
 
-    /// Stores a word of RSSRK. If the word is unchanged, so are the tables.
+    /// Stores a word of RSSRK. If the word is unchanged, the tables are unchanged too.
     pub fn set_word(&mut self, index: usize, word: u32)
         requires { index < 10 }
         ensures { self.new ≡ slice_set self.old index word }

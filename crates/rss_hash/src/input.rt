@@ -2,13 +2,14 @@ ghost use Rattle.std.specs.Prelude.{◌≡◌, ◌+◌, ◌≤◌, [], ◌++◌,
 
 use std::marker::Model;
 
-/// The hashed part of a frame: its addresses, and its ports if they are hashed, in network order. It is at most 36
-/// bytes long, and the rest of the array is 0. In contracts, it is the list of its bytes.
+/// The hashed part of a frame: its addresses, and its ports if they are hashed, in network order. The hashed part is at
+/// most 36 bytes long, and the remaining bytes of the array are 0. Contracts view an `Input` as the list of its hashed
+/// bytes.
 #[derive(Clone, Copy, PartialEq, Eq, Debug)]
 pub struct Input {
-    /// The bytes, followed by zeros.
+    /// The hashed bytes, followed by zeros.
     pub bytes: [u8; 36],
-    /// The number of bytes that are hashed. In values that this crate creates, it is 0, 8, 12, 32 or 36.
+    /// The number of bytes that are hashed. In values that this crate creates, the number is 0, 8, 12, 32 or 36.
     pub len: usize,
 }
 

@@ -48,7 +48,7 @@ const SOURCE: usize = 12;
 
 const ADDRESSES_END: usize = 20;
 
-/// Returns the header's length in bytes; the packet's first byte counts it in words.
+/// Returns the header's length in bytes. The packet's first byte contains this length in words.
 fn header_len(packet: &[u8]) -> usize
     requires { 0 < length packet.now }
     ensures value { result ≡ header_len packet.now }
@@ -57,7 +57,7 @@ fn header_len(packet: &[u8]) -> usize
     4 * usize::from(packet[0] % 16)
 }
 
-/// Whether the packet isn't a fragment, carries this protocol, and has its port bytes.
+/// Whether the packet isn't a fragment, carries this protocol, and contains the protocol's port bytes.
 #[tactic(auto, unfolding(crate::specs::Ipv4::ipv4_carries))]
 fn carries(packet: &[u8], protocol: u8) -> bool
     requires { 20 ≤ length packet.now }

@@ -40,7 +40,7 @@ const NEXT_HEADER: usize = 6;
 
 const SOURCE: usize = 8;
 
-/// Whether this protocol directly follows the IPv6 header, and its port bytes are present.
+/// Whether this protocol directly follows the IPv6 header, and the protocol's port bytes are present.
 #[tactic(auto, unfolding(crate::specs::Ipv6::ipv6_carries))]
 fn carries(packet: &[u8], protocol: u8) -> bool
     requires { 40 ≤ length packet.now }

@@ -12,7 +12,7 @@ use crate::toeplitz::bit;
 pub struct Key(pub [u8; 40]);
 
 impl Key {
-    /// Returns the key in the words of RSSRK: byte 4i + j is bits 8j+7:8j of word i.
+    /// Returns the key that the words of RSSRK contain. Byte 4i + j of the key is bits 8j+7:8j of word i.
     pub fn from_words(words: &[u32; 10]) -> Key
         ensures { result.0 ≡ bytes_of_registers words.now }
     {

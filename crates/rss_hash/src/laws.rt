@@ -16,13 +16,14 @@ pub fn udp_over_ipv4_is_its_fields()
     ensures { PortsOverIpv4 17 udp_flow flow_of }
 {}
 
-/// An IPv4 packet of any other protocol, a fragment or not, is classified by its addresses, whatever it carries.
+/// An IPv4 packet with a protocol other than TCP and UDP is classified by its addresses, whether or not it is a
+/// fragment and whatever the packet carries.
 pub fn other_packets_over_ipv4_are_addresses()
     ensures { OthersOverIpv4 flow_of }
 {}
 
-/// A fragment of an IPv4 packet is classified by its addresses, without ports, whatever its protocol and whatever it
-/// carries.
+/// A fragment of an IPv4 packet is classified by its addresses, without ports, whatever the fragment's protocol is and
+/// whatever the fragment carries.
 pub fn fragments_have_no_ports()
     ensures { FragmentsHaveNoPorts flow_of }
 {}
@@ -37,13 +38,14 @@ pub fn udp_over_ipv6_is_its_fields()
     ensures { PortsOverIpv6 17 udp_flow flow_of }
 {}
 
-/// An IPv6 packet with any other next header, extension headers included, is classified by its addresses, whatever it
-/// carries.
+/// An IPv6 packet with a next header other than TCP and UDP, including an extension header, is classified by its
+/// addresses, whatever the packet carries.
 pub fn other_packets_over_ipv6_are_addresses()
     ensures { OthersOverIpv6 flow_of }
 {}
 
-/// A frame whose EtherType is neither IPv4's nor IPv6's, tagged frames included, isn't a flow, whatever it carries.
+/// A frame whose EtherType is neither IPv4's nor IPv6's isn't a flow, whatever the frame carries. This includes tagged
+/// frames.
 pub fn other_types_are_no_flow()
     ensures { OtherTypesAreNoFlow flow_of }
 {}

@@ -1,5 +1,5 @@
-//! Receive side scaling of the Intel 82599: how a received frame is classified, which part of it is hashed, the
-//! Toeplitz hash, and the entry of the redirection table that the hash selects.
+//! Receive side scaling of the Intel 82599: how a received frame is classified, which part of the frame is hashed, the
+//! Toeplitz hash, and the redirection table entry that the hash selects.
 #![tactic(auto)]
 
 mod bytes;

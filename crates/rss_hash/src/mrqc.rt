@@ -8,7 +8,7 @@ use bitflags::{Flag, Flags, bitflag_items};
 /// Intel 82599 datasheet, section on the register MRQC.
 #[derive(Clone, Copy, PartialEq, Eq, Debug)]
 pub enum QueueMode {
-    /// One queue; also for all numbers that aren't listed.
+    /// A single queue. This mode also applies to all numbers that aren't listed.
     Single,
     /// The hash alone chooses the queue.
     Rss,
@@ -21,7 +21,7 @@ pub enum QueueMode {
 }
 
 impl QueueMode {
-    /// Returns the mode in bits 3:0 of a word of MRQC.
+    /// Returns the mode that bits 3:0 of an MRQC word select.
     #[tactic(auto, unfolding(crate::specs::Mrqc::queue_mode_of))]
     pub fn of(mrqc: u32) -> QueueMode
         ensures { result ≡ queue_mode_of mrqc }

@@ -15,7 +15,7 @@ pub fn entry(table: &[u32; 32], hash: u32) -> u8
 }
 
 /// Returns the entry of the redirection table, 0 to 15, that a hash selects, given only the word of RETA that contains
-/// it, word `hash % 128 / 4`.
+/// the entry, word `hash % 128 / 4`.
 pub fn entry_in(word: u32, hash: u32) -> u8
     ensures value { IsEntryIn word hash result }
     ensures range { result < 16 }
@@ -23,7 +23,7 @@ pub fn entry_in(word: u32, hash: u32) -> u8
     byte_of(word, (hash % 4) as usize) % 16
 }
 
-/// Returns byte `n` of a run of registers, each register's lowest bits first.
+/// Returns byte `n` of consecutive registers. In each register, the byte with the lowest bits comes first.
 #[tactic(auto, using(crate::proofs::RegisterBytes::register_byte_at))]
 pub(crate) fn register_byte(words: &[u32], n: usize) -> u8
     requires { n < 4 * length words.now }
@@ -32,7 +32,7 @@ pub(crate) fn register_byte(words: &[u32], n: usize) -> u8
     byte_of(words[n / 4], n % 4)
 }
 
-/// Returns byte `j` of a register, the lowest bits first.
+/// Returns byte `j` of a register. Byte 0 has the lowest bits.
 fn byte_of(word: u32, j: usize) -> u8
     requires { j < 4 }
     ensures { result ≡ slice_index (to_le_bytes w32 word) j }

@@ -1,4 +1,5 @@
-//! Tables of what each half byte of an input adds to its hash: windows of the key, filled in when a key is written.
+//! Tables of the numbers that each half byte of an input adds to the input's hash. The numbers combine windows of the
+//! key, and the tables are filled in when a key is written.
 
 ghost use Rattle.std.specs.Prelude.{◌≡◌, ◌<◌, map};
 ghost use Rattle.std.specs.List.{range_with_len};
@@ -7,7 +8,8 @@ ghost use Rattle.rss_hash.specs.Tables.{joined, high_share, low_share, AreItsWin
 use crate::key::Key;
 
 /// Refills the tables of the half bytes that use a bit of the key's written word. Row `n` has, for each value of half
-/// byte `n`, the exclusive or of its windows. It isn't inlined, to keep its code out of the writes to other registers.
+/// byte `n`, the exclusive or of that value's windows. This function isn't inlined, to keep its code out of the writes
+/// to other registers.
 #[inline(never)]
 pub(crate) fn refill_tables(tables: &mut [[u32; 16]; 72], words: &[u32; 10], index: usize)
     requires index { index < 10 }
@@ -55,7 +57,7 @@ fn choices(a: u32, b: u32, c: u32, d: u32) -> [u32; 16]
     ]
 }
 
-/// Returns what the high and the low half of byte `i` of an input add to its hash.
+/// Returns the numbers that the high and the low half of byte `i` of an input add to the input's hash.
 #[inline(always)]
 pub(crate) fn shares(tables: &[[u32; 16]; 72], i: usize, byte: u8) -> (u32, u32)
     requires { i < 36 }

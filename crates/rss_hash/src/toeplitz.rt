@@ -30,8 +30,8 @@ pub fn hash(key: &Key, input: &[u8]) -> u32
     hash
 }
 
-/// Bit `j` of the hash, counted from its highest, is the parity of the number of input bits `k` that are 1 and for
-/// which key bit `k + j` is 1.
+/// Bit `j` of the hash, counted from the hash's highest bit, is a parity. It is the parity of the number of input bits
+/// `k` that are 1 and for which key bit `k + j` is 1.
 pub fn hash_bits_are_parities(key: &Key)
     ensures { HasParityBits key.now.0 (toeplitz_hash key.now.0) }
 {}

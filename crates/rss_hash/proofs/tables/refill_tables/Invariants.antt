@@ -3,7 +3,8 @@ use Rattle.rss_hash.specs.Bits.{bits_from}
 use Rattle.rss_hash.specs.Tables.{half_share}
 use Rattle.rss_hash.proofs.tables.refill_tables.Given as goal
 
--- The rows written so far, the rows beyond the written word, and the next window.
+-- The rows before row `n`, and the rows whose windows begin after the written word, are correct. The next window is
+-- correct too.
 abbrev pub invariant-loop-n : goal.invariant-loop-n
 invariant-loop-n l = record {
   whole : length l.tables ≡ 72;

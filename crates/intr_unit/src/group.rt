@@ -73,8 +73,8 @@ impl Group {
     }
 
     /// Returns the causes that a queue raises through its byte of IVAR (for the PF) or PVTIVAR (for a VF), as a word
-    /// with at most one bit. If bit 7 of the byte is 1, bits 5:0 of the byte name the cause. The cause is at most bit
-    /// 15 for the PF, or bit 2 for a VF; otherwise the word is 0.
+    /// with at most one bit. If bit 7 of the byte is 1, bits 5:0 of the byte name the cause. If bit 7 is 0, or if the
+    /// cause is above bit 15 for the PF or above bit 2 for a VF, the word is 0.
     ///
     /// Intel 82599 datasheet, section on interrupt causes and their allocation.
     #[tactic(auto, unfolding(crate::specs::Group::queue_causes))]

@@ -42,11 +42,11 @@ pub enum Kind {
     W1c,
     /// A virtual function's mailbox. A read returns the word and clears the bits that are reported only once: a status,
     /// an acknowledgement, a completed reset. A write takes the mailbox if the physical function doesn't hold it, or
-    /// releases the mailbox. The write also sends a request or an acknowledgement to the physical function.
+    /// releases the mailbox. The write can also send a request or an acknowledgement to the physical function.
     Vfmail,
     /// The physical function's view of a virtual function's mailbox. A read returns who holds the mailbox. A write
     /// takes the mailbox from the virtual function, takes it for the physical function if nobody holds it, or releases
-    /// it. The write also sends a status or an acknowledgement.
+    /// it. The write can also send a status or an acknowledgement.
     Pfmail,
     /// Extended device control. Like `Rw`; in addition, a write with bit 14 set reports to each virtual function that a
     /// reset is done.

@@ -60,7 +60,8 @@ among_within mode v queue a =
           absurd (subst (λ o. IsAmong o queue) is a)
     ]
 
--- `pool_of` returns pool v for a queue if and only if `queues_of` returns a range that contains the queue for v.
+-- `pool_of` returns pool v for a queue if and only if the range of queues that `queues_of` returns for v contains the
+-- queue.
 pub inverse : (mode : Mode) (v queue : ℕ) → (pool_of mode queue ≡ Some v) ↔ IsAmong (queues_of mode v) queue
 inverse mode v queue = (
   λ e. within_among mode v queue (pool_within mode v queue e),

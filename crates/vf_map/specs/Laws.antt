@@ -86,6 +86,7 @@ pub record QueueRegistersAreThere : Type 0 where
       queues_of mode v ≡ Some (first, count) → x < count / 2 →
       located mode vfs v (0x120 + 4 * x) ≡ Register (record { row = Pvtivar; index = first / 2 + x })
 
--- `pool_of` returns pool v for a queue if and only if `queues_of` returns a range that contains the queue for v.
+-- `pool_of` returns pool v for a queue if and only if the range of queues that `queues_of` returns for v contains the
+-- queue.
 abbrev pub PoolIsWhereTheQueueIs : Type 0
 PoolIsWhereTheQueueIs = (mode : Mode) (v queue : ℕ) → (pool_of mode queue ≡ Some v) ↔ IsAmong (queues_of mode v) queue

@@ -47,7 +47,8 @@ pub fn queue_registers_are_there()
     ensures { QueueRegistersAreThere }
 {}
 
-/// `pool_of` returns pool v for a queue if and only if `queues_of` returns a range that contains the queue for v.
+/// `pool_of` returns pool v for a queue if and only if the range of queues that `queues_of` returns for v contains the
+/// queue.
 pub fn pool_is_where_the_queue_is()
     ensures { PoolIsWhereTheQueueIs }
 {}

@@ -73,8 +73,8 @@ stored r p view word =
 abbrev pub ones_cleared : Registers → Place → ℕ → Registers
 ones_cleared r p bits = record r { words = put r.words p (bit_and (word_at r.words p) (0xFFFFFFFF - bits)) }
 
--- The registers after a write to one of a group's registers: to its cause register, which clears the bits written as 1;
--- to its mask register, which sets the bits written as 1; to its cause set register; and to its mask clear register.
+-- The registers after a write to one of a group's registers: its cause register, mask register, cause set register or
+-- mask clear register. Bits written as 1 clear causes in the cause register, and set masks in the mask register.
 abbrev pub causes_written : Registers → Group → ℕ → Registers
 causes_written r g bits = with_interrupts r (after_write_one (interrupts_of r g) bits (auto_masks r g))
 

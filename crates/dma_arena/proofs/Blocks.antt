@@ -1,4 +1,4 @@
--- Lemmas: ranges within one block, and the blocks that a range avoids.
+-- Lemmas about ranges within one block, and about the blocks that a range doesn't touch.
 use Rattle.std.proofs.Common.{◌≡◌, ◌≢◌, ℕ, zero, suc, ◌+◌, ◌*◌, ◌/◌, ◌%◌, ◌<◌, ◌≤◌, ◌⊎◌, inl, inr, true, Some, List, [], ◌∷◌, length, set, get_or, refl, sym, ap, ◌∙◌, arith}
 use Rattle.std.specs.Cmp.{nat_cmp_total}
 use Rattle.std.specs.FinMap as map
@@ -20,7 +20,7 @@ avoids_rest : (q a n : ℕ) → Avoids q a (suc n) → Avoids q (a + 1) n
 avoids_rest q a n (inl h) = inl (omega arith)
 avoids_rest q a n (inr h) = inr (omega arith)
 
--- A write leaves each block that its range avoids as it was.
+-- A write changes no block that its range doesn't touch.
 pub get-write_at_out : (m : Memory) (a : ℕ) (bs : List ℕ) (q : ℕ) → Avoids q a (length bs)
     → map.get (write_at m a bs) q ≡ map.get m q
 unfolding write_at
@@ -29,7 +29,7 @@ get-write_at_out m a (b ∷ bs) q h =
     get-write_at_out (set_byte m a b) (a + 1) bs q (avoids_rest q a (length bs) h)
     ∙ get-set_byte_other m a b q (avoids_first q a (length bs) h)
 
--- A write within one block puts its bytes there.
+-- After a write within one block, the block contains the written bytes at their index.
 pub get-write_at_in : (m : Memory) (a : ℕ) (bs : List ℕ) (q at : ℕ) (xs : List ℕ) → map.get m q ≡ Some xs
     → length xs ≡ 2048 → a ≡ 2048 * q + at → at + length bs ≤ 2048
     → map.get (write_at m a bs) q ≡ Some (put_bytes xs at bs)
@@ -74,7 +74,7 @@ part-none : (xs : List ℕ) (at : ℕ) → part xs at 0 ≡ []
 unfolding part
 part-none xs at = refl
 
--- A read within one block returns part of its bytes.
+-- A read within one block returns the block's bytes in that range.
 pub read_at_in : (m : Memory) (a n q at : ℕ) (xs : List ℕ) → map.get m q ≡ Some xs → length xs ≡ 2048
     → a ≡ 2048 * q + at → at + n ≤ 2048 → read_at m a n ≡ part xs at n
 unfolding read_at byte_at
@@ -97,7 +97,7 @@ pub is_lent_in : (m : Memory) (a n q at : ℕ) → has_block m q ≡ true → a 
 is_lent_in m a n q at has e h =
     is_lent_of_each m a n (λ c low high. let block : c / 2048 ≡ q = omega arith in rw block has)
 
--- All of these facts, for one lent block.
+-- All of the facts above, for one lent block.
 pub InsideBlock-of_get : (m : Memory) (q at : ℕ) (xs : List ℕ) → IsWhole m → map.get m q ≡ Some xs
     → InsideBlock m q at xs
 InsideBlock-of_get m q at xs whole is =

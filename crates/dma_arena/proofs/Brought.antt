@@ -1,4 +1,5 @@
--- A block enters the list: it is linked to the end and to the first place, and they are linked to it.
+-- A block is inserted into the list: it is linked to the end and to the first block, and the end and the first block
+-- are linked to it.
 use Rattle.std.proofs.Common.{◌≡◌, ◌≢◌, ℕ, ◌<◌, inl, inr, Option, Some, None, List, length, get_or, set, map, true, refl, sym, ap, ◌∙◌, subst, arith}
 use Rattle.std.specs.Prelude.{is_some}
 use Rattle.std.proofs.lemmas.List.{length-set}
@@ -9,7 +10,7 @@ use Rattle.dma_arena.proofs.Ring.{same}
 use Rattle.dma_arena.proofs.Nodes.{nodes-end, nodes-block, length_same, Relinked-end, Relinked-block}
 use Rattle.dma_arena.proofs.Linked.{above, first_other, IsRing-comes}
 
--- Before the block's links are set, the first place is linked.
+-- Before the first block's links are set, the index to which the end's `next` link points has links.
 pub first_linked : (nodes : Nodes) (rank : ℕ → ℕ) (ring : IsRing nodes rank) (p : ℕ) (free : nodes p ≡ None)
     → p ≢ list_end → (e : Links) (end_at : nodes list_end ≡ Some e) (n1 n2 : Nodes) (x z : Links)
     → Relinked nodes n1 p x → Relinked n1 n2 list_end z → is_some (n2 e.next) ≡ true
@@ -101,7 +102,7 @@ module _ (nodes : Nodes) (rank : ℕ → ℕ) (ring : IsRing nodes rank) (p : �
     ]
   ]
 
-  -- Every linked place except the new one was linked before.
+  -- Every index with links, except the new block's index, had links before.
   was : (r : ℕ) (y : Links) → n3 r ≡ Some y → r ≢ p → (x : Links) × (nodes r ≡ Some x)
   was r y at ne = elim (cases_eq r e.next) [
     | inl is_first ↦ let k = ring.next list_end e end_at in (k.0, ap nodes is_first ∙ k.1)

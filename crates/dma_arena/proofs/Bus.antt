@@ -1,4 +1,4 @@
--- Lemmas: ranges of the bus, what they read, and what a write leaves unchanged.
+-- Lemmas about ranges of bus addresses, what a read of a range returns, and what a write leaves unchanged.
 use Rattle.std.proofs.Common.{◌≡◌, ◌≢◌, ℕ, zero, suc, ◌+◌, ◌-◌, ◌/◌, ◌<◌, ◌≤◌, inl, inr, true, Option, Some, None, List, [], ◌∷◌, length, get_or, refl, ◌∙◌, arith, add-zero}
 use Rattle.std.specs.Prelude.{is_some}
 use Rattle.std.specs.FinMap as map
@@ -92,7 +92,7 @@ unfolding read_at
 length-read_at m a zero = refl
 length-read_at m a (suc n) = rw (length-read_at m (a + 1) n) refl
 
--- A read returns the bytes of its range in order.
+-- A read returns the bytes at the addresses in its range, in address order.
 pub get_or-read_at : (m : Memory) (a n k : ℕ) → k < n → get_or (read_at m a n) k 0 ≡ byte_at m (a + k)
 unfolding read_at
 get_or-read_at m a zero k lt = absurd (omega arith)
@@ -117,7 +117,7 @@ read_at-write_at_apart m a bs c k (inl h) =
 read_at-write_at_apart m a bs c k (inr h) =
     read_at-same (write_at m a bs) m c k (λ d l r. byte_at-write_at_other m a bs d (inr (omega arith)))
 
--- A read returns what was written.
+-- A read of a lent range that was just written returns the bytes that were written.
 pub read_at-write_at_same : (m : Memory) (a : ℕ) (bs : List ℕ) → IsWhole m → is_lent m a (length bs) ≡ true
     → read_at (write_at m a bs) a (length bs) ≡ bs
 unfolding write_at read_at

@@ -35,7 +35,7 @@ length-put_bytes xs at bs room =
       length-take-le at xs (omega arith),
     )
 
--- The bytes that were put are there.
+-- After bytes are put into a block, the block contains them at their index.
 pub part-put_bytes_same : (xs : List ℕ) (at : ℕ) (bs : List ℕ) → at ≤ length xs
     → part (put_bytes xs at bs) at (length bs) ≡ bs
 unfolding part put_bytes

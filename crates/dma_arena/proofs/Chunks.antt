@@ -63,7 +63,7 @@ pub lent_far : (m : Memory) (a n : ℕ) → IsWhole m → is_lent m a n ≡ true
 lent_far m a zero whole lent h = omega arith
 lent_far m a (suc n) whole lent h = let b = lent_end m a (suc n) whole lent (omega arith) in omega (arith, b)
 
--- The check stops at a block that isn't lent.
+-- The check of whether a range is lent stops at a block that isn't lent.
 
 not_lent : (m : Memory) (a k : ℕ) → has_block m (a / 2048) ≡ false → is_lent m a (suc k) ≡ false
 unfolding is_lent
@@ -79,7 +79,7 @@ pub far_gone : (m : Memory) (q : ℕ) (there : Bool) → IsWhole m → has_block
 far_gone m q true whole is far = let low = small_of_lent m q whole is in absurd (omega (arith, low))
 far_gone m q false whole is far = refl
 
--- A range within one block is lent if that block is.
+-- A range within one block is lent if that block is lent.
 
 one_block_there : (m : Memory) (a n : ℕ) → a % 2048 + n ≤ 2048 → has_block m (a / 2048) ≡ true
     → has_block m (a / 2048) ≡ is_lent m a n

@@ -1,4 +1,4 @@
--- Lemmas: the number of places that have a block, as a sum of its parts.
+-- Lemmas about the number of places that a block is in, as a sum over the kinds of places.
 use Rattle.std.proofs.Common.{◌≡◌, ◌≢◌, ℕ, ◌+◌, Bool, true, false, cond, List, ◌∷◌, eqb, refl, ◌∙◌, arith}
 use Rattle.std.specs.FinMap as map
 use Rattle.std.proofs.lemmas.Bool.Decides.{nat_tests}
@@ -36,7 +36,7 @@ has_block-remove_same m n = rw (get-remove_same m n) refl
 pub has_block-remove_other : (m : Memory) (n k : ℕ) → k ≢ n → has_block (map.remove m n) k ≡ has_block m k
 has_block-remove_other m n k ne = rw (get-remove_other m n k ne) refl
 
--- The number of places, as a sum: free, owned, lent.
+-- The number of places that a block is in: the sum of the free, the owned and the lent places.
 abbrev pub counted : Bool → ℕ → Bool → ℕ
 counted free times lent = cond free 1 0 + times + cond lent 1 0
 

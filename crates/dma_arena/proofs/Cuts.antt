@@ -1,4 +1,4 @@
--- Lemmas: taking a block and giving it back, and splitting an arena.
+-- Lemmas about taking a block and giving it back, and about splitting an arena.
 use Rattle.std.proofs.Common.{◌≡◌, ℕ, zero, suc, ◌+◌, ◌-◌, Bool, true, false, List, [], ◌∷◌, length, set, get_or, refl, sym, ap, ◌∙◌, arith, ◌||◌}
 use Rattle.std.specs.Prelude.{nat_le, ◌||◌}
 use Rattle.std.proofs.lemmas.Bool.{and_parts}
@@ -39,7 +39,8 @@ or_true : (x : Bool) → (x || true) ≡ true
 or_true true = refl
 or_true false = refl
 
--- The numbers that are free in an arena are free in a part of it.
+-- If an arena's numbers are all free, and the arena owns each number of a part, and these numbers are free in the part,
+-- then each block of the part is in exactly one place.
 part_case : (a part : Numbers) (hand : List ℕ) (m : Memory) → are_all_free a ≡ true → EachOnce a hand m
     → ((k : ℕ) → is_own part k ≡ true → (is_own a k ≡ true) × (is_free part k ≡ true)) → EachOnce part hand m
 part_case a part hand m all once within k own =

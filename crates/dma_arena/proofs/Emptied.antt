@@ -1,4 +1,4 @@
--- Lemmas: a list without blocks, and which blocks are free according to a list.
+-- Lemmas about a list without blocks, and about which blocks are free according to a list.
 use Rattle.std.proofs.Common.{◌≡◌, ◌≢◌, ℕ, zero, suc, ◌+◌, ◌-◌, ◌<◌, ◌≤◌, inl, inr, Option, Some, None, List, ◌∷◌, ◌++◌, length, get_or, set, map, replicate, Bool, true, false, refl, sym, ap, ◌∙◌, arith}
 use Rattle.std.specs.Prelude.{is_some, count_by}
 use Rattle.std.proofs.lemmas.Bool.{cases_eq}
@@ -9,7 +9,7 @@ use Rattle.dma_arena.proofs.Numbers.{count_by-of_none}
 use Rattle.dma_arena.proofs.Nodes.{nodes-end, nodes-block, within, marked}
 use Rattle.dma_arena.proofs.Ring.{same, no_block}
 
--- A place without a free block.
+-- The content of a slot without a free block.
 abbrev pub no_links : Option Links
 no_links = None
 
@@ -41,7 +41,7 @@ IsLinked-empty n small = record {
   };
 }
 
--- A list whose end leads straight back to itself has no block.
+-- A list whose end is linked to itself contains no block.
 not_free : (e : Links) (s : List (Option Links)) → IsLinked e s → e.next ≡ list_end → (p : ℕ) (o : Option Links)
     → get_or s p None ≡ o → is_some o ≡ false
 not_free e s linked first p None at = refl
@@ -63,7 +63,7 @@ first_free e s linked ne =
     let m = linked.ring.next list_end e (nodes-end e s list_end refl) in
     marked s e.next ∙ ap is_some (sym (nodes-block e s e.next ne) ∙ m.1)
 
--- Marks that are set from the last place down.
+-- Marks that are set from the last index down.
 
 unfoldable pub filled : ℕ → ℕ → List Bool
 filled k m = replicate k false ++ replicate m true

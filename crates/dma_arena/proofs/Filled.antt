@@ -1,4 +1,4 @@
--- Lemmas: which places of a table have a block, and what holds after places are added or one of them changes.
+-- Lemmas about which slots of a table contain a block, and about what holds after slots are added or one slot changes.
 use Rattle.std.proofs.Common.{◌≡◌, ◌≢◌, ℕ, ◌+◌, ◌-◌, ◌<◌, ◌≤◌, ◌++◌, inl, inr, min, true, false, cond, Option, Some, None, List, [], length, get_or, set, replicate, refl, sym, ap, ◌∙◌, arith}
 use Rattle.std.specs.Prelude.{is_some, count_by, unwrap_or, IfSome}
 use Rattle.std.specs.Ordering.{nat_cmp}
@@ -17,7 +17,7 @@ none_of : {A : Type 0} (o : Option A) → is_some o ≡ false → o ≡ None
 none_of None h = refl
 none_of (Some b) h = cc
 
--- A place's contribution to the count: 1 if it has a block.
+-- What a slot adds to the count: 1 if it contains a block, otherwise 0.
 abbrev mark : Option Block → ℕ
 mark place = cond (is_some place) 1 0
 
@@ -29,7 +29,7 @@ no_block m q e = ap (λ (k : Memory). has_block k q) e ∙ rw (fin.get-empty {X 
 pub none_there : (s : List (Option Block)) → shown s ≡ fin.empty → (q : ℕ) → at_place s q ≡ None
 none_there s e q = none_of (at_place s q) (sym (has_block-shown s q) ∙ no_block (shown s) q e)
 
--- Places are added.
+-- Slots are added.
 
 none_made : (k q : ℕ) → get_or (replicate {A = Option Block} k None) q None ≡ None
 none_made k q = elim (cases_lt q k) [
@@ -77,7 +77,7 @@ IsTable-made s f g n k few table = record {
   counted = table.counted ∙ sym (counted-made s k);
 }
 
--- One place is set.
+-- One slot is set.
 
 filled_same : (s : List (Option Block)) (q : ℕ) (y : Option Block) → q < length s → is_filled (set s q y) q ≡ is_some y
 filled_same s q y lt = ap is_some (get_or-set_same s q y None lt)
@@ -105,7 +105,7 @@ IsTable-set s f e n q y g h k table lt it first gap counted = record {
   counted = omega (arith, sum_by-set mark s q y None lt, table.counted, counted);
 }
 
--- A block is overwritten or enters.
+-- A block is overwritten or inserted.
 
 IsFirst-written : (s : List (Option Block)) (f q : ℕ) (y : Option Block) → IsFirst s f → q < length s
     → is_some y ≡ is_filled s q → IsFirst (set s q y) f
@@ -143,7 +143,7 @@ gap-written s f e q y gap lt it =
       | inr ne ↦ filled_other s q y r ne ∙ gap r over below
     ]
 
--- A block enters below the first, or above it.
+-- A block is inserted below the first block, or above it.
 gap-came : (s : List (Option Block)) (f e q : ℕ) (y : Option Block) (g h : ℕ) → IsFirst s f → NoneBetween s f e
     → g ≡ min f q → (q < f → h ≡ f) → (f ≤ q → h ≤ q) → (f ≤ q → h ≤ e) → NoneBetween (set s q y) g h
 gap-came s f e q y g h first gap least low high within = elim (cases_lt q f) [
@@ -166,7 +166,7 @@ module _ {s : List (Option Block)} {f e n : ℕ} (table : IsTable s f e n) {m : 
   pub block_at-table : (q : ℕ) → at_place s q ≡ block_at m q
   block_at-table q = block_at-shown s q (table.numbered q) ∙ ap (λ (k : Memory). block_at k q) view
 
-  -- No block is lent if and only if there is no lowest one.
+  -- No block is lent if and only if no slot is the first with a block.
 
   pub none_lent : f ≡ 65536 → m ≡ fin.empty
   none_lent e =
@@ -185,7 +185,7 @@ module _ {s : List (Option Block)} {f e n : ℕ} (table : IsTable s f e n) {m : 
     | inr past ↦ omega (arith, table.lowest.small, past)
   ]
 
-  -- A lent number has a place, and its block is there.
+  -- A lent number has a slot, which contains the block.
 
   pub place_of : (q : ℕ) → has_block m q ≡ true → q < length s
   place_of q has = within s q (sym (filled_at q) ∙ has)
@@ -193,7 +193,7 @@ module _ {s : List (Option Block)} {f e n : ℕ} (table : IsTable s f e n) {m : 
   pub what_stands : (q : ℕ) (o : Option Block) → has_block m q ≡ true → o ≡ get_or s q o → at_place s q ≡ o
   what_stands q o has is = sym (get_or_read s q o (place_of q has) is None)
 
-  -- A block leaves, or none was there.
+  -- A block is removed, or the slot was already empty.
 
   pub shown-left : (q : ℕ) (y : Option Block) → q < length s → y ≡ None → shown (set s q y) ≡ fin.remove m q
   shown-left q y lt gone =
@@ -227,7 +227,7 @@ module _ {s : List (Option Block)} {f e n : ℕ} (table : IsTable s f e n) {m : 
       (λ r ne. get_or-set_other s q r (Some c) None ne)
       ∙ ap (λ (k : Memory). fin.insert k q c.bytes) view)
 
-  -- A block's bytes are replaced, and its old bytes are known.
+  -- A block's bytes are replaced, and the memory says what its old bytes were.
 
   pub shown-exchanged : (q : ℕ) (c : Block) (bytes : List ℕ) → has_block m q ≡ true → c.bytes ≡ bytes
       → shown (set s q (Some c)) ≡ fin.insert m q bytes
@@ -242,7 +242,7 @@ module _ {s : List (Option Block)} {f e n : ℕ} (table : IsTable s f e n) {m : 
   got-there q b bytes is e =
       ap (λ bs. Some bs) e ∙ sym (ap (λ (k : Memory). fin.get k q) (sym view) ∙ get-shown s q ∙ rw is refl)
 
-  -- Places are added up to the place of a number that isn't lent.
+  -- Slots are added up to the slot of a number that isn't lent.
   module _ (q : ℕ) (small : q < 65536) (free : has_block m q ≡ false) {t : List (Option Block)}
       (made : t ≡ s ++ replicate (q + 1 - length s) None) where
     pub within_made : q < length t

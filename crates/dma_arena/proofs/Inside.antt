@@ -1,4 +1,4 @@
--- Lemmas: ranges within one block.
+-- Lemmas about ranges within one block.
 use Rattle.std.proofs.Common.{◌≡◌, zero, suc, ◌+◌, ◌/◌, inl, inr, refl, arith}
 use Rattle.std.proofs.lemmas.Bool.{cases_lt}
 use Rattle.dma_arena.specs.Memory.{byte_at, is_lent, read_at}

@@ -1,4 +1,4 @@
--- Lemmas: adjacent ranges of the bus.
+-- Lemmas about adjacent ranges of bus addresses.
 use Rattle.std.proofs.Common.{◌≡◌, ℕ, zero, suc, ◌+◌, ◌/◌, Bool, true, false, ◌&&◌, List, [], ◌∷◌, ◌++◌, length, refl, sym, ◌∙◌, arith, add-zero, zero-add}
 use Rattle.dma_arena.specs.Memory.{Memory, has_block, is_lent, read_at, set_byte, write_at}
 

@@ -1,4 +1,4 @@
--- A block enters the list, before its first place.
+-- Lemmas about inserting a block before the list's first block.
 use Rattle.std.proofs.Common.{◌≡◌, ◌≢◌, ℕ, suc, ◌<◌, inl, inr, Some, None, refl, sym, ap, ◌∙◌, rules, arith, cond, eqb, true, false}
 use Rattle.std.proofs.lemmas.Bool.{cases_eq}
 use Rattle.std.proofs.lemmas.Bool.Decides.{nat_tests}
@@ -6,7 +6,7 @@ use Rattle.dma_arena.specs.Links.{Nodes, list_end, IsRing, Comes}
 use Rattle.dma_arena.specs.declared.links.Links.{Links}
 use Rattle.dma_arena.proofs.Ring.{same}
 
--- A rank above the first place's rank.
+-- The ranks after an insertion: the new block has a rank above the first block's rank.
 abbrev pub above : (ℕ → ℕ) → ℕ → ℕ → ℕ → ℕ
 above rank p first r = cond (eqb r p) (suc (rank first)) (rank r)
 
@@ -18,14 +18,14 @@ above_other rank p first r ne = let e : eqb r p ≡ false = grind (arith, nat_te
 
 module _ (nodes : Nodes) (rank : ℕ → ℕ) (ring : IsRing nodes rank) (p : ℕ) (free : nodes p ≡ None)
     (apart : p ≢ list_end) (e : Links) (end_at : nodes list_end ≡ Some e) where
-  -- The new place differs from every linked one.
+  -- The new block's index differs from every index that has links.
   linked_other : (r : ℕ) (x : Links) → nodes r ≡ Some x → r ≢ p
   linked_other r x there is = let no : Some x ≡ None = sym there ∙ ap nodes is ∙ free in absurd (search rules)
 
   pub first_other : e.next ≢ p
   first_other = let m = ring.next list_end e end_at in linked_other e.next m.0 m.1
 
-  -- The place right after the end is the first.
+  -- The block right after the end is the first block.
   after_end : (r : ℕ) (x : Links) → nodes r ≡ Some x → x.prev ≡ list_end → r ≡ e.next
   after_end r x there is =
       let m = ring.prev r x there in

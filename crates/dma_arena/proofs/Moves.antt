@@ -1,4 +1,4 @@
--- Lemmas: lending blocks and taking them back.
+-- Lemmas about lending blocks and taking them back.
 use Rattle.std.proofs.Common.{◌≡◌, ◌≢◌, ℕ, ◌/◌, ◌⊎◌, inl, inr, Some, None, List, refl, sym, ◌∙◌}
 use Rattle.std.specs.Ordering.{nat_cmp}
 use Rattle.std.specs.FinMap as map
@@ -17,7 +17,7 @@ pub byte_at-remove_other : (m : Memory) (q c : ℕ) → c / 2048 ≢ q → byte_
 unfolding byte_at
 byte_at-remove_other m q c ne = rw (get-remove_other m q (c / 2048) ne) refl
 
--- The memory stays whole.
+-- Each lent block is still a valid block.
 
 pub IsWhole-empty : IsWhole map.empty
 IsWhole-empty = record {

@@ -1,4 +1,4 @@
--- The nodes of a list: its end, and the free blocks.
+-- Lemmas about the nodes of a list: the list's end and the free blocks.
 use Rattle.std.proofs.Common.{◌≡◌, ◌≢◌, ℕ, zero, suc, ◌<◌, inl, inr, Option, Some, None, List, [], ◌∷◌, length, get_or, set, map, Bool, true, false, eqb, refl, sym, ap, ◌∙◌, arith}
 use Rattle.std.specs.Prelude.{is_some}
 use Rattle.std.proofs.lemmas.Bool.{cases_eq}
@@ -15,7 +15,7 @@ pub nodes-block : (e : Links) (s : List (Option Links)) (p : ℕ) → p ≢ list
 unfolding nodes_of
 nodes-block e s p ne = let t : eqb p list_end ≡ false = grind (arith, nat_tests) in rw t refl
 
--- A place with a block is within the slots.
+-- An index whose slot contains a block is below the number of slots.
 pub within : {A : Type 0} (s : List (Option A)) (p : ℕ) → is_some (get_or s p None) ≡ true → p < length s
 within [] p h = cc
 within (x ∷ s) zero h = omega arith

@@ -1,4 +1,4 @@
--- Lemmas: what an arena owns, and what is free in it.
+-- Lemmas about the numbers that an arena owns, and the numbers that are free in it.
 use Rattle.std.proofs.Common.{◌≡◌, ℕ, zero, suc, ◌+◌, ◌-◌, ◌<◌, ◌≤◌, Bool, true, false, List, [], ◌∷◌, length, get_or, refl, arith}
 use Rattle.std.specs.Prelude.{nat_le, nat_lt}
 use Rattle.std.proofs.lemmas.Bool.{and_parts, leb-true, ltb-true, le-leb, lt-ltb}
@@ -23,7 +23,7 @@ set_within [] k h = cc
 set_within (x ∷ xs) zero h = omega arith
 set_within (x ∷ xs) (suc k) h = omega (arith, set_within xs k h)
 
--- A free number is one that the arena owns.
+-- The arena owns each number that is free in it.
 pub is_own-of_free : (a : Numbers) (number : ℕ) → is_free a number ≡ true → is_own a number ≡ true
 is_own-of_free a number free =
     let both = and_parts (nat_le a.first number) (get_or a.free (number - a.first) false) free in

@@ -1,4 +1,4 @@
--- Each move of a block keeps it in one place.
+-- Lemmas: when a block moves, it stays in exactly one place.
 use Rattle.std.proofs.Common.{◌≡◌, ◌≢◌, ℕ, ◌+◌, ◌⊎◌, inl, inr, true, false, List, [], ◌∷◌, refl, sym, subst, ◌∙◌, arith}
 use Rattle.std.specs.FinMap as map
 use Rattle.std.specs.Ordering.{nat_cmp}
@@ -10,7 +10,7 @@ use Rattle.dma_arena.proofs.Arenas.{is_own-of_free, is_own-with_free, is_free-wi
 use Rattle.dma_arena.proofs.Counts.{counted, times_first, times_rest, has_block-insert_same, has_block-insert_other, has_block-remove_same, has_block-remove_other, reported, alone, freed, sole}
 use Rattle.dma_arena.proofs.Cuts.{split_case}
 
--- Each move.
+-- Taking, giving, lending and taking back a block.
 
 taken_here : (a : Numbers) (hand : List ℕ) (m : Memory) (n : ℕ) → is_free a n ≡ true → EachOnce a hand m
     → places_of (with_free a n false) (n ∷ hand) m n ≡ 1
@@ -112,7 +112,7 @@ given_all : (a : Numbers) (hand : List ℕ) (m : Memory) (n : ℕ)
 given_all a hand m n mine once k own =
     given_case a hand m n mine once k (cases_eq k n) (sym (is_own-with_free a n true k) ∙ own)
 
--- A foreign block leaves.
+-- A foreign block is returned to its own arena.
 left_case : (a : Numbers) (hand : List ℕ) (m : Memory) (n : ℕ)
     → is_own a n ≡ false → EachOnce a (n ∷ hand) m → EachOnce a hand m
 left_case a hand m n other once k own =

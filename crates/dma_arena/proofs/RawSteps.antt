@@ -45,7 +45,7 @@ module _ (R Z : RattleType) (L : Laws Z) (g : Ghosts Z.Denot) where
   good b o h fits = (and_tt (has_ty (layout Z) h) fits.0, (tt, (fits.1, tt)))
 
   module _ {M : Type 1} {𝓤 : Ura M} {𝓛 : Logic 𝓤} {K : Type 0} {Γ : List (Item 𝓤)} {G : Goal 𝓤 𝓛.H} where
-    -- By value, a `Raw` is what it owns at its address, and the handle.
+    -- A `Raw` that is held by value consists of what it owns at its address, and of the handle.
     pub raw_out : K → (d : Row.Denot) (vs : List Val)
         → ((b o : ℕ) (h : Val) → d.at ≡ block_ptr b o → vs ≡ both b o h ∷ [] → Good (layout Z) h
         → Seq K 𝓛 (‵ (box_owns (g.dealloc_token d.alloc) R (block_ptr b o) d.value)
@@ -70,7 +70,7 @@ module _ (R Z : RattleType) (L : Laws Z) (g : Ghosts Z.Denot) where
         fpack t (Valss (RawPtr ∷ Z ∷ [])) (within (shape (C.the_type R Z g)) (block_ptr b o, (a, tt)) (v ∷ []))
         (vptr b o ∷ [], (h ∷ [], tt)) $ fjoin t $ s)
 
-  -- What follows for the address from a shared borrow of the fields.
+  -- What a shared borrow of the fields implies about the address.
   module _ {M : Type 1} {𝓤 : Ura M} (𝓛 : Logic 𝓤) (κ : Lft) (b o : ℕ) (d : Row.Denot) where
     abbrev Words : RattleType
     Words = Struct (shape (C.the_type R Z g))
@@ -86,7 +86,7 @@ module _ (R Z : RattleType) (L : Laws Z) (g : Ghosts Z.Denot) where
         qed 𝓛 (‵ S ∷ []) ∵ shr_dup ! Words laws (d.at, (d.alloc, tt)) b o κ $ unhide ! $
         fsplit ! $ fsplit ! $ hide ! $ keep ! (0 ∷ 3 ∷ []) $ done !
 
-  -- All of the memory without its value, and the whole of it with another value.
+  -- The memory without its value, and the complete memory with another value.
   module _ {M : Type 1} {𝓤 : Ura M} (𝓛 : Logic 𝓤) (d : Row.Denot) (at_b at_o b o : ℕ) (h : Val) where
     abbrev pub Rest : Fml
     Rest =

@@ -1,10 +1,10 @@
--- Lemmas: the list of free blocks, when a block leaves it or enters it, and when it is empty.
+-- Lemmas about the list of free blocks: removing a block, inserting a block, and the empty list.
 use Rattle.std.proofs.Common.{◌≡◌, ◌≢◌, ℕ, zero, suc, ◌<◌, inl, inr, Option, Some, sym, ap, ◌∙◌, arith, rules}
 use Rattle.std.proofs.lemmas.Bool.{cases_eq}
 use Rattle.dma_arena.specs.Links.{Nodes, list_end, IsRing, Leaves}
 use Rattle.dma_arena.specs.declared.links.Links.{Links}
 
--- A node has one pair of links.
+-- A node has exactly one pair of links.
 pub same : (o : Option Links) (l m : Links) → o ≡ Some l → o ≡ Some m → l ≡ m
 same o l m h k = let e : Some l ≡ Some m = sym h ∙ k in search rules
 
@@ -20,7 +20,7 @@ module _ (nodes : Nodes) (rank : ℕ → ℕ) (ring : IsRing nodes rank) where
       let it : l ≡ m.0 = same (nodes p) l m.0 at (ap nodes (sym e) ∙ m.1) in
       next_other p l at ne (ap (λ (x : Links). x.next) it ∙ m.2)
 
-  -- The place that leads to another is the one before it.
+  -- If the `next` link at `r` is `p`, then the `prev` link at `p` is `r`.
   pub before : (r p : ℕ) (x l : Links) → nodes r ≡ Some x → nodes p ≡ Some l → x.next ≡ p → l.prev ≡ r
   before r p x l there at e =
       let m = ring.next r x there in
@@ -33,7 +33,7 @@ module _ (nodes : Nodes) (rank : ℕ → ℕ) (ring : IsRing nodes rank) where
       let it : l ≡ m.0 = same (nodes p) l m.0 at (ap nodes (sym e) ∙ m.1) in
       ap (λ (y : Links). y.next) it ∙ m.2
 
-  -- A list whose end leads straight back to itself has no block.
+  -- A list whose end is linked to itself contains no block.
   pub no_block : (e : Links) → nodes list_end ≡ Some e → e.next ≡ list_end
       → (n p : ℕ) (l : Links) → rank p < n → p ≢ list_end → nodes p ≡ Some l → ⊥
   no_block e at first zero p l lt ne there = absurd (omega arith)
@@ -45,7 +45,7 @@ module _ (nodes : Nodes) (rank : ℕ → ℕ) (ring : IsRing nodes rank) where
         | inr more ↦ no_block e at first n l.next m.0 (omega (arith, falls, lt)) more m.1
       ]
 
-  -- A block leaves the list.
+  -- A block is removed from the list.
   module _ (new : Nodes) (p : ℕ) (l : Links) (at : nodes p ≡ Some l) (ne : p ≢ list_end)
       (left : Leaves nodes new p l) where
     leave_next : (r : ℕ) (y : Links) → new r ≡ Some y → (m : Links) × (new y.next ≡ Some m) × (m.prev ≡ r)

@@ -1,4 +1,4 @@
--- The laws of runs.
+-- Lemmas that prove the laws about runs.
 use Rattle.std.proofs.Common.{◌≡◌, ℕ, zero, suc, ◌+◌, ◌-◌, ◌<◌, ◌≤◌, ◌⊎◌, inl, inr, Bool, true, false, cond, eqb, Option, Some, None, List, ◌∷◌, ◌++◌, refl, sym, ap, ◌∙◌, arith}
 use Rattle.std.proofs.lemmas.Bool.{cases_lt, cases_eq}
 use Rattle.std.proofs.lemmas.List.Sums.{sum_by-append, sum_by-cons}
@@ -15,7 +15,7 @@ use Rattle.dma_arena.proofs.Runs.{found_free, next_free, is_own-without_run, is_
 
 -- The lowest run.
 
--- If not all numbers are free, there is one that isn't.
+-- If not all numbers of a run are free, one of them isn't free.
 pub one_taken : (a : Numbers) (first count : ℕ) (free : Bool) → is_free a first ≡ free → are_free a first count ≡ false
     → IsNoRun a first count
 unfolding are_free
@@ -33,7 +33,7 @@ none_outside a number count some foreign =
     let e : number + 0 ≡ number = omega arith in
     (0, some, rw e (not_free a number (is_free a number) refl foreign))
 
--- If the search passes over a place for a run, not all of that run's numbers are free.
+-- If the search passes over a number, not all numbers of the run that begins there are free.
 passed : (a : Numbers) (count number left first q : ℕ) (free : Bool) → are_free a number count ≡ free
     → run_from a count number left ≡ Some first → number ≤ q → q < first → are_free a q count ≡ false
 unfolding run_from

@@ -1,4 +1,4 @@
--- Lemmas: finding and taking runs of free blocks.
+-- Lemmas about finding and taking runs of free blocks.
 use Rattle.std.proofs.Common.{◌≡◌, ◌≢◌, ℕ, zero, suc, ◌+◌, ◌-◌, ◌<◌, ◌≤◌, ◌&&◌, Bool, true, false, inl, inr, Some, None, refl, sym, ◌∙◌, arith}
 use Rattle.std.proofs.lemmas.Bool.{and_parts, cases_lt, cases_eq}
 use Rattle.dma_arena.specs.Numbers.{Numbers, count_of, is_own, is_free, with_free, IsArena}

@@ -1,4 +1,4 @@
--- Lemmas: the lent memory that a table's places represent, and how it changes with one of them.
+-- Lemmas about the lent memory that a table's slots represent, and about how this memory changes when one slot changes.
 use Rattle.std.proofs.Common.{◌≡◌, ◌≢◌, ℕ, zero, suc, ◌+◌, ◌<◌, inl, inr, Option, Some, None, List, [], ◌∷◌, refl, sym, ap, ◌∙◌, arith, add-zero}
 use Rattle.std.specs.Prelude.{option_map, is_some, IfSome}
 use Rattle.std.specs.Ordering.{nat_cmp}
@@ -13,7 +13,7 @@ use Rattle.dma_arena.proofs.Single.{get-insert_same, get-insert_other, get-remov
 abbrev bytes_of : Option Block → Option (List ℕ)
 bytes_of place = option_map (λ b. b.bytes) place
 
--- No number below the first is represented.
+-- The slots represent no number below the first slot's number.
 get-shown_below : (n : ℕ) (s : List (Option Block)) (q : ℕ) → q < n → fin.get (shown_from n s) q ≡ None
 unfolding shown_from
 get-shown_below n [] q lt = fin.get-empty nat_cmp q
@@ -33,7 +33,7 @@ get-shown_from n (Some b ∷ s) (suc q) =
     let e : n + suc q ≡ (n + 1) + q = omega arith in
     get-insert_other (shown_from (n + 1) s) n b.bytes (n + suc q) (omega arith) ∙ rw e (get-shown_from (n + 1) s q)
 
--- Each number has the bytes of the block at its place.
+-- The bytes of each number are those of the block in the number's slot.
 pub get-shown : (s : List (Option Block)) (q : ℕ) → fin.get (shown s) q ≡ bytes_of (at_place s q)
 get-shown s q = let e : 0 + q ≡ q = omega arith in rw e at (get-shown_from 0 s q)
 
@@ -50,17 +50,17 @@ block_of_bytes None q number = refl
 block_of_bytes (Some b) q number =
     ap (λ n. Some (let block : Block = record { number = n; bytes = b.bytes } in block)) number
 
--- A block is at the place of its number.
+-- If the block in a number's slot has this number, it is the block that is lent under this number.
 pub block_at-shown : (s : List (Option Block)) (q : ℕ) → IfSome (at_place s q) (λ b. b.number ≡ q)
     → at_place s q ≡ block_at (shown s) q
 block_at-shown s q number = block_of_bytes (at_place s q) q number ∙ rw (get-shown s q) refl
 
--- The content of each place determines the memory.
+-- The contents of the slots determine the memory.
 pub shown-is : (s : List (Option Block)) (m : Memory) → ((q : ℕ) → bytes_of (at_place s q) ≡ fin.get m q) → shown s ≡ m
 shown-is s m same =
     fin.same_map nat_cmp_total fin.nat_cmp-IsAntisymmetric (shown s) m (λ q. get-shown s q ∙ same q)
 
--- One place changes.
+-- One slot changes.
 pub shown-insert : (s t : List (Option Block)) (n : ℕ) (b : Block) → at_place t n ≡ Some b
     → ((q : ℕ) → q ≢ n → at_place t q ≡ at_place s q) → shown t ≡ fin.insert (shown s) n b.bytes
 shown-insert s t n b here others =

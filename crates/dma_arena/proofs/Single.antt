@@ -1,4 +1,4 @@
--- Lemmas: one block of the map, and one byte of the bus.
+-- Lemmas about one block in the map of lent blocks, and about the byte at one bus address.
 use Rattle.std.proofs.Common.{◌≡◌, ◌≢◌, ℕ, ◌/◌, ◌%◌, ◌<◌, ◌⊎◌, inl, inr, Option, Some, None, List, length, set, refl, sym, ◌∙◌, arith, rules}
 use Rattle.std.specs.FinMap as map
 use Rattle.std.specs.FinMap.{gets}

@@ -1,4 +1,4 @@
--- A block leaves the list: its neighbours are linked to each other, then it is removed.
+-- A block is removed from the list: its neighbours are linked to each other, then the block is taken from its slot.
 use Rattle.std.proofs.Common.{◌≡◌, ◌≢◌, ℕ, ◌<◌, inl, inr, Option, Some, None, List, length, get_or, set, map, true, refl, sym, ap, ◌∙◌, subst, rules, arith}
 use Rattle.std.specs.Prelude.{is_some}
 use Rattle.std.proofs.lemmas.List.{length-set, get_or-set_same}
@@ -14,7 +14,7 @@ module _ (nodes : Nodes) (rank : ℕ → ℕ) (ring : IsRing nodes rank)
     (b_at : nodes l.prev ≡ Some b) (first : Relinked nodes n1 l.prev (record { next = l.next; prev = b.prev }))
     (h_at : n1 l.next ≡ Some h) (second : Relinked n1 n2 l.next (record { next = h.next; prev = l.prev }))
     (gone : n3 p ≡ None) (rest : (r : ℕ) → r ≢ p → n3 r ≡ n2 r) where
-  -- The place before the block leads to it, and the place after it leads back.
+  -- The previous node's `next` link is the removed block, and so is the next node's `prev` link.
   to_it : (x : Links) → nodes l.prev ≡ Some x → x.next ≡ p
   to_it x there = let j = ring.prev p l at in
       ap (λ (z : Links). z.next) (same (nodes l.prev) x j.0 there j.1) ∙ j.2
@@ -92,7 +92,7 @@ module _ (nodes : Nodes) (rank : ℕ → ℕ) (ring : IsRing nodes rank)
     ]
   ]
 
-  -- Every linked place was linked before.
+  -- Every index that has links had links before.
   was : (r : ℕ) (y : Links) → n3 r ≡ Some y → r ≢ p → (x : Links) × (nodes r ≡ Some x)
   was r y there apart = elim (cases_eq r l.next) [
     | inl is_next ↦ let k = ring.next p l at in (k.0, ap nodes is_next ∙ k.1)

@@ -16,7 +16,7 @@ LentByBlocks =
 abbrev pub LentEnds : Type 0
 LentEnds = (m : Memory) (a n : ℕ) → IsWhole m → is_lent m a n ≡ true → 0 < n → a + n ≤ 65536 * 2048
 
--- A read returns the bytes of its range in order.
+-- A read returns the bytes at the addresses in its range, in address order.
 abbrev pub ReadsBytes : Type 0
 ReadsBytes = (m : Memory) (a n k : ℕ) → k < n → slice_index (read_at m a n) k ≡ byte_at m (a + k)
 
@@ -51,24 +51,24 @@ MovesApart =
 
 -- One block.
 
--- A write leaves each block that its range avoids as it was.
+-- A write changes no block that its range doesn't touch.
 abbrev pub WriteAvoids : Type 0
 WriteAvoids =
     (m : Memory) (a : ℕ) (bytes : List ℕ) (number : ℕ) → Avoids number a (length bytes)
     → map.get (write_at m a bytes) number ≡ map.get m number
 
--- A range within one block avoids every other block.
+-- A range within one block touches no other block.
 abbrev pub InsideAvoids : Type 0
 InsideAvoids = (number other a n : ℕ) → LiesIn number a n → other ≢ number → Avoids other a n
 
--- What a range within one block reads, and whether it is lent, depends only on that block.
+-- Whether a range within one block is lent, and what a read of the range returns, depends only on that block.
 abbrev pub ReadsItsBlock : Type 0
 ReadsItsBlock =
     (m other : Memory) (number a n : ℕ) → map.get m number ≡ map.get other number → LiesIn number a n
     → (read_at m a n ≡ read_at other a n) × (is_lent m a n ≡ is_lent other a n)
 
--- Within one lent block, every range is lent, a read returns part of the block's bytes, and a write puts its bytes in
--- place and changes nothing else.
+-- Within one lent block, every range is lent, a read returns the block's bytes in that range, and a write replaces
+-- these bytes and changes nothing else.
 pub record InsideBlock (m : Memory) (number at : ℕ) (block : List ℕ) : Type 0 where
   pub lent : (n : ℕ) → at + n ≤ 2048 → is_lent m (2048 * number + at) n ≡ true
   pub read : (n : ℕ) → at + n ≤ 2048 → read_at m (2048 * number + at) n ≡ part block at n
@@ -80,8 +80,8 @@ BlockLaw =
     (m : Memory) (number at : ℕ) (block : List ℕ) → IsWhole m → map.get m number ≡ Some block
     → InsideBlock m number at block
 
--- Bytes that are put into a block at an index where they fit are there afterwards, and the rest of the block is
--- unchanged.
+-- If bytes that fit are put into a block at an index, the block then contains them at that index, and the rest of the
+-- block is unchanged.
 abbrev pub PutLaw : Type 0
 PutLaw =
     (block : List ℕ) (at : ℕ) (bytes : List ℕ) → at + length bytes ≤ length block
@@ -133,7 +133,7 @@ CountLaw = (a : Numbers) → CountsFree a
 
 -- Runs.
 
--- The run that is found is the lowest of all. No run is found if and only if there is none.
+-- The run that is found is the arena's lowest free run. No run is found if and only if the arena has no free run.
 pub record FindsLowest (a : Numbers) (count : ℕ) : Type 0 where
   pub found : (first : ℕ) → (run_in a count ≡ Some first) ↔ IsLowestRun a count first
   pub none : (run_in a count ≡ None) ↔ ((first : ℕ) → IsNoRun a first count)

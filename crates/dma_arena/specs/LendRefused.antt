@@ -3,7 +3,7 @@ use Rattle.dma_arena.specs.Block.{Block}
 use Rattle.dma_arena.specs.declared.lent.LendRefused.{LendRefused}
 use Rattle.dma_arena.specs.declared.lent.LendRefused.TheVariants.{Twice, OutOfMemory}
 
--- The block that the error returns.
+-- The block that the error contains.
 abbrev pub back_of : LendRefused → Block
 back_of (Twice buf) = buf
 back_of (OutOfMemory buf) = buf

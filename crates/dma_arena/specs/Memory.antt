@@ -3,7 +3,7 @@ use Rattle.std.specs.Ordering.{nat_cmp}
 use Rattle.std.specs.FinMap as map
 use Rattle.dma_arena.specs.Block.{Block, IsBlock}
 
--- The memory that the device may use: the numbers of the lent blocks, each with its bytes.
+-- The memory that the device may use: a map from the number of each lent block to the block's bytes.
 abbrev pub Memory : Type 0
 Memory = map.FinMap nat_cmp (List ℕ)
 

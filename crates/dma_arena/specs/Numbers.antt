@@ -1,12 +1,12 @@
 use Rattle.std.specs.Prelude.{◌≡◌, ℕ, ◌+◌, ◌-◌, ◌<◌, ◌≤◌, Bool, true, false, ◌&&◌, nat_le, nat_lt, List, length, replicate, slice_index_or, slice_set, count_by}
 use Rattle.std.specs.List.{list_all}
 
--- An arena's block numbers, starting at `first`, and for each of them whether it is free.
+-- An arena's block numbers, starting at `first`; `free` says for each number whether it is free.
 pub record Numbers : Type 0 where
   pub first : ℕ
   pub free : List Bool
 
--- The number of the arena's block numbers.
+-- How many block numbers the arena has.
 abbrev pub count_of : Numbers → ℕ
 count_of a = length a.free
 
@@ -37,7 +37,7 @@ numbers_below a at = all_free a.first (at - a.first)
 abbrev pub numbers_from : Numbers → ℕ → Numbers
 numbers_from a at = all_free at (a.first + count_of a - at)
 
--- The same numbers, with this one free or in use.
+-- The same arena, except that this number is now free or in use.
 abbrev pub with_free : Numbers → ℕ → Bool → Numbers
 with_free a number free = record a { free = slice_set a.free (number - a.first) free }
 
@@ -50,6 +50,6 @@ pub record IsArena (a : Numbers) : Type 0 where
 abbrev pub NoneFree : Numbers → Type 0
 NoneFree a = (number : ℕ) → is_free a number ≡ false
 
--- The arena has numbers on both sides of the cut.
+-- The arena has numbers below the cut, and numbers at or above it.
 abbrev pub IsInside : Numbers → ℕ → Type 0
 IsInside a at = (a.first < at) × (at < a.first + length a.free)

@@ -31,7 +31,7 @@ unfoldable pub without_run : Numbers → ℕ → ℕ → Numbers
 without_run a first zero = a
 without_run a first (suc n) = with_free (without_run a first n) (first + n) false
 
--- The numbers of a run, the highest first.
+-- A run's numbers, from the highest to the lowest.
 unfoldable pub run_numbers : ℕ → ℕ → List ℕ
 run_numbers first zero = []
 run_numbers first (suc n) = (first + n) ∷ run_numbers first n
@@ -44,7 +44,7 @@ IsFreeRun a first count = (k : ℕ) → k < count → is_free a (first + k) ≡ 
 abbrev pub IsNoRun : Numbers → ℕ → ℕ → Type 0
 IsNoRun a first count = (k : ℕ) × (k < count) × (is_free a (first + k) ≡ false)
 
--- The run that begins at this number is free, and none that begins at a lower number is.
+-- The run that begins at `first` is free, and no run that begins at a lower number is free.
 pub record IsLowestRun (a : Numbers) (count first : ℕ) : Type 0 where
   pub free : IsFreeRun a first count
   pub lowest : (number : ℕ) → number < first → IsNoRun a number count

@@ -4,11 +4,11 @@ use Rattle.dma_arena.specs.Memory.{Memory, has_block}
 use Rattle.dma_arena.specs.Numbers.{Numbers, is_own, is_free, are_all_free, all_free, with_free, numbers_below, numbers_from, IsInside}
 use Rattle.dma_arena.specs.Run.{run_numbers, without_run, IsFreeRun}
 
--- The number of owned blocks that have this number.
+-- How many of the owned blocks have this number.
 abbrev pub times_in_hand : List ℕ → ℕ → ℕ
 times_in_hand hand number = count_by (λ held. held == number) hand
 
--- The number of places that have the block with this number: free in the arena, owned, or lent.
+-- In how many places the block with this number is: free in the arena, owned, or lent.
 abbrev pub places_of : Numbers → List ℕ → Memory → ℕ → ℕ
 places_of a hand m number =
     (if is_free a number then 1 else 0) + times_in_hand hand number + (if has_block m number then 1 else 0)
@@ -17,7 +17,7 @@ places_of a hand m number =
 abbrev pub EachOnce : Numbers → List ℕ → Memory → Type 0
 EachOnce a hand m = (number : ℕ) → is_own a number ≡ true → places_of a hand m number ≡ 1
 
--- Each of these moves of a block between places keeps each block of the arena in exactly one place.
+-- When a block moves between places as listed here, each block of the arena stays in exactly one place.
 pub record MovesKeepEachOnce : Type 0 where
   -- An arena is created, and none of its numbers is owned or lent.
   pub made : (first count : ℕ) → EachOnce (all_free first count) [] map.empty
@@ -45,14 +45,14 @@ pub record MovesKeepEachOnce : Type 0 where
   pub welcome : (a : Numbers) (hand : List ℕ) (m : Memory) (number : ℕ) → is_own a number ≡ true
       → EachOnce a (number ∷ hand) m → (is_free a number ≡ false) × (has_block m number ≡ false)
 
--- Each number of a run occurs in it exactly once; no other number does.
+-- Each number of a run occurs in the run exactly once; no other number occurs in it.
 pub record IsEachNumber (first count : ℕ) : Type 0 where
   pub inside : (number : ℕ) → first ≤ number → number < first + count
       → times_in_hand (run_numbers first count) number ≡ 1
   pub outside : (number : ℕ) → (number < first) ⊎ (first + count ≤ number)
       → times_in_hand (run_numbers first count) number ≡ 0
 
--- Each of these moves of a run keeps each block of the arena in exactly one place.
+-- When a run is taken or loses a block, each block of the arena stays in exactly one place.
 pub record RunsKeepEachOnce : Type 0 where
   pub numbers : (first count : ℕ) → IsEachNumber first count
   pub taken : (a : Numbers) (hand : List ℕ) (m : Memory) (first count : ℕ) → IsFreeRun a first count

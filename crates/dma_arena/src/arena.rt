@@ -12,7 +12,7 @@ pub const BLOCK_NUMBERS: u32 = 65536;
 
 /// A pool of packet-memory blocks with consecutive numbers, each either free or in use.
 ///
-/// In contracts, an arena is its first number and, for each of its numbers, whether that number is free. An arena can't
+/// In contracts, an arena is its first number and a list that says for each number whether it is free. An arena can't
 /// be dropped: `close` ends it when all of its blocks are free.
 pub struct Arena {
     first: u16,
@@ -51,7 +51,7 @@ pub enum SplitFault {
     OutOfMemory,
 }
 
-/// A refused split: the reason, and the arena.
+/// A refused split: the reason and the unchanged arena.
 pub struct SplitRefused {
     /// Why the arena wasn't split.
     pub fault: SplitFault,
@@ -60,7 +60,7 @@ pub struct SplitRefused {
 }
 
 impl Arena {
-    /// Creates an arena of the block numbers `first` to `first + count - 1`, all of them free. Allocates 2,048 bytes
+    /// Creates an arena with the block numbers `first` to `first + count - 1`, all of them free. Allocates 2,048 bytes
     /// per block.
     ///
     /// Errors, in this order: `Empty` if `count` is 0; `TooMany` if a number would be above 65,535; `OutOfMemory`.
@@ -92,14 +92,14 @@ impl Arena {
         u32::from(self.first)
     }
 
-    /// Returns how many block numbers this arena has. They are consecutive, starting with its first.
+    /// Returns how many block numbers this arena has. The numbers are consecutive and start with `first()`.
     pub fn count(&self) -> u32
         ensures { result ≡ count_of self.now }
     {
         self.list.len() as u32
     }
 
-    /// Whether the block number is one of this arena's, free or not.
+    /// Whether the block number belongs to this arena, free or not.
     pub fn owns(&self, block: u32) -> bool
         ensures own { result ≡ is_own self.now block }
         ensures arena { IsArena self.now }
@@ -140,7 +140,7 @@ impl Arena {
     }
 
     /// Takes the block with this number, filled with zeros. Returns `None` if and only if the number isn't free in this
-    /// arena. Only this number stops being free. If it isn't free, nothing changes.
+    /// arena. Only this number stops being free. If the number isn't free, nothing changes.
     pub fn take_at(&mut self, block: u32) -> Option<Buf>
         ensures none { IsNone result ↔ (is_free self.old block ≡ false) }
         ensures zero { IfSome result (λ b. b ≡ zero_block block) }
@@ -154,8 +154,8 @@ impl Arena {
         Some(Buf::cleared(block as u16, self.list.take(at as u32)))
     }
 
-    /// Returns a block to the arena. Its number becomes free, and no other number changes. If the number isn't this
-    /// arena's or is already free, the error returns the block, and the arena is unchanged.
+    /// Returns a block to the arena. Its number becomes free, and no other number changes. If the number doesn't belong
+    /// to this arena or is already free, the error returns the block, and the arena is unchanged.
     pub fn give(&mut self, buf: Buf) -> Result<(), Buf>
         ensures ok { IsOk result ↔ (IsTrue (is_own self.old buf.number) × (is_free self.old buf.number ≡ false)) }
         ensures given { OnOk result (self.new ≡ with_free self.old buf.number true) }

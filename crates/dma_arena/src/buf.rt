@@ -14,7 +14,7 @@ pub const BLOCK_BYTES: usize = 2048;
 /// The memory of one block, in a box that can be dropped.
 pub type BlockBox = Box<[u8; BLOCK_BYTES], Global>;
 
-/// The memory of one block. It moves between owners; only `free` frees it.
+/// The memory of one block. The memory moves between owners; only `free` frees it.
 pub(crate) type RawBlock = Raw<[u8; BLOCK_BYTES], Global>;
 
 /// Allocates the memory of a block.
@@ -44,8 +44,8 @@ pub(crate) fn nothing(slot: Option<Buf>)
 /// In contracts, a block is its number and its bytes. It can't be cloned or dropped, so each block is in exactly one
 /// place, and must finally be given to an arena or lent.
 ///
-/// A block also stores an index. All of its bytes at and after this index are still 0, as they were when the block was
-/// taken from an arena.
+/// A block also stores an index: all of the block's bytes at and after this index are still 0, as they were when the
+/// block was taken from an arena.
 pub struct Buf {
     number: u16,
     written: u16,

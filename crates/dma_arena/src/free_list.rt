@@ -1,5 +1,5 @@
-//! The blocks of an arena by index, each free or not. The free ones are counted and form a linked list, with the links
-//! in the blocks' first bytes.
+//! The blocks of an arena by index, each free or in use. The free blocks are counted and form a linked list; each free
+//! block stores its links in its first bytes.
 
 ghost use Rattle.std.specs.Prelude.{ℕ, ◌≡◌, ◌+◌, ◌-◌, ◌<◌, ◌≤◌, true, false, is_some, map, Some, None, length, replicate, count_by, slice_index_or, slice_set, IfOk, IfErr, IfSome, IfNone, IsTrue};
 ghost use Rattle.std.specs.List.{list_all};
@@ -10,12 +10,12 @@ use crate::links::{FreeBlock, Links};
 use std::alloc::{AllocError, Global};
 use std::marker::Model;
 
-/// The index that marks both ends of the list; no block has it.
+/// The index that marks both ends of the list; no block has this index.
 const END: u32 = 65536;
 
-/// The blocks of an arena, each at its index, with the list of the free ones.
+/// The blocks of an arena, each at its index, with the linked list of the free blocks.
 ///
-/// In contracts, it is a list of whether the block at each index is free.
+/// In contracts, a free list is a list that says for each index whether the block there is free.
 pub(crate) struct FreeList {
     ends: Links,
     slots: Vec<Option<FreeBlock>>,
@@ -58,7 +58,7 @@ impl FreeList {
         })
     }
 
-    /// Creates `count` blocks, all of them free and linked in the order of their indices.
+    /// Creates `count` blocks, all of them free and linked by ascending index.
     pub(crate) fn full(alloc: Global, count: usize) -> Result<FreeList, AllocError>
         requires { count ≤ 65536 }
         ensures { IfOk result (λ list. list ≡ replicate count true) }
@@ -120,7 +120,7 @@ impl FreeList {
         }
     }
 
-    /// Frees the block at an index.
+    /// Puts a block's memory back at its index, so the block becomes free. The block must be in use.
     pub(crate) fn put(&mut self, place: u32, memory: RawBlock)
         requires inside { place < length self.old }
         requires in_use { slice_index_or self.old place false ≡ false }
@@ -130,7 +130,7 @@ impl FreeList {
         self.free += 1;
     }
 
-    /// Takes the block at an index; it must be free.
+    /// Takes the block at an index. The block must be free.
     pub(crate) fn take(&mut self, place: u32) -> RawBlock
         requires { IsTrue (slice_index_or self.old place false) }
         ensures { self.new ≡ slice_set self.old place false }
@@ -139,7 +139,7 @@ impl FreeList {
         unlink(&mut self.ends, &mut self.slots, place)
     }
 
-    /// Moves free blocks from another list, starting at its index `from`, into all slots of this one.
+    /// Fills all slots of this list with free blocks taken from `other`, starting at index `from` in `other`.
     fn fill(&mut self, other: &mut FreeList, from: usize)
         requires empty { self.old ≡ replicate (length self.old) false }
         requires fits { from + length self.old ≤ 65536 }
@@ -156,8 +156,8 @@ impl FreeList {
         }
     }
 
-    /// Splits the slots into those below index `place` and the rest. If there isn't enough memory, the error contains
-    /// the list.
+    /// Splits the list, all blocks of which are free, into the slots below index `place` and the remaining slots. If
+    /// there isn't enough memory, the error contains the unchanged list.
     pub(crate) fn split(mut self, place: usize) -> Result<(FreeList, FreeList), FreeList>
         requires free { self ≡ replicate (length self) true }
         requires inside { place ≤ length self }
@@ -196,7 +196,7 @@ impl FreeList {
     }
 }
 
-/// Returns the links of a linked index.
+/// Returns the links at an index, which must be `END` or the index of a free block.
 fn links_at(ends: Links, slots: &[Option<FreeBlock>], place: u32) -> Links
     requires there { is_some (nodes_of ends slots.now place) ≡ true }
     ensures { nodes_of ends slots.now place ≡ Some result }
@@ -210,7 +210,7 @@ fn links_at(ends: Links, slots: &[Option<FreeBlock>], place: u32) -> Links
     }
 }
 
-/// Sets the links of a linked index.
+/// Sets the links at an index, which must be `END` or the index of a free block.
 fn relink(ends: &mut Links, slots: &mut [Option<FreeBlock>], place: u32, links: Links)
     requires there { is_some (nodes_of ends.old slots.old place) ≡ true }
     ensures linked { Relinked (nodes_of ends.old slots.old) (nodes_of ends.new slots.new) place links }
@@ -230,7 +230,7 @@ fn relink(ends: &mut Links, slots: &mut [Option<FreeBlock>], place: u32, links: 
     }
 }
 
-/// Links a block in at the front of the list.
+/// Inserts a block at the front of the list.
 fn link(ends: &mut Links, slots: &mut [Option<FreeBlock>], place: u32, memory: RawBlock)
     requires linked { IsLinked ends.old slots.old }
     requires inside { place < length slots.old }

@@ -11,7 +11,7 @@ pub fn lent_range()
     ensures end { LentEnds }
 {}
 
-/// A read returns the bytes of its range in order.
+/// A read returns the bytes at the addresses in its range, in address order.
 pub fn read()
     ensures { ReadsBytes }
 {}
@@ -27,7 +27,7 @@ pub fn read_apart()
 {}
 
 /// A write changes no byte outside its range. A write changes neither which blocks are lent nor their length of 2,048
-/// bytes. A write leaves each block that its range avoids as it was.
+/// bytes. A write changes no block that its range doesn't touch.
 pub fn write()
     ensures bytes { WritesInside }
     ensures blocks { WriteKeepsBlocks }
@@ -39,21 +39,21 @@ pub fn lend_and_take()
     ensures { MovesApart }
 {}
 
-/// Within one lent block, every range is lent, a read returns part of the block's bytes, and a write puts its bytes in
-/// place and changes nothing else.
+/// Within one lent block, every range is lent, a read returns the block's bytes in that range, and a write replaces
+/// these bytes and changes nothing else.
 pub fn inside_block()
     ensures { BlockLaw }
 {}
 
-/// A range within one block avoids every other block. What a range within one block reads, and whether it is lent,
+/// A range within one block touches no other block. Whether such a range is lent, and what a read of the range returns,
 /// depends only on that block.
 pub fn block_apart()
     ensures avoided { InsideAvoids }
     ensures read { ReadsItsBlock }
 {}
 
-/// Bytes that are put into a block at an index where they fit are there afterwards, and the rest of the block is
-/// unchanged.
+/// If bytes that fit are put into a block at an index, the block then contains them at that index, and the rest of the
+/// block is unchanged.
 pub fn put()
     ensures { PutLaw }
 {}
@@ -75,15 +75,15 @@ pub fn numbers_stay()
     ensures parted { CutLaw }
 {}
 
-/// If arenas share no number, each block of an arena is in exactly one place: free, owned or lent. This holds at first,
-/// and is kept when a block is taken, given, lent or taken back, when a foreign block is received or returned to its
-/// own arena, and when an arena is split.
+/// If arenas share no number, each block of an arena is in exactly one place: free, owned or lent. This holds for a new
+/// arena, and remains true when a block is taken, given, lent or taken back, when a foreign block is received or
+/// returned to its own arena, and when an arena is split.
 pub fn each_block_once()
     ensures { MovesKeepEachOnce }
 {}
 
-/// The run that is found in an arena is the lowest free one. Taking it changes only the run's numbers. Each block of
-/// the arena stays in exactly one place when a run is taken, and when a block leaves the run.
+/// The run that is found in an arena is the arena's lowest free run. Taking it changes only the run's numbers. Each
+/// block of the arena stays in exactly one place when a run is taken, and when a block leaves the run.
 pub fn runs()
     ensures lowest { LowestLaw }
     ensures taken { RunLaw }

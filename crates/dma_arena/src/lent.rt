@@ -11,11 +11,11 @@ use std::marker::Model;
 
 /// The packet memory that is lent to the device: blocks by number, and the bus that accesses them.
 ///
-/// Bus address `a` is byte `a % 2048` of block `a / 2048`. A range of addresses may span blocks; it is lent if each
-/// block that it touches is. In contracts, lent memory is the lent numbers with the bytes of each. It can't be dropped:
-/// `finish` ends it when no block is lent.
+/// Bus address `a` is byte `a % 2048` of block `a / 2048`. A range of addresses may span blocks; a range is lent if
+/// each block that it touches is lent. In contracts, lent memory is a map from the number of each lent block to the
+/// block's bytes. Lent memory can't be dropped: `finish` ends it when no block is lent.
 ///
-/// Only `lend` allocates: room for the numbers up to the highest that was ever lent.
+/// Only `lend` allocates. It makes room for all numbers up to the highest number that was ever lent.
 pub struct LentMemory {
     blocks: Table,
 }
@@ -34,7 +34,7 @@ impl Model for LentMemory {
     ghost invariant = { λ a. IsWhole a.blocks };
 }
 
-/// Why a block wasn't lent, with the block.
+/// Why a block wasn't lent. Each variant returns the block.
 pub enum LendRefused {
     /// A block with this number is already lent.
     Twice(Buf),
@@ -43,7 +43,7 @@ pub enum LendRefused {
 }
 
 impl LentMemory {
-    /// Returns lent memory without a block. It allocates nothing.
+    /// Returns lent memory that contains no block. Allocates nothing.
     pub fn new(alloc: Global) -> LentMemory
         ensures { result ≡ map.empty }
     {
@@ -55,7 +55,7 @@ impl LentMemory {
     /// Lends a block under its number.
     ///
     /// Errors: `Twice` if and only if that number is already lent, otherwise `OutOfMemory`. Both errors contain the
-    /// block and leave the lent memory unchanged. A number is lent at most once.
+    /// block and leave the lent memory unchanged. No number is lent twice at the same time.
     pub fn lend(&mut self, buf: Buf) -> Result<(), LendRefused>
         ensures lent { OnOk result (self.new ≡ map.insert self.old buf.number buf.bytes) }
         ensures once { OnOk result (has_block self.old buf.number ≡ false) }
@@ -74,8 +74,8 @@ impl LentMemory {
         }
     }
 
-    /// Takes a block back, with the bytes that the bus left in it. Returns `None` if the block isn't lent; then nothing
-    /// changes.
+    /// Takes a block back, with the bytes that the bus left in it. Returns `None` if the block isn't lent; in this case
+    /// nothing changes.
     pub fn take(&mut self, block: u32) -> Option<Buf>
         ensures taken { result ≡ block_at self.old block }
         ensures left { self.new ≡ map.remove self.old block }
@@ -94,8 +94,8 @@ impl LentMemory {
         self.blocks.lowest()
     }
 
-    /// Whether each of the `len` bytes starting at a bus address is in a lent block. A range that would extend past
-    /// block 65,535 isn't lent; an empty range is.
+    /// Whether each of the `len` bytes starting at a bus address is in a lent block. An empty range is always lent. Any
+    /// other range that would extend past block 65,535 isn't lent.
     pub fn is_lent(&self, address: u64, len: usize) -> bool
         ensures lent { result ≡ is_lent self.now address len }
         ensures whole { IsWhole self.now }
@@ -121,8 +121,8 @@ impl LentMemory {
         self.write_at(address, &bytes);
     }
 
-    /// Fills the slice with the bytes starting at a bus address. All of them must be lent. Each byte is the one at its
-    /// address, even across blocks.
+    /// Fills the slice with the bytes starting at a bus address. All of these bytes must be lent. Each byte is read
+    /// from its own address, even if the range spans blocks.
     pub fn read_at(&self, address: u64, bytes: &mut [u8])
         requires { is_lent self.now address (length bytes.old) ≡ true }
         ensures { bytes.new ≡ read_at self.now address (length bytes.old) }
@@ -130,8 +130,8 @@ impl LentMemory {
         ranges::read_bytes(&self.blocks, address, bytes);
     }
 
-    /// Appends the `len` bytes starting at a bus address to a vector that has room for them. It allocates nothing. All
-    /// of them must be lent. Each byte is the one at its address, even across blocks.
+    /// Appends the `len` bytes starting at a bus address to a vector that has room for them. All of these bytes must be
+    /// lent. Allocates nothing. Each byte is read from its own address, even if the range spans blocks.
     pub fn append_to(&self, address: u64, len: usize, bytes: &mut Vec<u8>)
         requires lent { is_lent self.now address len ≡ true }
         requires room { length bytes.old.items + len ≤ vec_capacity bytes.old }
@@ -141,8 +141,8 @@ impl LentMemory {
         ranges::append_bytes(&self.blocks, address, len, bytes);
     }
 
-    /// Writes the bytes of the slice, starting at a bus address. All bytes of this range must be lent. Each byte goes
-    /// to its address, even across blocks.
+    /// Writes the bytes of the slice, starting at a bus address. All bytes of this range must be lent. Each byte is
+    /// written to its own address, even if the range spans blocks.
     pub fn write_at(&mut self, address: u64, bytes: &[u8])
         requires { is_lent self.old address (length bytes.now) ≡ true }
         ensures { self.new ≡ write_at self.old address bytes.now }

@@ -13,7 +13,8 @@ pub(crate) struct Links {
     pub(crate) prev: u32,
 }
 
-/// The memory of a free block, with its links in the first eight bytes. In contracts, it is its links.
+/// The memory of a free block, with the block's links in the first eight bytes. In contracts, a free block is its
+/// links.
 pub(crate) struct FreeBlock {
     memory: RawBlock,
 }

@@ -3,7 +3,7 @@ ghost use Rattle.std.specs.Vec.{vec_capacity};
 
 use std::marker::Model;
 
-/// Stored bytes, for example of a frame. In contracts, they are a list.
+/// Stored bytes, for example those of a frame. In contracts, an `Octets` is a list of bytes.
 #[derive(Debug, Drop)]
 pub struct Octets {
     bytes: Vec<u8>,
@@ -18,14 +18,14 @@ impl Model for Octets {
 }
 
 impl Octets {
-    /// Takes over the bytes of a vector, without copying.
+    /// Takes over a vector's bytes without copying them.
     pub fn of(bytes: Vec<u8>) -> Octets
         ensures { result ≡ bytes.items }
     {
         Octets { bytes }
     }
 
-    /// Copies the bytes into this empty vector, which must have room for them; it allocates nothing.
+    /// Copies the bytes into the empty vector `room`, which must have room for them. Allocates nothing.
     pub fn copied(bytes: &[u8], mut room: Vec<u8>) -> Octets
         requires empty { room.items ≡ [] }
         requires room { length bytes.now ≤ vec_capacity room }
@@ -44,7 +44,7 @@ impl Octets {
         self.bytes.as_slice()
     }
 
-    /// Returns the bytes as a vector, without copying.
+    /// Returns the bytes as a vector without copying them.
     pub fn into_vec(self) -> Vec<u8>
         ensures { result.items ≡ self }
     {
@@ -59,7 +59,7 @@ impl PartialEq for Octets {
     ghost use Rattle.std.proofs.Common.{rules};
     ghost use lib.Pointwise.{pointwise};
 
-    // Two values are equal if all their bytes are.
+    // Two values are equal if they have the same bytes in the same order.
     ghost eq = { pointwise ◌==◌ };
 
     ghost laws = { Prim.search (comparing, rules) };

@@ -50,7 +50,7 @@ pub(crate) fn read_bytes(blocks: &Table, address: u64, bytes: &mut [u8])
     }
 }
 
-/// Appends the bytes starting at an address to a vector that has room for them. It allocates nothing.
+/// Appends the `len` bytes starting at an address to a vector that has room for them. Allocates nothing.
 pub(crate) fn append_bytes(blocks: &Table, address: u64, len: usize, bytes: &mut Vec<u8>)
     requires whole { IsWhole blocks.now }
     requires lent { is_lent blocks.now address len ≡ true }
@@ -122,7 +122,7 @@ fn is_lent_block(blocks: &Table, number: u64) -> bool
     }
 }
 
-/// Reads bytes of one block.
+/// Fills the slice with bytes from one block, starting at index `offset`.
 fn read_part(blocks: &Table, number: u32, offset: usize, bytes: &mut [u8])
     requires whole { IsWhole blocks.now }
     requires lent { has_block blocks.now number ≡ true }
@@ -135,7 +135,7 @@ fn read_part(blocks: &Table, number: u32, offset: usize, bytes: &mut [u8])
     }
 }
 
-/// Appends `len` bytes of one block to a vector that has room for them.
+/// Appends `len` bytes from one block, starting at index `offset`, to a vector that has room for them.
 fn append_part(blocks: &Table, number: u32, offset: usize, len: usize, bytes: &mut Vec<u8>)
     requires whole { IsWhole blocks.now }
     requires lent { has_block blocks.now number ≡ true }
@@ -162,7 +162,7 @@ fn append_reserved(bytes: &mut Vec<u8>, more: &[u8])
     }
 }
 
-/// Writes bytes into one block.
+/// Writes bytes into one block, starting at index `offset`.
 fn write_part(blocks: &mut Table, number: u32, offset: usize, bytes: &[u8])
     requires whole { IsWhole blocks.old }
     requires lent { has_block blocks.old number ≡ true }

@@ -1,4 +1,4 @@
-//! A value in its own allocation, held by address.
+//! A value in its own allocation, which is known only by its address.
 
 ghost use Rattle.std.specs.Prelude.{◌≡◌};
 ghost use Rattle.std.specs.Borrow.{sem};
@@ -8,7 +8,7 @@ ghost use denote.Struct.Lending.{lent_at};
 use std::alloc::Allocator;
 use std::marker::{Model, Send, Sync};
 
-/// The address of an allocation that contains a value. It owns both.
+/// The address of an allocation that contains a value. A `Raw` owns the allocation and the value.
 pub(crate) struct Raw<T, A: Allocator> {
     at: *mut T,
     alloc: A,
@@ -35,7 +35,7 @@ impl<T: Drop, A: Allocator> Raw<T, A> {
         drop(self.into_box());
     }
 
-    /// Returns the value's box; dropping it frees the memory.
+    /// Returns the value in a box; dropping the box frees the memory.
     pub(crate) fn into_box(self) -> Box<T, A>
         ensures { result.value ≡ self.value }
     {

@@ -1,4 +1,4 @@
-//! Runs: blocks with consecutive numbers, for packets of several blocks.
+//! Runs: blocks with consecutive numbers, for packets that need several blocks.
 
 ghost use Rattle.std.specs.Prelude.{ℕ, ◌≡◌, ◌↔◌, ◌+◌, ◌-◌, ◌<◌, ◌≤◌, None, option_map, slice_index_or, IfErr, IfSome, IfNone, IsNone, IsOk, OnSome};
 ghost use Rattle.dma_arena.specs.Block.{zero_block};
@@ -14,8 +14,8 @@ const RUN_BLOCKS: usize = 8;
 
 /// Owned blocks with consecutive numbers, all filled with zeros.
 ///
-/// In contracts, a run is its first number and its count. It can't be dropped: `finish` ends it when all of its blocks
-/// are popped.
+/// In contracts, a run is its first number and its count. A run can't be dropped: `finish` ends it after all of its
+/// blocks have been popped.
 pub struct Run {
     first: u32,
     count: u32,
@@ -40,7 +40,7 @@ impl Run {
         self.first
     }
 
-    /// Returns the number of remaining blocks.
+    /// Returns the number of blocks that remain in the run.
     pub fn count(&self) -> u32
         ensures count { result ≡ self.now.count }
         // At most 8.
@@ -82,7 +82,7 @@ impl Run {
         Ok(())
     }
 
-    /// Returns a run without blocks that begins at this number.
+    /// Returns an empty run that begins at this number.
     fn empty(first: u32) -> Run
         ensures { result ≡ record { first = first; count = 0 } }
     {
@@ -93,7 +93,7 @@ impl Run {
         }
     }
 
-    /// Appends the next block.
+    /// Appends the block with the next number, which must be filled with zeros.
     fn push(&mut self, buf: Buf)
         requires few { self.old.count < 8 }
         requires next { buf ≡ zero_block (self.old.first + self.old.count) }
@@ -125,8 +125,8 @@ impl Arena {
     }
 
     /// Takes the lowest run of `count` free blocks (1 to 8), all filled with zeros. Returns `None` if and only if there
-    /// aren't `count` consecutive free blocks. It allocates nothing. Only the run's numbers stop being free; without a
-    /// run, nothing changes.
+    /// aren't `count` consecutive free blocks. Allocates nothing. Only the run's numbers stop being free. If the result
+    /// is `None`, nothing changes.
     pub fn take_run(&mut self, count: u32) -> Option<Run>
         requires few { (1 ≤ count) × (count ≤ 8) }
         ensures run { result ≡ option_map (λ first. record { first = first; count = count }) (run_in self.old count) }

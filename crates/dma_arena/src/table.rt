@@ -14,12 +14,12 @@ const NONE_LENT: u32 = 65536;
 
 /// The lent blocks, each at the index of its number.
 ///
-/// In contracts, a table is the lent numbers with the bytes of each. It has slots up to the highest number that was
-/// ever lent, at most 65,536, and only `insert` adds slots.
+/// In contracts, a table is a map from the number of each lent block to the block's bytes. The table has a slot for
+/// each number up to the highest that was ever lent: at most 65,536 slots. Only `insert` adds slots.
 ///
-/// The table stores how many blocks it has and their lowest number, `first`. It also stores `next`: no block between
-/// `first` and `next` is lent. So if the lowest block is repeatedly taken and lent again, the slots after it aren't
-/// searched each time.
+/// The table stores the number of its blocks, `count`, and their lowest number, `first`. It also stores `next`: no
+/// block between `first` and `next` is lent. So if the lowest block is repeatedly taken and lent again, the slots after
+/// that block aren't searched each time.
 pub(crate) struct Table {
     places: Vec<Option<Buf>>,
     first: u32,
@@ -43,7 +43,7 @@ impl Model for Table {
 }
 
 impl Table {
-    /// Returns a table without blocks. It allocates nothing.
+    /// Returns a table without blocks. Allocates nothing.
     pub(crate) fn new(alloc: Global) -> Table
         ensures { result ≡ map.empty }
     {
@@ -55,7 +55,7 @@ impl Table {
         }
     }
 
-    /// Returns the lent block with this number; `None` if it isn't lent.
+    /// Returns the lent block with this number, or `None` if no block with this number is lent.
     pub(crate) fn get(&self, number: u32) -> Option<&Buf>
         ensures { option_copied result ≡ block_at self.now number }
     {
@@ -137,8 +137,9 @@ impl Table {
         Ok(())
     }
 
-    /// Removes the block with this number. Returns `None` if it isn't lent. If it had the lowest number and other
-    /// blocks remain, the next number is searched for, starting after the slots that are known to be empty.
+    /// Removes the block with this number. Returns `None` if that block isn't lent. If the removed block had the lowest
+    /// number and other blocks remain, `remove` searches for the new lowest number, starting after the slots that are
+    /// known to be empty.
     pub(crate) fn remove(&mut self, number: u32) -> Option<Buf>
         ensures taken { result ≡ block_at self.old number }
         ensures left { self.new ≡ map.remove self.old number }
@@ -198,7 +199,8 @@ fn make_places(places: &mut Vec<Option<Buf>>, number: u32) -> Result<(), AllocEr
     Ok(())
 }
 
-/// Returns a bound below which no block after the lowest is lent, after the block with this number is inserted.
+/// Returns the value of the table's `next` after the block with this number is inserted: no block between the lowest
+/// block and this value is lent.
 fn next_with(first: u32, next: u32, number: u32) -> u32
     ensures below { number < first → result ≡ first }
     ensures above { first ≤ number → result ≤ number }
@@ -211,7 +213,8 @@ fn next_with(first: u32, next: u32, number: u32) -> u32
     }
 }
 
-/// Returns the index of the first slot that has a block. No slot below `from` has one; `count` slots have one.
+/// Returns the index of the first slot that contains a block, or `NONE_LENT` if all slots are empty. No slot below
+/// `from` may contain a block, and `count` must be the number of slots that do.
 fn first_from(places: &[Option<Buf>], from: u32, count: u32) -> u32
     requires below { NoneBelow places.now from }
     requires few { length places.now ≤ 65536 }

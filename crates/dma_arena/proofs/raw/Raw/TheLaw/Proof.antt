@@ -1,4 +1,4 @@
--- A shared borrow of the memory exists if one of its value does. Assumes `Logic`.
+-- If a shared borrow of the value exists, a shared borrow of the memory exists. Assumes `Logic`.
 use mathlib.Core.List.{[], ◌++◌}
 use base.Fraction.{full_share}
 use base.Fml.{Incl-trans}

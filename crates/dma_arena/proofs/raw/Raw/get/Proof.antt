@@ -1,4 +1,4 @@
--- `get` follows the address to a value that a shared borrow of the memory lends. Assumes `Logic`.
+-- `get` follows the address to the value, which a shared borrow of the memory lends. Assumes `Logic`.
 use Rattle.std.proofs.Common.{◌≡◌, ℕ, ◌+◌, List, [], ◌∷◌, refl}
 use mir.Syntax.{a_type, dcons, dnil, named}
 use mir.Val.{Val, vptr}

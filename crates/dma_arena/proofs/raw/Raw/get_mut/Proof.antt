@@ -1,4 +1,5 @@
--- `get_mut` lends the value, and the memory ends with what is written through the borrow. Assumes `Logic`.
+-- `get_mut` lends the value. When the borrow ends, the memory contains the value last written through it. Assumes
+-- `Logic`.
 use Rattle.std.proofs.Common.{◌≡◌, ℕ, List, [], ◌∷◌, refl}
 use mir.Syntax.{a_type, dcons, dnil, named}
 use mir.Val.{Val, vptr}

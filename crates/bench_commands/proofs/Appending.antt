@@ -1,4 +1,4 @@
--- Lemmas about texts written one after another.
+-- Lemmas about texts that are written one after the other.
 use Rattle.std.proofs.Common.{sym, ◌∙◌, ap, ℕ, List, [], ◌++◌, append-nil, append_assoc, Option, Some, None}
 use Rattle.std.specs.Io.KnownBytes.{Appends}
 

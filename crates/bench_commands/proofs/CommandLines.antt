@@ -1,11 +1,11 @@
--- Reading one more line of commands.
+-- Lemmas about reading one more line of commands.
 use Rattle.std.proofs.Common.{◌≡◌, refl, ap, ◌∙◌, ℕ, List, [], ◌∷◌, append-nil, Result, Ok, Err}
 use Rattle.debugger.specs.declared.Command.{Command}
 use Rattle.text_format.specs.Lines.{NumberedLine}
 use Rattle.text_format.specs.Words.{words_of}
 use Rattle.bench_commands.specs.Command.{commands_of, commands_then, words_and}
 
--- The commands of the remaining lines, from the next one on.
+-- The commands on the remaining lines are those on the next line and those on the lines after it.
 pub commands_of-line : (lines : List NumberedLine) (line : NumberedLine) (others : List NumberedLine)
     → lines ≡ line ∷ others
     → commands_of lines ≡ words_and line.number (words_of line.text) (commands_of others)

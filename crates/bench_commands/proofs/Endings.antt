@@ -1,4 +1,4 @@
--- How the program ends if an answer wasn't completed.
+-- Lemmas about how the program ends if an answer wasn't completed.
 use Rattle.std.proofs.Common.{refl, subst, ◌≡◌, inl, inr, ℕ, List, codes, None, Option, Some, Err, IfSome}
 use Rattle.clap.specs.Words.{HasKind, Kinds, kind_of}
 use Rattle.clap.specs.declared.error.Error.{Error}
@@ -28,7 +28,7 @@ module _ (old mid new : Option (List ℕ)) (IsFailed : ℕ → Type 0) where
     whole = part.whole;
   }
 
-  -- The ending for a request.
+  -- How the program ends after a request whose answer wasn't completed.
   pub ended-given-up : (request : Request) (remaining : Option (List ℕ)) (IsUnread : Type 0) (failure : Failure)
       (outcome : Outcome)
       → AnswersRequest request remaining old mid (Err failure) → (failure ≡ Read → IsUnread × (mid ≡ old))
@@ -60,7 +60,8 @@ module _ (old mid new : Option (List ℕ)) (IsFailed : ℕ → Type 0) where
   ended-given-up request remaining IsUnread Write (Threads workers frames) begun unread read memory write =
       absurd (write refl)
 
--- If memory runs out while reading the arguments of another request, this is reported, and nothing else is written.
+-- If memory runs out while the program reads arguments that make a request, only this is reported; nothing else is
+-- written.
 pub ended-for-memory : (old new : Option (List ℕ)) (IsFailed : ℕ → Type 0) (request : Request)
     (remaining : Option (List ℕ)) (IsUnread : Type 0) (outcome : Outcome)
     → EndsSaying old new IsFailed no_memory outcome → EndsAs request remaining IsUnread old new IsFailed outcome
@@ -72,7 +73,7 @@ ended-for-memory old new IsFailed request remaining IsUnread (Ended status) (inl
 ended-for-memory old new IsFailed request remaining IsUnread (Ended status) (inr failed) = inr (inr (inr failed))
 ended-for-memory old new IsFailed request remaining IsUnread (Threads workers frames) never = absurd never
 
--- The ending for arguments that make no request.
+-- How the program ends for arguments that make no request.
 pub ended-words : (old new : Option (List ℕ)) (IsFailed : ℕ → Type 0) (kinds : Kinds) (e : Error) (outcome : Outcome)
     → HasKind kinds e → EndsOf (kind_of e) old new IsFailed outcome → EndsWords kinds old new IsFailed outcome
 ended-words old new IsFailed kinds e (Ended status) has (inl (is, inl wrote)) = inr (inl (wrote.1, wrote.0))
@@ -83,7 +84,7 @@ ended-words old new IsFailed kinds e (Ended status) has (inr (other, inr failed)
 ended-words old new IsFailed kinds e (Threads workers frames) has (inl (is, never)) = absurd never
 ended-words old new IsFailed kinds e (Threads workers frames) has (inr (other, never)) = absurd never
 
--- The ending for an out-of-memory error.
+-- How the program ends after an out-of-memory error.
 pub ended-of-memory : (old new : Option (List ℕ)) (IsFailed : ℕ → Type 0) (k : ErrorKind) (outcome : Outcome)
     → k ≡ kind.OutOfMemory → EndsOf k old new IsFailed outcome → EndsSaying old new IsFailed no_memory outcome
 ended-of-memory old new IsFailed k outcome is (inl reported) = reported.1

@@ -1,4 +1,4 @@
--- The result of `get_one` for a flag.
+-- Lemmas about the result of `get_one` for a flag.
 use Rattle.std.proofs.Common.{ap, refl, sym, ◌≡◌, Bool, true, false, Option, Some, None, Result, unwrap_or, codes}
 use Rattle.std.specs.Option.{option_map_or}
 use Rattle.std.specs.Str.{bytes_eq}

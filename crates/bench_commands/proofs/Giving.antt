@@ -1,4 +1,4 @@
--- Lemmas about answers, completed or not.
+-- Lemmas about answers, whether or not they are completed.
 use Rattle.std.proofs.Common.{refl, sym, subst, ap, ◌≡◌, ℕ, Bool, List, [], ◌++◌, append_assoc, ◌∙◌, Option, Result, Ok, Err}
 use Rattle.std.specs.Io.KnownBytes.{Appends}
 use Rattle.bench_commands.specs.Answer.{Answer, Gives, GivesRight, WritesBeginning}
@@ -7,8 +7,8 @@ use Rattle.bench_commands.specs.declared.failure.Failure.TheVariants.{OutOfMemor
 use Rattle.bench_commands.proofs.Appending.{Appends-both, Appends-none}
 
 module _ (old new : Option (List ℕ)) (has_failed : Bool) where
-  -- If an answer is the only right one, and the program writes it or doesn't complete it, the same holds for a right
-  -- answer.
+  -- If an answer is the only right answer, then writing this answer, or not completing it, is the same as writing or
+  -- not completing a right answer.
   pub gives-right : (r : Result ℕ Failure) (answer : Answer) (IsRight : Answer → Type 0) → IsRight answer
       → ((other : Answer) → IsRight other → other ≡ answer) → Gives r old new has_failed answer
       → GivesRight r old new has_failed IsRight
@@ -26,7 +26,7 @@ module _ (old new : Option (List ℕ)) (has_failed : Bool) where
 pub begins-with-nothing : (old : Option (List ℕ)) (text : List ℕ) → WritesBeginning old old text
 begins-with-nothing old text = record { beginning = []; rest = text; written = Appends-none old; whole = refl }
 
--- An answer after a text that was already written.
+-- Writing the rest of an answer after a text that was already written.
 pub gives-after : (old mid new : Option (List ℕ)) (has_failed : Bool) (r : Result ℕ Failure) (text : List ℕ)
     (answer : Answer) → Appends old mid text
     → Gives r mid new has_failed answer

@@ -1,4 +1,4 @@
--- Hashing one more line of inputs.
+-- Lemmas about hashing one more line of inputs.
 use Rattle.std.proofs.Common.{◌≡◌, refl, sym, ap, ◌∙◌, ℕ, List, [], ◌∷◌, ◌++◌, append-nil, map, Some, Result, Ok, Err, ◌+◌, ◌<◌, codes, length, take, get_or}
 use Rattle.std.specs.List.{flat_map}
 use Rattle.std.proofs.Math.Seq.{take-length}
@@ -12,7 +12,7 @@ use Rattle.bench_commands.specs.Answer.{refused_at}
 use Rattle.bench_commands.specs.Hash.{bytes_said, hashed, hashes, if_key, inputs_of, keyed_answer, line_and}
 use Rattle.bench_commands.specs.Hash.{lines_answer, word_line, words_answer}
 
--- The inputs of the remaining lines, from the next one on.
+-- The inputs on the remaining lines are those on the next line and those on the lines after it.
 pub inputs_of-line : (lines : List NumberedLine) (line : NumberedLine) (others : List NumberedLine)
     → lines ≡ line ∷ others
     → inputs_of lines ≡ line_and line.number (words_of line.text) (inputs_of others)
@@ -31,7 +31,7 @@ pub hashed-refused : (key before : List ℕ) (inputs : Result (List (List ℕ)) 
     → hashed key before inputs ≡ Err number
 hashed-refused key before inputs number is = ap (hashed key before) is
 
--- The answer in terms of the hashes.
+-- The answer consists of the lines of the hashes.
 hashes-hashed : (key : List ℕ) (inputs : Result (List (List ℕ)) ℕ) (words : List ℕ) → hashed key [] inputs ≡ Ok words
     → hashes key inputs ≡ words_answer words
 hashes-hashed key (Ok inputs) words is =
@@ -67,7 +67,7 @@ pub lines_answer-refused : (lines : List NumberedLine) (line : NumberedLine) (ot
 lines_answer-refused lines line others key number first is faulty =
     lines_answer-keyed lines line others key first is ∙ hashes-refused key (inputs_of others) number faulty
 
--- The lines of the hashes so far, and of one more.
+-- The lines of the hashes so far, followed by the line of the next hash.
 pub lines-more : (words : List ℕ) (i : ℕ) → i < length words
     → flat_map word_line (take i words) ++ word_line (get_or words i 0) ≡ flat_map word_line (take (i + 1) words)
 lines-more words i inside =

@@ -1,4 +1,4 @@
--- Answers to EEPROM texts and images.
+-- Lemmas about the answers to EEPROM source and to images.
 use Rattle.std.proofs.Common.{refl, sym, ap, ◌∙◌, ◌≡◌, ◌≢◌, ℕ, List, Option, Some, None, Result, Ok, Err, IsOkAnd}
 use Rattle.nic_device.specs.EepromImage.Bytes.{bytes_of}
 use Rattle.nic_device.specs.EepromImage.Content.{Content}
@@ -13,7 +13,7 @@ use Rattle.nic_device.specs.EepromImage.declared.LoadFault.TheVariants as file
 use Rattle.bench_commands.specs.Answer.{Answer}
 use Rattle.bench_commands.specs.Eeprom.{IsFileAnswer, IsMeantAnswer, file_refused, text_refused, triples_answer}
 
--- The file of a text's image is its answer.
+-- The answer to source without a fault is the file of its image.
 pub image-meant : (meant : Result Content AsmFault) (image : List ℕ)
     → IsOkAnd meant (λ content. IsImageOf content image)
     → IsMeantAnswer meant (record { text = bytes_of image; status = 0 })
@@ -29,7 +29,7 @@ fails-by (text.Reserved index) meant other fails = fails
 fails-by text.DoesNotFit meant other fails = fails
 fails-by text.PointerOutside meant other fails = fails
 
--- The refusal for a text's fault is its only answer.
+-- The only answer to faulty source is the refusal for its fault.
 pub fault-meant : (fault : AsmFault) (meant : Result Content AsmFault) → fault ≢ text.OutOfMemory → Fails fault meant
     → IsMeantAnswer meant (text_refused fault)
     × ((answer : Answer) → IsMeantAnswer meant answer → answer ≡ text_refused fault)
@@ -43,14 +43,14 @@ reported file.SectionOutside other = refl
 reported file.BadChecksum other = refl
 reported file.NotTriples other = refl
 
--- The refusal for a file's fault is its only answer.
+-- The only answer to a faulty file is the refusal for its fault.
 pub fault-of-file : (fault : LoadFault) (first : Option LoadFault) (bytes : List ℕ) → fault ≢ file.OutOfMemory
     → first ≡ reported_fault fault
     → IsFileAnswer first bytes (file_refused fault)
     × ((answer : Answer) → IsFileAnswer first bytes answer → answer ≡ file_refused fault)
 fault-of-file fault first bytes other is = rw (is ∙ reported fault other) (refl, λ answer same. same)
 
--- The register writes of a file's image are its only answer.
+-- The only answer to an image's file is the list of the image's register writes.
 pub triples-of-file : (first : Option LoadFault) (bytes image : List ℕ) → first ≡ None → IsImage image
     → bytes ≡ bytes_of image
     → ((words : List ℕ) → IsImage words → bytes ≡ bytes_of words → image ≡ words)

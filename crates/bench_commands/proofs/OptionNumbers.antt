@@ -1,4 +1,4 @@
--- The result of `get_one` for an option that takes a number.
+-- Lemmas about the result of `get_one` for an option that takes a number.
 use Rattle.std.proofs.Common.{ap, refl, sym, ℕ, ◌≡◌, ◌<◌, ◌^◌, Bool, true, false, List, [], ◌∷◌, Option, Some, None, Result, length, unwrap_or, nat_lt}
 use Rattle.std.specs.List.{list_all}
 use Rattle.std.specs.Option.{option_map_or}

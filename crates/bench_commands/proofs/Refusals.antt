@@ -1,9 +1,9 @@
--- Kinds of refusals.
+-- Lemmas about the kinds of clap errors.
 use Rattle.std.proofs.Common.{[], ◌∷◌, inl, inr}
 use Rattle.clap.specs.Kinds.{HasKind, Kinds, or_else}
 use Rattle.clap.specs.declared.error.Error.{Error}
 
--- An error with one of these kinds still has one of the kinds after other kinds replace the list if it is empty.
+-- If an error has one of the kinds in a list, it still has one after an empty list is replaced by other kinds.
 pub HasKind-or_else : (kinds others : Kinds) (e : Error) → HasKind kinds e → HasKind (or_else kinds others) e
 HasKind-or_else [] others e (inl memory) = inl memory
 HasKind-or_else [] others e (inr among) = absurd among

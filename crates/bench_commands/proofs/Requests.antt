@@ -1,4 +1,4 @@
--- Answers to requests, from the answers to the bytes read.
+-- Lemmas that derive the answers to requests from the answers to the bytes that were read.
 use Rattle.std.proofs.Common.{refl, sym, subst, ap, ◌∙◌, ◌≡◌, ◌≤◌, ◌<◌, inl, inr, ℕ, Bool, true, false, List, [], ◌∷◌, codes, length, Option, Some, None, Result, Ok, Err, IfOk, IfSome, MatchResult, if◌then◌else◌}
 use Rattle.std.specs.Str.{IsUtf8, is_utf8}
 use Rattle.std.proofs.lemmas.Bool.{false_from_ne_true, le-ltb, lt-ltb}
@@ -51,7 +51,7 @@ module _ (old new : Option (List ℕ)) (has_failed : Bool) (r : Result ℕ Failu
         (λ text. IsTextAnswer request text answer) (λ refusal. answer ≡ refusal)))
         (sym is) given
 
-    -- Bytes that are UTF-8 are answered as text.
+    -- If the bytes are UTF-8, they are answered as text.
     pub given-text : (text : List ℕ) → text ≡ bytes → IsUtf8 bytes
         → GivesRight r old new has_failed (IsTextAnswer request text)
         → GivesRight r old new has_failed (IsGivenAnswer (Text request) bytes)
@@ -59,7 +59,7 @@ module _ (old new : Option (List ℕ)) (has_failed : Bool) (r : Result ℕ Failu
         by-text true (is_utf8-from_IsUtf8 bytes utf8)
         (subst (λ (t : List ℕ). GivesRight r old new has_failed (IsTextAnswer request t)) same given)
 
-    -- Other bytes are refused.
+    -- If the bytes aren't UTF-8, they are refused.
     pub given-no-text : ¬ (IsUtf8 bytes) → Gives r old new has_failed (refused_as (codes "Input"))
         → GivesRight r old new has_failed (IsGivenAnswer (Text request) bytes)
     given-no-text other given =

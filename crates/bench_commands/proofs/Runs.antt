@@ -1,4 +1,4 @@
--- Answers for controllers that can't be created.
+-- Lemmas about the answers for controllers that can't be created.
 use Rattle.std.proofs.Common.{refl, ◌≡◌, ◌<◌, ◌≤◌, ◌==◌, ◌||◌, Bool, true, false, inl, inr, codes}
 use Rattle.std.proofs.lemmas.Bool.{le-ltb, lt-ltb}
 use Rattle.nic_device.specs.Config.{IsBadFifo}

@@ -1,4 +1,4 @@
--- The lines of a session so far, and the lines of the remaining commands.
+-- Lemmas about the lines that a session has printed so far, and the lines of the remaining commands.
 use Rattle.std.proofs.Common.{◌≡◌, ◌+◌, ap, refl, sym, subst, ◌∙◌, ℕ, false, List, [], ◌∷◌, ◌++◌, append-nil, append_assoc, codes, length, Option, Result, Ok, Err}
 use Rattle.std.specs.Io.KnownBytes.{Appends}
 use Rattle.std.specs.Result.{IsOk}
@@ -53,7 +53,7 @@ pub faulty-command : (config : Config) (program : Listing) (commands : Result (L
     → commands ≡ Err number → refused_at (codes "Syntax") number ≡ commands_answer config program commands
 faulty-command config program commands number is = rw is refl
 
--- If lines that form a script have no end, the answer reports it.
+-- If a script without a fault has no end, the answer reports the missing end.
 pub missing-end : (options : DebugOptions) (lines : List NumberedLine) → has_end end_of_script lines ≡ false
     → IsOk (program_before end_of_script lines)
     → refused_at (codes "Syntax") (length lines + 1) ≡ session_of options lines

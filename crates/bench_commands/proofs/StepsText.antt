@@ -1,4 +1,4 @@
--- The lines of the steps so far, and the lines of the remaining steps.
+-- Lemmas about the lines of the steps so far, and the lines of the remaining steps.
 use Rattle.std.proofs.Common.{arith, subst, sym, ◌∙◌, ap, ◌≡◌, ◌≤◌, ℕ, zero, suc, ◌+◌, ◌-◌, List, [], ◌++◌, append-nil, append_assoc, Option, add-zero, add-suc, add-one}
 use Rattle.std.specs.Io.KnownBytes.{Appends}
 use Rattle.nic_device.specs.declared.Config.{Config}
@@ -56,7 +56,7 @@ module _ (old new : Option (List ℕ)) (start now : Course) (k limit : ℕ) (aft
             ∙ ap (steps_text start.program start.config) up_to;
       }
 
-  -- The next step is the step of the machine after k steps.
+  -- The next step is the step that the machine takes after k steps.
   step-at : machine_step now.program now.state ≡ machine_step start.program (machine_at start.program start.config k)
   step-at = ap (λ (m : Course). machine_step m.program m.state) after.at
 
@@ -93,7 +93,7 @@ module _ (old new : Option (List ℕ)) (start now : Course) (k limit : ℕ) (aft
         ∙ ap (λ n. record start { state = machine_at start.program start.config n }) (sym (add-one k));
   }
 
--- The line of an answer is its step's line.
+-- The line written for a step's answer is the line of this step.
 pub answer-written : (old new : Option (List ℕ)) (pc at : ℕ) (reported answer : StepAnswer) → pc ≡ at → reported
     ≡ answer
     → Appends old new (answer_text pc reported) → Appends old new (answer_text at answer)

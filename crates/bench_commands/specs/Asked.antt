@@ -29,11 +29,11 @@ abbrev pub number_in : ℕ → Text → ℕ
 number_in bits text = let digits = without_leading_plus text in
     if is_number_of bits digits then digits_value 10 digits else 0
 
--- The number of an option in the matches.
+-- The number that clap matched for an option; 0 if there is none.
 abbrev pub option_in : ℕ → Text → List Row → ℕ
 option_in bits name rows = option_map_or (number_in bits) (one_of name rows) 0
 
--- The options in the matches of `run`.
+-- The options that clap matched for `run`.
 abbrev pub options_of : List Row → RunOptions
 options_of rows = record {
   vfs = option_in 8 (codes "vfs") rows;
@@ -41,14 +41,14 @@ options_of rows = record {
   limit = option_in 64 (codes "limit") rows;
 }
 
--- The options in the matches of `debug`.
+-- The options that clap matched for `debug`.
 abbrev pub debug_options_of : List Row → DebugOptions
 debug_options_of rows = record {
   vfs = option_in 8 (codes "vfs") rows;
   fifo = option_in 16 (codes "fifo") rows;
 }
 
--- The options in the matches of `threads`.
+-- The options that clap matched for `threads`.
 abbrev pub threads_options_of : List Row → ThreadsOptions
 threads_options_of rows = record {
   workers = option_in 8 (codes "workers") rows;
@@ -59,7 +59,7 @@ threads_options_of rows = record {
 abbrev pub flag_in : Text → List Row → Bool
 flag_in name rows = option_map_or (λ text. bytes_eq text (codes "true")) (one_of name rows) false
 
--- The request in the matches of `eeprom`.
+-- The request that clap matched for `eeprom`.
 abbrev pub eeprom_of : List Row → Request
 eeprom_of rows = if flag_in (codes "load") rows then OfBytes LoadEeprom else OfText Eeprom
 
@@ -78,13 +78,13 @@ abbrev pub asked_of : Text → List Row → Option Asked
 asked_of name rows = if bytes_eq name (codes "threads") then Some (Threads (threads_options_of rows))
     else option_map Input (request_of name rows)
 
--- Clap finds no fault in the arguments, and their command makes this request.
+-- Clap finds no fault in the arguments, and the command in the arguments makes this request.
 pub record Asks (words : List Text) (what : Asked) : Type 0 where
   pub faultless : fault_of nicbench_app words ≡ []
   pub asked : option_and_then (λ command. asked_of command.0 command.1) (subcommand_of nicbench_app words)
       ≡ Some what
 
--- The kinds of error that clap may return for other arguments: a refusal, or a request for the help or the version. If
--- clap finds no fault, the command is unknown.
+-- The kinds of error that clap may return for arguments that make no request: a refusal, or a request for the help or
+-- the version. If clap finds no fault in such arguments, their command is unknown.
 abbrev pub refusal_of : List Text → Kinds
 refusal_of words = or_else (fault_of nicbench_app words) (kind.InvalidSubcommand ∷ [])

@@ -14,15 +14,15 @@ use Rattle.debugger.specs.declared.Command.TheVariants.{Back, Break, Clear, Cont
 abbrev pub number_said : List ℕ → Option ℕ
 number_said word = result_ok (number_of word)
 
--- The address that a word names, as in scripts.
+-- The address that a word specifies, with the same syntax as in scripts.
 abbrev pub target_said : List ℕ → Option ℕ
 target_said word = result_ok (target_of word)
 
--- The number, if it is a virtual function's, 0 to 62.
+-- The number, if it is the number of a virtual function, 0 to 62.
 abbrev pub if_function : ℕ → Option ℕ
 if_function number = if nat_lt number 63 then Some number else None
 
--- A table's entry for a command's name. Any other name isn't a command.
+-- A table's entry for a command's name. A name without an entry isn't a command.
 abbrev pub looked_up : List ℕ → List (List ℕ × Option Command) → Option Command
 looked_up name [] = None
 looked_up name (row ∷ more) = if bytes_eq name row.0 then row.1 else looked_up name more
@@ -57,24 +57,24 @@ command_said (name ∷ a ∷ []) = looked_up name (table_of_one a)
 command_said (name ∷ a ∷ b ∷ []) = looked_up name (table_of_two a b)
 command_said (name ∷ a ∷ b ∷ c ∷ more) = None
 
--- A line's command, followed by the commands of the lines after it.
+-- A line's command, followed by the commands on the lines after it.
 abbrev pub command_and : ℕ → Option Command → Result (List Command) ℕ → Result (List Command) ℕ
 command_and number None commands = Err number
 command_and number (Some command) (Ok commands) = Ok (command ∷ commands)
 command_and number (Some command) (Err later) = Err later
 
--- The command of a line with these words, followed by the commands of the lines after it. A line without words has no
+-- The command on a line with these words, followed by the commands on the lines after it. A line without words has no
 -- command.
 abbrev pub words_and : ℕ → List (List ℕ) → Result (List Command) ℕ → Result (List Command) ℕ
 words_and number [] commands = commands
 words_and number (word ∷ words) commands = command_and number (command_said (word ∷ words)) commands
 
--- The commands of lines, or the number of the first line that has words and isn't a command.
+-- The commands on these lines, or the number of the first line that has words but isn't a command.
 unfoldable pub commands_of : List NumberedLine → Result (List Command) ℕ
 commands_of [] = Ok []
 commands_of (line ∷ others) = words_and line.number (words_of line.text) (commands_of others)
 
--- These commands, followed by others.
+-- These commands, followed by other commands.
 abbrev pub commands_then : List Command → Result (List Command) ℕ → Result (List Command) ℕ
 commands_then before (Ok commands) = Ok (before ++ commands)
 commands_then before (Err number) = Err number

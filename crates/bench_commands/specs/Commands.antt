@@ -1,4 +1,4 @@
--- The command line, as clap's contracts see it.
+-- The commands and options of `nicbench`, in the terms of clap's contracts.
 use Rattle.std.specs.Prelude.{[], ◌∷◌, ◌-◌, ◌^◌, Some, codes, pos, true}
 use Rattle.clap.specs.Words.{App, Rule, Text, new_app, new_rule, with_rule, with_subcommand}
 use Rattle.clap.specs.declared.builder.action.ArgAction.TheVariants as action

@@ -1,4 +1,4 @@
--- The line of a reply: its name and its parts as text.
+-- A reply as a line of text: the reply's name and its parts.
 use Rattle.std.specs.Prelude.{ℕ, ◌++◌, List, codes, decimal}
 use Rattle.text_format.specs.Bytes.{bytes_text}
 use Rattle.text_format.specs.Word.{address_text, word_text}
@@ -9,7 +9,7 @@ use Rattle.bench_commands.specs.declared.reply.Part.TheVariants.{Bytes, Named, N
 use Rattle.bench_commands.specs.declared.reply.Parts.{Parts}
 use Rattle.bench_commands.specs.declared.reply.Parts.TheVariants.{One, Two, Zero}
 
--- A part.
+-- A part as text.
 abbrev pub part_text : Part → List ℕ
 part_text (Named name) = name.now
 part_text (Number number) = decimal number
@@ -25,6 +25,6 @@ with_parts name Zero = name
 with_parts name (One a) = name ++ (codes " " ++ part_text a)
 with_parts name (Two a b) = name ++ (codes " " ++ (part_text a ++ (codes " " ++ part_text b)))
 
--- A line.
+-- A line as text.
 abbrev pub line_text : Line → List ℕ
 line_text line = with_parts line.0.now line.1

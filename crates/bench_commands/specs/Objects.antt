@@ -10,7 +10,7 @@ use Rattle.script_asm.specs.declared.ScriptFault.{ScriptFault}
 use Rattle.bench_commands.specs.Answer.{Answer, refused_as, refused_at}
 use Rattle.bench_commands.specs.Run.{script_refused}
 
--- The refusal of bytes that aren't an object, with the number of the faulty instruction if there is one.
+-- The refusal for bytes that aren't an object, with the number of the faulty instruction if there is one.
 abbrev pub object_refused : ObjectFault → Answer
 object_refused fault.Magic = refused_as (codes "Magic")
 object_refused fault.Version = refused_as (codes "Version")
@@ -20,7 +20,7 @@ object_refused (fault.Operand pc) = refused_at (codes "Operand") pc
 object_refused (fault.Target pc) = refused_at (codes "Target") pc
 object_refused fault.OutOfMemory = refused_as (codes "OutOfMemory")
 
--- The object of a script's program, or the refusal of an input that isn't a script.
+-- The script's program as an object, or the refusal for an input that isn't a script.
 abbrev pub object_answer : Result Listing ScriptFault → Answer
 object_answer (Ok program) = record { text = object_of program; status = 0 }
 object_answer (Err fault) = script_refused fault
@@ -28,7 +28,7 @@ object_answer (Err fault) = script_refused fault
 abbrev pub asm_answer : List ℕ → Answer
 asm_answer text = object_answer (program_of text)
 
--- The script of an object's program, or the refusal of bytes that aren't an object.
+-- The object's program as a script, or the refusal for bytes that aren't an object.
 abbrev pub shown_answer : Result Listing ObjectFault → Answer
 shown_answer (Ok program) = record { text = text_of program; status = 0 }
 shown_answer (Err fault) = object_refused fault

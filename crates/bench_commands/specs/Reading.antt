@@ -10,7 +10,7 @@ abbrev pub CouldNotBeRead : {R : Type 0} → Option (List ℕ) → Input R → T
 CouldNotBeRead remaining input =
     (input.has_failed ≡ true) ⊎ ((input.reads ≡ 1000000) × IfSome remaining (λ bytes. 1000000 ≤ length bytes))
 
--- The bytes of an input of at most 8,388,608 bytes. A longer one is refused.
+-- The bytes of an input of at most 8,388,608 bytes. A longer input is refused.
 abbrev pub bytes_in : List ℕ → Result (List ℕ) Answer
 bytes_in input = if nat_lt 8388608 (length input) then Err (refused_as (codes "TooLong")) else Ok input
 

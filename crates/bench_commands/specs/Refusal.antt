@@ -1,7 +1,7 @@
 -- Refusals as text.
 use Rattle.std.specs.Prelude.{ℕ, List, ◌++◌, Option, Some, None, codes, decimal}
 
--- The name of a refusal, and the number to which it refers if there is one.
+-- A refusal as text: its name, followed by its number if there is one.
 abbrev pub refusal_text : List ℕ → Option ℕ → List ℕ
 refusal_text name (Some number) = name ++ (codes " " ++ decimal number)
 refusal_text name None = name

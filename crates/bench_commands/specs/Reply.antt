@@ -12,7 +12,7 @@ use Rattle.nic_device.specs.declared.Why.TheVariants as why
 use Rattle.text_format.specs.Bytes.{bytes_text}
 use Rattle.text_format.specs.Word.{word_text, address_text}
 
--- Why a frame was dropped.
+-- The reason why a frame was dropped, as text.
 abbrev pub why_text : Why → List ℕ
 why_text why.LinkDown = codes "link down"
 why_text why.Off = codes "off"
@@ -25,7 +25,7 @@ why_text why.Full = codes "full"
 why_text why.QueueOff = codes "queue off"
 why_text why.NoSlot = codes "no slot"
 
--- The fault of a ring.
+-- The reason why a descriptor couldn't be processed, as text.
 abbrev pub fault_text : RingFault → List ℕ
 fault_text fault.Outside = codes "outside"
 fault_text (fault.NotLent address) = codes "not lent " ++ address_text address
@@ -36,11 +36,11 @@ fault_text fault.Legacy = codes "legacy"
 fault_text fault.TooLong = codes "too long"
 fault_text fault.UnknownType = codes "unknown type"
 
--- A queue by its number.
+-- A queue, as text: its number.
 abbrev pub queue_text : ℕ → List ℕ
 queue_text queue = codes "queue " ++ decimal queue
 
--- A slot of a queue.
+-- A slot in a queue's ring, as text.
 abbrev pub slot_text : ℕ → ℕ → List ℕ
 slot_text queue slot = queue_text queue ++ (codes " slot " ++ decimal slot)
 
@@ -53,7 +53,7 @@ abbrev pub group_text : Group → List ℕ
 group_text Pf = codes "pf"
 group_text (Vf v) = codes "vf " ++ decimal v
 
--- The device's reply.
+-- The device's reply, as text.
 abbrev pub reply_text : Reply Block → List ℕ
 reply_text (reply.Word word) = codes "word " ++ word_text word
 reply_text (reply.Stray word) = codes "stray " ++ word_text word

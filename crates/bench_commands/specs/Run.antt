@@ -14,7 +14,7 @@ use Rattle.script_asm.specs.declared.ScriptFault.TheVariants as fault
 use Rattle.bench_commands.specs.Answer.{Answer, refused_as, refused_at}
 use Rattle.bench_commands.specs.Steps.{steps_text}
 
--- The state of a machine after its last step: its instruction or its number of steps, depending on the status.
+-- The final line of a run: the machine's status, with its instruction or its number of steps, depending on the status.
 abbrev pub end_as : Status → ℕ → ℕ → Answer
 end_as Running pc steps = record { text = codes "limit " ++ (decimal pc ++ codes "\n"); status = 1 }
 end_as Ended pc steps = record { text = codes "ok " ++ (decimal steps ++ codes "\n"); status = 0 }
@@ -36,18 +36,18 @@ abbrev pub machine_answer : Listing → Config → ℕ → Answer
 machine_answer program config limit = let end = end_of (machine_at program config limit) in
     record { text = steps_text program config limit ++ end.text; status = end.status }
 
--- The answer if a controller with this configuration can be created. Otherwise the refusal.
+-- This answer, if a controller with this configuration can be created; otherwise the refusal.
 abbrev pub made_with : Config → Answer → Answer
 made_with config answer = if nat_lt 63 config.vfs then refused_as (codes "TooManyVfs")
     else if config.fifo == 0 || nat_lt 4096 config.fifo then refused_as (codes "Fifo")
     else answer
 
--- The answer of a program's run.
+-- The answer of running a program.
 abbrev pub program_answer : RunOptions → Listing → Answer
 program_answer options program =
     made_with (config_of options) (machine_answer program (config_of options) options.limit)
 
--- The refusal of an input that isn't a script, with the number of the faulty line if there is one.
+-- The refusal for an input that isn't a script, with the number of the faulty line if there is one.
 abbrev pub script_refused : ScriptFault → Answer
 script_refused (fault.Syntax line) = refused_at (codes "Syntax") line
 script_refused (fault.UnknownName line) = refused_at (codes "UnknownName") line
@@ -57,7 +57,7 @@ script_refused (fault.Range line) = refused_at (codes "Range") line
 script_refused fault.TooLong = refused_as (codes "TooLong")
 script_refused fault.OutOfMemory = refused_as (codes "OutOfMemory")
 
--- The answer of a script's run, or the refusal of an input that isn't a script.
+-- The answer of running a script, or the refusal for an input that isn't a script.
 abbrev pub script_answer : RunOptions → Result Listing ScriptFault → Answer
 script_answer options (Ok program) = program_answer options program
 script_answer options (Err fault) = script_refused fault

@@ -10,22 +10,22 @@ use Rattle.machine.specs.declared.StepAnswer.TheVariants.{Local, Made, NoBlock, 
 use Rattle.program.specs.Listing.{Listing}
 use Rattle.bench_commands.specs.Reply.{reply_text}
 
--- The number of an instruction, and the device's reply to its event.
+-- The line for an instruction that ran an event: the instruction's number, and the device's reply.
 abbrev pub reply_line : ℕ → Reply Block → List ℕ
 reply_line pc reply = decimal pc ++ (codes " " ++ (reply_text reply ++ codes "\n"))
 
--- The number of an instruction that couldn't lend its block.
+-- The line for an instruction that couldn't lend its block: the instruction's number.
 abbrev pub no_block_line : ℕ → List ℕ
 no_block_line pc = decimal pc ++ codes " no block\n"
 
--- The line of a step at an instruction, if it prints one.
+-- The line that a step prints, if any; `pc` is the number of the executed instruction.
 abbrev pub answer_text : ℕ → StepAnswer → List ℕ
 answer_text pc (Made reply) = reply_line pc reply
 answer_text pc NoBlock = no_block_line pc
 answer_text pc Local = []
 answer_text pc Stopped = []
 
--- The line of the machine's next step.
+-- The line that the machine's next step prints.
 abbrev pub step_text : Listing → MachineState → List ℕ
 step_text program state = answer_text state.pc (machine_step program state).answer
 

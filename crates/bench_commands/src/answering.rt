@@ -1,4 +1,4 @@
-//! Answers a request from the whole input.
+//! Answers a request after reading all of its input.
 ghost use Rattle.std.specs.Prelude.{◌≡◌, Err, false, true};
 ghost use Rattle.bench_commands.specs.Answer.{GivesRight};
 ghost use Rattle.bench_commands.specs.Ending.{AnswersRequest, IsBytesAnswer, IsGivenAnswer, IsTextAnswer};
@@ -54,7 +54,7 @@ fn answer_bytes<W: Write>(
     }
 }
 
-/// Answers a request from the bytes that were read, which are decoded as text if the request needs text.
+/// Answers a request from the bytes that were read. If the request needs text, the bytes are decoded as UTF-8 first.
 fn answer_input<W: Write>(
     alloc: Global,
     bytes: &[u8],
@@ -73,21 +73,21 @@ fn answer_input<W: Write>(
     }
 }
 
-/// Reads all input, writes the answer to a request and returns the exit status. The caller must pass an output to which
-/// no write has failed.
+/// Reads all input, writes the answer to a request, and returns the exit status. No earlier write to `output` may have
+/// failed.
 ///
-/// The output and the status are the request's answer to all bytes of the input. They depend on the number of bytes, on
-/// whether the bytes are text if the request needs text, and on the contents: a script, debugger commands, hex lines,
-/// an object, an EEPROM text or an image.
+/// The output and the status are the request's answer to all bytes of the input. They depend on the number of bytes; on
+/// whether the bytes are UTF-8, if the request needs text; and on the contents: a script, debugger commands, hex lines,
+/// an object, the source of an EEPROM image, or an image.
 ///
-/// For `debug`, each command prints its refusal, or the machine's state after the number of steps to which the commands
-/// so far lead. A command that shows a register prints what a read would return. Three faults refuse a session before
-/// anything is printed, in this order: a faulty script, a faulty command anywhere or a missing `%`, and a device that
-/// can't be created.
+/// For `debug`, each command prints its refusal, or the machine's state at the step that the commands so far have
+/// reached. A command that shows a register prints what a read of that register would return. Three faults refuse a
+/// session before anything is printed, in this order: a faulty script, a faulty command anywhere or a missing `%`, and
+/// a device that can't be created.
 ///
-/// Errors: `Failure::Read`, only if a read failed, or if a million reads were made of a reader with at least a million
-/// bytes; nothing is written. `Failure::OutOfMemory`: a prefix of the answer was written. `Failure::Write`, only if a
-/// write of this call failed; an `Output` writes nothing after a failed write.
+/// Errors: `Failure::Read`, only if a read failed, or if a million reads were made from a reader with at least a
+/// million bytes; nothing is written. `Failure::OutOfMemory`: a prefix of the answer was written. `Failure::Write`,
+/// only if a write made by this call failed; an `Output` writes nothing after a failed write.
 pub fn answer<R: Read, W: Write>(
     alloc: Global,
     input: &mut Input<R>,

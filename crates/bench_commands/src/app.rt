@@ -11,7 +11,7 @@ use clap::error::ErrorKind;
 use clap::{Arg, ArgAction, Command, Error, value_parser};
 use std::alloc::Global;
 
-/// Returns an option that takes a number, with a default.
+/// Returns an option that takes a number and has a default value.
 fn number<'a>(
     alloc: Global,
     name: &'a str,
@@ -119,7 +119,7 @@ fn with_option<'a>(command: Command<'a>, option: Arg<'a>) -> Result<Command<'a>,
     Ok(command)
 }
 
-/// Returns a command with one more subcommand, or the error of either, if there is one.
+/// Returns `command` with `more` added as a subcommand. If `command` or `more` is an error, returns that error instead.
 fn with_command<'a>(
     command: Result<Command<'a>, Error>,
     more: Result<Command<'a>, Error>,
@@ -201,7 +201,7 @@ fn threads<'a>(alloc: Global) -> Result<Command<'a>, Error>
     with_option(threads, frames(alloc))
 }
 
-/// The end of the help text.
+/// The text at the end of the help output.
 const ENDS: &str = "Exit status:
   0  the program ended
   1  it still ran after the limit's steps, or an expect failed

@@ -11,12 +11,12 @@ use script_asm::target;
 use std::alloc::{AllocFailed, Global};
 use text_format::{Line, Lines, Words};
 
-/// Why lines aren't commands.
+/// Why lines couldn't be parsed as commands.
 #[derive(Clone, Copy, Debug, PartialEq, Eq)]
 pub(crate) enum CommandFault {
     /// The line with this number isn't a command.
     Syntax(usize),
-    /// There is no memory for the commands.
+    /// There isn't enough memory for the commands.
     OutOfMemory,
 }
 
@@ -30,21 +30,21 @@ impl<T: Drop> From<AllocFailed<T>> for CommandFault {
     }
 }
 
-/// Returns the number that a word spells, or `None` if it isn't a number.
+/// Returns the number that a word spells, or `None` if the word isn't a number.
 fn number(word: &str) -> Option<u32>
     ensures { result ≡ number_said word.now }
 {
     text_format::number(word).ok()
 }
 
-/// Returns the address that a word names, as in scripts.
+/// Returns the address that a word specifies, with the same syntax as in scripts.
 fn address(word: &str) -> Option<u32>
     ensures { result ≡ target_said word.now }
 {
     target(word).ok()
 }
 
-/// Returns the number of a virtual function, 0 to 62.
+/// Returns the virtual function's number that a word spells, 0 to 62, or `None` if the word isn't such a number.
 fn function(word: &str) -> Option<u8>
     ensures { result ≡ option_and_then if_function (number_said word.now) }
 {
@@ -56,7 +56,7 @@ fn function(word: &str) -> Option<u8>
     }
 }
 
-/// Returns the command with this name and one operand.
+/// Returns the command with this name and this one operand.
 fn with_one(name: &str, a: &str) -> Option<Command>
     ensures { result ≡ looked_up name.now (table_of_one a.now) }
 {
@@ -71,7 +71,7 @@ fn with_one(name: &str, a: &str) -> Option<Command>
     }
 }
 
-/// Returns the command with this name and two operands.
+/// Returns the command with this name and these two operands.
 fn with_two(name: &str, a: &str, b: &str) -> Option<Command>
     ensures { result ≡ looked_up name.now (table_of_two a.now b.now) }
 {
@@ -112,7 +112,7 @@ fn add_line(commands: &mut Vec<Command>, line: Line<'_>) -> Result<(), CommandFa
     Ok(())
 }
 
-/// Returns the commands on the lines, or refuses the first line that has words but isn't a command.
+/// Returns the commands on the lines. If a line has words but isn't a command, the error names the first such line.
 pub(crate) fn read_commands(alloc: Global, lines: Lines<'_>) -> Result<Vec<Command>, CommandFault>
     ensures ok { IfOk result (λ commands. commands_of lines.entry ≡ Ok commands.items) }
     ensures syntax { (n : ℕ) → result ≡ Err (CommandFault.Syntax n)

@@ -14,7 +14,7 @@ pub struct DebugOptions {
     pub fifo: u16,
 }
 
-/// Returns the options in the matches of `debug`.
+/// Returns the options that clap matched for `debug`.
 pub(crate) fn debug_options_in(matches: &ArgMatches<'_>) -> DebugOptions
     ensures { result ≡ debug_options_of (rows_of (found_of matches.now)) }
 {

@@ -1,5 +1,5 @@
-//! The command `nicbench eeprom`: creates an image from a text, or with `--load` prints the register writes of an
-//! image.
+//! The command `nicbench eeprom`: creates an EEPROM image from its source, or with `--load` prints the register writes
+//! in an image.
 ghost use Rattle.std.specs.Prelude.{◌≡◌, ◌≢◌, MatchOption, OnOk};
 ghost use Rattle.std.specs.Io.KnownBytes.{Appends};
 ghost use Rattle.nic_device.specs.EepromImage.Triples.{triples_of};
@@ -16,7 +16,7 @@ use std::alloc::Global;
 use std::io::Write;
 use text_format::{AddressText, WordText};
 
-/// Returns the refusal of an EEPROM text that doesn't describe an image, or `None` if memory ran out.
+/// Returns the refusal for source that doesn't describe an EEPROM image, or `None` if memory ran out.
 fn refusal_of_text(fault: AsmFault) -> Option<Refusal>
     ensures { MatchOption result (fault ≡ AsmFault.OutOfMemory) (λ refusal.
         (fault ≢ AsmFault.OutOfMemory)
@@ -32,7 +32,7 @@ fn refusal_of_text(fault: AsmFault) -> Option<Refusal>
     }
 }
 
-/// Returns the refusal of bytes that aren't an image, or `None` if memory ran out.
+/// Returns the refusal for bytes that aren't an image, or `None` if memory ran out.
 fn refusal_of_file(fault: LoadFault) -> Option<Refusal>
     ensures { MatchOption result (fault ≡ LoadFault.OutOfMemory) (λ refusal.
         (fault ≢ LoadFault.OutOfMemory)
@@ -48,7 +48,7 @@ fn refusal_of_file(fault: LoadFault) -> Option<Refusal>
     }
 }
 
-/// Writes the file of the image that an EEPROM text describes.
+/// Writes the image that the source `text` describes, as the bytes of its file.
 pub(crate) fn write_image<W: Write>(
     alloc: Global,
     text: &str,
@@ -70,7 +70,7 @@ pub(crate) fn write_image<W: Write>(
     }
 }
 
-/// Writes a register write on its own line.
+/// Prints a register write on its own line.
 fn write_triple<W: Write>(output: &mut Output<W>, triple: (u32, u32)) -> Result<(), Failure>
     ensures ok { OnOk result (Appends (W.contents output.old.writer) (W.contents output.new.writer)
         (triple_line triple)) }
@@ -81,7 +81,7 @@ fn write_triple<W: Write>(output: &mut Output<W>, triple: (u32, u32)) -> Result<
     output.write(format_args!("csr {offset} {data}\n"))
 }
 
-/// Writes the register writes of an image, each on its own line, and returns the status.
+/// Prints the register writes in an image, each on its own line, and returns the status.
 fn write_triples<W: Write>(image: &Image, output: &mut Output<W>) -> Result<u8, Failure>
     ensures { Gives result (W.contents output.old.writer) (W.contents output.new.writer)
         output.new.has_failed (triples_answer (triples_of image.now)) }
@@ -92,7 +92,7 @@ fn write_triples<W: Write>(image: &Image, output: &mut Output<W>) -> Result<u8, 
     Ok(DONE)
 }
 
-/// Writes the register writes of the image in this file.
+/// Prints the register writes in the image whose file has these bytes.
 pub(crate) fn load_image<W: Write>(
     alloc: Global,
     bytes: &[u8],

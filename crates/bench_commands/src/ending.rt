@@ -1,4 +1,4 @@
-//! The program: from its arguments to its exit status.
+//! The complete program: reads the arguments, runs the command and returns the exit status.
 ghost use Rattle.std.specs.Prelude.{◌≡◌, ◌⊎◌, None, codes, false, map};
 ghost use Rattle.clap.specs.Words.{kind_of};
 ghost use Rattle.bench_commands.specs.Asked.{Asks, refusal_of};
@@ -37,8 +37,8 @@ pub enum Outcome {
     },
 }
 
-/// Writes the refusal with this name and ends with this status. If the refusal can't be written, ends with the status
-/// of a failed write.
+/// Writes the refusal with this name and ends with this status. If the refusal can't be written, the program ends with
+/// the status for a failed write.
 fn end_saying<W: Write>(output: &mut Output<W>, name: &str, status: u8) -> Outcome
     ensures { EndsSaying (W.contents output.old.writer) (W.contents output.new.writer)
         (IsUnwritten output.new) (record { text = refusal_line name.now None; status = status })
@@ -50,7 +50,7 @@ fn end_saying<W: Write>(output: &mut Output<W>, name: &str, status: u8) -> Outco
     }
 }
 
-/// Ends the program after an incomplete answer.
+/// Ends the program after an answer that wasn't completed.
 fn end_given_up<W: Write>(output: &mut Output<W>, failure: Failure) -> Outcome
     ensures read { failure ≡ Failure.Read → EndsSaying (W.contents output.old.writer)
         (W.contents output.new.writer) (IsUnwritten output.new) (refused_as (codes "Input")) result }
@@ -83,7 +83,7 @@ fn end_request<R: Read, W: Write>(
     }
 }
 
-/// Returns the exit status for arguments that are refused for this reason.
+/// Returns the exit status for arguments for which clap returns an error of this kind.
 fn status_of(kind: ErrorKind) -> u8
     ensures { result ≡ words_status kind }
 {
@@ -94,7 +94,7 @@ fn status_of(kind: ErrorKind) -> u8
     }
 }
 
-/// Writes clap's message about the arguments and ends with its status.
+/// Writes clap's message about the arguments and ends with the status for this kind of message.
 fn end_words<W: Write>(output: &mut Output<W>, error: &Error) -> Outcome
     ensures { EndsOf (kind_of error.now) (W.contents output.old.writer) (W.contents output.new.writer)
         (IsUnwritten output.new) result }
@@ -109,16 +109,16 @@ fn end_words<W: Write>(output: &mut Output<W>, error: &Error) -> Outcome
     }
 }
 
-/// Reads the arguments, the first of which is the program's own name; reads all input if they request a command that
-/// reads it; and writes all output. The caller must pass an output to which no write has failed. The arguments are read
-/// before anything else. If they are refused, no input is read, and the status is one that clap may return: 0 for the
-/// help and the version, otherwise 3.
+/// Reads the arguments, the first of which is the program's own name; reads all input if the arguments request a
+/// command that reads input; and writes all output. No earlier write to `output` may have failed. The arguments are
+/// read before anything else. If they are refused, no input is read, and the status is one that clap may return: 0 for
+/// the help and the version, otherwise 3.
 ///
 /// After a failed write nothing more is written, and the status is `NO_MEMORY` (4) if the writer ran out of memory,
-/// otherwise `FAILED` (2). A failed read, or a million reads of a reader with at least a million bytes, is reported as
-/// the refusal `Input` with status 2. Lack of memory is reported as the refusal `OutOfMemory` with status 4, after a
-/// prefix of the answer. If the arguments request `threads`, nothing is read, and nothing is written except for that
-/// refusal.
+/// otherwise `FAILED` (2). If a read fails, or if a million reads are made from a reader with at least a million bytes,
+/// the refusal `Input` is written, and the status is 2. If memory runs out, the refusal `OutOfMemory` is written after
+/// a prefix of the answer, and the status is 4. If the arguments request `threads`, nothing is read, and nothing is
+/// written except the refusal `OutOfMemory`.
 pub fn bench<'a, R: Read, W: Write, S: AsStr>(
     alloc: Global,
     input: &mut Input<R>,

@@ -1,4 +1,4 @@
-//! Laws: the requests of some command lines.
+//! Laws: what some example command lines request.
 ghost use Rattle.std.specs.Prelude.{◌≡◌, [], ◌∷◌, codes};
 ghost use Rattle.clap.specs.declared.error.ErrorKind.TheVariants as kind;
 ghost use Rattle.bench_commands.specs.Asked.{Asks, refusal_of};
@@ -13,7 +13,7 @@ pub fn run_alone()
         (Input (Text (Run (record { vfs = 0; fifo = 64; limit = 100000 })))) }
 {}
 
-/// A value is the next argument after its option, or follows a `=` after the option. It may have a plus sign or leading
+/// An option's value is the next argument, or follows the option after a `=`. The value may have a plus sign or leading
 /// zeros: `--vfs 63 --limit=+5 --fifo 004096` requests 63 virtual functions, 4,096 frames and 5 instructions.
 pub fn run_with_options()
     ensures { Asks (codes "nicbench" ∷ codes "run" ∷ codes "--vfs" ∷ codes "63"
@@ -21,7 +21,8 @@ pub fn run_with_options()
         (Input (Text (Run (record { vfs = 63; fifo = 4096; limit = 5 })))) }
 {}
 
-/// `nicbench debug` requests the same device. With `--fifo=1 --vfs 2` it requests 1 frame and 2 virtual functions.
+/// `nicbench debug` requests no virtual functions and a receive list of 64 frames, as `run` does. With `--fifo=1 --vfs
+/// 2`, it requests a receive list of 1 frame, and 2 virtual functions.
 pub fn debug_either_way()
     ensures alone { Asks (codes "nicbench" ∷ codes "debug" ∷ [])
         (Input (Text (Debug (record { vfs = 0; fifo = 64 })))) }
@@ -34,13 +35,13 @@ pub fn hash_alone()
     ensures { Asks (codes "nicbench" ∷ codes "hash" ∷ []) (Input (Text Hash)) }
 {}
 
-/// `nicbench asm` requests an object, and `nicbench dis` a script.
+/// `nicbench asm` requests an object, and `nicbench dis` requests a script.
 pub fn objects_either_way()
     ensures object { Asks (codes "nicbench" ∷ codes "asm" ∷ []) (Input (Text Asm)) }
     ensures script { Asks (codes "nicbench" ∷ codes "dis" ∷ []) (Input (Bytes Dis)) }
 {}
 
-/// `nicbench eeprom` requests an image, and with `--load` an image's register writes.
+/// `nicbench eeprom` requests an image; with `--load`, it requests the register writes in an image.
 pub fn eeprom_either_way()
     ensures image { Asks (codes "nicbench" ∷ codes "eeprom" ∷ []) (Input (Text Eeprom)) }
     ensures load { Asks (codes "nicbench" ∷ codes "eeprom" ∷ codes "--load" ∷ [])
@@ -54,8 +55,8 @@ pub fn threads_with_options()
 {}
 
 /// `nicbench threads` requires both options, with 1 to 8 workers and at most 60 frames. It refuses 0 workers, 9
-/// workers, 61 frames, and arguments without one of the two options; each refusal has the kind of error that clap
-/// returns for it.
+/// workers, 61 frames, and arguments that lack one of the two options; each clause names the kind of error that clap
+/// returns.
 pub fn refused_threads()
     ensures no_worker { refusal_of (codes "nicbench" ∷ codes "threads" ∷ codes "--workers"
         ∷ codes "0" ∷ codes "--frames" ∷ codes "1" ∷ []) ≡ kind.ValueValidation ∷ [] }
@@ -70,7 +71,7 @@ pub fn refused_threads()
         ∷ codes "1" ∷ []) ≡ kind.MissingRequiredArgument ∷ [] }
 {}
 
-/// Refused arguments, each with the kind of error that clap returns for it.
+/// These arguments are refused; each clause names the kinds of error that clap may return.
 pub fn refused_words()
     // `run --vfs 256`, a number too large for the option's type
     ensures beyond { refusal_of (codes "nicbench" ∷ codes "run" ∷ codes "--vfs"
@@ -101,7 +102,7 @@ pub fn refused_words()
         ≡ kind.DisplayHelpOnMissingArgumentOrSubcommand ∷ [] }
 {}
 
-/// The help and the version are shown.
+/// These arguments print the help or the version.
 pub fn shown_texts()
     // for `--help`
     ensures help { refusal_of (codes "nicbench" ∷ codes "--help" ∷ [])

@@ -11,7 +11,7 @@ pub enum Failure {
     Read,
     /// A write to the output failed.
     Write,
-    /// There was no memory for the answer.
+    /// There wasn't enough memory for the answer.
     OutOfMemory,
 }
 

@@ -1,4 +1,4 @@
-//! The command `nicbench hash`: RSS hashes of hex lines.
+//! The command `nicbench hash`: prints the RSS hashes of inputs that are given as lines of hex.
 ghost use Rattle.std.specs.Prelude.{◌≡◌, ℕ, List, [], Err, IfOk, None, Ok, OnOk, Result, Some};
 ghost use Rattle.std.specs.Prelude.{codes};
 ghost use Rattle.std.specs.Io.KnownBytes.{Appends};
@@ -30,7 +30,7 @@ const INPUT_BYTES: usize = 36;
 enum HashFault {
     /// The line with this number isn't hex data of the right length.
     Syntax(usize),
-    /// There is no memory for the hashes.
+    /// There isn't enough memory for the hashes.
     OutOfMemory,
 }
 
@@ -45,7 +45,7 @@ impl<T: Drop> From<AllocFailed<T>> for HashFault {
 }
 
 impl HashFault {
-    /// Returns the fault of the line with this number.
+    /// Returns the fault to report for the line with this number.
     fn of(number: usize, fault: HexFault) -> HashFault
         ensures malformed { (n : ℕ) → result ≡ HashFault.Syntax n
             → (n ≡ number) × (fault ≡ HexFault.Malformed) }
@@ -57,7 +57,7 @@ impl HashFault {
     }
 }
 
-/// Returns the bytes that a single word spells in hex.
+/// Returns the bytes that the line's words spell in hex. The line must consist of a single word.
 fn read_bytes(alloc: Global, mut words: Words<'_>) -> Result<Vec<u8>, HexFault>
     ensures ok { IfOk result (λ bytes. bytes_said words.entry ≡ Some bytes.items) }
     ensures malformed { result ≡ Err HexFault.Malformed → bytes_said words.entry ≡ None }
@@ -71,7 +71,7 @@ fn read_bytes(alloc: Global, mut words: Words<'_>) -> Result<Vec<u8>, HexFault>
     }
 }
 
-/// Returns the key that the words spell.
+/// Returns the key that the line's words spell.
 fn read_key(alloc: Global, words: Words<'_>) -> Result<Key, HexFault>
     ensures ok { IfOk result (λ key. if_key (bytes_said words.entry) ≡ Some key.0) }
     ensures malformed { result ≡ Err HexFault.Malformed
@@ -84,7 +84,7 @@ fn read_key(alloc: Global, words: Words<'_>) -> Result<Key, HexFault>
     }
 }
 
-/// Returns the hash of the input that the words spell.
+/// Returns the hash of the input that the line's words spell.
 fn hash_input(alloc: Global, key: &Key, words: Words<'_>) -> Result<u32, HexFault>
     ensures ok { IfOk result (λ hash. option_map (toeplitz_hash key.now.0)
         (if_input (bytes_said words.entry)) ≡ Some hash) }
@@ -176,7 +176,7 @@ fn write_hashes<W: Write>(output: &mut Output<W>, hashes: &[u32]) -> Result<u8, 
 }
 
 /// Reads a 40-byte key from the first line and inputs of at most 36 bytes from the lines after it, all in hex. Writes
-/// the Toeplitz hash of each input with the key. All lines are parsed before the first hash is written.
+/// each input's Toeplitz hash with this key. All lines are parsed before the first hash is written.
 pub(crate) fn hash_lines<W: Write>(
     alloc: Global,
     text: &str,

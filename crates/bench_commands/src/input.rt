@@ -1,14 +1,14 @@
-//! A reader that counts its reads and remembers a failed one.
+//! A reader that counts its reads and remembers whether a read has failed.
 ghost use Rattle.std.specs.Prelude.{◌≡◌, ◌+◌, ◌<◌, OnErr, OnOk, false, true};
 ghost use Rattle.std.specs.Io.{ReadsAtMost};
 ghost use Rattle.std.specs.Io.KnownBytes.{ReadConsumes};
 
 use std::io::{Read, Result};
 
-/// The maximum number of reads of an input.
+/// The maximum number of reads from an input.
 pub const READS: u32 = 1_000_000;
 
-/// A reader, the number of its reads, and whether one of them failed.
+/// A reader, the number of reads made from it, and whether one of these reads failed.
 #[derive(Debug, Drop)]
 pub struct Input<R> {
     reader: R,
@@ -17,7 +17,7 @@ pub struct Input<R> {
 }
 
 impl<R: Read> Input<R> {
-    /// Wraps a reader. No read has been counted or has failed.
+    /// Wraps a reader. The count of reads is 0, and no read has failed yet.
     pub fn of(reader: R) -> Input<R>
         ensures { result ≡ record { reader = reader; reads = 0; has_failed = false } }
     {
@@ -36,7 +36,7 @@ impl<R: Read> Input<R> {
         *has_failed
     }
 
-    /// Resets the count of reads and forgets a failed one.
+    /// Resets the count of reads to 0, and forgets whether a read has failed.
     pub(crate) fn begin(&mut self)
         ensures { self.new ≡ record self.old { reads = 0; has_failed = false } }
     {

@@ -1,9 +1,10 @@
 //! The program `nicbench`, for any reader and writer.
 //!
-//! `asked` parses the arguments of a command line with clap. Its contract defines exactly which arguments request what,
-//! and that all others are refused. `answer` takes the request of a command line, reads all input and writes the
-//! answer. Its contract (`IsAnswerTo`) defines the output and the status for the request and the bytes read. `bench`
-//! reads the arguments, calls `answer`, and returns a status in every case. The program's `main` depends on this crate.
+//! `asked` parses the arguments of a command line with clap. The contract of `asked` defines exactly which arguments
+//! make which request, and says that all other arguments are refused. `answer` takes the request of a command line,
+//! reads all input and writes the answer. The contract of `answer` (`IsAnswerTo`) defines the output and the status for
+//! each request and input. `bench` reads the arguments, calls `answer`, and returns a status in every case. The
+//! program's `main` depends on this crate.
 #![tactic(auto)]
 
 mod answering;

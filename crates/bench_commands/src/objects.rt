@@ -1,4 +1,4 @@
-//! The commands `nicbench asm` and `nicbench dis`: from a script to an object, and back.
+//! The commands `nicbench asm` and `nicbench dis`: convert a script to an object, and an object to a script.
 ghost use Rattle.std.specs.Prelude.{◌≡◌, ◌≢◌, MatchOption};
 ghost use Rattle.bench_commands.specs.Answer.{Gives, refused};
 ghost use Rattle.bench_commands.specs.Objects.{asm_answer, dis_answer, object_refused};
@@ -13,7 +13,7 @@ use script_asm::{assemble, disassemble};
 use std::alloc::Global;
 use std::io::Write;
 
-/// Returns the refusal of bytes that aren't an object, or `None` if memory ran out.
+/// Returns the refusal for bytes that aren't an object, or `None` if memory ran out.
 fn refusal_of_object(fault: ObjectFault) -> Option<Refusal>
     ensures { MatchOption result (fault ≡ ObjectFault.OutOfMemory) (λ refusal.
         (fault ≢ ObjectFault.OutOfMemory)
@@ -30,7 +30,7 @@ fn refusal_of_object(fault: ObjectFault) -> Option<Refusal>
     }
 }
 
-/// Writes the object of a script's program.
+/// Assembles a script, and writes its program as an object.
 pub(crate) fn write_object<W: Write>(
     alloc: Global,
     text: &str,
@@ -52,7 +52,7 @@ pub(crate) fn write_object<W: Write>(
     }
 }
 
-/// Writes the script of an object's program.
+/// Disassembles an object, and writes its program as a script.
 pub(crate) fn write_script<W: Write>(
     alloc: Global,
     bytes: &[u8],

@@ -1,4 +1,4 @@
-//! A writer that remembers a failed write.
+//! A writer that remembers whether a write has failed.
 ghost use Rattle.std.specs.Prelude.{◌≡◌, ◌⊎◌, Err, IfSome, OnOk, false, true};
 ghost use Rattle.std.specs.Io.KnownBytes.{Appends, Keeps};
 ghost use Rattle.bench_commands.specs.Answer.{FailsToWrite};
@@ -9,8 +9,8 @@ use crate::status::{FAILED, NO_MEMORY};
 use std::fmt::Display;
 use std::io::{Error, ErrorKind, Write};
 
-/// A writer, whether a write to it has failed, and whether that was for lack of memory. After a failed write, nothing
-/// more is written to it.
+/// A writer, whether a write to it has failed, and whether that write failed for lack of memory. After a failed write,
+/// nothing more is written to the writer.
 #[derive(Debug, Drop)]
 pub struct Output<W> {
     writer: W,
@@ -19,7 +19,7 @@ pub struct Output<W> {
 }
 
 impl<W: Write> Output<W> {
-    /// Wraps a writer. No write has failed.
+    /// Wraps a writer. No write has failed yet.
     pub fn of(writer: W) -> Output<W>
         ensures { result ≡ record { writer = writer; has_failed = false; lacked_memory = false } }
     {
@@ -60,8 +60,8 @@ impl<W: Write> Output<W> {
         Failure::Write
     }
 
-    /// Writes the text of a value. Fails only with `Failure::Write`: if this write fails, or if an earlier write
-    /// failed. In the second case, nothing is written.
+    /// Writes a value as text. Fails only with `Failure::Write`: if this write fails, or if an earlier write failed. If
+    /// an earlier write failed, nothing is written.
     pub fn write<D: Display + Drop>(&mut self, text: D) -> Result<(), Failure>
         ensures ok { OnOk result (IfSome (D.output text)
             (Appends (W.contents self.old.writer) (W.contents self.new.writer))) }
@@ -78,7 +78,7 @@ impl<W: Write> Output<W> {
         }
     }
 
-    /// Writes these bytes. If an earlier write failed, nothing is written.
+    /// Writes these bytes. If an earlier write failed, fails with `Failure::Write` and writes nothing.
     pub(crate) fn write_bytes(&mut self, bytes: &[u8]) -> Result<(), Failure>
         ensures ok { OnOk result (Appends (W.contents self.old.writer) (W.contents self.new.writer)
             bytes.now) }
@@ -95,7 +95,7 @@ impl<W: Write> Output<W> {
         }
     }
 
-    /// Flushes the writer and returns the exit status: the given one, or the status of a failed write (2 or 4) if
+    /// Flushes the writer and returns the exit status: the given status, or the status for a failed write (2 or 4) if
     /// flushing fails. The writer keeps everything written to it. If an earlier write failed, nothing is flushed, and
     /// the given status is returned.
     pub fn flush(&mut self, status: u8) -> u8

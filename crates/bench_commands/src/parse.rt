@@ -15,7 +15,7 @@ use clap::{ArgMatches, Command, Error};
 use std::alloc::Global;
 use std::convert::AsStr;
 
-/// Matches the arguments with clap.
+/// Matches the arguments against the commands of `nicbench`, with clap.
 fn matches_in<'a, S: AsStr>(alloc: Global, words: &'a [S]) -> Result<ArgMatches<'a>, Error>
     ensures matches { IfOk result (HasMatchesOf nicbench_app (map S.text words.entry.now)) }
     ensures faults { FailsBy (fault_of nicbench_app (map S.text words.entry.now)) result }
@@ -24,7 +24,7 @@ fn matches_in<'a, S: AsStr>(alloc: Global, words: &'a [S]) -> Result<ArgMatches<
     command.try_get_matches_from(words)
 }
 
-/// Returns the refusal of an unknown command, with the usage of this one.
+/// Returns the refusal for an unknown subcommand, with the usage of this command.
 fn no_such_command(command: &mut Command<'_>) -> Result<Error, Error>
     ensures ok { IfOk result (λ e. kind_of e ≡ ErrorKind.InvalidSubcommand) }
     ensures err { IfErr result (λ e. kind_of e ≡ ErrorKind.OutOfMemory) }
@@ -33,7 +33,7 @@ fn no_such_command(command: &mut Command<'_>) -> Result<Error, Error>
     Ok(refusal)
 }
 
-/// Returns the refusal of an unknown command of `nicbench`.
+/// Returns the refusal for an unknown subcommand of `nicbench`.
 fn unknown_command(alloc: Global) -> Result<Error, Error>
     ensures ok { IfOk result (λ e. kind_of e ≡ ErrorKind.InvalidSubcommand) }
     ensures err { IfErr result (λ e. kind_of e ≡ ErrorKind.OutOfMemory) }
@@ -41,7 +41,7 @@ fn unknown_command(alloc: Global) -> Result<Error, Error>
     no_such_command(&mut nicbench(alloc)?)
 }
 
-/// Returns the request in the matches of `eeprom`.
+/// Returns the request that clap matched for `eeprom`.
 fn eeprom_in(matches: &ArgMatches<'_>) -> Request
     ensures { result ≡ eeprom_of (rows_of (found_of matches.now)) }
 {
@@ -53,7 +53,8 @@ fn eeprom_in(matches: &ArgMatches<'_>) -> Request
     }
 }
 
-/// Returns the request of the command with this name and these matches, or `None` if it reads no input.
+/// Returns the request of the command with this name and these matches, or `None` if no command with this name reads
+/// input.
 fn request_named(name: &str, matches: &ArgMatches<'_>) -> Option<Request>
     ensures { result ≡ request_of name.now (rows_of (found_of matches.now)) }
 {
@@ -87,7 +88,7 @@ fn asked_named(name: &str, matches: &ArgMatches<'_>) -> Option<Asked>
     }
 }
 
-/// Returns the request of the command in the matches.
+/// Returns the request of the command that clap matched.
 fn asked_in(matches: &ArgMatches<'_>) -> Option<Asked>
     ensures { result ≡ option_and_then (λ command. asked_of command.0 command.1)
         (subcommand_rows_of matches.now) }
@@ -100,7 +101,7 @@ fn asked_in(matches: &ArgMatches<'_>) -> Option<Asked>
 
 /// Returns the request that the arguments make, according to clap's definitions of the commands. The first argument is
 /// the program's own name. The error contains the message for the user: why the arguments were refused, or the help or
-/// the version that they requested. Arguments that make a request are refused only for lack of memory.
+/// the version that the user requested. Arguments that make a request are refused only for lack of memory.
 pub fn asked<'a, S: AsStr>(alloc: Global, words: &'a [S]) -> Result<Asked, Error>
     ensures ok { IfOk result (Asks (map S.text words.entry.now)) }
     ensures refused { IfErr result (HasKind (refusal_of (map S.text words.entry.now))) }

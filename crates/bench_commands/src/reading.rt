@@ -15,11 +15,11 @@ const READ_BYTES: usize = 65_536;
 /// Why an input wasn't read.
 #[derive(Clone, Copy, Debug, PartialEq, Eq)]
 pub enum InputFault {
-    /// The input has more than `BYTES` bytes.
+    /// The input is longer than `BYTES` bytes.
     TooLong,
     /// A read failed, or the input didn't end within `READS` reads.
     Unread,
-    /// There is no memory for the bytes.
+    /// There isn't enough memory for the bytes.
     OutOfMemory,
 }
 
@@ -40,14 +40,14 @@ fn buffer(alloc: Global) -> Result<Vec<u8>, AllocError>
     vec![in alloc; 0u8; READ_BYTES]
 }
 
-/// Reads all bytes of the input up to its end, at most 8,388,608. After an error some bytes may have been read.
+/// Reads all bytes up to the input's end, at most 8,388,608. After an error, some bytes may have been read.
 pub fn read_input<R: Read>(alloc: Global, input: &mut Input<R>) -> Result<Vec<u8>, InputFault>
     ensures whole { IfOk result (λ v. IfSome (R.remaining input.old.reader) (λ bytes. v.items ≡ bytes)) }
     ensures fits { IfOk result (λ v. vec_len v ≤ BYTES) }
-    // Only if there are more bytes.
+    // `TooLong`, only if the input is longer than 8,388,608 bytes.
     ensures too_long { result ≡ Err InputFault.TooLong
         → IfSome (R.remaining input.old.reader) (λ bytes. BYTES < length bytes) }
-    // Only if a read failed, or if a million reads were made of a reader with at least a million bytes.
+    // `Unread`, only if a read failed, or if a million reads were made from a reader with at least a million bytes.
     ensures unread { result ≡ Err InputFault.Unread
         → CouldNotBeRead (R.remaining input.old.reader) input.new }
 {

@@ -8,7 +8,7 @@ use crate::status::FAILED;
 use std::fmt;
 use std::io::Write;
 
-/// Why there is no answer. `Display` prints its name, and its number if it has one.
+/// Why there is no answer. `Display` prints the refusal's name, and its number if it has one.
 #[derive(Clone, Copy, Debug)]
 pub struct Refusal {
     name: &'static str,
@@ -50,7 +50,7 @@ impl fmt::Display for Refusal {
     }
 }
 
-/// Writes the line of a refusal and returns its status.
+/// Writes a refusal on its own line and returns the status for refused input.
 pub(crate) fn write_refusal<W: Write>(
     output: &mut Output<W>,
     refusal: &Refusal,

@@ -1,4 +1,4 @@
-//! Printing of the device's replies.
+//! Prints the device's replies.
 ghost use Rattle.std.specs.Prelude.{◌≡◌, Some};
 ghost use Rattle.bench_commands.specs.Line.{line_text, part_text};
 ghost use Rattle.bench_commands.specs.Reply.{end_text, fault_text, group_text, queue_text, reply_text, why_text};
@@ -61,7 +61,7 @@ enum Parts<'a> {
     Two(Part<'a>, Part<'a>),
 }
 
-/// The line of a reply: its name and its parts.
+/// The printed line for a reply: the reply's name and its parts.
 #[derive(Clone, Copy)]
 struct Line<'a>(&'static str, Parts<'a>);
 
@@ -112,21 +112,21 @@ fn fault(fault: RingFault) -> Part<'static>
     }
 }
 
-/// Returns a queue's number, as printed.
+/// Returns a queue's number as a printed part.
 fn queue(queue: u16) -> Part<'static>
     ensures { part_text result ≡ queue_text queue }
 {
     Numbered("queue", usize::from(queue))
 }
 
-/// Returns the printed keyword for whether a frame ended.
+/// Returns the keyword that says whether a frame ended.
 fn end(end: bool) -> &'static str
     ensures { result.now ≡ end_text end }
 {
     if end { "end" } else { "more" }
 }
 
-/// Returns the printed interrupt group.
+/// Returns an interrupt group as a printed part.
 fn group(group: Group) -> Part<'static>
     ensures { part_text result ≡ group_text group }
 {

@@ -16,7 +16,7 @@ pub struct RunOptions {
     pub limit: u64,
 }
 
-/// Returns the options in the matches of `run`.
+/// Returns the options that clap matched for `run`.
 pub(crate) fn options_in(matches: &ArgMatches<'_>) -> RunOptions
     ensures { result ≡ options_of (rows_of (found_of matches.now)) }
 {

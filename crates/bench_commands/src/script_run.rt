@@ -15,7 +15,7 @@ use script_asm::{ScriptFault, assemble};
 use std::alloc::Global;
 use std::io::Write;
 
-/// Returns the refusal of an input that isn't a script, or `None` if memory ran out.
+/// Returns the refusal for input that isn't a script, or `None` if memory ran out.
 pub(crate) fn refusal_of_script(fault: ScriptFault) -> Option<Refusal>
     ensures { MatchOption result (fault ≡ ScriptFault.OutOfMemory) (λ refusal.
         (fault ≢ ScriptFault.OutOfMemory)
@@ -60,7 +60,7 @@ fn run_program<W: Write>(
     }
 }
 
-/// Runs a script, and writes each step's line right after the step.
+/// Runs a script, and writes each step's line immediately after the step.
 pub(crate) fn run_script<W: Write>(
     alloc: Global,
     text: &str,

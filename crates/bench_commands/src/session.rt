@@ -22,7 +22,7 @@ use std::alloc::Global;
 use std::io::Write;
 use text_format::Lines;
 
-/// The word on the line that ends the script.
+/// The only word on the line that ends the script.
 const END_OF_SCRIPT: &str = "%";
 
 /// Returns the number of lines in a text.
@@ -39,7 +39,7 @@ fn line_count(text: &str) -> usize
     count
 }
 
-/// Executes commands in order and writes the line of each.
+/// Executes commands in order and writes a line for each command.
 fn do_commands<W: Write>(
     debugger: &mut Debugger,
     commands: &[Command],

@@ -1,6 +1,6 @@
 //! The exit statuses of the program.
 
-/// The complete answer is written.
+/// The complete answer was written.
 pub const DONE: u8 = 0;
 
 /// The script's machine was still running at the step limit, or an `expect` failed.

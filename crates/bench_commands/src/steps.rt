@@ -1,4 +1,4 @@
-//! Runs a machine, and writes the line of each step.
+//! Runs a machine, and writes the line for each step.
 ghost use Rattle.std.specs.Prelude.{◌≡◌, IfErr, OnOk};
 ghost use Rattle.std.specs.Io.KnownBytes.{Appends};
 ghost use Rattle.machine.specs.Machine.{machine_at, start_of};
@@ -14,7 +14,7 @@ use machine::{Machine, Status, StepAnswer};
 use std::io::Write;
 use text_format::WordText;
 
-/// Writes the line of a step at an instruction. `Local` and `Stopped` have no line.
+/// Writes the line for a step that executed the instruction `pc`. `Local` and `Stopped` have no line.
 fn write_answer<W: Write>(
     output: &mut Output<W>,
     pc: u16,
@@ -34,7 +34,7 @@ fn write_answer<W: Write>(
     }
 }
 
-/// Runs a new machine's steps up to the limit, and writes the line of each.
+/// Runs a new machine for at most `limit` steps, and writes the line for each step.
 fn write_steps<W: Write>(
     machine: &mut Machine,
     limit: u64,
@@ -85,7 +85,7 @@ fn write_end<W: Write>(machine: &Machine, output: &mut Output<W>) -> Result<u8, 
     }
 }
 
-/// Runs a new machine up to the limit, and writes its steps and its final state.
+/// Runs a new machine for at most `limit` steps, and writes the lines for its steps and its final state.
 pub(crate) fn run_machine<W: Write>(
     machine: &mut Machine,
     limit: u64,

@@ -14,7 +14,7 @@ pub struct ThreadsOptions {
     pub frames: u8,
 }
 
-/// Returns the options in the matches of `threads`.
+/// Returns the options that clap matched for `threads`.
 pub(crate) fn threads_options_in(matches: &ArgMatches<'_>) -> ThreadsOptions
     ensures { result ≡ threads_options_of (rows_of (found_of matches.now)) }
 {

@@ -1,4 +1,4 @@
-//! Printing of the debugger's answers.
+//! Prints the debugger's replies.
 ghost use Rattle.std.specs.Prelude.{◌≡◌, ◌++◌, None, OnOk, Some, codes};
 ghost use Rattle.std.specs.Io.KnownBytes.{Appends};
 ghost use Rattle.bench_commands.specs.Answer.{FailsToWrite};
@@ -46,7 +46,7 @@ impl fmt::Display for ViewText {
     }
 }
 
-/// An address and the result of a read there, printed by `Display`.
+/// An address and the result of reading it, printed by `Display`.
 #[derive(Clone, Copy)]
 struct ShownText {
     address: u32,
@@ -65,7 +65,7 @@ impl fmt::Display for ShownText {
     }
 }
 
-/// Writes the line of a command that was executed.
+/// Writes the line for a command that was executed.
 pub(crate) fn write_done<W: Write>(
     output: &mut Output<W>,
     command: Command,
@@ -107,7 +107,7 @@ fn refusal_of(refusal: DebugRefusal) -> Refusal
     }
 }
 
-/// Writes the line of a command that was refused.
+/// Writes the line for a command that was refused.
 pub(crate) fn write_refused<W: Write>(
     output: &mut Output<W>,
     refusal: DebugRefusal,

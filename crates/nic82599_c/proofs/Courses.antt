@@ -1,4 +1,4 @@
--- The loops of a settling: over the steps of a round, and over rounds.
+-- Lemmas about the two loops of `nic_settle`: over the steps of a round, and over the rounds.
 use Rattle.std.proofs.Common.{◌≡◌, refl, sym, subst, inl, inr, ◌∙◌, ap, ℕ, suc, ◌≤◌, Bool, true, false, if◌then◌else◌, List, [], ◌∷◌, ◌++◌, length, arith}
 use Rattle.std.specs.Prelude.{◌==◌}
 use Rattle.std.proofs.lemmas.Bool.{eqb-true}
@@ -9,7 +9,7 @@ use Rattle.nic82599_c.specs.Settling.{Course, Stops, StopsIn, course, event_of, 
 use Rattle.nic82599_c.specs.declared.settling.Step.{Step}
 use Rattle.nic82599_c.specs.declared.outcome.Outcome.{Outcome}
 
--- A course that has ended stays unchanged.
+-- After settling has ended, no further step runs.
 pub walked-ended : (room : ℕ) (c : Course) (steps : List Step) → (c.ended == 0) ≡ false → walked room c steps ≡ c
 unfolding walked
 walked-ended room c [] ended = refl
@@ -64,26 +64,26 @@ over : (none : Bool) (n m : ℕ) → (if none then n == m else true) ≡ false �
 over true n m e = refl
 over false n m e = cc
 
--- A round that isn't the last doesn't end the settling.
+-- A round that isn't the last one doesn't end settling.
 pub over-done : (ended n m : ℕ) → is_over ended n m ≡ false → ended ≡ 0
 over-done ended n m e = eqb-true ended 0 (over (ended == 0) n m e)
 
 -- Memory runs out.
 
--- The remaining steps, after some that ran and led to the current course.
+-- Some steps have run and produced the current progress; the steps in `left` remain.
 pub record SoFar (room : ℕ) (steps left : List Step) (before now : Course) : Type 0 where
   pub done : List Step
   pub whole : steps ≡ done ++ left
   pub leads : now ≡ walked room before done
 
--- Steps that follow other steps.
+-- Running two lists of steps one after the other is the same as running the combined list.
 walked-append : (room : ℕ) (c : Course) (first more : List Step)
     → walked room c (first ++ more) ≡ walked room (walked room c first) more
 unfolding walked
 walked-append room c [] more = refl
 walked-append room c (s ∷ rest) more = walked-append room (stepped room c s) rest more
 
--- At first no step has run.
+-- Before the first step, all steps remain.
 pub so-far-none : (room : ℕ) (steps : List Step) (c : Course) → SoFar room steps steps c c
 unfolding walked
 so-far-none room steps c = record { done = []; whole = refl; leads = refl }
@@ -111,7 +111,7 @@ stops-there room steps left rest s before now after far first is wants = record 
   wants = wants;
 }
 
--- The walk stops in this round, or in a later one.
+-- Settling stops in this round, or in a later round.
 pub stops-here : (more room : ℕ) (steps : List Step) (before after : Course) → Stops room steps before after
     → StopsIn (suc more) room steps before after
 unfolding StopsIn

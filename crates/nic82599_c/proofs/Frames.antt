@@ -1,4 +1,4 @@
--- The collected frame is the one whose length was reported.
+-- The collected frame has the length that `nic_next_out` reports.
 use Rattle.std.proofs.Common.{◌≡◌, ◌∙◌, sym, ap, ℕ, ◌≤◌, List, [], ◌∷◌, length, take, arith}
 use Rattle.std.proofs.lemmas.List.{length-take-le}
 use Rattle.nic_device.specs.DmaArena.Block.{Block}

@@ -1,4 +1,4 @@
--- What handles and C's places for them have in common, whatever they point to: each owns what a box of its value owns.
+-- What all handles and out-parameters have in common, whatever they point to: each owns what a box with its value owns.
 --     Form           a struct with the record of a box under another name: a box of a value or of an option
 --     E, R, B        the box, the value and the struct as rows.        with_value     the struct with another value
 use mathlib.Core.Path.{◌≡◌}
@@ -39,7 +39,7 @@ pub record Form (Held : Type 0 → Type 0) (owns : (R : RattleType) → Global �
   pub beta : (v : Box (Held of.Denot) Global) → box (made v) ≡ v
   pub codes : Values parts → Coded (Also (Held of.Denot) (λ x. Done))
 
--- A handle holds a value; C's place for one holds a value or none.
+-- A handle contains a value; an out-parameter contains a value or nothing.
 abbrev pub Handle : Type 2
 Handle = Form (λ T. T) owns_box
 

@@ -1,4 +1,4 @@
--- The handles, and C's places for them, as forms.
+-- This crate's handles and out-parameters, as instances of `Form`.
 use mathlib.Core.Path.{refl}
 use denote.Array.{Array}
 use denote.Builtin.{u8}

@@ -1,4 +1,4 @@
--- `of` for any place: it moves two fields, and what they own moves with them. Assumes `Logic`.
+-- `of` for any out-parameter: it moves two fields, and what the fields own moves with them. Assumes `Logic`.
 use Rattle.std.proofs.Common.{◌≡◌, List, [], ◌∷◌, ◌++◌, refl, sym, subst, ap}
 use seplogic.Ra.Ura.{Ura}
 use mir.Syntax.{Fn, Callee, ty_ptr, local, value_local, place, field, copy, assign, rv_opd, aggregate, seq, return}
@@ -36,7 +36,7 @@ use Rattle.std_alloc.specs.declared.boxed.Box.{Box}
 use Rattle.std_heap.specs.declared.Global.{Global}
 use Rattle.nic82599_c.proofs.HandleForm.{Out, E, R, B}
 
--- The place whose record is the box's own.
+-- The out-parameter whose record is the box's own.
 abbrev plainly : Out → Out
 plainly F = record {
   of = F.of;
@@ -54,7 +54,7 @@ module _ (F : Out) where
   abbrev From : RattleType
   From = Parts.the_row (R F) Heap.the_row ghosts
 
-  -- The code, at the types of any place and its value.
+  -- The code, at the types of any out-parameter and its value.
   abbrev pub function : Fn
   function = record {
     lifetimes = 0;

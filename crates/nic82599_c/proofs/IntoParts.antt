@@ -1,4 +1,4 @@
--- `into_parts` for any handle: it moves two fields, and what they own moves with them. Assumes `Logic`.
+-- `into_parts` for any handle: it moves two fields, and what the fields own moves with them. Assumes `Logic`.
 use Rattle.std.proofs.Common.{◌≡◌, List, [], ◌∷◌, ◌++◌, refl, sym, subst}
 use seplogic.Ra.Ura.{Ura}
 use mir.Syntax.{Fn, Callee, ty_ptr, local, value_local, place, field, copy, assign, rv_opd, aggregate, seq, return}

@@ -1,5 +1,5 @@
--- `get_mut` for any handle: it reads the pointer and lends the value that it points to; the handle follows. Assumes
--- `Logic`.
+-- `lend` for any handle: it reads the pointer and lends the value to which the pointer points. When the borrow ends,
+-- the handle contains the value last written. Assumes `Logic`.
 use Rattle.std.proofs.Common.{◌≡◌, ℕ, List, [], ◌∷◌, refl, sym}
 use seplogic.Ra.Ura.{Ura}
 use mir.Syntax.{Fn, Callee, named, erased, mut, ty_ptr, ty_ref, local, value_local, place, deref, field, copy, assign, rv_opd, addr_of, block, seq, return}
@@ -82,7 +82,7 @@ module _ (F : Handle) where
           (fact 𝓤 (r.now ≡ (F.box a.0.now).value));
     }
 
-    -- Everything of the handle except the value that it points to, and the whole handle with another value.
+    -- Everything in the handle except the value to which it points, and the complete handle with another value.
     module _ (h : F.D) (rb ro b o : ℕ) (hv : Val) where
       abbrev Rest : Fml
       Rest = fsep (fsep (token (E F).al (F.box h).alloc (bare (box.τ (E F))) (block_ptr b o))

@@ -1,4 +1,4 @@
--- The answers to bytes that should be the text of an EEPROM image.
+-- Lemmas about the status and the line for bytes that should be EEPROM source.
 use Rattle.std.proofs.Common.{◌≡◌, ◌≢◌, refl, sym, ap, ℕ, List, Ok, Err, Result}
 use Rattle.std.specs.Prelude.{IsOkAnd}
 use Rattle.std.specs.Str.{is_utf8, IsUtf8}
@@ -10,7 +10,7 @@ use Rattle.nic_device.specs.EepromImage.declared.text.AsmFault.{AsmFault}
 use Rattle.nic_device.specs.EepromImage.declared.text.AsmFault.TheVariants.{OutOfMemory}
 use Rattle.nic82599_c.specs.Images.{text_status, text_line, text_fault_status, line_of, content_status, content_line}
 
--- The answer and the line match the text's result.
+-- The status and the line match the result of assembling the source.
 pub record IsAnswered (meant : Result Content AsmFault) (answer place : ℕ) : Type 0 where
   pub status : answer ≡ content_status meant
   pub line : place ≡ content_line meant
@@ -28,7 +28,7 @@ pub bad_text : (meant : Result Content AsmFault) (fault : AsmFault) → Fails fa
 bad_text meant OutOfMemory h some = absurd (some refl)
 bad_text meant other h some = outcome meant other h
 
--- Bytes that aren't text, and bytes that are.
+-- Bytes that aren't UTF-8, and bytes that are.
 pub no_text : (bytes : List ℕ) → ¬ (IsUtf8 bytes) → (102 ≡ text_status bytes) × (0 ≡ text_line bytes)
 no_text bytes other =
     let e = false_from_ne_true (is_utf8 bytes) (λ is. other (IsUtf8-from_is_utf8 bytes is)) in

@@ -1,4 +1,4 @@
--- A handle owns what a box of its value owns.
+-- A handle owns what a box with the same value owns.
 use base.Fml.{Fml, ftrue}
 use denote.RattleType.{RattleType}
 use denote.RawPtr.{Ptr}
@@ -10,7 +10,7 @@ use Rattle.std_heap.specs.contracts.GlobalAllocator.TheImpl.{ghosts}
 abbrev pub owns_box : (R : RattleType) → Global → Ptr → R.Denot → Fml
 owns_box R alloc = box_owns (ghosts.dealloc_token alloc) R
 
--- C's place for a handle owns the value that the handle in it points to, if there is one.
+-- An out-parameter owns the value to which the handle in it points, or nothing if it is empty.
 abbrev pub owns_some : (R : RattleType) → Global → Ptr → Option R.Denot → Fml
 owns_some R alloc ptr None = ftrue
 owns_some R alloc ptr (Some x) = owns_box R alloc ptr x

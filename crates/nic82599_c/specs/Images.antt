@@ -8,7 +8,7 @@ use Rattle.nic_device.specs.EepromImage.declared.file.LoadFault.TheVariants as l
 use Rattle.nic_device.specs.EepromImage.declared.text.AsmFault.{AsmFault}
 use Rattle.nic_device.specs.EepromImage.declared.text.AsmFault.TheVariants as text
 
--- The status for a fault of a file.
+-- The status for the fault of an image's file.
 abbrev pub load_fault_status : LoadFault → ℕ
 load_fault_status load.OddLength = 65
 load_fault_status load.BadSize = 66
@@ -17,12 +17,12 @@ load_fault_status load.BadChecksum = 68
 load_fault_status load.NotTriples = 69
 load_fault_status load.OutOfMemory = 32
 
--- The status of a file with this fault, or without one.
+-- The status for a file with this fault, or without a fault.
 abbrev pub load_status : Option LoadFault → ℕ
 load_status None = 0
 load_status (Some fault) = load_fault_status fault
 
--- The status for an EEPROM text's fault, and the fault's line or index.
+-- The status for a fault in EEPROM source, and the fault's line or index.
 abbrev pub text_fault_status : AsmFault → ℕ
 text_fault_status (text.Syntax line) = 97
 text_fault_status (text.TwoValues index) = 98
@@ -39,7 +39,7 @@ line_of text.DoesNotFit = 0
 line_of text.PointerOutside = 0
 line_of text.OutOfMemory = 0
 
--- The status and line for an EEPROM text, given its content or fault.
+-- The status and the line for EEPROM source, given its content or its fault.
 abbrev pub content_status : Result Content AsmFault → ℕ
 content_status (Ok content) = 0
 content_status (Err fault) = text_fault_status fault
@@ -48,7 +48,7 @@ abbrev pub content_line : Result Content AsmFault → ℕ
 content_line (Ok content) = 0
 content_line (Err fault) = line_of fault
 
--- The status for bytes that should be an EEPROM text, and the reported line or index.
+-- The status for bytes that should be EEPROM source, and the reported line or index.
 abbrev pub text_status : List ℕ → ℕ
 text_status bytes = if is_utf8 bytes then content_status (sound_content bytes) else 102
 

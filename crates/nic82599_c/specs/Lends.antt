@@ -1,4 +1,4 @@
--- The loan of a handle's value, which returns to the handle.
+-- A borrow of a handle's value, which returns to the handle when the borrow ends.
 use base.Fml.{Fml}
 use denote.RattleType.{RattleType}
 use denote.Ref.{MutBor}

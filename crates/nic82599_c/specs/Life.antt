@@ -1,4 +1,4 @@
--- Why a new card is refused.
+-- Why creating a card is refused.
 use Rattle.std.specs.Prelude.{ℕ, ◌==◌, ◌||◌, nat_lt, if◌then◌else◌}
 
 -- The status for no blocks or more than 65,536; for more than 63 virtual functions; or for a receive list of no frames

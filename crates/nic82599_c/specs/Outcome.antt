@@ -1,4 +1,4 @@
--- How a reply of the device is encoded in C's numbers.
+-- The numbers by which C receives a reply from the device.
 use Rattle.std.specs.Prelude.{ℕ, ◌+◌, ◌-◌, ◌==◌, Bool, List, ◌++◌, drop, length, Option, Some, None, if◌then◌else◌}
 use Rattle.nic_device.specs.DmaArena.Block.{Block}
 use Rattle.nic_device.specs.declared.event.Reply.{Reply}
@@ -13,7 +13,7 @@ use Rattle.nic_device.specs.DmaRing.declared.dir.Dir.{Dir}
 use Rattle.nic_device.specs.DmaRing.declared.dir.Dir.TheVariants as dir
 use Rattle.nic82599_c.specs.declared.outcome.Outcome.{Outcome}
 
--- The status of a reply.
+-- The status for a reply.
 abbrev pub status_of : Reply Block → ℕ
 status_of (reply.Word word) = 0
 status_of (reply.Stray word) = 1
@@ -59,7 +59,7 @@ nothing = record {
   vector = 0;
 }
 
--- Why a frame was dropped.
+-- The number for the reason why a frame was dropped.
 abbrev pub number_of_why : Why → ℕ
 number_of_why why.LinkDown = 1
 number_of_why why.Off = 2
@@ -72,7 +72,7 @@ number_of_why why.Full = 8
 number_of_why why.QueueOff = 9
 number_of_why why.NoSlot = 10
 
--- Why a slot couldn't be processed.
+-- The number for the reason why a descriptor couldn't be processed.
 abbrev pub number_of_fault : RingFault → ℕ
 number_of_fault fault.Outside = 1
 number_of_fault (fault.NotLent bus) = 2
@@ -83,7 +83,7 @@ number_of_fault fault.Legacy = 6
 number_of_fault fault.TooLong = 7
 number_of_fault fault.UnknownType = 8
 
--- The bus address in a fault.
+-- The bus address that a fault reports; 0 if it reports none.
 abbrev pub bus_of_fault : RingFault → ℕ
 bus_of_fault (fault.NotLent bus) = bus
 bus_of_fault other = 0
@@ -96,7 +96,7 @@ number_of_group (group.Vf v) = v + 1
 abbrev pub group_of : ℕ → Group
 group_of number = if number == 0 then group.Pf else group.Vf (number - 1)
 
--- The report with the address of a write-back, if there was one.
+-- The report, with a write-back's address added if there was a write-back.
 abbrev pub with_back : Outcome → Option ℕ → Outcome
 with_back outcome (Some at) = record outcome { at = at; back = 1 }
 with_back outcome None = outcome
@@ -105,7 +105,7 @@ with_back outcome None = outcome
 abbrev pub bit_of : Bool → ℕ
 bit_of b = if b then 1 else 0
 
--- The report of a reply, without its status.
+-- The report for a reply, without the status.
 abbrev pub fields_of : Reply Block → Outcome
 fields_of (reply.Dropped why) = record nothing { why = number_of_why why }
 fields_of (reply.Wrote queue slot end desc at len) = record nothing {
@@ -124,7 +124,7 @@ fields_of (reply.Message group vector) = record nothing { group = number_of_grou
 fields_of (reply.Frame queue bytes) = record nothing { queue = queue; len = length bytes }
 fields_of other = nothing
 
--- The report of a reply.
+-- The report for a reply, with the status.
 abbrev pub outcome_of : Reply Block → Outcome
 outcome_of r = record (fields_of r) { status = status_of r }
 
@@ -133,6 +133,6 @@ abbrev pub with_frame : List ℕ → Reply Block → List ℕ
 with_frame room (reply.Frame queue bytes) = bytes ++ drop (length bytes) room
 with_frame room other = room
 
--- The side of a queue.
+-- The side of a queue: transmit if true, receive if false.
 abbrev pub dir_of : Bool → Dir
 dir_of transmit = if transmit then dir.Tx else dir.Rx

@@ -1,4 +1,4 @@
--- The device's steps, run in rounds until there is nothing to do.
+-- The device's steps, run in rounds until no step has anything left to do.
 use Rattle.std.specs.Prelude.{◌≡◌, ◌⊎◌, ℕ, zero, suc, ◌==◌, ◌||◌, Bool, true, false, nat_lt, List, [], ◌∷◌, ◌++◌, length, take, if◌then◌else◌}
 use Rattle.nic_device.specs.DmaArena.Block.{Block}
 use Rattle.nic_device.specs.DmaRing.declared.dir.Dir.TheVariants as dir
@@ -11,7 +11,7 @@ use Rattle.nic82599_c.specs.declared.settling.Step.{Step}
 use Rattle.nic82599_c.specs.declared.settling.Step.TheVariants as step
 use Rattle.nic82599_c.specs.declared.outcome.Outcome.{Outcome}
 
--- The event of a step.
+-- The event that runs a step.
 abbrev pub event_of : Step → Event Block
 event_of (step.RxEnable queue) = event.QueueStep dir.Rx queue
 event_of (step.TxEnable queue) = event.QueueStep dir.Tx queue
@@ -20,7 +20,7 @@ event_of (step.Transmit queue) = event.TxStep queue
 event_of step.Receive = event.RxStep
 event_of (step.Interrupt group) = event.IntStep (group_of group)
 
--- The number of a step, and the number of its queue or group.
+-- The number of a step's kind, and the number of its queue or group.
 abbrev pub number_of : Step → ℕ
 number_of (step.RxEnable queue) = 0
 number_of (step.TxEnable queue) = 1
@@ -37,39 +37,40 @@ place_of (step.Transmit queue) = queue
 place_of step.Receive = 0
 place_of (step.Interrupt group) = group
 
--- The report of a step.
+-- The report on a step, with the numbers of the step's kind and of its queue or group.
 abbrev pub named : Outcome → Step → Outcome
 named outcome s = record outcome { step = number_of s; of = place_of s }
 
--- The enable steps of each queue below a number.
+-- The enable steps for each queue below a number.
 unfoldable pub enables : ℕ → List Step
 enables zero = []
 enables (suc queue) = (enables queue ++ step.RxEnable queue ∷ []) ++ step.TxEnable queue ∷ []
 
--- One step of each queue or group below a number.
+-- One step for each queue or group below a number.
 unfoldable pub of_each : (ℕ → Step) → ℕ → List Step
 of_each step_of zero = []
 of_each step_of (suc place) = of_each step_of place ++ step_of place ∷ []
 
--- The steps of a round: the receive enable and transmit enable step of each queue below a number; the EEPROM step; one
--- transmit step of each of those queues; one receive step; and the interrupt steps of the physical function and of 63
--- virtual functions.
+-- The steps of a round: the receive enable step and the transmit enable step for each queue below a number; the EEPROM
+-- step; one transmit step for each of these queues; one receive step; and the interrupt steps for the physical function
+-- and for 63 virtual functions.
 abbrev pub round_of : ℕ → List Step
 round_of queues =
     (((enables queues ++ step.Eeprom ∷ []) ++ of_each step.Transmit queues) ++ step.Receive ∷ [])
     ++ of_each step.Interrupt 64
 
--- The progress of a settling: the card, the reports so far, and how it ended, 0 while it continues.
+-- The progress of a call to `nic_settle`: the card, the reports so far, and the status with which it ended, 0 while it
+-- continues.
 pub record Course : Type 0 where
   pub card : Holdings
   pub outcome : List Outcome
   pub ended : ℕ
 
--- Whether a status means that nothing was done.
+-- Whether a status means that the step did nothing.
 abbrev pub is_quiet : ℕ → Bool
 is_quiet status = status == 2 || status == 18 || status == 19
 
--- A step runs, and is reported if it did something.
+-- A step runs, and is reported if the step did something.
 abbrev pub step_made : Course → Step → Course
 step_made c s =
     if is_quiet (status_of (reply_to c.card.device (event_of s)))
@@ -79,7 +80,7 @@ step_made c s =
       outcome = c.outcome ++ named (outcome_of (reply_to c.card.device (event_of s))) s ∷ [];
     }
 
--- The next step runs unless the array is full or the settling has ended.
+-- The next step runs, unless the array is full or settling has ended.
 abbrev pub stepped : ℕ → Course → Step → Course
 stepped room c s =
     if c.ended == 0 then (if nat_lt (length c.outcome) room then step_made c s else record c { ended = 38 }) else c
@@ -89,29 +90,30 @@ unfoldable pub walked : ℕ → Course → List Step → Course
 walked room c [] = c
 walked room c (s ∷ rest) = walked room (stepped room c s) rest
 
--- A round is the last if the settling ended in it or it reported nothing; otherwise another round follows.
+-- A round is the last one if settling ended during the round or the round reported nothing. Otherwise another round
+-- follows.
 abbrev pub is_over : ℕ → ℕ → ℕ → Bool
 is_over ended before after = if ended == 0 then before == after else true
 
 abbrev pub is_last : Course → Course → Bool
 is_last before after = is_over after.ended (length before.outcome) (length after.outcome)
 
--- At most this many rounds.
+-- The progress after at most this many rounds.
 unfoldable pub rounds : ℕ → ℕ → List Step → Course → Course
 rounds zero room steps c = record c { ended = 38 }
 rounds (suc more) room steps c =
     if is_last c (walked room c steps) then walked room c steps else rounds more room steps (walked room c steps)
 
--- A settling with an array of this many entries. Each round except the last fills at least one entry.
+-- The result of settling with an array of `room` entries. Each round except the last fills at least one entry.
 abbrev pub settled : ℕ → ℕ → Holdings → Course
 settled queues room card = rounds room room (round_of queues) (record { card = card; outcome = []; ended = 0 })
 
--- A course with the first `count` entries of an array as its reports.
+-- The progress of which the reports are the first `count` entries of an array.
 abbrev pub course : Holdings → List Outcome → ℕ → ℕ → Course
 course card outcome count ended = record { card = card; outcome = take count outcome; ended = ended }
 
--- A pass through the steps stops because memory ran out. The steps before one that needs memory have run; that step and
--- the later ones haven't.
+-- Running the steps of a round stops because memory ran out for a step that needs memory. The steps before this step
+-- have run; this step and the later steps haven't.
 pub record Stops (room : ℕ) (steps : List Step) (before after : Course) : Type 0 where
   pub done : List Step
   pub step : Step
@@ -120,7 +122,7 @@ pub record Stops (room : ℕ) (steps : List Step) (before after : Course) : Type
   pub leads : after ≡ walked room before done
   pub wants : TakesMemory after.card.device (event_of step)
 
--- Among at most this many rounds, one stops in this way, after rounds that weren't the last.
+-- One of at most this many rounds stops because memory ran out, and none of the rounds before it was the last one.
 unfoldable pub StopsIn : ℕ → ℕ → List Step → Course → Course → Type 0
 StopsIn zero room steps before after = ⊥
 StopsIn (suc more) room steps before after =

@@ -1,8 +1,8 @@
 //! Packet memory that the caller owns: a lent block's memory is exchanged for 2,048 bytes that belong to the caller.
 //!
-//! C hands the memory over as a pointer and gets it back through another exchange. Between two calls C owns everything
-//! that a controller owns, so it may read and write that memory. A call's contract is about the bytes that the call
-//! finds there.
+//! C passes the memory in as a pointer and gets it back through another exchange. Between two calls, C owns everything
+//! that a controller owns, so C may read and write that memory. A call's contract is about the bytes that are in the
+//! memory when the call begins.
 
 ghost use Rattle.std.specs.Borrow.{Array, u8};
 ghost use Rattle.std.specs.Coded.{coded_ℕ, coded_list, coded_option};
@@ -20,8 +20,8 @@ use nic_device::BLOCK_BYTES;
 use std::alloc::Global;
 use std::marker::Model;
 
-/// A handle to a block's 2,048 bytes. In C it is a struct with one pointer, which may point to the caller's memory. A
-/// request to free that memory has no effect in the C library.
+/// A handle to a block's 2,048 bytes. In C, the handle is a struct with one pointer, which may point to the caller's
+/// memory. In the C library, a request to free that memory has no effect.
 #[repr(C)]
 pub struct BlockHandle {
     ptr: *mut Opaque,
@@ -29,7 +29,7 @@ pub struct BlockHandle {
     pub ghost bytes: { List ℕ } by { coded_list coded_ℕ },
 }
 
-/// The place where C receives the pointer to a block's 2,048 bytes; like `HandleOut`.
+/// An out-parameter through which C receives the pointer to a block's 2,048 bytes. It works like `HandleOut`.
 #[repr(C)]
 #[derive(Drop)]
 pub struct BlockHandleOut {
@@ -60,7 +60,7 @@ impl BlockHandle {
 }
 
 impl BlockHandleOut {
-    /// Creates an out-parameter that contains the pointer of a box with these parts.
+    /// Creates an out-parameter that contains the pointer in these parts of a box.
     fn of(parts: Parts<[u8; BLOCK_BYTES], Global>) -> BlockHandleOut
         ensures { result.bytes ≡ Some parts.value }
     {
@@ -78,10 +78,10 @@ impl Drop for BlockHandle {
     }
 }
 
-/// Exchanges the memory of a lent block for new memory. Nothing is copied; the contract doesn't state this. Returns
-/// DONE: the block then contains the bytes of the new memory, and `former` is the block's former memory, with the bytes
-/// that the block contained. Or returns NOT_LENT: nothing changes, and `former` is the memory that was passed in. Any
-/// previous content of `former` is leaked.
+/// Exchanges the memory of a lent block for new memory. Nothing is copied; the contract doesn't state this. If the
+/// block is lent, returns DONE: the block then contains the bytes of the new memory, and `former` receives the block's
+/// former memory, with the bytes that the block contained. Otherwise returns NOT_LENT: nothing changes, and `former`
+/// receives the memory that was passed in. In both cases, any previous content of `former` is leaked.
 #[unsafe(no_mangle)]
 pub extern "C" fn nic_exchange(
     nic: &mut Handle,

@@ -1,7 +1,8 @@
 //! Out-parameters through which C receives the pointers to a new card and to a snapshot.
 //!
-//! A struct with type parameters can't be passed to C, so each type has its own struct. Each is empty and owns nothing,
-//! or owns what a box of its value owns. One proof covers all such structs (`proofs/HandleForm.antt`).
+//! A struct with type parameters can't be passed to C, so each type has its own struct. Each such struct is empty and
+//! owns nothing, or contains a pointer and owns what a box with its value owns. One proof covers all such structs
+//! (`proofs/HandleForm.antt`).
 
 ghost use Rattle.std.specs.Coded.{coded_option};
 ghost use Rattle.std.specs.Prelude.{◌≡◌, Option, Some};
@@ -17,8 +18,8 @@ use card::{Card, Kept};
 use std::alloc::Global;
 use std::marker::Model;
 
-/// The place where C receives a handle's pointer; it is initially empty. In C it is a struct with one pointer, or just
-/// the pointer. Storing another handle leaks the one that is still in it.
+/// An out-parameter through which C receives a handle's pointer; it is initially empty. In C, it is a struct with one
+/// pointer, or just the pointer. Storing a handle leaks the handle that was stored before, if any.
 #[repr(C)]
 #[derive(Drop)]
 pub struct HandleOut {
@@ -27,7 +28,7 @@ pub struct HandleOut {
     pub ghost card: { Option Card } by { coded_option card_row.coded },
 }
 
-/// The place where C receives the pointer of a snapshot's handle; like `HandleOut`.
+/// An out-parameter through which C receives the pointer of a snapshot's handle. It works like `HandleOut`.
 #[repr(C)]
 #[derive(Drop)]
 pub struct KeptHandleOut {
@@ -45,7 +46,7 @@ impl Model for KeptHandleOut {
 }
 
 impl HandleOut {
-    /// Creates an out-parameter that contains the handle of the card in a box with these parts.
+    /// Creates an out-parameter that contains a handle to the card whose box has these parts.
     pub fn of(parts: Parts<Card, Global>) -> HandleOut
         ensures { result.card ≡ Some parts.value }
     {
@@ -58,7 +59,7 @@ impl HandleOut {
 }
 
 impl KeptHandleOut {
-    /// Creates an out-parameter that contains the handle of the kept card in a box with these parts.
+    /// Creates an out-parameter that contains a handle to the kept card whose box has these parts.
     pub fn of(parts: Parts<Kept, Global>) -> KeptHandleOut
         ensures { result.kept ≡ Some parts.value }
     {

@@ -1,7 +1,7 @@
-//! C's handles of a card and of a snapshot: pointers that C never dereferences.
+//! C's handles to a card and to a snapshot: pointers that C never dereferences.
 //!
-//! A struct with type parameters can't be passed to C, so each type has its own struct. Both own what a box of their
-//! value owns. One proof covers all such structs (`proofs/HandleForm.antt`).
+//! A struct with type parameters can't be passed to C, so each type has its own struct. Both structs own what a box
+//! with their value owns. One proof covers all such structs (`proofs/HandleForm.antt`).
 
 ghost use Rattle.std.specs.Prelude.{◌≡◌};
 ghost use Rattle.card.specs.contracts.card.Card.{the_row as card_row};
@@ -15,13 +15,13 @@ use card::{Card, Kept};
 use std::alloc::Global;
 use std::marker::Model;
 
-/// What the pointer points to as C sees it: an opaque type.
+/// The opaque type that a handle's pointer points to, as C sees it.
 #[repr(C)]
 pub struct Opaque {
     byte: u8,
 }
 
-/// A handle of a card on the heap. In C it is a struct with one pointer.
+/// A handle to a card on the heap. In C, the handle is a struct with one pointer.
 #[repr(C)]
 pub struct Handle {
     ptr: *mut Opaque,
@@ -29,7 +29,7 @@ pub struct Handle {
     pub ghost card: { Card } by { card_row.coded },
 }
 
-/// A handle of a kept card on the heap. In C it is a struct with one pointer.
+/// A handle to a kept card on the heap. In C, the handle is a struct with one pointer.
 #[repr(C)]
 pub struct KeptHandle {
     ptr: *mut Opaque,

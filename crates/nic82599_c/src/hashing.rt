@@ -17,8 +17,8 @@ pub struct KeyBytes {
     pub bytes: [u8; 40],
 }
 
-/// Computes the RSS hash, with a key, of an input of at most 36 bytes. Returns DONE, or NO_ROOM if the input is longer;
-/// in that case `word` is unchanged.
+/// Computes the RSS hash of an input of at most 36 bytes, using the key, and stores the hash in `word`. Returns DONE,
+/// or NO_ROOM if the input is longer; in that case `word` is unchanged.
 #[unsafe(no_mangle)]
 pub extern "C" fn nic_hash(key: &KeyBytes, input: &[u8], word: &mut u32) -> u8
     ensures done { length input.now ≤ 36 → result ≡ DONE }

@@ -1,4 +1,4 @@
-//! EEPROM images, from a file's bytes or from an EEPROM text.
+//! Installs EEPROM images, either from the bytes of an image's file or from EEPROM source.
 
 ghost use Rattle.std.specs.Prelude.{◌≡◌, ◌≢◌, ℕ, List, None, IsOkAnd};
 ghost use Rattle.nic_device.specs.EepromImage.Bytes.{bytes_of};
@@ -16,13 +16,13 @@ use card::Card;
 use nic_device::{AsmFault, LoadFault, assemble, load};
 use std::alloc::Global;
 
-/// The base of the statuses for a refused image: the fault's number is added to it.
+/// The base of the statuses for a refused image: the status is this base plus the fault's number.
 pub const IMAGE: u8 = 64;
 
-/// The base of the statuses for a refused EEPROM text: the fault's number is added to it.
+/// The base of the statuses for refused EEPROM source: the status is this base plus the fault's number.
 pub const TEXT: u8 = 96;
 
-/// The number of the fault if the EEPROM text isn't UTF-8.
+/// The fault's number if the EEPROM source isn't UTF-8.
 pub const NOT_UTF8: u8 = 6;
 
 /// Returns the status for bytes that aren't an image.
@@ -39,7 +39,7 @@ fn status_of_load(fault: LoadFault) -> u8
     }
 }
 
-/// Returns the status for an EEPROM text that doesn't describe an image.
+/// Returns the status for EEPROM source that doesn't describe an image.
 fn status_of_text(fault: AsmFault) -> u8
     ensures { result ≡ text_fault_status fault }
 {
@@ -53,7 +53,7 @@ fn status_of_text(fault: AsmFault) -> u8
     }
 }
 
-/// Returns the line or index in an EEPROM text's fault, or 0 if the fault has none.
+/// Returns the line or index that a fault in EEPROM source reports, or 0 if the fault reports neither.
 fn line_of(fault: AsmFault) -> u64
     ensures { result ≡ line_of fault }
 {
@@ -65,7 +65,7 @@ fn line_of(fault: AsmFault) -> u64
 }
 
 /// Installs the EEPROM image whose file has these bytes. Returns DONE, IMAGE plus the fault's number, or OUT_OF_MEMORY.
-/// A refusal leaves the old image installed.
+/// Unless the result is DONE, the old image stays installed.
 #[unsafe(no_mangle)]
 pub extern "C" fn nic_install_image(alloc: Global, nic: &mut Handle, bytes: &[u8]) -> u8
     ensures status { result ≢ OUT_OF_MEMORY → result ≡ load_status (file_fault bytes.now) }
@@ -84,7 +84,7 @@ pub extern "C" fn nic_install_image(alloc: Global, nic: &mut Handle, bytes: &[u8
     }
 }
 
-/// Installs the image that an EEPROM text describes.
+/// Installs the image that EEPROM source describes.
 fn install_text(alloc: Global, card: &mut Card, text: &str, line: &mut u64) -> u8
     ensures status { result ≢ OUT_OF_MEMORY → result ≡ content_status (sound_content text.now) }
     ensures line { result ≢ OUT_OF_MEMORY → line.new ≡ content_line (sound_content text.now) }
@@ -106,10 +106,10 @@ fn install_text(alloc: Global, card: &mut Card, text: &str, line: &mut u64) -> u
     }
 }
 
-/// Installs the image that an EEPROM text describes. Returns DONE, TEXT plus the fault's number (6 if the text isn't
-/// UTF-8), or OUT_OF_MEMORY. A refusal leaves the old image installed. `line` becomes the fault's line or index; it
-/// becomes 0 after DONE, or if the fault has neither. The contract doesn't specify when OUT_OF_MEMORY is returned, or
-/// the value of `line` after it.
+/// Installs the image that EEPROM source describes. Returns DONE, TEXT plus the fault's number (6 if the source isn't
+/// UTF-8), or OUT_OF_MEMORY. Unless the result is DONE, the old image stays installed. `line` is set to the fault's
+/// line or index, or to 0 after DONE or if the fault has neither. The contract specifies neither when OUT_OF_MEMORY is
+/// returned nor the value of `line` after OUT_OF_MEMORY.
 #[unsafe(no_mangle)]
 pub extern "C" fn nic_install_text(
     alloc: Global,

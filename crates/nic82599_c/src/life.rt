@@ -12,7 +12,7 @@ use card::Card;
 use nic_device::{BLOCK_NUMBERS, Config, MAX_FIFO, MAX_VFS};
 use std::alloc::Global;
 
-/// Returns the status of creating a card, provided that there is enough memory.
+/// Returns the status that `nic_new` returns if there is enough memory.
 fn new_status(vfs: u8, fifo: u16, blocks: u32) -> u8
     ensures { result ≡ new_status vfs fifo blocks }
 {
@@ -29,10 +29,10 @@ fn new_status(vfs: u8, fifo: u16, blocks: u32) -> u8
 }
 
 /// Creates a card and stores its pointer in `device`. The card has a device in its reset state, with `vfs` virtual
-/// functions, 0 to 63, and a receive list of `fifo` frames, 1 to 4,096. It has `blocks` blocks of packet memory, 1 to
-/// 65,536, none of them lent.
+/// functions (0 to 63) and a receive list for `fifo` frames (1 to 4,096). The card also has `blocks` blocks of packet
+/// memory (1 to 65,536), none of them lent.
 ///
-/// Errors, in this order: BAD_BLOCKS, TOO_MANY_VFS, BAD_FIFO and OUT_OF_MEMORY. They leave `device` unchanged.
+/// Errors, in this order: BAD_BLOCKS, TOO_MANY_VFS, BAD_FIFO and OUT_OF_MEMORY. Each error leaves `device` unchanged.
 #[unsafe(no_mangle)]
 pub extern "C" fn nic_new(
     alloc: Global,

@@ -1,4 +1,4 @@
-//! The report of an event, as a C struct.
+//! The report on an event, as a C struct.
 
 ghost use Rattle.std.specs.Prelude.{◌≡◌};
 ghost use Rattle.nic82599_c.specs.Outcome.{status_of, nothing, number_of_why, number_of_fault, bus_of_fault};
@@ -8,7 +8,7 @@ use crate::status;
 use dma_ring::RingFault;
 use nic_device::{Group, Reply, ReplyNote, Why};
 
-/// The report of an event. Fields that don't apply are 0.
+/// The report on an event. Fields that don't apply to the event are 0.
 #[repr(C)]
 #[derive(Clone, Copy, Debug, PartialEq, Eq)]
 pub struct Outcome {
@@ -18,7 +18,7 @@ pub struct Outcome {
     pub at: u64,
     /// The number of bytes written, or the frame's length in bytes.
     pub len: u64,
-    /// The bus address that isn't lent, for a fault.
+    /// For a fault, the bus address that isn't lent.
     pub bus: u64,
     /// The number of the queue, 0 to 127.
     pub queue: u16,
@@ -26,16 +26,16 @@ pub struct Outcome {
     pub slot: u16,
     /// The interrupt group of the message: 0 for the physical function, v + 1 for virtual function v.
     pub group: u16,
-    /// In a report of `nic_settle`, the queue or group that was stepped.
+    /// In a report from `nic_settle`, the number of the queue or interrupt group that the step served.
     pub of: u16,
-    /// The status that the event's own call would return.
+    /// The status that the call for this single event would return.
     pub status: u8,
-    /// In a report of `nic_settle`, the kind of step: 0 receive enable, 1 transmit enable, 2 EEPROM, 3 transmit, 4
+    /// In a report from `nic_settle`, the kind of step: 0 receive enable, 1 transmit enable, 2 EEPROM, 3 transmit, 4
     /// receive, 5 interrupt.
     pub step: u8,
-    /// 1 if the frame ends with this piece.
+    /// 1 if the frame ends with the bytes that this step wrote.
     pub end: u8,
-    /// 1 if a transmit step did a write-back, at `at`.
+    /// 1 if a transmit step did a write-back; `at` is its address.
     pub back: u8,
     /// Why a frame was dropped or a descriptor couldn't be processed, numbered from 1.
     pub why: u8,
@@ -61,7 +61,7 @@ const NOTHING: Outcome = Outcome {
     vector: 0,
 };
 
-/// Returns the number of a drop reason.
+/// Returns the number for the reason why a frame was dropped.
 fn number_of_why(why: Why) -> u8
     ensures { result ≡ number_of_why why }
 {
@@ -79,7 +79,7 @@ fn number_of_why(why: Why) -> u8
     }
 }
 
-/// Returns the number of a descriptor fault.
+/// Returns the number for the reason why a descriptor couldn't be processed.
 fn number_of_fault(fault: RingFault) -> u8
     ensures { result ≡ number_of_fault fault }
 {
@@ -95,7 +95,7 @@ fn number_of_fault(fault: RingFault) -> u8
     }
 }
 
-/// Returns the bus address in a fault, or 0 if it has none.
+/// Returns the bus address that a fault reports, or 0 if the fault reports none.
 fn bus_of_fault(fault: RingFault) -> u64
     ensures { result ≡ bus_of_fault fault }
 {
@@ -127,7 +127,7 @@ pub(crate) fn group_of(number: u8) -> Group
     }
 }
 
-/// Returns the report with the address of a write-back, if there was one.
+/// Returns the report, with a write-back's address added if there was a write-back.
 fn with_back(outcome: Outcome, back: Option<u64>) -> Outcome
     ensures { result ≡ with_back outcome back }
 {
@@ -141,7 +141,7 @@ fn with_back(outcome: Outcome, back: Option<u64>) -> Outcome
     }
 }
 
-/// Returns the status of a reply.
+/// Returns the status for a reply.
 pub(crate) fn status_of(reply: &ReplyNote) -> u8
     ensures { result ≡ status_of reply.now }
 {
@@ -164,7 +164,7 @@ pub(crate) fn status_of(reply: &ReplyNote) -> u8
     }
 }
 
-/// Returns a report with a queue's number, a descriptor's index in its ring, and a length.
+/// Returns a report with a queue's number, the index of a descriptor in the queue's ring, and a length.
 fn placed(queue: u16, slot: u16, len: usize) -> Outcome
     ensures { result ≡ record nothing { queue = queue; slot = slot; len = len } }
 {
@@ -176,7 +176,7 @@ fn placed(queue: u16, slot: u16, len: usize) -> Outcome
     }
 }
 
-/// Returns the report of a reply, without its status.
+/// Returns the report for a reply, without the status.
 fn fields_of(reply: &ReplyNote) -> Outcome
     ensures { result ≡ fields_of reply.now }
 {
@@ -217,7 +217,7 @@ fn fields_of(reply: &ReplyNote) -> Outcome
     }
 }
 
-/// Returns the report of a reply, with its status.
+/// Returns the report for a reply, with the status.
 pub(crate) fn outcome_of(reply: &ReplyNote) -> Outcome
     ensures { result ≡ outcome_of reply.now }
 {

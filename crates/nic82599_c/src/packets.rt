@@ -24,7 +24,7 @@ pub extern "C" fn nic_lend(nic: &mut Handle, block: u32) -> u8
     }
 }
 
-/// Takes a block back; it is then free. Returns DONE, or NOT_LENT, which changes nothing.
+/// Takes a block back from the device; the block is then free. Returns DONE, or NOT_LENT, which changes nothing.
 #[unsafe(no_mangle)]
 pub extern "C" fn nic_take(nic: &mut Handle, block: u32) -> u8
     ensures status { result ≡ take_status nic.old.card block }
@@ -37,8 +37,8 @@ pub extern "C" fn nic_take(nic: &mut Handle, block: u32) -> u8
     }
 }
 
-/// Lends all free blocks, in order. Returns DONE, or OUT_OF_MEMORY if memory ran out for a block: the free blocks below
-/// it have then been lent, and no others.
+/// Lends all free blocks, from the lowest number to the highest. Returns DONE, or OUT_OF_MEMORY if memory ran out for a
+/// block; in that case, the free blocks below that block have been lent, and no others.
 #[unsafe(no_mangle)]
 pub extern "C" fn nic_lend_all(nic: &mut Handle) -> u8
     ensures status { result ≢ OUT_OF_MEMORY → result ≡ DONE }

@@ -1,4 +1,4 @@
-//! A `Box` split into parts with fields that this crate's proofs can see.
+//! A `Box` that is split into parts, whose fields are visible to this crate's proofs.
 
 ghost use Rattle.std.specs.Prelude.{◌≡◌};
 ghost use Rattle.std.specs.Box.Ownership.{box_owns};

@@ -1,4 +1,4 @@
-//! Register reads and writes, and the addresses of virtual functions' registers.
+//! Register reads and writes, and the physical function's addresses for the registers of virtual functions.
 
 ghost use Rattle.std.specs.Prelude.{◌≡◌, ℕ, unwrap_or};
 ghost use Rattle.nic_device.specs.Step.{reply_to, reported_word};
@@ -55,8 +55,9 @@ fn peek(card: &Card, port: Port, number: u32, word: &mut u32) -> u8
     }
 }
 
-/// Reads a register of the physical function by its byte address, with the read's side effects. Returns DONE and the
-/// value, or STRAY and the value that a driver would read; a stray read changes nothing.
+/// Reads a register of the physical function by its byte address, with the read's side effects. Returns DONE and stores
+/// the register's value in `word`, or returns STRAY and stores the value that a driver would read. A stray read changes
+/// nothing.
 #[unsafe(no_mangle)]
 pub extern "C" fn nic_read32(nic: &mut Handle, address: u32, word: &mut u32) -> u8
     ensures status { result ≡ status_of (reply_to nic.old.card.device (Event.Read Port.Pf address)) }
@@ -66,7 +67,8 @@ pub extern "C" fn nic_read32(nic: &mut Handle, address: u32, word: &mut u32) -> 
     read(nic.get_mut(), Port::Pf, address, word)
 }
 
-/// Writes a register of the physical function by its byte address. Returns DONE, or STRAY, which changes nothing.
+/// Writes a register of the physical function by its byte address. Returns DONE, or STRAY; a stray write changes
+/// nothing.
 #[unsafe(no_mangle)]
 pub extern "C" fn nic_write32(nic: &mut Handle, address: u32, word: u32) -> u8
     ensures status { result ≡ status_of (reply_to nic.old.card.device (Event.Write Port.Pf address word)) }
@@ -75,9 +77,9 @@ pub extern "C" fn nic_write32(nic: &mut Handle, address: u32, word: u32) -> u8
     write(nic.get_mut(), Port::Pf, address, word)
 }
 
-/// Reads a register of a virtual function by its byte offset, with the read's side effects. Returns DONE and the value,
-/// or STRAY and the value that a driver would read, even if there is no such virtual function; a stray read changes
-/// nothing.
+/// Reads a register of a virtual function by its byte offset, with the read's side effects. Returns DONE and stores the
+/// register's value in `word`, or returns STRAY and stores the value that a driver would read, even if there is no such
+/// virtual function. A stray read changes nothing.
 #[unsafe(no_mangle)]
 pub extern "C" fn nic_vf_read32(nic: &mut Handle, vf: u8, offset: u32, word: &mut u32) -> u8
     ensures status { result ≡ status_of (reply_to nic.old.card.device (Event.Read (Port.Vf vf) offset)) }
@@ -87,7 +89,7 @@ pub extern "C" fn nic_vf_read32(nic: &mut Handle, vf: u8, offset: u32, word: &mu
     read(nic.get_mut(), Port::Vf(vf), offset, word)
 }
 
-/// Writes a register of a virtual function by its byte offset. Returns DONE, or STRAY, which changes nothing.
+/// Writes a register of a virtual function by its byte offset. Returns DONE, or STRAY; a stray write changes nothing.
 #[unsafe(no_mangle)]
 pub extern "C" fn nic_vf_write32(nic: &mut Handle, vf: u8, offset: u32, word: u32) -> u8
     ensures status { result ≡ status_of (reply_to nic.old.card.device (Event.Write (Port.Vf vf) offset word)) }
@@ -96,8 +98,8 @@ pub extern "C" fn nic_vf_write32(nic: &mut Handle, vf: u8, offset: u32, word: u3
     write(nic.get_mut(), Port::Vf(vf), offset, word)
 }
 
-/// Returns in `word` what `nic_read32` would read, without its side effects: the card is unchanged. Returns DONE, or
-/// STRAY, which leaves `word` unchanged.
+/// Stores the value that `nic_read32` would read in `word`, without the read's side effects: the card is unchanged.
+/// Returns DONE, or STRAY, which leaves `word` unchanged.
 #[unsafe(no_mangle)]
 pub extern "C" fn nic_peek32(nic: &mut Handle, address: u32, word: &mut u32) -> u8
     ensures status { result ≡ peek_status (reported_word (reply_to nic.old.card.device (Event.Read Port.Pf address))) }
@@ -108,8 +110,8 @@ pub extern "C" fn nic_peek32(nic: &mut Handle, address: u32, word: &mut u32) -> 
     peek(nic.get_mut(), Port::Pf, address, word)
 }
 
-/// Returns in `word` what `nic_vf_read32` would read, without its side effects: the card is unchanged. Returns DONE, or
-/// STRAY, which leaves `word` unchanged.
+/// Stores the value that `nic_vf_read32` would read in `word`, without the read's side effects: the card is unchanged.
+/// Returns DONE, or STRAY, which leaves `word` unchanged.
 #[unsafe(no_mangle)]
 pub extern "C" fn nic_vf_peek32(nic: &mut Handle, vf: u8, offset: u32, word: &mut u32) -> u8
     ensures status { result ≡ peek_status
@@ -121,11 +123,11 @@ pub extern "C" fn nic_vf_peek32(nic: &mut Handle, vf: u8, offset: u32, word: &mu
     peek(nic.get_mut(), Port::Vf(vf), offset, word)
 }
 
-/// Finds the physical function's address of the register that virtual function `vf` has at an offset, in the mode that
-/// a value of GCR_EXT selects. Address and offset are in bytes. Returns DONE and the address; STRAY if the function has
-/// no register there; or NO_GROUP if the mode has no pool for the function or the function's number is above 62. STRAY
-/// and NO_GROUP leave `address` unchanged. No controller is involved, so it doesn't matter whether one has this virtual
-/// function.
+/// Finds the address at which the physical function accesses the register that virtual function `vf` has at an offset.
+/// The mode is the one that a value of GCR_EXT selects; address and offset are in bytes. Returns DONE and stores the
+/// address in `address`; STRAY if the virtual function has no register at the offset; or NO_GROUP if the mode has no
+/// pool for the virtual function or its number is above 62. STRAY and NO_GROUP leave `address` unchanged. No controller
+/// is involved, so the result doesn't depend on whether a controller has this virtual function.
 #[unsafe(no_mangle)]
 pub extern "C" fn nic_vf_address(gcr_ext: u32, vf: u8, offset: u32, address: &mut u32) -> u8
     ensures status { result ≡ map_status (mapped (mode_of gcr_ext) 63 vf offset) }

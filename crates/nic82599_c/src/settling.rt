@@ -1,4 +1,4 @@
-//! The device's own steps, run in rounds until none has anything to do.
+//! Runs the device's own steps, in rounds, until no step has anything left to do.
 
 ghost use Rattle.std.specs.Prelude.{◌≡◌, ◌≢◌, ◌<◌, ◌≤◌, length};
 ghost use Rattle.nic_device.specs.Step.{TakesMemory};
@@ -22,18 +22,18 @@ const STEPS: usize = 450;
 /// A step of the device.
 #[derive(Clone, Copy, Debug, PartialEq, Eq, Default)]
 enum Step {
-    /// An enable step of the receive side of a queue.
+    /// An enable step for the receive side of a queue.
     RxEnable(u16),
-    /// An enable step of the transmit side of a queue.
+    /// An enable step for the transmit side of a queue.
     TxEnable(u16),
     /// An EEPROM step, which completes a read that EERD requests.
     #[default]
     Eeprom,
-    /// A transmit step of a queue.
+    /// A transmit step for a queue.
     Transmit(u16),
-    /// A receive step, which writes one piece of a frame.
+    /// A receive step, which writes one part of a frame.
     Receive,
-    /// An interrupt step of a group: 0 is the physical function, v + 1 virtual function v.
+    /// An interrupt step for a group: 0 for the physical function, v + 1 for virtual function v.
     Interrupt(u8),
 }
 
@@ -51,7 +51,7 @@ fn event_of(step: Step) -> Event
     }
 }
 
-/// Adds a step's number, and its queue or group, to its report.
+/// Adds the number of the step's kind, and the number of its queue or group, to a report.
 fn named(outcome: Outcome, step: Step) -> Outcome
     ensures { result ≡ named outcome step }
 {
@@ -70,14 +70,14 @@ fn named(outcome: Outcome, step: Step) -> Outcome
     }
 }
 
-/// Whether a status means that nothing was done.
+/// Whether a status means that the step did nothing.
 fn is_quiet(status: u8) -> bool
     ensures { result ≡ is_quiet status }
 {
     status == IDLE || status == NO_QUEUE || status == NO_GROUP
 }
 
-/// Returns the steps of a round for this many queues.
+/// Returns the steps of a round that serves this many queues.
 #[tactic(auto, unfolding(crate::specs::Settling::enables, crate::specs::Settling::of_each))]
 fn round_of(queues: u16) -> ArrayVec<Step, STEPS>
     requires { queues ≤ 128 }
@@ -99,7 +99,7 @@ fn round_of(queues: u16) -> ArrayVec<Step, STEPS>
     steps
 }
 
-/// Runs a step and reports it if it did something. Returns MORE, without running the step, if the array is full;
+/// Runs a step and reports it if the step did something. Returns MORE, without running the step, if the array is full;
 /// OUT_OF_MEMORY if memory ran out and the step didn't run; otherwise DONE.
 fn make(card: &mut Card, step: Step, outcome: &mut [Outcome], count: &mut usize) -> u8
     requires { count.old ≤ length outcome.old }
@@ -155,7 +155,7 @@ fn is_over(ended: u8, before: usize, after: usize) -> bool
     ended != DONE || before == after
 }
 
-/// Runs rounds until one does nothing.
+/// Runs rounds until a round does nothing, the array is full, or memory runs out.
 fn rounds(card: &mut Card, steps: &[Step], outcome: &mut [Outcome], count: &mut usize) -> u8
     requires { count.old ≤ length outcome.old }
     ensures room { length outcome.new ≡ length outcome.old }
@@ -175,14 +175,16 @@ fn rounds(card: &mut Card, steps: &[Step], outcome: &mut [Outcome], count: &mut 
     MORE
 }
 
-/// Runs all steps of the device that do something, in rounds. A round has, for each queue below `queues`, 0 to 128, its
-/// receive enable step and its transmit enable step; the EEPROM step; a transmit step for each of those queues; a
-/// receive step; and an interrupt step for each group. The first `count` entries of `outcome` report what happened.
+/// Runs the device's steps in rounds until no step has anything left to do. A round serves the queues below `queues` (0
+/// to 128). It consists of a receive enable step and a transmit enable step for each of these queues; the EEPROM step;
+/// a transmit step for each of these queues; a receive step; and an interrupt step for each interrupt group. The first
+/// `count` entries of `outcome` report the steps that did something.
 ///
 /// Returns DONE after a round that did nothing. Returns MORE if the array is full; there may be more to do. Returns
-/// OUT_OF_MEMORY if memory ran out for a transmit step: the steps before it ran and are reported, but the transmit step
-/// itself didn't run. Returns NO_QUEUE if `queues` is above 128; in that case nothing is done, and `count` is 0. The
-/// contract doesn't specify the entries at index `count` and above, except that NO_QUEUE leaves all entries unchanged.
+/// OUT_OF_MEMORY if memory ran out for a transmit step: the steps before this transmit step ran and are reported, but
+/// the transmit step itself didn't run. Returns NO_QUEUE if `queues` is above 128; in that case no step runs, and
+/// `count` is 0. The contract doesn't specify the entries at index `count` and above, except that NO_QUEUE leaves all
+/// entries unchanged.
 #[unsafe(no_mangle)]
 pub extern "C" fn nic_settle(
     nic: &mut Handle,
@@ -194,8 +196,8 @@ pub extern "C" fn nic_settle(
     ensures count { count.new ≤ length outcome.new }
     ensures settled { queues ≤ 128 → result ≢ OUT_OF_MEMORY → course nic.new.card outcome.new count.new result
         ≡ settled queues (length outcome.old) nic.old.card }
-    // After OUT_OF_MEMORY, all steps before one that needs memory have run, in order, and no earlier round was the last
-    // one.
+    // After OUT_OF_MEMORY, all steps before a step that needs memory have run, in order, and no earlier round was the
+    // last one.
     ensures stopped { queues ≤ 128 → result ≡ OUT_OF_MEMORY → StopsIn (length outcome.old) (length outcome.old)
         (round_of queues) (course nic.old.card outcome.old 0 0) (course nic.new.card outcome.new count.new 0) }
     ensures no_queue { 128 < queues → result ≡ NO_QUEUE }

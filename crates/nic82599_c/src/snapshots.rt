@@ -8,9 +8,9 @@ use crate::parts::Parts;
 use crate::status::{DONE, OUT_OF_MEMORY};
 use std::alloc::Global;
 
-/// Takes a snapshot of the card: its device, with the bytes of the lent blocks, the receive list, the staged bytes and
-/// the transmitted frames, and which blocks are free. The card is unchanged. Stores a pointer to the snapshot in
-/// `kept`.
+/// Takes a snapshot of the card, and stores a pointer to the snapshot in `kept`. The snapshot contains the device, with
+/// the bytes of the lent blocks, the receive list, the staged bytes and the transmitted frames. It also records which
+/// blocks are free. The card is unchanged.
 ///
 /// Returns DONE, or OUT_OF_MEMORY, which leaves `kept` unchanged.
 #[unsafe(no_mangle)]
@@ -32,16 +32,17 @@ pub extern "C" fn nic_snapshot(alloc: Global, nic: &mut Handle, kept: &mut KeptH
     }
 }
 
-/// Returns the card to the snapshot's state. The snapshot is kept, and may be of another card. The card keeps its
-/// packet memory if it has as many blocks as the snapshot and all blocks lent in the snapshot are lent now. Otherwise
-/// its packet memory is replaced. The contract doesn't specify which of the two happens.
+/// Restores the card to the state in the snapshot. The snapshot is unchanged, and may have been taken from another
+/// card. If the card has as many blocks as the snapshot, and all blocks that are lent in the snapshot are lent now, the
+/// card keeps its packet memory. Otherwise its packet memory is replaced. The contract doesn't specify which of the two
+/// happens.
 ///
 /// Returns DONE, or OUT_OF_MEMORY, which leaves the card unchanged.
 #[unsafe(no_mangle)]
 pub extern "C" fn nic_restore(alloc: Global, nic: &mut Handle, kept: &mut KeptHandle) -> u8
     ensures status { result ≢ OUT_OF_MEMORY → result ≡ DONE }
     // The device, the lent blocks with their bytes, and which blocks are free match the snapshot. So every later call
-    // is answered as it was after the snapshot was taken.
+    // returns what it would have returned right after the snapshot was taken.
     ensures restored { result ≢ OUT_OF_MEMORY → nic.new.card ≡ kept.old.kept }
     ensures unchanged { result ≡ OUT_OF_MEMORY → nic.new.card ≡ nic.old.card }
     ensures kept { kept.new.kept ≡ kept.old.kept }

@@ -3,7 +3,7 @@
 /// The event is complete.
 pub const DONE: u8 = 0;
 
-/// The access reached no register of the device.
+/// The access reached no register in the device.
 pub const STRAY: u8 = 1;
 
 /// There was nothing to do, and nothing changed.
@@ -12,7 +12,7 @@ pub const IDLE: u8 = 2;
 /// A frame was dropped; `why` in the report is the reason.
 pub const DROPPED: u8 = 3;
 
-/// A receive step wrote a piece of a frame.
+/// A receive step wrote one part of a frame.
 pub const WROTE: u8 = 4;
 
 /// A transmit step moved the queue's head. No frame was sent.
@@ -33,7 +33,7 @@ pub const FRAME: u8 = 9;
 /// A block that the access needs isn't lent.
 pub const NOT_LENT: u8 = 16;
 
-/// A block with this number is already lent. No call returns it, because the arena has each block only once.
+/// A block with this number is already lent. No call returns TWICE, because the arena contains each block only once.
 pub const TWICE: u8 = 17;
 
 /// No queue has this number.
@@ -42,10 +42,10 @@ pub const NO_QUEUE: u8 = 18;
 /// This virtual function has no interrupt group.
 pub const NO_GROUP: u8 = 19;
 
-/// The bus address isn't a multiple of 16. No call returns it, because none needs an aligned address.
+/// The bus address isn't a multiple of 16. No call returns MISALIGNED, because no call needs an aligned address.
 pub const MISALIGNED: u8 = 20;
 
-/// There is no memory for the call.
+/// There isn't enough memory for the call.
 pub const OUT_OF_MEMORY: u8 = 32;
 
 /// The caller's buffer is too short for the result, or the input is too long.
@@ -54,10 +54,10 @@ pub const NO_ROOM: u8 = 33;
 /// There would be more than 63 virtual functions.
 pub const TOO_MANY_VFS: u8 = 34;
 
-/// The receive list would have room for no frames, or for more than 4,096.
+/// The receive list would have room for no frames, or for more than 4,096 frames.
 pub const BAD_FIFO: u8 = 35;
 
-/// There would be no blocks, or more than 65,536.
+/// There would be no blocks, or more than 65,536 blocks.
 pub const BAD_BLOCKS: u8 = 36;
 
 /// No block with this number is free.

@@ -11,7 +11,7 @@ use crate::status::OUT_OF_MEMORY;
 use card::Card;
 use nic_device::{Dir, Event};
 
-/// Runs an event that moves no block, and reports the reply in `outcome`.
+/// Runs an event that neither lends nor takes back a block, and reports the device's reply in `outcome`.
 #[inline(always)]
 pub(crate) fn tell(card: &mut Card, event: Event, outcome: &mut Outcome) -> u8
     requires { IsFalse (moves_block event) }
@@ -30,8 +30,8 @@ pub(crate) fn tell(card: &mut Card, event: Event, outcome: &mut Outcome) -> u8
     }
 }
 
-/// Runs a receive step: writes one piece of the oldest frame in the receive list. Returns WROTE, DROPPED, FAULT or
-/// IDLE; `outcome` has the details.
+/// Runs a receive step: writes the next part of the oldest frame in the receive list. Returns WROTE, DROPPED, FAULT or
+/// IDLE; `outcome` contains the details.
 #[unsafe(no_mangle)]
 pub extern "C" fn nic_rx_step(nic: &mut Handle, outcome: &mut Outcome) -> u8
     ensures status { result ≡ status_of (reply_to nic.old.card.device Event.RxStep) }
@@ -42,8 +42,8 @@ pub extern "C" fn nic_rx_step(nic: &mut Handle, outcome: &mut Outcome) -> u8
 }
 
 /// Runs a transmit step: fetches one descriptor of a queue, 0 to 127. Returns ADVANCED, SENT, FAULT, IDLE or NO_QUEUE;
-/// `outcome` has the details. Or returns OUT_OF_MEMORY, which changes nothing; only a step that needs memory can return
-/// it.
+/// `outcome` contains the details. Or returns OUT_OF_MEMORY, which changes nothing; only a step that needs memory can
+/// return OUT_OF_MEMORY.
 #[unsafe(no_mangle)]
 pub extern "C" fn nic_tx_step(nic: &mut Handle, queue: u16, outcome: &mut Outcome) -> u8
     ensures status { result ≢ OUT_OF_MEMORY → result ≡ status_of (reply_to nic.old.card.device (Event.TxStep queue)) }
@@ -56,8 +56,9 @@ pub extern "C" fn nic_tx_step(nic: &mut Handle, queue: u16, outcome: &mut Outcom
     tell(nic.get_mut(), Event::TxStep(queue), outcome)
 }
 
-/// Runs an enable step: enables or disables a side of a queue as its enable bit requests. The side is the transmit side
-/// if `transmit` is true, otherwise the receive side. Returns DONE, IDLE or NO_QUEUE; `outcome` has the details.
+/// Runs an enable step: turns one side of a queue on or off, as the side's enable bit requests. The side is the
+/// transmit side if `transmit` is true, otherwise the receive side. Returns DONE, IDLE or NO_QUEUE; `outcome` contains
+/// the details.
 #[unsafe(no_mangle)]
 pub extern "C" fn nic_queue_step(
     nic: &mut Handle,
@@ -74,7 +75,8 @@ pub extern "C" fn nic_queue_step(
     tell(nic.get_mut(), Event::QueueStep(dir, queue), outcome)
 }
 
-/// Runs an EEPROM step: the word that EERD requests becomes ready. Returns DONE or IDLE; `outcome` has the details.
+/// Runs an EEPROM step: the word that EERD requests becomes ready. Returns DONE or IDLE; `outcome` contains the
+/// details.
 #[unsafe(no_mangle)]
 pub extern "C" fn nic_eeprom_step(nic: &mut Handle, outcome: &mut Outcome) -> u8
     ensures status { result ≡ status_of (reply_to nic.old.card.device Event.EepromStep) }
@@ -85,7 +87,7 @@ pub extern "C" fn nic_eeprom_step(nic: &mut Handle, outcome: &mut Outcome) -> u8
 }
 
 /// Runs an interrupt step: sends the next due message of an interrupt group, 0 for the physical function or v + 1 for
-/// virtual function v. Returns MESSAGE, IDLE or NO_GROUP; `outcome` has the details.
+/// virtual function v. Returns MESSAGE, IDLE or NO_GROUP; `outcome` contains the details.
 #[unsafe(no_mangle)]
 pub extern "C" fn nic_int_step(nic: &mut Handle, group: u8, outcome: &mut Outcome) -> u8
     ensures status { result ≡ status_of (reply_to nic.old.card.device (Event.IntStep (group_of group))) }

@@ -1,4 +1,4 @@
-//! Frames from and to the link, without their frame check sequence.
+//! Frames that arrive from the link or leave on it, without their frame check sequence.
 
 ghost use Rattle.std.specs.Prelude.{◌≡◌, ◌≢◌, ◌<◌, ◌≤◌, length};
 ghost use Rattle.nic_device.specs.Link.{next_out_of};
@@ -14,9 +14,9 @@ use card::Card;
 use nic_device::{Event, Octets, Reply};
 use std::alloc::Global;
 
-/// Delivers a frame from the link, without its frame check sequence. Returns DONE if it joins the receive list, or
-/// DROPPED; `outcome` has the details. Or returns OUT_OF_MEMORY, which changes nothing; the contract doesn't specify
-/// when.
+/// Delivers a frame from the link, without its frame check sequence. Returns DONE if the frame joins the receive list,
+/// otherwise DROPPED; `outcome` contains the details. Or returns OUT_OF_MEMORY, which changes nothing; the contract
+/// doesn't specify when this happens.
 #[unsafe(no_mangle)]
 pub extern "C" fn nic_arrive(
     alloc: Global,
@@ -38,8 +38,8 @@ pub extern "C" fn nic_arrive(
     }
 }
 
-/// Returns the length in bytes of the frame that `nic_collect` would return, or 0 if there is none. The card is
-/// unchanged.
+/// Returns the length in bytes of the frame that `nic_collect` would return, or 0 if there is no such frame. The card
+/// is unchanged.
 #[unsafe(no_mangle)]
 pub extern "C" fn nic_next_out(nic: &mut Handle) -> usize
     ensures next { result ≡ next_out_of nic.old.card.device.out }
@@ -79,8 +79,8 @@ fn collect(card: &mut Card, room: &mut [u8], outcome: &mut Outcome) -> u8
 }
 
 /// Collects the oldest transmitted frame. Returns FRAME, with the frame's bytes at the start of `room` and the other
-/// details in `outcome`; IDLE if there is no frame; or NO_ROOM if `room` is shorter than the frame: the frame stays,
-/// and nothing changes.
+/// details in `outcome`; IDLE if there is no frame; or NO_ROOM if `room` is shorter than the frame: the frame isn't
+/// removed, and nothing changes.
 #[unsafe(no_mangle)]
 pub extern "C" fn nic_collect(nic: &mut Handle, room: &mut [u8], outcome: &mut Outcome) -> u8
     ensures fits { next_out_of nic.old.card.device.out ≤ length room.old
@@ -98,7 +98,7 @@ pub extern "C" fn nic_collect(nic: &mut Handle, room: &mut [u8], outcome: &mut O
     collect(nic.get_mut(), room, outcome)
 }
 
-/// Sets the link up or down. Returns DONE, or IDLE if it is already in that state.
+/// Sets the link up or down. Returns DONE, or IDLE if the link is already in that state.
 #[unsafe(no_mangle)]
 pub extern "C" fn nic_link(nic: &mut Handle, up: bool) -> u8
     ensures status { result ≡ status_of (reply_to nic.old.card.device (Event.Link up)) }

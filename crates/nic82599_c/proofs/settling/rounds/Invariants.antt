@@ -2,7 +2,7 @@ use Rattle.std.proofs.Common.{◌≡◌, ◌≤◌, ◌-◌, length}
 use Rattle.nic82599_c.specs.Settling.{Course, StopsIn, course, rounds}
 use Rattle.nic82599_c.proofs.settling.rounds.Given as goal
 
--- The remaining rounds lead to the result of all of them.
+-- Running the remaining rounds gives the result of running all rounds.
 abbrev pub invariant-loop-round : goal.invariant-loop-round
 invariant-loop-round l = record {
   room : length l.outcome ≡ length l.fn.outcome;

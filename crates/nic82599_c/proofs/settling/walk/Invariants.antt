@@ -3,7 +3,7 @@ use Rattle.nic82599_c.specs.Settling.{course, walked}
 use Rattle.nic82599_c.proofs.Courses.{SoFar}
 use Rattle.nic82599_c.proofs.settling.walk.Given as goal
 
--- The remaining steps lead to the result of all of them.
+-- Running the remaining steps gives the result of running all steps.
 abbrev pub invariant-each : goal.invariant-each
 invariant-each l = record {
   room : length l.outcome ≡ length l.fn.outcome;

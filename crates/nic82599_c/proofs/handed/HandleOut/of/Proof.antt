@@ -1,4 +1,4 @@
--- `of` follows from the proof for any place.
+-- `of` follows from the proof for any out-parameter.
 use Rattle.nic82599_c.specs.contracts.handed.HandleOut.of.Key.{name as #self}
 use Rattle.nic82599_c.proofs.Handles.{out_of_card}
 use Rattle.nic82599_c.proofs.IntoOut.{meets}

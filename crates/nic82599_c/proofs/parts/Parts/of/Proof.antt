@@ -1,4 +1,4 @@
--- `of` splits the box, and the parts own what it owned.
+-- `of` splits the box, and the parts own what the box owned.
 use mathlib.Core.Path.{◌≡◌, refl, sym, subst, ap, ◌∙◌}
 use mathlib.Core.List.{List, [], ◌∷◌, ◌++◌}
 use seplogic.Ra.Ura.{Ura}

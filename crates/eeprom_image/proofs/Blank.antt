@@ -1,4 +1,4 @@
--- The blank image is the image of an EEPROM text that defines only a size.
+-- The blank image is the image that EEPROM source with only a size describes.
 use Rattle.std.proofs.Common.{◌≡◌, [], refl, arith, replicate, slice_set}
 use Rattle.eeprom_image.specs.Section.{pointers}
 use Rattle.eeprom_image.specs.Content.{only_size}

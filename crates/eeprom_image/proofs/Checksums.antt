@@ -10,7 +10,7 @@ use Rattle.eeprom_image.specs.Section.{is_unused, section_at, pointers}
 use Rattle.eeprom_image.specs.Checksum.{checked_sum}
 use Rattle.eeprom_image.specs.Text.{is_past}
 
--- Two lists of function values are equal if the functions agree below 15.
+-- Two functions that agree below 15 have the same values at any list of indices below 15.
 pub map_same : (f g : ℕ → ℕ) (indexes : List ℕ) → ((index : ℕ) → index < 15 → f index ≡ g index)
     → list_all (λ index. nat_lt index 15) indexes ≡ true → map f indexes ≡ map g indexes
 map_same f g [] same low = refl

@@ -1,4 +1,4 @@
--- The lines of an EEPROM text define a valid size and numbers that fit.
+-- The lines of EEPROM source define a valid size, and numbers that fit.
 use Rattle.std.proofs.Common.{◌≡◌, ℕ, ◌+◌, ◌*◌, ◌%◌, ◌<◌, true, List, [], ◌∷◌, ◌++◌, length, Some, None, Result, Ok, Err, refl, subst}
 use Rattle.std.specs.Prelude.{IsTrue}
 use Rattle.std.specs.List.{AllByRecursion}
@@ -11,7 +11,7 @@ use Rattle.eeprom_image.specs.declared.line.TextLine.TheVariants.{Empty, Size, W
 use Rattle.eeprom_image.specs.declared.text.AsmFault.{AsmFault}
 use Rattle.eeprom_image.proofs.LineContents.{IsLine, IsLine-text_line}
 
--- What holds for any content of an EEPROM text.
+-- What holds for all content that EEPROM source can define.
 pub record IsContent (content : Content) : Type 0 where
   pub size : IsTrue (is_size content.size)
   pub words : AllByRecursion (λ given. given.1 < 65536) content.words
@@ -69,7 +69,7 @@ with_lines-keeps content (line ∷ lines) after h is =
 IsContent-only_size : (size : ℕ) → is_size size ≡ true → IsContent (only_size size)
 IsContent-only_size size right = record { size = right; words = tt; triples = tt }
 
--- The size that an EEPROM text begins with is valid.
+-- The size at the start of EEPROM source is valid.
 abbrev IsSized : Result Sized AsmFault → Type 0
 IsSized (Ok None) = Unit {0}
 IsSized (Ok (Some start)) = is_size start.0 ≡ true
@@ -96,7 +96,7 @@ after_size (Ok (Some start)) past content h is =
     with_lines-keeps (only_size start.0) start.1 content (IsContent-only_size start.0 h) is
 after_size (Err fault) past content h is = absurd (let no : ⊥ = cc in no)
 
--- What an EEPROM text defines is valid.
+-- What EEPROM source defines is valid.
 pub content_of-right : (text : List ℕ) (content : Content) → content_of text ≡ Ok content → IsContent content
 unfolding content_of
 content_of-right text content is =

@@ -1,9 +1,9 @@
--- Lemmas: counting lines.
+-- Lemmas about counting lines.
 use Rattle.std.proofs.Common.{◌≡◌, ℕ, ◌+◌, ◌≤◌, List, ◌∷◌, length, ap, subst, arith}
 use Rattle.text_format.specs.Lines.{NumberedLine}
 use Rattle.eeprom_image.proofs.Numbered.{IsNumberedFrom}
 
--- `count` lines came before the rest, out of `all` lines.
+-- Of `all` lines, `count` lines come before the lines in `rest`.
 pub record CountsOn (count : ℕ) (rest : List NumberedLine) (all : ℕ) : Type 0 where
   pub numbered : IsNumberedFrom (count + 1) rest
   pub whole : count + length rest ≡ all

@@ -1,4 +1,4 @@
--- Lemmas: the words in a file's bytes, and the bytes of words.
+-- Lemmas about the words in a file's bytes, and about the bytes that store words.
 use Rattle.std.proofs.Common.{◌≡◌, ℕ, zero, suc, ◌+◌, ◌*◌, ◌/◌, ◌%◌, ◌^◌, ◌<◌, List, [], ◌∷◌, length, get_or, drop, refl, sym, ap, ◌∙◌, arith}
 use Rattle.std.proofs.lemmas.List.{same_lists, get_or_default}
 use Rattle.byteorder.specs.Endian.{little_number, IsRead}
@@ -13,7 +13,7 @@ pub length-bytes_of : (words : List ℕ) → length (bytes_of words) ≡ 2 * len
 length-bytes_of [] = refl
 length-bytes_of (word ∷ words) = let rest = length-bytes_of words in omega arith
 
--- The word at an index is at twice that index.
+-- The bytes of the word at an index start at twice that index.
 pub get_or-words_of : (bytes : List ℕ) (i d : ℕ) → i < length bytes / 2
     → get_or (words_of bytes) i d ≡ little_number 2 (drop (2 * i) bytes)
 get_or-words_of [] i d h = absurd (omega arith)
@@ -23,7 +23,7 @@ get_or-words_of (low ∷ high ∷ bytes) (suc i) d h =
     let twice : 2 * suc i ≡ suc (suc (2 * i)) = omega arith in
     get_or-words_of bytes i d (omega arith) ∙ ap (λ n. little_number 2 (drop n (low ∷ high ∷ bytes))) (sym twice)
 
--- Words that are read one by one are the words of the file.
+-- Reading a file's words one at a time gives the words of the file.
 pub words_of-from_read : (bytes words : List ℕ) → length bytes ≡ 2 * length words → IsRead little_number 2 bytes words
     → words ≡ words_of bytes
 words_of-from_read bytes words whole read =
@@ -31,7 +31,7 @@ words_of-from_read bytes words whole read =
     same_lists words (words_of bytes) (omega (arith, length-words_of bytes)) (λ k d h.
     get_or_default words k d 0 h ∙ read k h ∙ sym (get_or-words_of bytes k d (omega arith)))
 
--- Reading a file returns the words that it was written from.
+-- Reading the bytes of a file returns the words that were written to it.
 pub words_of-bytes_of : (words : List ℕ) → ((index : ℕ) → word_at words index < 2 ^ 16)
     → words_of (bytes_of words) ≡ words
 words_of-bytes_of [] fits = refl
@@ -41,7 +41,7 @@ words_of-bytes_of (word ∷ words) fits =
     let rest = words_of-bytes_of words (λ i. fits (suc i)) in
     cc
 
--- Writing the words of a file returns the file.
+-- Writing the words that were read from a file gives the bytes of the file.
 pub bytes_of-words_of : (bytes : List ℕ) → length bytes % 2 ≡ 0 → ((i : ℕ) → get_or bytes i 0 < 256)
     → bytes_of (words_of bytes) ≡ bytes
 bytes_of-words_of [] even fits = refl
@@ -54,7 +54,7 @@ bytes_of-words_of (low ∷ high ∷ bytes) even fits =
     let rest = bytes_of-words_of bytes (omega arith) (λ i. fits (suc (suc i))) in
     cc
 
--- Two bytes form a word that fits.
+-- Each word that is read from a file fits in 16 bits.
 pub words_of-fit : (bytes : List ℕ) → ((i : ℕ) → get_or bytes i 0 < 256) → (index : ℕ)
     → word_at (words_of bytes) index < 2 ^ 16
 words_of-fit [] fits index = omega arith

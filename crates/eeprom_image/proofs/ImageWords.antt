@@ -1,4 +1,4 @@
--- An image of an EEPROM text has the words that the text defines, and the text has no fault.
+-- If content has an image, the image has the words that the content defines, and the content has no fault.
 use Rattle.std.proofs.Common.{◌≡◌, ◌≢◌, ℕ, zero, suc, ◌+◌, ◌-◌, ◌*◌, ◌%◌, ◌/◌, ◌<◌, ◌≤◌, Bool, true, false, nat_lt, nat_le, ◌&&◌, List, [], ◌∷◌, length, get_or, take, drop, None, refl, sym, ap, ◌∙◌, inl, inr, arith, length-take, length-drop, get_or-drop, get_or-take}
 use Rattle.std.specs.List.{flat_map}
 use Rattle.std.proofs.lemmas.List.{get_or_past}
@@ -112,7 +112,7 @@ module _ (content : Content) (words : List ℕ) (h : IsImageOf content words) wh
       rw (apart_eqb index 13 apart, apart_eqb index 63 other, is) refl in
       h.given index there free ∙ sym (plain_word-given content index free)
 
-  -- An image of an EEPROM text has the words that the text defines.
+  -- An image has the words that its content defines.
   pub plain_of_image : (index : ℕ) → index < content.size → index ≢ 63 → word_at words index ≡ plain_word content index
   plain_of_image index there other = elim (eqb_tells index 13) [
     | inl (t, here) ↦ rw t (ap (λ i. word_at words i) here ∙ h.pointer)

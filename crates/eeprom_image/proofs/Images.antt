@@ -1,4 +1,4 @@
--- The laid-out words of an EEPROM text without a fault, with their checksum, are the text's image.
+-- If EEPROM source has no fault, its laid-out words with their checksum are its image.
 use Rattle.std.proofs.Common.{◌≡◌, ◌≢◌, ℕ, ◌%◌, ◌<◌, Bool, true, false, nat_lt, nat_le, ◌==◌, ◌||◌, ◌&&◌, List, length, set, None, refl, sym, ap, ◌∙◌, inl, inr, arith, length-set, get_or-set_same, get_or-set_other}
 use Rattle.std.specs.List.{list_all}
 use Rattle.std.proofs.lemmas.List.{set_past}
@@ -22,7 +22,7 @@ or_false : (a b : Bool) → (a || b) ≡ false → (a ≡ false) × (b ≡ false
 or_false true b h = absurd (let no : ⊥ = cc in no)
 or_false false b h = (refl, h)
 
--- A word that isn't reserved is the defined one.
+-- A word that isn't reserved has the value that is defined for it.
 pub plain_word-given : (content : Content) (index : ℕ) → is_reserved (section_end content.triples) index ≡ false
     → plain_word content index ≡ given_word content.words index
 plain_word-given content index free =
@@ -49,7 +49,7 @@ not_checksum end index free at =
     let no : true ≡ false = sym yes ∙ inner.1 in
     cc
 
--- The image of an EEPROM text without a fault is its words with their checksum.
+-- If content has no fault, its laid-out words with their checksum are its image.
 pub IsImageOf-laid_out : (content : Content) (words : List ℕ) → IsContent content → content_fault content ≡ None
     → IsLaidOut content words
     → ((index : ℕ) → word_at words index < 65536) → IsImageOf content (with_checksum words)

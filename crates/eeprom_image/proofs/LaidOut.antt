@@ -1,4 +1,4 @@
--- Lemmas: the words of an image, after everything that an EEPROM text defines is written to them.
+-- Lemmas about the words of an image after everything that EEPROM source defines is written to them.
 use Rattle.std.proofs.Common.{◌≡◌, ◌≢◌, ℕ, ◌+◌, ◌<◌, ◌≤◌, false, nat_le, List, [], ◌∷◌, length, set, fold, refl, sym, ap, ◌∙◌, inl, inr, arith, length-set, get_or-set_same, get_or-set_other, replicate}
 use Rattle.std.proofs.lemmas.List.{length-replicate, get_or-replicate}
 use Rattle.std.proofs.lemmas.Bool.{lt-leb}
@@ -75,7 +75,7 @@ laid_csr content words size long room given (triple ∷ triples) some index insi
     ∙ ap (λ ts. word_at (set (with_section (set words 13 64) (csr_section ts)) 63 0) index) (sym some)
     ∙ laid_with_triples content words triple triples some size room given index inside other
 
--- The words of an EEPROM text after everything is written over words that are 0xFFFF.
+-- Writing everything that content defines over words that are all 0xFFFF lays out the content.
 pub IsLaidOut-put : (content : Content) → 64 ≤ content.size → section_end content.triples ≤ content.size
     → IsLaidOut content (set (with_csr (fold put_word (replicate content.size 65535) content.words) content.triples) 63
     0)

@@ -1,4 +1,4 @@
--- Lemmas: words after other words and a section are written among them.
+-- Lemmas about words after other words and a section are written over some of them.
 use Rattle.std.proofs.Common.{◌≡◌, ℕ, ◌+◌, ◌-◌, ◌*◌, ◌<◌, ◌≤◌, true, false, cond, nat_lt, nat_le, ◌==◌, ◌&&◌, List, [], ◌∷◌, ◌++◌, length, get_or, set, take, drop, fold, refl, sym, ap, ◌∙◌, inl, inr, arith, length-set, length-append, length-take, length-drop, get_or-set_same, get_or-set_other, get_or-drop, get_or-take}
 use Rattle.std.specs.List.{flat_map}
 use Rattle.std.proofs.lemmas.List.{get_or_append_left, get_or-append_right, length-take-le}

@@ -1,4 +1,4 @@
--- A line of an EEPROM text defines a valid size or numbers that fit.
+-- A line of EEPROM source defines a valid size, or numbers that fit.
 use Rattle.std.proofs.Common.{◌≡◌, ℕ, ◌*◌, ◌%◌, ◌^◌, ◌<◌, Bool, true, false, cond, nat_lt, ◌&&◌, ◌==◌, List, [], ◌∷◌, drop, Option, Some, None, IfSome, Result, Ok, Err, refl, arith, codes}
 use Rattle.std.specs.Result.{result_ok}
 use Rattle.std.specs.Str.{bytes_eq}
@@ -14,7 +14,7 @@ use Rattle.eeprom_image.specs.Line.{number_in, one_number, two_numbers, size_lin
 use Rattle.eeprom_image.specs.declared.line.TextLine.{TextLine}
 use Rattle.eeprom_image.specs.declared.line.TextLine.TheVariants.{Empty, Size, Word, Csr, Malformed}
 
--- What holds for a line.
+-- What holds for every line.
 abbrev pub IsLine : TextLine → Type 0
 IsLine Empty = Unit {0}
 IsLine (Size size) = is_size size ≡ true

@@ -1,4 +1,4 @@
--- An EEPROM text has no more lines than bytes.
+-- EEPROM source has at most as many lines as bytes.
 use Rattle.std.proofs.Common.{ℕ, ◌+◌, ◌≤◌, ◌==◌, Bool, true, false, List, [], ◌∷◌, length, cond, refl, ◌≡◌, arith}
 use Rattle.std.specs.List.{slice_split, onto_first}
 use Rattle.std.specs.Str.Lines.{lines, lines_of_parts}

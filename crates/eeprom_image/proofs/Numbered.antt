@@ -1,4 +1,4 @@
--- Lemmas: lines with consecutive numbers.
+-- Lemmas about lines with consecutive numbers.
 use Rattle.std.proofs.Common.{◌≡◌, ℕ, ◌+◌, List, [], ◌∷◌, refl}
 use Rattle.std.specs.Str.Lines.{lines}
 use Rattle.text_format.specs.Lines.{NumberedLine, numbered_from, lines_of}

@@ -26,7 +26,7 @@ list_all-same : (f g : ℕ → Bool) (ps : List ℕ) → ((p : ℕ) → f p ≡ 
 list_all-same f g [] same = refl
 list_all-same f g (p ∷ ps) same = ap (λ t. t && list_all f ps) (same p) ∙ ap (λ t. g p && t) (list_all-same f g ps same)
 
--- The pointers of an EEPROM text.
+-- The pointers in the words that content defines.
 plain_pointers : Content → List ℕ
 plain_pointers content = map (plain_word content) (3 ∷ 4 ∷ 5 ∷ 6 ∷ 7 ∷ 8 ∷ 9 ∷ 10 ∷ 11 ∷ 12 ∷ 13 ∷ 14 ∷ [])
 

@@ -1,4 +1,4 @@
--- Lemmas: the nine sizes of an image.
+-- Lemmas about the nine sizes that an image may have.
 use Rattle.std.proofs.Common.{Bool, nat_le, length, filter, ◌≡◌, ◌==◌, ℕ, ◌*◌, ◌^◌, ◌≤◌, inl, inr, true, List, [], ◌∷◌, refl, arith, subst, sym, ◌∙◌}
 use Rattle.std.specs.List.{list_any, AllByRecursion}
 use Rattle.std.proofs.lemmas.Bool.Decides.{eqb_tells}

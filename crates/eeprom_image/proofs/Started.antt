@@ -1,4 +1,4 @@
--- Lemmas: what an EEPROM text defines, from its size.
+-- Lemmas about what EEPROM source defines, starting with its size.
 use Rattle.std.proofs.Common.{refl, sym, ◌∙◌, ap, ◌≡◌, ℕ, ◌+◌, List, [], ◌∷◌, length, Some, None, Ok, Err}
 use Rattle.text_format.specs.Lines.{NumberedLine, lines_of}
 use Rattle.eeprom_image.specs.Content.{content_of, with_lines, only_size, sized, sized_by, content_after, ◌then◌}
@@ -21,7 +21,7 @@ pub content_of-none : (text : List ℕ) → sized (lines_of text) ≡ Ok None
 unfolding content_of
 content_of-none text is = ap (λ s. s then content_after (length (lines_of text) + 1)) is
 
--- The first line determines the result.
+-- What the lines define follows from the first line and from what the lines after it define.
 pub sized-first : (lines after : List NumberedLine) (line : NumberedLine) (says : TextLine) → lines ≡ line ∷ after
     → text_line line.text ≡ says → sized lines ≡ sized_by says line.number after (sized after)
 unfolding sized
@@ -31,7 +31,8 @@ pub sized-nothing : (lines : List NumberedLine) → lines ≡ [] → sized lines
 unfolding sized
 sized-nothing lines none = rw none refl
 
--- If the first line isn't a size, the text is faulty.
+-- If the first of the remaining lines isn't accepted as the line that defines the size, this line is the first faulty
+-- line.
 pub content_of-refused : (text : List ℕ) (lines after : List NumberedLine) (line : NumberedLine) (says : TextLine)
     → sized lines ≡ sized (lines_of text) → lines ≡ line ∷ after → text_line line.text ≡ says
     → sized_by says line.number after (sized after) ≡ Err (Syntax line.number)

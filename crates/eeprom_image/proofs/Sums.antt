@@ -1,4 +1,4 @@
--- Lemmas: a running sum over part of a list.
+-- Lemmas about a running sum over part of a list.
 use Rattle.std.proofs.Common.{◌≡◌, ℕ, ◌+◌, ◌-◌, ◌<◌, ◌≤◌, List, length, get_or, take, drop, sum, sym, ap, ◌∙◌, arith, length-drop, get_or-drop}
 use Rattle.std.proofs.lemmas.List.Sums.{sum_by_more}
 

@@ -1,4 +1,4 @@
--- Lemmas: the triples in a list of words, one by one.
+-- Lemmas about the triples in a list of words, proved one triple at a time.
 use Rattle.std.proofs.Common.{◌≡◌, ℕ, zero, suc, ◌-◌, ◌*◌, ◌/◌, List, [], ◌∷◌, length, take, drop, refl, arith, ap, ◌∙◌, Option, Some, None}
 use Rattle.std.specs.List.{slice_get}
 use Rattle.std.specs.Option.{MatchOption}

@@ -1,4 +1,4 @@
--- An EEPROM text without a fault has exactly one image, and an EEPROM text with a fault has none.
+-- EEPROM source without a fault has exactly one image, and EEPROM source with a fault has no image.
 use Rattle.std.proofs.Common.{◌≡◌, ℕ, ◌%◌, ◌<◌, true, List, length, set, fold, replicate, Option, Some, None, Result, Ok, Err, refl, sym, ap, ◌∙◌, inl, inr, arith, length-set, get_or-set_same, get_or-set_other}
 use Rattle.std.specs.List.{list_all}
 use Rattle.std.proofs.lemmas.List.{ext_get_or, set-get_or}
@@ -28,7 +28,7 @@ same_checksum a b value same small small_b long after right right_b =
     let sums : checked_sum a ≡ checked_sum (set b 63 value) = ap checked_sum same in
     omega arith
 
--- An EEPROM text has at most one image.
+-- Content has at most one image.
 pub one_of_image : (content : Content) (a b : List ℕ) → IsImageOf content a → IsImageOf content b → a ≡ b
 one_of_image content a b ha hb =
     let value = word_at a 63 in
@@ -59,7 +59,7 @@ image_of_laid_out content words right none laid =
     IsImageOf-laid_out content words right none laid
     (laid_out-fits content words right (few_triples content.triples (omega arith)) laid)
 
--- An EEPROM text without a fault has an image.
+-- Content without a fault has an image.
 image_of_content : (content : Content) → IsContent content → content_fault content ≡ None
     → (words : List ℕ) × IsImageOf content words
 image_of_content content right none =
@@ -90,7 +90,7 @@ pub sound_content-is : (text : List ℕ) (content : Content) → content_of text
 unfolding sound_content
 sound_content-is text content given none = rw (given, none) refl
 
--- An EEPROM text without a fault has exactly one image.
+-- EEPROM source without a fault has exactly one image.
 pub one_image_of : (text : List ℕ) (content : Content) → sound_content text ≡ Ok content
     → (words : List ℕ) × IsImageOf content words × ((others : List ℕ) → IsImageOf content others → others ≡ words)
 one_image_of text content sound =

@@ -7,7 +7,7 @@ use Rattle.byteorder.specs.Endian.{little_bytes}
 abbrev pub word_at : List ℕ → ℕ → ℕ
 word_at words index = get_or words index 0xFFFF
 
--- The file: each word in order, low byte first.
+-- The bytes of an image's file: each word in order, low byte first.
 abbrev pub bytes_of : List ℕ → List ℕ
 bytes_of words = flat_map (little_bytes 2) words
 

@@ -1,4 +1,4 @@
--- What the lines of an EEPROM text define.
+-- What the lines of EEPROM source define.
 use Rattle.std.specs.Prelude.{ℕ, ◌+◌, List, [], ◌∷◌, ◌++◌, length, Option, Some, None, Result, Ok, Err}
 use Rattle.text_format.specs.Lines.{NumberedLine, lines_of}
 use Rattle.eeprom_image.specs.Line.{text_line}
@@ -7,7 +7,8 @@ use Rattle.eeprom_image.specs.declared.line.TextLine.TheVariants.{Empty, Size, W
 use Rattle.eeprom_image.specs.declared.text.AsmFault.{AsmFault}
 use Rattle.eeprom_image.specs.declared.text.AsmFault.TheVariants.{Syntax}
 
--- The number of words, the defined words as index and value, and the triples as byte offset and data.
+-- The number of words in the image; the defined words, each as its index and its value; and the defined triples, each
+-- as its byte offset and its data.
 pub record Content : Type 0 where
   pub size : ℕ
   pub words : List (ℕ × ℕ)
@@ -18,7 +19,7 @@ abbrev pub ◌then◌ : {A B : Type 0} → Result A AsmFault → (A → Result B
 (Ok x) then f = f x
 (Err fault) then f = Err fault
 
--- Content with only the size defined.
+-- Content that defines only the size.
 abbrev pub only_size : ℕ → Content
 only_size size = record { size = size; words = []; triples = [] }
 
@@ -49,16 +50,16 @@ sized_by (Word index value) number lines later = Err (Syntax number)
 sized_by (Csr offset value) number lines later = Err (Syntax number)
 sized_by Malformed number lines later = Err (Syntax number)
 
--- The size in an EEPROM text with these lines, if one of them is nonempty.
+-- The size that these lines define, and the lines after it; `None` if all lines are empty.
 unfoldable pub sized : List NumberedLine → Result Sized AsmFault
 sized [] = Ok None
 sized (line ∷ lines) = sized_by (text_line line.text) line.number lines (sized lines)
 
--- What the lines after the size define. Without a size, the line after the last one is faulty.
+-- What the lines after the size define. If there is no size, the line after the last one is faulty.
 abbrev pub content_after : ℕ → Sized → Result Content AsmFault
 content_after past None = Err (Syntax past)
 content_after past (Some start) = with_lines (only_size start.0) start.1
 
--- What an EEPROM text defines, or its first faulty line.
+-- What EEPROM source defines, or its first faulty line.
 unfoldable pub content_of : List ℕ → Result Content AsmFault
 content_of text = sized (lines_of text) then content_after (length (lines_of text) + 1)

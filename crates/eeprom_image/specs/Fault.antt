@@ -1,4 +1,4 @@
--- The faults in what an EEPROM text defines.
+-- The faults in what EEPROM source defines.
 use Rattle.std.specs.Prelude.{ℕ, ◌+◌, ◌-◌, ◌*◌, ◌/◌, ◌%◌, Bool, not, ◌||◌, ◌&&◌, ◌==◌, nat_lt, nat_le, if◌then◌else◌, List, [], ◌∷◌, length, map, filter, fold, min, get_or, Option, Some, None}
 use Rattle.std.specs.List.{list_all, list_any, flat_map}
 use Rattle.eeprom_image.specs.Section.{is_unused, word_count}
@@ -16,12 +16,12 @@ given_again [] = []
 given_again (index ∷ more) =
     if list_any (λ other. other == index) more then index ∷ given_again more else given_again more
 
--- The smaller of a number and another, if there is another.
+-- The smaller of two numbers, if there is a second number; otherwise the first.
 abbrev pub lesser : ℕ → Option ℕ → Option ℕ
 lesser n None = Some n
 lesser n (Some m) = Some (min n m)
 
--- The smallest of the numbers.
+-- The smallest of the numbers, or `None` if there are none.
 abbrev pub least : List ℕ → Option ℕ
 least [] = None
 least (n ∷ ns) = lesser n (least ns)
@@ -31,7 +31,7 @@ abbrev pub section_end : List (ℕ × ℕ) → ℕ
 section_end [] = 0x40
 section_end (triple ∷ triples) = 0x41 + 3 * length (triple ∷ triples)
 
--- Whether an EEPROM text must not define the word: 0x0D, 0x3F, or one in the CSR section.
+-- Whether EEPROM source must not define this word: 0x0D, 0x3F, or a word in the CSR section.
 abbrev pub is_reserved : ℕ → ℕ → Bool
 is_reserved end index = (index == 0x0D) || (index == 0x3F) || (nat_le 0x40 index && nat_lt index end)
 
@@ -48,11 +48,11 @@ triple_words triple = triple.0 / 4 % 65536 ∷ triple.1 % 65536 ∷ triple.1 / 6
 abbrev pub csr_section : List (ℕ × ℕ) → List ℕ
 csr_section triples = 3 * length triples ∷ flat_map triple_words triples
 
--- The value defined for a word; 0xFFFF if there is none.
+-- The value that is defined for a word, or 0xFFFF if none is defined.
 abbrev pub given_word : List (ℕ × ℕ) → ℕ → ℕ
 given_word words index = fold (λ value given. if given.0 == index then given.1 else value) 0xFFFF words
 
--- The pointer to the CSR section; 0xFFFF if there are no triples.
+-- The pointer to the CSR section, or 0xFFFF if there are no triples.
 abbrev pub csr_pointer : List (ℕ × ℕ) → ℕ
 csr_pointer [] = 0xFFFF
 csr_pointer (triple ∷ triples) = 0x40
@@ -77,14 +77,14 @@ points_inside content =
     list_all (is_right_pointer content)
     (map (plain_word content) (3 ∷ 4 ∷ 5 ∷ 6 ∷ 7 ∷ 8 ∷ 9 ∷ 10 ∷ 11 ∷ 12 ∷ 13 ∷ 14 ∷ []))
 
--- The fault of the lowest index that is defined twice; otherwise the fault of the lowest reserved index that is
--- defined.
+-- The fault for the lowest index that is defined twice, if there is one; otherwise the fault for the lowest reserved
+-- index that is defined, if there is one.
 abbrev pub index_fault : Option ℕ → Option ℕ → Option AsmFault
 index_fault (Some twice) reserved = Some (TwoValues twice)
 index_fault None (Some reserved) = Some (Reserved reserved)
 index_fault None None = None
 
--- The fault, or the next one if there is none.
+-- The first fault if there is one, otherwise the next fault.
 abbrev pub or_else : Option AsmFault → Option AsmFault → Option AsmFault
 or_else (Some fault) next = Some fault
 or_else None next = next

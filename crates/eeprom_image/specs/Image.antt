@@ -10,7 +10,7 @@ use Rattle.eeprom_image.specs.Triples.{has_whole_triples}
 abbrev pub is_size : ℕ → Bool
 is_size count = list_any (λ s. count == 64 * 2 ^ s) (0 ∷ 1 ∷ 2 ∷ 3 ∷ 4 ∷ 5 ∷ 6 ∷ 7 ∷ 8 ∷ [])
 
--- Whether each pointer is unused or has its section inside the image.
+-- Whether each pointer is unused or points to a section that is inside the image.
 abbrev pub are_inside : List ℕ → Bool
 are_inside words = list_all (is_inside words) (pointers words)
 

@@ -2,11 +2,12 @@
 use Rattle.std.specs.Prelude.{ℕ, ◌+◌, Bool, ◌||◌, ◌==◌, nat_lt, if◌then◌else◌, List, [], ◌∷◌, length, take, drop, map}
 use Rattle.eeprom_image.specs.Bytes.{word_at}
 
--- Whether the word is 0 or 0xFFFF: an unused pointer, or the first word of a section without words.
+-- Whether the word is 0 or 0xFFFF: a pointer with this value is unused, and a section whose first word has this value
+-- is empty.
 abbrev pub is_unused : ℕ → Bool
 is_unused word = (word == 0) || (word == 0xFFFF)
 
--- The number of words in a section with this first word.
+-- The number of words after the first word in a section that has this first word.
 abbrev pub word_count : ℕ → ℕ
 word_count word = if is_unused word then 0 else word
 
@@ -15,8 +16,8 @@ abbrev pub section_at : List ℕ → ℕ → List ℕ
 section_at words pointer =
     if is_unused pointer then [] else take (word_count (word_at words pointer)) (drop (pointer + 1) words)
 
--- Whether the pointer is unused, or the last word of its section is in the image. If the section has no other words,
--- this is the first word.
+-- Whether the pointer is unused, or the last word of its section is in the image. If the section is empty, its first
+-- word is its last.
 abbrev pub is_inside : List ℕ → ℕ → Bool
 is_inside words pointer =
     is_unused pointer || nat_lt (pointer + word_count (word_at words pointer)) (length words)

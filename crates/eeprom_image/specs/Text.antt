@@ -1,4 +1,4 @@
--- The image that an EEPROM text describes.
+-- The image that EEPROM source describes.
 use Rattle.std.specs.Prelude.{◌≡◌, ℕ, ◌<◌, Bool, ◌||◌, nat_le, IsTrue, IsFalse, List, [], length, filter, Option, Some, None, Result, Ok, Err}
 use Rattle.std.specs.List.{list_all}
 use Rattle.eeprom_image.specs.Bytes.{word_at}
@@ -14,10 +14,10 @@ use Rattle.eeprom_image.specs.declared.text.AsmFault.TheVariants.{Syntax, TwoVal
 abbrev pub is_past : ℕ → Bool
 is_past pointer = is_unused pointer || nat_le 0x40 pointer
 
--- The words are an image that contains what an EEPROM text defines, and 0xFFFF in each word that is neither defined nor
+-- The words are an image that contains what EEPROM source defines, and 0xFFFF in each word that is neither defined nor
 -- reserved.
 pub record IsImageOf (content : Content) (words : List ℕ) : Type 0 where
-  -- Each index is defined only once, none is reserved, and everything is inside the image.
+  -- Each defined index is defined only once and isn't reserved, and everything that is defined is inside the image.
   pub once : given_again (indexes content.words) ≡ []
   pub free : filter (is_reserved (section_end content.triples)) (indexes content.words) ≡ []
   pub inside : IsTrue (fits content)
@@ -28,7 +28,7 @@ pub record IsImageOf (content : Content) (words : List ℕ) : Type 0 where
   -- The image has the defined words, and 0xFFFF in each other word that isn't reserved.
   pub given : (index : ℕ) → index < content.size → IsFalse (is_reserved (section_end content.triples) index)
       → word_at words index ≡ given_word content.words index
-  -- The image has the defined triples, at 0x40 if there are any.
+  -- The image has the defined triples, in a section at 0x40 if there are any.
   pub pointer : word_at words 0x0D ≡ csr_pointer content.triples
   pub triples : triples_of words ≡ content.triples
 
@@ -37,11 +37,12 @@ abbrev pub checked_by : Content → Option AsmFault → Result Content AsmFault
 checked_by content None = Ok content
 checked_by content (Some fault) = Err fault
 
--- What an EEPROM text defines if it has no fault. Otherwise its first faulty line, or its first other fault.
+-- What EEPROM source defines, if it has no fault. Otherwise its first faulty line, or, if no line is faulty, its first
+-- other fault.
 unfoldable pub sound_content : List ℕ → Result Content AsmFault
 sound_content text = content_of text then λ content. checked_by content (content_fault content)
 
--- The fault is the one that the definition returns, or `OutOfMemory`.
+-- The fault is the one that the definition `meant` returns, or `OutOfMemory`.
 abbrev pub Fails : {Y : Type 0} → AsmFault → Result Y AsmFault → Type 0
 Fails OutOfMemory meant = Unit {0}
 Fails (Syntax line) meant = meant ≡ Err (Syntax line)
@@ -50,7 +51,8 @@ Fails (Reserved index) meant = meant ≡ Err (Reserved index)
 Fails DoesNotFit meant = meant ≡ Err DoesNotFit
 Fails PointerOutside meant = meant ≡ Err PointerOutside
 
--- The result of a call, mapped with `view`, is what the definition returns, or the error is `OutOfMemory`.
+-- The result of a call, mapped with `view`, is what the definition `meant` returns, or the call's error is
+-- `OutOfMemory`.
 abbrev pub Gives : {X Y : Type 0} → (X → Y) → Result X AsmFault → Result Y AsmFault → Type 0
 Gives view (Ok x) meant = meant ≡ Ok (view x)
 Gives view (Err fault) meant = Fails fault meant

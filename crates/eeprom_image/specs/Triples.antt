@@ -1,9 +1,10 @@
--- The register writes of the CSR section.
+-- The register writes in the CSR section.
 use Rattle.std.specs.Prelude.{ℕ, ◌+◌, ◌*◌, ◌%◌, Bool, ◌||◌, ◌==◌, List, [], ◌∷◌}
 use Rattle.eeprom_image.specs.Bytes.{word_at}
 use Rattle.eeprom_image.specs.Section.{is_unused, word_count, section_at}
 
--- Every three words are a register's offset in words and its data, low word first. The result has offsets in bytes.
+-- The register writes in these words. Every three words are a register's offset in words, and the data, low word first.
+-- In the result, offsets are in bytes.
 abbrev pub triples_in : List ℕ → List (ℕ × ℕ)
 triples_in [] = []
 triples_in (offset ∷ []) = []

@@ -1,4 +1,4 @@
-//! What the lines of an EEPROM text define.
+//! What the lines of EEPROM source define.
 
 ghost use Rattle.std.specs.Prelude.{◌≡◌, IfOk, IfErr};
 ghost use Rattle.eeprom_image.specs.Content.{with_line, with_lines, content_of, only_size};
@@ -11,8 +11,8 @@ use crate::text::AsmFault;
 use std::alloc::Global;
 use text_format::{Line, Lines};
 
-/// The minimum length in bytes of a line that defines a word or a register write. The capacity of both lists is
-/// computed from it.
+/// The minimum length in bytes of a line that defines a word or a register write. The capacities of the two lists in a
+/// `Draft` are computed from this length.
 const LINE_LENGTH: usize = 8;
 
 /// What the lines read so far define.
@@ -20,13 +20,13 @@ const LINE_LENGTH: usize = 8;
 pub(crate) struct Draft {
     /// The number of words in the image.
     pub(crate) size: u32,
-    /// The defined words, as index and value.
+    /// The defined words, each as its index and its value.
     pub(crate) words: Vec<(u32, u16)>,
-    /// The defined register writes, as byte offset and data.
+    /// The defined register writes, each as the register's byte offset and the data.
     pub(crate) triples: Vec<(u32, u32)>,
 }
 
-/// Reads the size, which the first nonempty line must define. Returns it with the lines after it.
+/// Reads the size, which the first nonempty line must define. Returns the size and the lines after its line.
 #[tactic(auto, unfolding(crate::specs::Content::sized))]
 fn read_size(text: &str) -> Result<(u32, Lines<'_>), AsmFault>
     ensures ok { IfOk result (λ start. content_of text.now ≡ with_lines (only_size start.0) start.1) }
@@ -61,7 +61,7 @@ impl Draft {
         Ok(())
     }
 
-    /// Adds what each of the lines defines.
+    /// Adds everything that these lines define.
     #[tactic(auto, unfolding(crate::specs::Content::with_lines))]
     fn take_lines(&mut self, lines: Lines<'_>) -> Result<(), AsmFault>
         ensures { Gives (λ _. content_in self.new) result (with_lines (content_in self.old) lines.entry) }
@@ -73,7 +73,7 @@ impl Draft {
     }
 }
 
-/// Returns what an EEPROM text defines, or its first faulty line.
+/// Returns what EEPROM source defines, or its first faulty line.
 pub(crate) fn read(alloc: Global, text: &str) -> Result<Draft, AsmFault>
     ensures { Gives content_in result (content_of text.now) }
 {

@@ -1,4 +1,4 @@
-//! Finds faults in what an EEPROM text defines, except faults of its pointers.
+//! Finds faults in what EEPROM source defines, except faults in its pointers.
 
 ghost use Rattle.std.specs.Prelude.{◌≡◌, ℕ, ◌==◌, ◌||◌, nat_lt, filter, IfOk, OnOk};
 ghost use Rattle.std.specs.List.{list_all};
@@ -27,7 +27,7 @@ fn lesser(n: u32, other: Option<u32>) -> Option<u32>
     }
 }
 
-/// Adds an index to the set, and returns whether it was already there.
+/// Adds an index to the set, and returns whether the set already contained the index.
 fn comes_again(seen: &mut BTreeSet<u32>, index: u32) -> Result<bool, AllocError>
     ensures again { IfOk result (λ again. again ≡ contains nat_cmp seen.old index) }
     ensures seen { OnOk result ((other : ℕ) →
@@ -37,7 +37,7 @@ fn comes_again(seen: &mut BTreeSet<u32>, index: u32) -> Result<bool, AllocError>
     Ok(!is_new)
 }
 
-/// Returns the lowest index that is defined twice.
+/// Returns the lowest index that is defined more than once, or `None` if no index is.
 pub(crate) fn lowest_given_again(
     alloc: Global,
     words: &[(u32, u16)],
@@ -55,7 +55,7 @@ pub(crate) fn lowest_given_again(
     Ok(lowest)
 }
 
-/// Returns the index after the CSR section, for any number of register writes.
+/// Returns the index after a CSR section with these register writes; there may be any number of them.
 pub(crate) fn section_end(triples: &[(u32, u32)]) -> u128
     ensures { result ≡ section_end triples.now }
 {
@@ -73,7 +73,7 @@ fn is_reserved(end: u128, index: u32) -> bool
         || (index as usize >= CSR_SECTION && u128::from(index) < end)
 }
 
-/// Returns the lowest reserved index that is defined.
+/// Returns the lowest reserved index that is defined, or `None` if no reserved index is.
 pub(crate) fn lowest_reserved(words: &[(u32, u16)], end: u128) -> Option<u32>
     ensures { result ≡ least (filter (is_reserved end) (indexes words.now)) }
 {

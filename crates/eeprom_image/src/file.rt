@@ -21,7 +21,8 @@ pub enum LoadFault {
     /// The number of words isn't 64 times a power of two from 1 to 256.
     #[error("no size of an image")]
     BadSize,
-    /// A used pointer among words 0x03 to 0x0E, or a word of its section, is outside the image.
+    /// A pointer among words 0x03 to 0x0E is used, and points outside the image or to a section that isn't completely
+    /// inside the image.
     #[error("a section outside the image")]
     SectionOutside,
     /// Words 0x00 to 0x3F and the sections don't add up to 0xBABA modulo 2^16.
@@ -30,7 +31,7 @@ pub enum LoadFault {
     /// The length of the CSR section isn't a multiple of 3.
     #[error("a CSR section that isn't of whole triples")]
     NotTriples,
-    /// The bytes are an image's file, but there isn't enough memory for the image.
+    /// The bytes are an image's file, but there isn't enough memory to load the image.
     #[error("out of memory")]
     OutOfMemory,
 }
@@ -78,11 +79,11 @@ fn words_in(alloc: Global, bytes: &[u8]) -> Result<Vec<u16>, AllocError>
     Ok(words)
 }
 
-/// Loads an image from the bytes of its file, or returns their first fault in the order of `LoadFault`.
+/// Loads an image from the bytes of its file, or returns the first fault in these bytes, in the order of `LoadFault`.
 ///
-/// The accepted bytes are exactly the file of the returned image. Every image's file is accepted if there is enough
-/// memory. `OutOfMemory` is returned only if there is no other fault. The call takes time linear in the number of
-/// bytes; the contract doesn't state this.
+/// If the bytes are accepted, they are exactly the file of the returned image. Every image's file is accepted if there
+/// is enough memory. `OutOfMemory` is returned only if there is no other fault. The call takes time linear in the
+/// number of bytes; the contract doesn't state this.
 pub fn load(alloc: Global, bytes: &[u8]) -> Result<Image, LoadFault>
     ensures file { IfOk result (λ image. IsImage image × (bytes.now ≡ bytes_of image)) }
     ensures each_file { (words : List ℕ) → IsImage words → bytes.now ≡ bytes_of words →

@@ -1,4 +1,4 @@
-//! EEPROM images: their words, and the register writes of their CSR section.
+//! EEPROM images: their words, and the register writes in their CSR section.
 
 ghost use Rattle.std.specs.Prelude.{◌≡◌, ◌*◌, ◌^◌, ◌<◌, ◌≤◌, length, slice_get, IfOk};
 ghost use Rattle.eeprom_image.specs.Bytes.{word_at, bytes_of};
@@ -52,8 +52,8 @@ impl Image {
         Image { words }
     }
 
-    /// Returns the blank image, which the EEPROM text `size 64` describes: 63 words 0xFFFF, then the checksum. Returns
-    /// `AllocError` if there isn't enough memory for it.
+    /// Returns the blank image, which the EEPROM source `size 64` describes: 63 words with the value 0xFFFF, then the
+    /// checksum. Returns `AllocError` if there isn't enough memory for the image.
     pub fn blank(alloc: Global) -> Result<Image, AllocError>
         ensures words { IfOk result (λ image. image ≡ blank) }
         ensures meant { IfOk result (λ image. IsImageOf (only_size 64) image) }
@@ -63,7 +63,7 @@ impl Image {
         Ok(Image { words })
     }
 
-    /// Returns a copy of the image, or `AllocError` if there isn't enough memory for it.
+    /// Returns a copy of the image, or `AllocError` if there isn't enough memory for the copy.
     pub fn copy(&self) -> Result<Image, AllocError>
         ensures { IfOk result (λ image. image ≡ self.now) }
     {
@@ -80,7 +80,7 @@ impl Image {
         &self.words
     }
 
-    /// Returns the word at an index; 0xFFFF past the last word.
+    /// Returns the word at an index, or 0xFFFF if the index is past the last word.
     pub fn word(&self, index: usize) -> u16
         ensures { result ≡ word_at self.now index }
     {
@@ -108,7 +108,8 @@ impl Image {
         }
     }
 
-    /// Returns the register writes of the CSR section, in order. There are none if word 0x0D is unused.
+    /// Returns the register writes in the CSR section, in order. If word 0x0D is unused, the image has no register
+    /// writes.
     pub fn triples(&self) -> Triples<'_>
         ensures { result ≡ triples_of self.now }
     {
@@ -123,7 +124,7 @@ impl Image {
     }
 
     /// Returns the register write with this number, counted from 0: the register's byte offset, and the data. Returns
-    /// `None` past the last one.
+    /// `None` if the number is past the last register write.
     pub fn triple(&self, index: usize) -> Option<(u32, u32)>
         ensures { result ≡ slice_get (triples_of self.now) index }
     {
@@ -135,15 +136,15 @@ impl Image {
         }
     }
 
-    /// Returns the words of the CSR section after its first one.
+    /// Returns the words of the CSR section, without its first word.
     fn csr_section(&self) -> &[u16]
         ensures { result.now ≡ section_at self.now (word_at self.now 13) }
     {
         section(&self.words, self.word(CSR_POINTER))
     }
 
-    /// Returns the image's file: its words in order, low byte first. Loading it returns the same words. Returns
-    /// `AllocError` if there isn't enough memory for it.
+    /// Returns the bytes of the image's file: the image's words in order, each with its low byte first. Loading these
+    /// bytes returns the same words. Returns `AllocError` if there isn't enough memory for the bytes.
     pub fn to_bytes(&self, alloc: Global) -> Result<Vec<u8>, AllocError>
         ensures { IfOk result (λ bytes. bytes.items ≡ bytes_of self.now) }
     {

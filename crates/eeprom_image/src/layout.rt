@@ -1,4 +1,4 @@
-//! Lays out the words of an image from what an EEPROM text defines.
+//! Lays out the words of an image from what EEPROM source defines.
 
 ghost use Rattle.std.specs.Prelude.{◌≡◌, ◌+◌, ◌*◌, ◌<◌, ◌≤◌, ◌++◌, fold, length, replicate, vec_len, nat_lt, IsTrue, IfOk, OnOk};
 ghost use Rattle.std.specs.List.{list_all};
@@ -58,7 +58,7 @@ fn put_section(words: &mut [u16], section: &[u16])
     words[CSR_SECTION..end].copy_from_slice(section);
 }
 
-/// Writes the CSR section and its pointer. Without register writes, it sets the pointer to 0xFFFF.
+/// Writes the CSR section and the pointer to it. If there are no register writes, only sets the pointer to 0xFFFF.
 fn put_csr(alloc: Global, words: &mut [u16], triples: &[(u32, u32)]) -> Result<(), AllocError>
     requires long { 64 ≤ length words.old }
     requires short { length words.old < 65536 }
@@ -75,7 +75,7 @@ fn put_csr(alloc: Global, words: &mut [u16], triples: &[(u32, u32)]) -> Result<(
     Ok(())
 }
 
-/// Writes everything that an EEPROM text defines over words that are 0xFFFF, with 0 as the checksum.
+/// Writes everything that EEPROM source defines over words that are all 0xFFFF, with 0 as the checksum.
 fn lay_into(alloc: Global, words: &mut [u16], draft: &Draft) -> Result<(), AllocError>
     requires blank { words.old ≡ replicate draft.now.size 0xFFFF }
     requires long { 64 ≤ draft.now.size }
@@ -109,7 +109,7 @@ pub(crate) fn are_past(words: &[u16]) -> bool
         || usize::from(*pointer) >= CSR_SECTION)
 }
 
-/// Writes the checksum into words that have 0 in its place.
+/// Writes the checksum into words whose checksum word is 0.
 fn put_checksum(words: &mut [u16])
     requires { 64 ≤ length words.old }
     ensures { words.new ≡ with_checksum words.old }
@@ -118,7 +118,7 @@ fn put_checksum(words: &mut [u16])
     words[CHECKSUM_INDEX] = ((0x10000 + u64::from(CHECKSUM) - sum) % 0x10000) as u16;
 }
 
-/// Returns the words with their checksum, given words that have 0 in its place.
+/// Returns the words with their checksum, given words whose checksum word is 0.
 pub(crate) fn with_checksum(mut words: Vec<u16>) -> Vec<u16>
     requires { 64 ≤ vec_len words }
     ensures { result.items ≡ with_checksum words.items }

@@ -1,10 +1,10 @@
-//! EEPROM images of the 82599: the text form that is assembled into an image, the file form that is loaded and stored,
-//! and the words and register writes in an image.
+//! EEPROM images of the 82599: the source that is assembled into an image, the file that an image is loaded from and
+//! stored in, and the words and register writes in an image.
 //!
-//! An [`Image`] is a list of 64 to 16,384 16-bit words. Its sections are inside it, and its checksum is correct.
-//! [`assemble`] returns the one image that an EEPROM text describes, and [`load`] the image whose file has the given
-//! bytes. Otherwise, each call returns the first fault in the order of its list. The device reads an image with `word`
-//! and, at a reset, with `triples`.
+//! An [`Image`] is a list of 64 to 16,384 16-bit words. The image's sections are inside it, and its checksum is
+//! correct. [`assemble`] returns the one image that EEPROM source describes, and [`load`] returns the image whose file
+//! has the given bytes. If there is no such image, each call returns the first fault, in the order of its list of
+//! faults. The device reads an image with `word` and, at a reset, with `triples`.
 #![tactic(auto)]
 
 mod draft;

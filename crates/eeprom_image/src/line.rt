@@ -1,4 +1,4 @@
-//! Parses a line of an EEPROM text.
+//! Parses a line of EEPROM source.
 
 ghost use Rattle.std.specs.Prelude.{◌≡◌, ◌^◌};
 ghost use Rattle.eeprom_image.specs.Line.{number_in, one_number, two_numbers, size_line, word_line, csr_line, text_line};
@@ -17,18 +17,18 @@ pub(crate) enum TextLine {
     Word(u32, u16),
     /// `csr OFFSET DATA`: a reset writes the data to the register at this byte offset.
     Csr(u32, u32),
-    /// The line has none of these forms, or a number in it is out of range.
+    /// The line has none of these forms, or contains a number that is out of range.
     Malformed,
 }
 
-/// Returns the number that a word spells, if it spells one.
+/// Returns the number that a word spells, or `None` if the word doesn't spell a number.
 fn number_in(word: &str) -> Option<u32>
     ensures { result ≡ number_in word.now }
 {
     number(word).ok()
 }
 
-/// Returns the number, if the words are exactly one number.
+/// Returns the number if the words are exactly one number, otherwise `None`.
 fn one_number(mut words: Words<'_>) -> Option<u32>
     ensures { result ≡ one_number words.entry }
 {
@@ -39,7 +39,7 @@ fn one_number(mut words: Words<'_>) -> Option<u32>
     }
 }
 
-/// Returns the two numbers, if the words are exactly two numbers.
+/// Returns the two numbers if the words are exactly two numbers, otherwise `None`.
 fn two_numbers(mut words: Words<'_>) -> Option<(u32, u32)>
     ensures { result ≡ two_numbers words.entry }
 {

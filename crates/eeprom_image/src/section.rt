@@ -17,14 +17,15 @@ const CHECKED_WORDS: u16 = 64;
 /// The sum, modulo 2^16, that the covered words must have.
 pub(crate) const CHECKSUM: u16 = 0xBABA;
 
-/// Whether the word is 0 or 0xFFFF: such a pointer points to nothing, and a section with such a first word is empty.
+/// Whether the word is 0 or 0xFFFF: a pointer with this value is unused, and a section whose first word has this value
+/// is empty.
 pub(crate) fn is_unused(word: u16) -> bool
     ensures { result ≡ is_unused word }
 {
     word == 0 || word == 0xFFFF
 }
 
-/// Returns the number of words after a section's first word.
+/// Returns the number of words after a section's first word, given this first word.
 pub(crate) fn word_count(word: u16) -> u16
     ensures { result ≡ word_count word }
 {
@@ -60,7 +61,7 @@ pub(crate) fn is_inside<W: Words>(words: &W, pointer: u16) -> bool
     is_unused(pointer) || first + usize::from(word_count(words.word(first))) < words.count()
 }
 
-/// Whether each pointer is unused or has its section inside the image.
+/// Whether each pointer is unused or points to a section that is inside the image.
 pub(crate) fn are_inside<W: Words>(words: &W) -> bool
     ensures { result ≡ are_inside (W.words words.now) }
 {
@@ -82,7 +83,7 @@ pub(crate) fn section(words: &[u16], pointer: u16) -> &[u16]
     &words[first..first + count]
 }
 
-/// Returns the sum of at most `count` words starting at index `first`, ignoring words past the end.
+/// Returns the sum of the `count` words starting at index `first`, ignoring words past the end of the image.
 fn sum_from<W: Words>(words: &W, first: usize, count: u16) -> u64
     requires { first < 2 ^ 32 }
     ensures sum { result ≡ sum (take count (drop first (W.words words.now))) }
@@ -96,7 +97,7 @@ fn sum_from<W: Words>(words: &W, first: usize, count: u16) -> u64
     total
 }
 
-/// Returns the sum of the section that a pointer points to.
+/// Returns the sum of the words in the section that a pointer points to, without the section's first word.
 fn section_sum<W: Words>(words: &W, pointer: u16) -> u64
     ensures sum { result ≡ sum (section_at (W.words words.now) pointer) }
     ensures bound { result < 2 ^ 32 }

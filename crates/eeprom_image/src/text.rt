@@ -1,4 +1,4 @@
-//! Assembles an EEPROM text into its image.
+//! Assembles EEPROM source into the image that it describes.
 
 ghost use Rattle.std.specs.Prelude.{◌≡◌, ◌≤◌, ◌<◌, List, ℕ, None, Ok, IfOk, IfErr, IsOkAnd};
 ghost use Rattle.eeprom_image.specs.Fault.{content_fault};
@@ -15,11 +15,11 @@ use crate::section::are_inside;
 use std::alloc::{AllocError, AllocFailed, Global};
 use thiserror::Error;
 
-/// Why an EEPROM text describes no image. If several faults apply, the first in this list is returned.
+/// Why EEPROM source describes no image. If several faults apply, the first in this list is returned.
 #[derive(Clone, Copy, Debug, PartialEq, Eq, Error)]
 pub enum AsmFault {
-    /// The line with this number, counted from 1, has none of the forms or is out of place. It is the first such line.
-    /// If every line is empty, the number is one past the last line.
+    /// The line with this number, counted from 1, has none of the allowed forms or isn't allowed at this position. The
+    /// first such line is reported. If every line is empty, the number is one past the last line.
     #[error("line {0}: not understood")]
     Syntax(usize),
     /// The lowest index that two `word` lines define.
@@ -34,7 +34,7 @@ pub enum AsmFault {
     /// A used pointer points below 0x40, or its section isn't inside the image.
     #[error("a pointer below 0x40 or to a section outside the image")]
     PointerOutside,
-    /// There isn't enough memory to assemble the text.
+    /// There isn't enough memory to assemble the source.
     #[error("out of memory")]
     OutOfMemory,
 }
@@ -64,7 +64,7 @@ impl<T: Drop> From<AllocFailed<T>> for AsmFault {
 impl Draft {
     ghost use Rattle.eeprom_image.specs.Fault.{points_inside};
 
-    /// Whether each pointer is valid, in words that are laid out as the EEPROM text defines them.
+    /// Whether each pointer is valid, in words that are laid out as the EEPROM source defines them.
     fn points_inside(&self, words: &[u16]) -> bool
         requires long { 64 ≤ self.now.size }
         requires words { IsLaidOut (content_in self.now) words.now }
@@ -74,7 +74,7 @@ impl Draft {
     }
 }
 
-/// Returns the words that an EEPROM text defines, with 0 as the checksum, or its first fault in the order of the list.
+/// Returns the words that EEPROM source defines, with 0 as the checksum, or the first fault in the order of `AsmFault`.
 #[tactic(auto, unfolding(crate::specs::Fault::content_fault))]
 fn plain_words(alloc: Global, draft: &Draft) -> Result<Vec<u16>, AsmFault>
     requires long { 64 ≤ draft.now.size }
@@ -100,16 +100,16 @@ fn plain_words(alloc: Global, draft: &Draft) -> Result<Vec<u16>, AsmFault>
     Ok(words)
 }
 
-/// Assembles the image that an EEPROM text describes, or returns the text's first fault.
+/// Assembles the image that EEPROM source describes, or returns the source's first fault.
 ///
-/// An EEPROM text consists of a line `size N`, then lines `word INDEX VALUE` and `csr OFFSET DATA` in any order. The
-/// image is the only one of N words with the following properties. It has the defined words, and the register writes in
-/// the order of their lines. Word 0x3F is the checksum. Word 0x0D points to the CSR section at 0x40, or is 0xFFFF if no
-/// register write is defined. Every word that isn't defined, 0x0D, 0x3F or in the CSR section is 0xFFFF. Every other
-/// pointer is unused or points to 0x40 or above.
+/// EEPROM source consists of a line `size N`, then lines `word INDEX VALUE` and `csr OFFSET DATA` in any order. The
+/// result is the only image of N words with the following properties. The image has the defined words, and the register
+/// writes in the order of their lines. Word 0x3F is the checksum. Word 0x0D points to the CSR section at 0x40, or is
+/// 0xFFFF if no register write is defined. Every other word that isn't defined is 0xFFFF, unless it is in the CSR
+/// section. Every other pointer is unused or points to 0x40 or above.
 ///
-/// The first faulty line is reported before any other fault. Of the other faults, the first in the order of `AsmFault`
-/// is reported. `OutOfMemory` may be returned in place of any other result.
+/// The first faulty line is reported before any other fault. If no line is faulty, the first other fault in the order
+/// of `AsmFault` is reported. `OutOfMemory` may be returned instead of any other result.
 #[tactic(auto, unfolding(crate::specs::Text::sound_content))]
 pub fn assemble(alloc: Global, text: &str) -> Result<Image, AsmFault>
     ensures image { IfOk result (λ image. IsOkAnd (sound_content text.now) (λ content. IsImageOf content image)) }
@@ -120,7 +120,7 @@ pub fn assemble(alloc: Global, text: &str) -> Result<Image, AsmFault>
     Ok(Image::of(with_checksum(words)))
 }
 
-/// An EEPROM text without a fault describes exactly one image. Content with a fault describes no image.
+/// EEPROM source without a fault describes exactly one image. Content with a fault describes no image.
 pub fn one_image()
     ensures one { (text : List ℕ) (content : Content) → sound_content text ≡ Ok content →
         (words : List ℕ) × IsImageOf content words

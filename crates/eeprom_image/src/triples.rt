@@ -1,14 +1,14 @@
-//! The register writes of an image's CSR section.
+//! The register writes in an image's CSR section.
 
 ghost use Rattle.std.specs.Iterator.{YieldsFirst, item_count};
 
 use std::marker::Model;
 
-/// An iterator over the register writes of an image, in order. Each is the register's byte offset, a multiple of 4
+/// An iterator over the register writes in an image, in order. Each item is the register's byte offset, a multiple of 4
 /// below 0x40000, and the data.
 #[derive(Debug, Drop)]
 pub struct Triples<'a> {
-    /// The rest of the CSR section, without its first word.
+    /// The words of the CSR section that remain to be read, never including the section's first word.
     words: &'a [u16],
 }
 
@@ -25,7 +25,7 @@ impl<'a> Triples<'a> {
     ghost use Rattle.std.specs.Prelude.{◌≡◌};
     ghost use Rattle.eeprom_image.specs.Triples.{triples_in};
 
-    /// Returns the register writes in the words of a CSR section, given without its first word.
+    /// Returns the register writes in these words of a CSR section, which must not include the section's first word.
     pub(crate) fn of(words: &'a [u16]) -> Triples<'a>
         ensures { result ≡ triples_in words.now }
     {

@@ -5,7 +5,7 @@ ghost use Rattle.eeprom_image.specs.Bytes.{word_at};
 
 use byteorder::{ByteOrder, LittleEndian};
 
-/// Words by index, either of an image or of a file that may become one.
+/// Words by index, either in an image or in a file that may be an image's file.
 pub(crate) trait Words {
     ghost words: { Self → List ℕ };
 
@@ -13,7 +13,7 @@ pub(crate) trait Words {
     fn count(&self) -> usize
         ensures { result ≡ length (words self.now) };
 
-    /// Returns the word at an index; 0xFFFF past the last word.
+    /// Returns the word at an index, or 0xFFFF if the index is past the last word.
     fn word(&self, index: usize) -> u16
         ensures { result ≡ word_at (words self.now) index };
 }

@@ -1,4 +1,4 @@
--- Reading back what was laid out.
+-- Lemmas: reading what was laid out returns the original.
 use Rattle.std.proofs.Common.{◌≡◌, ℕ, ◌+◌, ◌*◌, ◌<◌, ◌≤◌, ◌^◌, ◌==◌, cond, ◌&&◌, nat_le, List, [], ◌∷◌, ◌++◌, length, take, drop, Some, None, Result, Ok, Err}
 use Rattle.std.proofs.Common.{refl, ap, ap₂, ◌∙◌, arith, append_assoc, length-append}
 use Rattle.std.proofs.Math.Seq.{take-append_seam, drop-append_seam}
@@ -60,7 +60,7 @@ strings-back (string ∷ strings) each =
     (string-back string (flat_map bytes_of_string strings) each.0)
     ∙ ap (before_strings string) (strings-back strings each.1)
 
--- The header's meaning, in terms of its numbers.
+-- The result of reading a header with these numbers.
 abbrev says : ℕ → ℕ → ℕ → ℕ → ℕ → Result Header ObjectFault
 says n d none total size =
     cond (nat_le 16 size && none == 0 && total == size && nat_le n 4096 && nat_le d 1024 && nat_le (16 + 12 * n) size)

@@ -10,7 +10,7 @@ use Rattle.program.specs.Meaning.{meaning}
 use Rattle.program.specs.Mapped.{◌then◌}
 use Rattle.program.specs.Object.{meanings, at_pc, fault_at, before_instructions}
 
--- A fault after a good instruction is the fault of both.
+-- If an instruction has no fault, the first fault of the instructions after it is the first fault of all of them.
 after_one : (first : Result (Instruction ℕ ℕ) FieldFault) (pc : ℕ) (rest : Result (List (Instruction ℕ ℕ)) ObjectFault)
     (fault : ObjectFault) → IsOk first →
     rest ≡ Err fault → at_pc pc first then (λ i. before_instructions i rest) ≡ Err fault

@@ -12,7 +12,7 @@ use Rattle.program.specs.Object.{all_fields_in, meanings, at_pc, before_instruct
 abbrev pub Instructions : Type 0
 Instructions = List (Instruction ℕ ℕ)
 
--- The instructions already read, followed by the result for the rest.
+-- The instructions that were already read, followed by the result for the remaining instructions.
 abbrev pub after : Instructions → Result Instructions ObjectFault → Result Instructions ObjectFault
 after instructions more = more then λ more. Ok (instructions ++ more)
 
@@ -28,7 +28,7 @@ after-one instructions instruction (Ok more) =
 
 module _ (strings : List (List ℕ)) (count pc : ℕ) (instructions : Instructions) (left rest : ℕ) (bytes : List ℕ)
     (is : left ≡ suc rest) where
-  -- The result for the first instruction, followed by the result for the rest.
+  -- The result for the next instruction, followed by the result for the instructions after it.
   abbrev next : Result (Instruction ℕ ℕ) ObjectFault → Result Instructions ObjectFault
   next first = after instructions (first
       then λ i. before_instructions i (meanings strings count (pc + 1) (all_fields_in rest (drop 12 bytes))))

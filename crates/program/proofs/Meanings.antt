@@ -1,4 +1,4 @@
--- The meaning of fields encodes to the same fields.
+-- If fields encode an instruction, this instruction is encoded by the same fields.
 use Rattle.std.proofs.Common.{◌≡◌, ℕ, ◌+◌, ◌==◌, Bool, true, false, cond, ◌&&◌, List, [], ◌∷◌, map, Option, Some, None, Result, Ok, Err, refl, sym, ap, ◌∙◌, eqb-true}
 use Rattle.std.proofs.lemmas.Bool.{and_parts}
 use Rattle.program.specs.declared.fault.ObjectFault.{ObjectFault}
@@ -49,7 +49,7 @@ pub meaning-spelled : (strings : List (List ℕ)) (count : ℕ) (f : Fields) (i 
     → meaning strings count f ≡ Ok i → f ≡ fields_of i
 meaning-spelled strings count f i is = spelled strings count f (instruction_in f) i is
 
--- Every successful meaning of the fields encodes to them.
+-- If the fields encode instructions, these instructions are encoded by the same fields.
 abbrev AreSpelled : List (List ℕ) → ℕ → ℕ → List Fields → Type 0
 AreSpelled strings count pc all =
     (instructions : List (Instruction ℕ ℕ)) → meanings strings count pc all ≡ Ok instructions

@@ -1,4 +1,4 @@
--- The fields of a sound instruction mean that instruction.
+-- Decoding the fields of a sound instruction returns that instruction.
 use Rattle.std.proofs.Common.{◌≡◌, ℕ, ◌+◌, ◌%◌, ◌<◌, true, false, List, [], ◌∷◌, length, map, Some, None, Ok, Err, refl, ap, ◌∙◌, arith}
 use Rattle.std.proofs.lemmas.Bool.{and_from, lt-ltb, le-leb, eq-eqb, cond-true}
 use Rattle.std.specs.List.{AllByRecursion}

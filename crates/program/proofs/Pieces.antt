@@ -63,7 +63,7 @@ piece32 bytes at after small is inside =
     (third ∙ ap (λ more. slice_index bytes (at + 2) ∷ more) fourth))
     ∙ ap (λ front. front ++ drop after bytes) (sym (bytes32 bytes at small))
 
--- Appending to four parts in a row.
+-- Appending bytes to four parts that follow each other.
 four_parts : (a b c d more : List ℕ) → (a ++ b ++ c ++ d) ++ more ≡ a ++ (b ++ (c ++ (d ++ more)))
 four_parts a b c d more = simp append_assoc
 

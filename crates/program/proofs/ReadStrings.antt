@@ -8,7 +8,7 @@ use Rattle.program.specs.Object.{string_in, strings_in, before_strings, bytes_of
 use Rattle.program.proofs.Pieces.{Small, Small-drop, piece16}
 use Rattle.program.proofs.Sound.{IsSplit, string_in-split}
 
--- Facts about `strings`, read from `bytes`.
+-- What holds for the data strings `strings` that were read from `bytes`.
 pub record AreRead (count : ℕ) (bytes : List ℕ) (strings : List (List ℕ)) : Type 0 where
   pub number : length strings ≡ count
   pub each : AllByRecursion IsDataString strings

@@ -1,4 +1,4 @@
--- The sizes of a program's parts in bytes.
+-- Lemmas about the sizes in bytes of a program's parts.
 use Rattle.std.proofs.Common.{◌≡◌, ℕ, ◌+◌, ◌*◌, ◌≤◌, ◌<◌, ◌^◌, List, [], ◌∷◌, ◌++◌, length, refl, arith, length-append}
 use Rattle.std.specs.List.{AllByRecursion, flat_map}
 use Rattle.program.specs.declared.fields.Fields.{Fields}
@@ -19,7 +19,7 @@ length-strings (string ∷ strings) each =
     let more = length-strings strings each.1 in
     omega (arith, each.0.short, length-append (bytes_of_string string) (flat_map bytes_of_string strings))
 
--- A whole object is shorter than 2^32 bytes.
+-- Every object is shorter than 2^32 bytes.
 pub object-small : (all : List Fields) (strings : List (List ℕ)) → length all ≤ 4096 → length strings ≤ 1024
     → AllByRecursion IsDataString strings →
     16 + length (flat_map bytes_of_fields all ++ flat_map bytes_of_string strings) < 2 ^ 32

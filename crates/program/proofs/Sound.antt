@@ -7,12 +7,12 @@ use borrow.Author.Tests.{leb-true}
 use Rattle.program.specs.Bytes.{number16_at}
 use Rattle.program.specs.Object.{string_in}
 
--- If the guarded value is present, the test was true.
+-- If a value that depends on a test is present, the test was true.
 passed : {A : Type 0} (test : Bool) (x y : A) → cond test (Some x) None ≡ Some y → (test ≡ true) × (x ≡ y)
 passed true x y is = (refl, cc)
 passed false x y is = cc
 
--- Facts about a string that was split off.
+-- What holds for a data string that was split off from bytes.
 pub record IsSplit (bytes string more : List ℕ) : Type 0 where
   pub some : 1 ≤ length string
   pub short : length string ≤ 16384

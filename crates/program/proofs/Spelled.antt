@@ -34,7 +34,7 @@ all_fields-spelled (suc count) bytes small inside =
       ap suc rest.1,
     )
 
--- Facts about a header that was read, and its encoding.
+-- What holds for a header that was read, and for its encoding.
 pub record IsHeader (bytes : List ℕ) (h : Header) : Type 0 where
   pub spelled : bytes ≡ header h.count h.strings (length bytes) ++ drop 16 bytes
   pub long : 16 ≤ length bytes
@@ -90,7 +90,7 @@ header_in-spelled bytes h small is =
     begun true true first is = counted bytes h small
         ((starts_is Decides-eqb bytes magic_and_version true (sym first)).0 refl) is
 
--- The whole object, put together from its parts.
+-- The bytes of an object are the encoding of its header, its instructions and its data strings.
 pub laid_out-is : (bytes : List ℕ) (h : Header) (all : List Fields) (strings : List (List ℕ)) → IsHeader bytes h →
     length all ≡ h.count → length strings ≡ h.strings →
     drop 16 bytes ≡ flat_map bytes_of_fields all ++ drop (16 + 12 * h.count) bytes →

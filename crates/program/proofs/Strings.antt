@@ -4,7 +4,7 @@ use Rattle.std.proofs.lemmas.List.{append-nil}
 use Rattle.std.specs.Option.{option_map}
 use Rattle.program.specs.Object.{string_in, strings_in, before_strings}
 
--- The data strings already read, followed by the rest.
+-- The data strings that were already read, followed by the remaining data strings.
 abbrev pub after : List (List ℕ) → Option (List (List ℕ)) → Option (List (List ℕ))
 after strings more = option_map (λ more. strings ++ more) more
 
@@ -17,7 +17,7 @@ after-one : (strings : List (List ℕ)) (string : List ℕ) (more : Option (List
 after-one strings string None = refl
 after-one strings string (Some more) = ap (λ all. Some all) (sym (append_assoc strings (string ∷ []) more))
 
--- The first data string, followed by the rest.
+-- The next data string, followed by the data strings after it.
 abbrev next : ℕ → Option (List ℕ × List ℕ) → Option (List (List ℕ))
 next rest None = None
 next rest (Some split) = before_strings split.0 (strings_in rest split.1)

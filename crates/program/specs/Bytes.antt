@@ -1,4 +1,4 @@
--- The bytes of fields and numbers. Numbers are little-endian.
+-- How fields and numbers are encoded as bytes. Numbers are little-endian.
 use Rattle.std.specs.Prelude.{ℕ, ◌+◌, List, [], ◌∷◌, ◌++◌, slice_index}
 use Rattle.std.specs.Int.{w16, w32, to_le_bytes, from_le_bytes}
 use Rattle.program.specs.declared.fields.Fields.{Fields}

@@ -9,11 +9,11 @@ use Rattle.program.specs.declared.instruction.Instruction.TheVariants.{Poke, Pee
 use Rattle.program.specs.declared.instruction.Instruction.TheVariants.{QueueStep, EepromStep, Link, Collect, Expect}
 use Rattle.program.specs.declared.instruction.Instruction.TheVariants.{And, JumpIfEqual, JumpUnlessEqual, Jump, Halt}
 
--- Fields with this operation, variant, short number and two words.
+-- Fields with this operation, this variant, this 16-bit number and these two words.
 abbrev pub fields : ℕ → ℕ → ℕ → ℕ → ℕ → Fields
 fields op sub x a b = record { op = op; sub = sub; x = x; a = a; b = b }
 
--- The fields of an instruction. Those that its operation doesn't use are 0.
+-- The fields of an instruction. Fields that the operation doesn't use are 0.
 abbrev pub fields_of : Instruction ℕ ℕ → Fields
 fields_of (Write address word) = fields 1 0 0 address word
 fields_of (Read address) = fields 2 0 0 address 0

@@ -9,12 +9,13 @@ use Rattle.program.specs.declared.instruction.Instruction.TheVariants.{Poke, Pee
 use Rattle.program.specs.declared.instruction.Instruction.TheVariants.{QueueStep, EepromStep, Link, Collect, Expect}
 use Rattle.program.specs.declared.instruction.Instruction.TheVariants.{And, JumpIfEqual, JumpUnlessEqual, Jump, Halt}
 
--- The data strings and the instructions of a program, both in order. Instructions refer to both by number.
+-- The data strings and the instructions of a program, both in order. Instructions refer to data strings and to other
+-- instructions by number.
 pub record Listing : Type 0 where
   pub strings : List (List ℕ)
   pub instructions : List (Instruction ℕ ℕ)
 
--- The data string with this number. Empty if there is none.
+-- The data string with this number, or the empty list if no data string has this number.
 abbrev pub string_at : List (List ℕ) → ℕ → List ℕ
 string_at strings number = slice_index_or strings number []
 
@@ -22,14 +23,14 @@ string_at strings number = slice_index_or strings number []
 abbrev pub IsFunction : ℕ → Type 0
 IsFunction function = function < 63
 
--- A group of interrupts belongs to the physical function or to a virtual function below 63.
+-- An interrupt group belongs to the physical function or to a virtual function below 63.
 abbrev pub IsGroup : Group → Type 0
 IsGroup Pf = ⊤
 IsGroup (Vf function) = IsFunction function
 
--- Everything that the instruction refers to exists among these data strings and this many instructions. A poked data
--- string is 16 bytes long, an arriving data string exists, and a peek selects one of four words. Virtual functions are
--- below 63. A jump's target is an instruction or the end. Block and queue numbers are below 65,536.
+-- Everything to which the instruction refers exists in a program with these data strings and this many instructions. A
+-- poked data string is 16 bytes long, an arriving data string exists, and a peek selects one of four words. Virtual
+-- functions are below 63. A jump's target is an instruction or the end. Block and queue numbers are below 65,536.
 abbrev pub IsSound : List (List ℕ) → ℕ → Instruction ℕ ℕ → Type 0
 IsSound strings count (Write address word) = ⊤
 IsSound strings count (Read address) = ⊤

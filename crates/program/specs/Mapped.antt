@@ -1,4 +1,4 @@
--- Mapping an instruction's names to numbers.
+-- Mapping the names in an instruction to numbers.
 use Rattle.std.specs.Prelude.{◌≡◌, ⊤, Result, Ok, Err}
 use Rattle.std.specs.Fn.{FnOnceReturnsAt}
 use denote.Ref.{Bor}
@@ -9,18 +9,18 @@ use Rattle.program.specs.declared.instruction.Instruction.TheVariants.{Poke, Pee
 use Rattle.program.specs.declared.instruction.Instruction.TheVariants.{QueueStep, EepromStep, Link, Collect, Expect}
 use Rattle.program.specs.declared.instruction.Instruction.TheVariants.{And, JumpIfEqual, JumpUnlessEqual, Jump, Halt}
 
--- The second step, if the first returned a value.
+-- Applies the second step to the first step's value; if the first step returned an error, returns this error.
 infixl 10 ◌then◌
 abbrev pub ◌then◌ : {A B E : Type 0} → Result A E → (A → Result B E) → Result B E
 Ok x then f = f x
 Err e then f = Err e
 
--- A call returns the given function's value for the argument that it is passed by reference.
+-- A call returns the value of the function `given` for the argument, which the call receives by reference.
 abbrev pub AnswersBy : {F X R : Type 0} → Once F (Bor X × Unit {0}) R → F → (X → R) → Type 0
 AnswersBy {X = X} {R = R} calls f given = (x : X) (r : R) → FnOnceReturnsAt calls f x r → r ≡ given x
 
 -- The instruction with `label` applied to its jump target and `string` applied to its data string, or the error that
--- one of them returns.
+-- one of these functions returns.
 abbrev pub try_map : {L D M N E : Type 0} → (L → Result M E) → (D → Result N E) → Instruction L D
     → Result (Instruction M N) E
 try_map label string (Write address word) = Ok (Write address word)
@@ -67,6 +67,6 @@ IsNameless (JumpUnlessEqual word name) = ⊥
 IsNameless (Jump name) = ⊥
 IsNameless _ = ⊤
 
--- The instruction for other types of names if it has none; otherwise the original as the error.
+-- The instruction with other types for its names, if it has no names; otherwise the original instruction as the error.
 abbrev pub without_names : {L D M N : Type 0} → Instruction L D → Result (Instruction M N) (Instruction L D)
 without_names instruction = try_map (λ _. Err instruction) (λ _. Err instruction) instruction

@@ -21,15 +21,15 @@ use Rattle.program.specs.Listing.{string_at}
 abbrev pub low_byte : ℕ → ℕ
 low_byte x = x % 256
 
--- The group of interrupts with this kind and number.
+-- The interrupt group with this kind and number.
 abbrev pub group_of : ℕ → ℕ → Group
 group_of sub x = if sub == 0 then Pf else Vf (low_byte x)
 
--- The direction with this kind.
+-- The side of a queue that this variant encodes.
 abbrev pub direction_of : ℕ → Dir
 direction_of sub = if sub == 0 then Rx else Tx
 
--- The instruction with this operation and the fields that it uses. `None` if there is no such operation.
+-- The instruction with this operation and the fields that the operation uses. `None` if the operation is unknown.
 abbrev pub instruction_in : Fields → Option (Instruction ℕ ℕ)
 instruction_in f =
     if f.op == 1 then Some (Write f.a f.b)
@@ -60,7 +60,8 @@ instruction_in f =
 abbrev pub unless : Bool → FieldFault → Option FieldFault
 unless fits fault = if fits then None else Some fault
 
--- The fault of an instruction that refers to something missing, among these data strings and this many instructions.
+-- The fault if the instruction refers to something that doesn't exist in a program with these data strings and this
+-- many instructions.
 abbrev pub fault_in : List (List ℕ) → ℕ → Instruction ℕ ℕ → Option FieldFault
 fault_in strings count (Write address word) = None
 fault_in strings count (Read address) = None
@@ -91,7 +92,7 @@ abbrev pub unless_faulty : Instruction ℕ ℕ → Option FieldFault → Result 
 unless_faulty instruction None = Ok instruction
 unless_faulty instruction (Some fault) = Err fault
 
--- The decoded instruction, if the fields that it doesn't use are 0 and everything that it refers to exists. Otherwise
+-- The decoded instruction, if the fields that it doesn't use are 0 and everything to which it refers exists. Otherwise
 -- its fault.
 abbrev pub spelled_so : List (List ℕ) → ℕ → Fields → Option (Instruction ℕ ℕ) → Result (Instruction ℕ ℕ) FieldFault
 spelled_so strings count f None = Err Opcode
@@ -99,6 +100,7 @@ spelled_so strings count f (Some instruction) =
     if same_fields (fields_of instruction) f then unless_faulty instruction (fault_in strings count instruction)
     else Err Operand
 
--- The instruction that the fields encode, among these data strings and this many instructions.
+-- The instruction that the fields encode in a program with these data strings and this many instructions, or the fault
+-- in the fields.
 abbrev pub meaning : List (List ℕ) → ℕ → Fields → Result (Instruction ℕ ℕ) FieldFault
 meaning strings count f = spelled_so strings count f (instruction_in f)

@@ -64,14 +64,15 @@ header_in bytes =
     if not (starts_with eqb bytes magic) then Err Magic
     else if not (starts_with eqb bytes magic_and_version) then Err Version else counts_in bytes
 
--- The first data string, of 1 to 16,384 bytes after its length, and the bytes after it. `None` if there is none.
+-- The first data string, of 1 to 16,384 bytes after its length, and the bytes after this data string. `None` if the
+-- bytes don't start with such a data string.
 unfoldable pub string_in : List ℕ → Option (List ℕ × List ℕ)
 string_in bytes =
     let size = number16_at bytes 0 in
     if nat_le 1 size && nat_le size 16384 && nat_le (2 + size) (length bytes)
     then Some (take size (drop 2 bytes), drop size (drop 2 bytes)) else None
 
--- The rest of the data strings, with this one prepended.
+-- This data string, followed by the data strings in `more`.
 abbrev pub before_strings : List ℕ → Option (List (List ℕ)) → Option (List (List ℕ))
 before_strings string more = option_map (λ strings. string ∷ strings) more
 
@@ -82,23 +83,23 @@ strings_in zero (byte ∷ bytes) = None
 strings_in (suc count) bytes =
     elim (string_in bytes) [ None ↦ None | Some string ↦ before_strings string.0 (strings_in count string.1) ]
 
--- The fields of this many instructions.
+-- The fields of this many instructions, which are encoded one after the other.
 unfoldable pub all_fields_in : ℕ → List ℕ → List Fields
 all_fields_in zero bytes = []
 all_fields_in (suc count) bytes = fields_in bytes ∷ all_fields_in count (drop 12 bytes)
 
--- The fault of the instruction with this number.
+-- The object's fault if the instruction with this number has this fault.
 abbrev pub fault_at : ℕ → FieldFault → ObjectFault
 fault_at pc field.Opcode = Opcode pc
 fault_at pc field.Operand = Operand pc
 fault_at pc field.Target = Target pc
 
--- The instruction with this number, or its fault with the number.
+-- The instruction with this number, or its fault, together with the number.
 abbrev pub at_pc : {A : Type 0} → ℕ → Result A FieldFault → Result A ObjectFault
 at_pc pc (Ok x) = Ok x
 at_pc pc (Err fault) = Err (fault_at pc fault)
 
--- The rest of the instructions, with this one prepended.
+-- This instruction, followed by the instructions in `more`.
 abbrev pub before_instructions : Instruction ℕ ℕ → Result (List (Instruction ℕ ℕ)) ObjectFault →
     Result (List (Instruction ℕ ℕ)) ObjectFault
 before_instructions instruction more = more then λ instructions. Ok (instruction ∷ instructions)
@@ -110,13 +111,13 @@ meanings strings count pc (f ∷ more) =
     at_pc pc (meaning strings count f) then λ instruction.
     before_instructions instruction (meanings strings count (pc + 1) more)
 
--- The program with these data strings and these instructions' fields, or its first fault.
+-- The program with these data strings and the instructions that these fields encode, or its first fault.
 abbrev pub program_of : List Fields → List (List ℕ) → Result Listing ObjectFault
 program_of all strings =
     meanings strings (length all) 0 all then λ instructions.
     Ok (record { strings = strings; instructions = instructions })
 
--- The data strings after this many instructions.
+-- The data strings that follow this many instructions.
 abbrev pub strings_after : ℕ → ℕ → List ℕ → Result (List (List ℕ)) ObjectFault
 strings_after count strings bytes = ok_or (strings_in strings (drop (16 + 12 * count) bytes)) Length
 

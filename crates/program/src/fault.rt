@@ -8,7 +8,7 @@ use std::alloc::{AllocError, AllocFailed};
 use thiserror::Error;
 
 /// Why bytes aren't a program's object. The first variant that applies is returned. If several instructions are faulty,
-/// the first of them is reported. Instructions are numbered from 0. Missing bytes count as wrong ones.
+/// the first faulty instruction is reported. Instructions are numbered from 0. Missing bytes count as wrong bytes.
 #[derive(Clone, Copy, Debug, PartialEq, Eq, Error)]
 pub enum ObjectFault {
     /// The first four bytes aren't `NBSC`.
@@ -17,21 +17,22 @@ pub enum ObjectFault {
     /// The next two bytes aren't version 1, little-endian.
     #[error("an object of another version")]
     Version,
-    /// The header is cut off, its reserved field before the length isn't 0, its length isn't the number of bytes, the
-    /// instructions and data strings don't fill it, or their counts exceed a limit.
+    /// The header is cut off, its reserved field isn't 0, its length field isn't the number of bytes, the instructions
+    /// and data strings don't fill exactly this length, or their counts exceed a limit. The reserved field precedes the
+    /// length field.
     #[error("an object of another length")]
     Length,
     /// The instruction with this number has an unknown operation.
     #[error("instruction {0}: no such operation")]
     Opcode(u16),
-    /// The instruction with this number has a field out of its range, an unused field that isn't 0, or a data string
-    /// that doesn't exist or doesn't fit.
+    /// The instruction with this number has a field that is out of range, an unused field that isn't 0, or a data
+    /// string that doesn't exist or has a wrong length.
     #[error("instruction {0}: a wrong operand")]
     Operand(u16),
     /// The instruction with this number jumps beyond the end of the program.
     #[error("instruction {0}: a jump beyond the end")]
     Target(u16),
-    /// There is no memory for the program. This may be returned in place of any other result.
+    /// There isn't enough memory for the program. This fault may be returned instead of any other result.
     #[error("out of memory")]
     OutOfMemory,
 }
@@ -57,7 +58,7 @@ impl<T: Drop> From<AllocFailed<T>> for ObjectFault {
 }
 
 impl FieldFault {
-    /// Returns the object's fault, given this fault of its instruction number `pc`.
+    /// Returns the object's fault if instruction `pc` has this fault.
     pub(crate) fn at(self, pc: u16) -> ObjectFault
         ensures { result ≡ fault_at pc self }
     {

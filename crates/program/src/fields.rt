@@ -1,4 +1,4 @@
-//! The fields of an instruction in an object, and their encoding in twelve bytes.
+//! The fields of an instruction in an object, and how they are encoded in twelve bytes.
 
 ghost use Rattle.std.specs.Prelude.{◌≡◌, ◌≤◌, ◌++◌, length, OnOk};
 ghost use Rattle.program.specs.Encoding.{fields_of, same_fields, HaveWidths};
@@ -13,22 +13,23 @@ use std::alloc::AllocError;
 /// The size in bytes of an instruction in an object.
 pub(crate) const INSTRUCTION_BYTES: usize = 12;
 
-/// The fields of an instruction. Those that its operation doesn't use are 0.
+/// The fields of an instruction. Fields that the operation doesn't use are 0.
 #[derive(Clone, Copy)]
 pub(crate) struct Fields {
     /// The operation: 1 to 22.
     pub(crate) op: u8,
-    /// The variant of the operation: the word that a peek keeps, the kind of group or queue side, or the link's state.
+    /// The variant of the operation: which word a peek loads, the kind of interrupt group, the queue's side, or the
+    /// link's state.
     pub(crate) sub: u8,
-    /// A short number: of a block, a queue, a virtual function, a data string or an instruction.
+    /// A 16-bit number: the number of a block, a queue, a virtual function, a data string or an instruction.
     pub(crate) x: u16,
-    /// The first word: an address, an offset or a register's word.
+    /// The first word: an address, an offset or a 32-bit value.
     pub(crate) a: u32,
-    /// The second word: a register's word or a mask.
+    /// The second word: a 32-bit value or a mask.
     pub(crate) b: u32,
 }
 
-/// Returns the fields of an operation with a variant and one short number.
+/// Returns the fields of an operation with a variant and a 16-bit number.
 fn of_kind(op: u8, sub: u8, x: u16) -> Fields
     ensures { result ≡ record { op = op; sub = sub; x = x; a = 0; b = 0 } }
 {
@@ -41,7 +42,7 @@ fn of_kind(op: u8, sub: u8, x: u16) -> Fields
     }
 }
 
-/// Returns the fields of an operation with one short number and two words.
+/// Returns the fields of an operation with a 16-bit number and two words.
 fn of_words(op: u8, x: u16, a: u32, b: u32) -> Fields
     ensures { result ≡ record { op = op; sub = 0; x = x; a = a; b = b } }
 {
@@ -55,7 +56,7 @@ fn of_words(op: u8, x: u16, a: u32, b: u32) -> Fields
 }
 
 impl Fields {
-    /// Returns the fields of an instruction, according to the encoding table of the operations.
+    /// Returns the fields of an instruction, as the encoding table defines them for each operation.
     pub(crate) fn of(instruction: Instruction) -> Fields
         ensures fields { result ≡ fields_of instruction }
         ensures widths { HaveWidths (fields_of instruction) }
@@ -123,7 +124,7 @@ impl Fields {
         }
     }
 
-    /// Appends the twelve bytes of the fields.
+    /// Appends the twelve bytes that encode the fields.
     pub(crate) fn put(self, out: &mut Vec<u8>) -> Result<(), AllocError>
         ensures { OnOk result (out.new.items ≡ out.old.items ++ bytes_of_fields self) }
     {

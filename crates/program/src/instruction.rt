@@ -9,12 +9,13 @@ use std::alloc::AllocError;
 
 /// One instruction of a program, or of a script during assembly.
 ///
-/// `L` is the type of a jump's target, and `D` the type of a data string. In a program both are numbers, counted from
-/// 0: of an instruction and of a data string. Addresses and words are 32 bits wide; block and queue numbers are 16 bits
-/// wide. Reads and peeks load a word into the accumulator `acc`, which starts as 0.
+/// `L` is the type of a jump's target, and `D` the type of a data string. In a program, a jump's target is an
+/// instruction's number, and a data string is given by its number, both counted from 0. Addresses and words are 32 bits
+/// wide; block and queue numbers are 16 bits wide. Reads and peeks load a word into the accumulator `acc`, which is
+/// initially 0.
 #[derive(Copy, Debug, Drop, PartialEq, Eq)]
 pub enum Instruction<L = u16, D = u16> {
-    /// `w`: writes a register through the physical function. The operands are its address and the new value.
+    /// `w`: writes a register through the physical function. The operands are the register's address and the new value.
     Write(u32, u32),
     /// `r`: reads the register at an address through the physical function into `acc`.
     Read(u32),
@@ -22,7 +23,7 @@ pub enum Instruction<L = u16, D = u16> {
     VfWrite {
         /// The number of the virtual function, 0 to 62.
         function: u8,
-        /// The byte offset in the function's register space.
+        /// The byte offset in the virtual function's register space.
         offset: u32,
         /// The word to write.
         word: u32,
@@ -31,27 +32,27 @@ pub enum Instruction<L = u16, D = u16> {
     VfRead {
         /// The number of the virtual function, 0 to 62.
         function: u8,
-        /// The byte offset in the function's register space.
+        /// The byte offset in the virtual function's register space.
         offset: u32,
     },
     /// `lend`: takes the block with this number from the machine's arena and lends it to the device.
     Lend(u16),
     /// `unlend`: takes the block with this number back from the device and returns it to the arena.
     Unlend(u16),
-    /// `poke`: writes 16 bytes of lent memory. The operands are the bus address and a 16-byte data string.
+    /// `poke`: writes 16 bytes to lent memory. The operands are the bus address and a 16-byte data string.
     Poke(u32, D),
-    /// `peek`: reads 16 bytes of lent memory at a bus address. The second operand, 0 to 3, selects the word that goes
-    /// into `acc`.
+    /// `peek`: reads 16 bytes of lent memory at a bus address. The second operand, 0 to 3, selects which 32-bit word of
+    /// these bytes is loaded into `acc`.
     Peek(u32, u8),
     /// `arrive`: a frame with the bytes of a data string arrives from the link.
     Arrive(D),
     /// `rx`: runs one receive step of the device.
     RxStep,
-    /// `tx`: runs one transmit step of a queue.
+    /// `tx`: runs one transmit step for a queue.
     TxStep(u16),
     /// `int`: sends the next message of an interrupt group: the physical function's, or a virtual function's (0 to 62).
     IntStep(Group),
-    /// `qstep`: enables or disables one side of a queue, as its enable bit requests.
+    /// `qstep`: turns one side of a queue on or off, as the side's enable bit requests.
     QueueStep(Dir, u16),
     /// `eestep`: completes the EEPROM read that EERD requests.
     EepromStep,
@@ -59,14 +60,14 @@ pub enum Instruction<L = u16, D = u16> {
     Link(bool),
     /// `collect`: removes the oldest transmitted frame.
     Collect,
-    /// `expect`: the program fails unless `acc` and the wanted word agree in the bits of the mask.
+    /// `expect`: the program fails unless `acc` and the expected word agree in the bits that are set in the mask.
     Expect {
-        /// The wanted word.
+        /// The expected word.
         want: u32,
         /// The bits to compare.
         mask: u32,
     },
-    /// `and`: clears the bits of `acc` that are 0 in this word.
+    /// `and`: clears the bits in `acc` that are 0 in this word.
     And(u32),
     /// `jeq`: jumps to the target if `acc` equals this word.
     JumpIfEqual(u32, L),
@@ -91,8 +92,9 @@ impl<L: Copy, D: Copy> Clone for Instruction<L, D> {
 }
 
 impl<L, D> Instruction<L, D> {
-    /// Returns the instruction with `label` applied to its jump target and `string` applied to its data string, or the
-    /// error that one of them returns. A function without a matching operand has no effect on the result.
+    /// Returns the instruction with `label` applied to its jump target and `string` applied to its data string. If one
+    /// of these functions returns an error, returns that error. If the instruction has no jump target, `label` doesn't
+    /// affect the result; if it has no data string, `string` doesn't.
     pub fn try_map<M, N, E, F, G>(&self, label: F, string: G) -> Result<Instruction<M, N>, E>
     where
         F: FnOnce(&L) -> Result<M, E> + Drop,
@@ -118,7 +120,8 @@ impl<L, D> Instruction<L, D> {
         }
     }
 
-    /// Converts an instruction that has neither a jump target nor a data string to other types of these.
+    /// Converts an instruction that has neither a jump target nor a data string to an instruction with other types for
+    /// these operands.
     fn nameless<M, N>(&self) -> Instruction<M, N>
         requires { IsNameless self.now }
         ensures { without_names self.now ≡ Ok result }

@@ -1,9 +1,10 @@
 //! Programs of the register-script language: instructions and data strings, and their encoding as bytes.
 //!
-//! An [`Instruction`] is generic over jump targets and data strings: a script has names for both, a program has
-//! numbers. Contracts see a [`Program`] as a `Listing`. `IsListing` states the facts about every program: its limits,
-//! and that everything an instruction refers to exists. `script_asm` assembles programs from scripts, and `machine`
-//! runs them. An object is a program encoded as bytes: [`Program::to_bytes`] writes it, and [`read`] reads it.
+//! An [`Instruction`] is generic over jump targets and data strings: a script refers to both by name, a program by
+//! number. Contracts see a [`Program`] as a `Listing`. `IsListing` states what holds for every program: the program is
+//! within its limits, and everything to which an instruction refers exists. `script_asm` assembles programs from
+//! scripts, and `machine` runs them. An object is a program encoded as bytes: [`Program::to_bytes`] encodes a program
+//! as an object, and [`read`] decodes an object.
 #![tactic(auto)]
 
 mod fault;

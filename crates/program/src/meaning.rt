@@ -11,25 +11,25 @@ use dma_ring::Dir;
 use intr_unit::Group;
 use vf_map::MAX_VFS;
 
-/// Faults of an instruction's fields, in the order in which they are reported.
+/// Faults in an instruction's fields, in the order in which they are reported.
 #[derive(Clone, Copy)]
 pub(crate) enum FieldFault {
     /// The operation is unknown.
     Opcode,
-    /// A field is out of its range, an unused field isn't 0, or the data string doesn't exist or doesn't fit.
+    /// A field is out of range, an unused field isn't 0, or the data string doesn't exist or has a wrong length.
     Operand,
-    /// A jump goes beyond the end of the program.
+    /// The target of a jump is beyond the end of the program.
     Target,
 }
 
-/// Returns the lower 8 bits of a short number.
+/// Returns the lower 8 bits of a 16-bit number.
 fn low_byte(x: u16) -> u8
     ensures { result ≡ low_byte x }
 {
     (x % 256) as u8
 }
 
-/// Returns the group of interrupts with this kind and number.
+/// Returns the interrupt group with this kind and number.
 fn group_of(sub: u8, x: u16) -> Group
     ensures { result ≡ group_of sub x }
 {
@@ -40,7 +40,7 @@ fn group_of(sub: u8, x: u16) -> Group
     }
 }
 
-/// Returns the side of a queue with this kind.
+/// Returns the side of a queue that this variant encodes.
 fn direction_of(sub: u8) -> Dir
     ensures { result ≡ direction_of sub }
 {
@@ -93,7 +93,7 @@ fn unless(fits: bool, fault: FieldFault) -> Option<FieldFault>
     if fits { None } else { Some(fault) }
 }
 
-/// Returns the length in bytes of the data string with this number; 0 if there is none.
+/// Returns the length in bytes of the data string with this number, or 0 if no data string has this number.
 fn bytes_of(strings: &[Octets], number: u16) -> usize
     ensures { result ≡ length (string_at strings.now number) }
 {
@@ -103,7 +103,8 @@ fn bytes_of(strings: &[Octets], number: u16) -> usize
     }
 }
 
-/// Returns the fault if the instruction refers to something missing, among these data strings and `count` instructions.
+/// Returns the fault if the instruction refers to something that doesn't exist in a program with these data strings and
+/// `count` instructions.
 fn fault_in(strings: &[Octets], count: u16, instruction: Instruction) -> Option<FieldFault>
     ensures { result ≡ fault_in strings.now count instruction }
 {
@@ -139,7 +140,8 @@ fn fault_in(strings: &[Octets], count: u16, instruction: Instruction) -> Option<
     }
 }
 
-/// Returns the instruction that the fields encode, among these data strings and `count` instructions.
+/// Returns the instruction that the fields encode in a program with these data strings and `count` instructions, or the
+/// fault in the fields.
 pub(crate) fn meaning(
     strings: &[Octets],
     count: u16,

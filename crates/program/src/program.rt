@@ -19,11 +19,12 @@ pub const DATA_LIMIT: usize = 1024;
 /// The maximum length of a data string in bytes. The minimum is one.
 pub const DATA_BYTES: usize = 16384;
 
-/// A program: its data strings and its instructions, both in order.
+/// A program of the register-script language: its data strings and its instructions, both in order.
 ///
-/// It has at most 4,096 instructions, and at most 1,024 data strings of 1 to 16,384 bytes. Everything that an
-/// instruction refers to exists: its data string, which is 16 bytes long if it is poked; its virtual function, below
-/// 63; its word, one of four; and its jump target, an instruction or the end.
+/// A program has at most 4,096 instructions, and at most 1,024 data strings of 1 to 16,384 bytes each. Everything to
+/// which an instruction refers exists. A data string exists, and is 16 bytes long if a `poke` uses it. The number of a
+/// virtual function is below 63. A `peek` selects one of four words. The target of a jump is an instruction or the end
+/// of the program.
 #[derive(Debug, Drop)]
 pub struct Program {
     strings: Vec<Octets>,
@@ -52,7 +53,7 @@ impl Program {
         }
     }
 
-    /// Returns a copy of the program, or `AllocError` if there is no memory for it.
+    /// Returns a copy of the program, or `AllocError` if there isn't enough memory for the copy.
     pub fn copy(&self, alloc: Global) -> Result<Program, AllocError>
         ensures { IfOk result (λ program. program ≡ self.now) }
     {
@@ -110,9 +111,9 @@ impl Program {
         }
     }
 
-    /// Returns the object of the program: its header, then its instructions in twelve bytes each, then its data
-    /// strings, each preceded by its length. Numbers are little-endian. [`read`] reads it back as the same program.
-    /// Fails with `AllocError` if there is no memory for it.
+    /// Returns the program's object: a header, then the instructions in twelve bytes each, then the data strings, each
+    /// preceded by its length. Numbers are little-endian. [`read`] decodes the object as the same program. Fails with
+    /// `AllocError` if there isn't enough memory for the object.
     pub fn to_bytes(&self, alloc: Global) -> Result<Vec<u8>, AllocError>
         ensures exact { IfOk result (λ bytes. bytes.items ≡ object_of self.now) }
         ensures reads_back { IfOk result (λ bytes. read_of bytes.items ≡ Ok self.now) }
@@ -121,7 +122,7 @@ impl Program {
     }
 }
 
-/// Returns copies of data strings.
+/// Returns copies of these data strings.
 fn copied(alloc: Global, strings: &[Octets]) -> Result<Vec<Octets>, AllocError>
     ensures { IfOk result (λ copies. copies.items ≡ strings.now) }
 {

@@ -35,7 +35,7 @@ pub(crate) struct Header {
     strings: u16,
 }
 
-/// Returns the counts in the header, if the header and the instructions fit in the bytes.
+/// Returns the counts in the header, or `Length` unless the header and the instructions fit in the bytes.
 fn counts_in(bytes: &[u8]) -> Result<Header, ObjectFault>
     ensures value { result ≡ counts_in bytes.now }
     ensures fits { IfOk result (Fits bytes.now) }
@@ -58,7 +58,7 @@ fn counts_in(bytes: &[u8]) -> Result<Header, ObjectFault>
     }
 }
 
-/// Returns the counts in the header, or its first fault.
+/// Returns the counts in the header, or the header's first fault.
 #[tactic(auto, unfolding(crate::specs::Object::header_in))]
 fn header_in(bytes: &[u8]) -> Result<Header, ObjectFault>
     ensures value { result ≡ header_in bytes.now }
@@ -158,7 +158,7 @@ fn instructions_in(
     Ok(instructions)
 }
 
-/// Returns the data strings after the instructions.
+/// Reads the data strings, which follow the instructions.
 fn strings_after(alloc: Global, bytes: &[u8], header: Header) -> Result<Vec<Octets>, ObjectFault>
     requires { 16 + 12 * header.count ≤ length bytes.now }
     ensures { Gives (λ strings. strings.items) result (strings_after header.count header.strings bytes.now) }
@@ -168,7 +168,7 @@ fn strings_after(alloc: Global, bytes: &[u8], header: Header) -> Result<Vec<Octe
     strings_in(alloc, header.strings, after)
 }
 
-/// Returns the instructions after the header.
+/// Decodes the instructions, which follow the header.
 fn instructions_after(
     alloc: Global,
     bytes: &[u8],
@@ -187,8 +187,9 @@ fn instructions_after(
 
 /// Decodes an object into the program that it encodes, or returns its first fault.
 ///
-/// The call accepts only the exact object of the program that it returns, with unused fields 0. It takes time linear in
-/// the number of bytes; the contract doesn't state this. `OutOfMemory` may be returned in place of any other result.
+/// The call accepts only the exact object of the program that it returns, in which unused fields are 0. The call takes
+/// time linear in the number of bytes; the contract doesn't state this. `OutOfMemory` may be returned instead of any
+/// other result.
 #[tactic(auto, unfolding(crate::specs::Object::read_of))]
 pub fn read(alloc: Global, bytes: &[u8]) -> Result<Program, ObjectFault>
     ensures exact { Gives (λ program. program) result (read_of bytes.now) }

@@ -59,7 +59,7 @@ fn put_strings(out: &mut Vec<u8>, strings: &[Octets]) -> Result<(), AllocError>
     Ok(())
 }
 
-/// Everything after the header: the instructions, then the data strings.
+/// Returns everything after the header: the instructions, then the data strings.
 fn body(
     alloc: Global,
     strings: &[Octets],

@@ -19,7 +19,7 @@ use Rattle.debugger.proofs.Counted.{counted-before, run_on-plain}
 abbrev seen : Course → List ℕ → Session
 seen m b = record { program = m.program; config = m.config; steps = m.state.steps; breakpoints = b }
 
--- A machine that has counted n steps has counted each smaller number of steps before.
+-- If a machine has counted n steps, running from the start reaches each earlier step.
 replayed : (p : Listing) (c : Config) (n target : ℕ) → (machine_at p c n).steps ≡ n → target ≤ n
     → run_on p c [] 0 target ≡ target
 unfolding machine_at
@@ -29,7 +29,7 @@ replayed p c n target counted within =
     run_on-plain p c 0 target refl ∙ ap (λ k. (machine_at p c k).steps) from
     ∙ counted-before p c target (n - target) (ap (λ k. (machine_at p c k).steps) whole ∙ counted ∙ sym whole)
 
--- Replacing the machine by the replayed one leads to the earlier position.
+-- Replacing the machine with the replayed machine takes the session to the earlier step.
 pub seen-back : (object : List ℕ) (config : Config) (d m : Course) (b : List ℕ) (steps count : ℕ)
     → CanBeReplayed object config d
     → read_of object ≡ Ok m.program → m.config ≡ config → m.state.steps ≡ run_on m.program config [] 0 (steps - count)
@@ -63,7 +63,7 @@ Does-back s after count view within is shown =
       memory = λ (refused : Ok view ≡ Err OutOfMemory). cc;
     }
 
--- The replayed machine is the new one, so the session is the one after `Back`.
+-- The replayed machine becomes the debugger's machine, so the session is the session after `Back`.
 pub back-done : (old : Session) (object bytes : List ℕ) (config : Config) (d m fresh : Course) (b : List ℕ)
     (steps count : ℕ) (view : View)
     → seen d b ≡ old → CanBeReplayed object config d → bytes ≡ object → read_of bytes ≡ Ok fresh.program

@@ -1,4 +1,4 @@
--- The number of counted steps after n steps.
+-- Lemmas about how many steps a machine has counted after n steps.
 use Rattle.std.proofs.Common.{◌≡◌, ◌≢◌, refl, sym, ◌∙◌, ap, ℕ, zero, suc, ◌+◌, ◌≤◌, Bool, true, false, if◌then◌else◌, Option, Some, None, [], arith, add-zero, add-suc}
 use Rattle.nic_device.specs.declared.Config.{Config}
 use Rattle.machine.specs.Action.{action_of}
@@ -21,7 +21,7 @@ stopped-is other e = cc
 going-is : (a : StepAnswer) → is_stopped a ≡ false → a ≢ answer.Stopped
 going-is a going e = (let no : true ≡ false = sym (ap is_stopped e) ∙ going in cc)
 
--- A machine that stops stays unchanged; any other counts a step.
+-- A step leaves a stopped machine unchanged; any other machine counts the step.
 pub stays : (p : Listing) (s : MachineState) → is_stopped (machine_step p s).answer ≡ true
     → (machine_step p s).state ≡ s
 stays p s stopped = steps_count.stays p s (stopped-is (machine_step p s).answer stopped)
@@ -30,7 +30,7 @@ pub counts : (p : Listing) (s : MachineState) → is_stopped (machine_step p s).
     → (machine_step p s).state.steps ≡ s.steps + 1
 counts p s going = steps_count.counts p s (going-is (machine_step p s).answer going)
 
--- A step that may need memory doesn't stop.
+-- A machine isn't stopped if its next step may need memory.
 either-goes : (b : Bool) (x y : Step) → is_stopped x.answer ≡ false → is_stopped y.answer ≡ false
     → is_stopped (if b then x else y).answer ≡ false
 either-goes true x y first second = first
@@ -71,13 +71,13 @@ more p c n (suc k) =
     let same = ap (λ m. (machine_at p c m).steps) (add-suc n k) in
     (omega (arith, before.0, step.0, same), omega (arith, before.1, step.1, same))
 
--- After n steps a machine has counted at most n.
+-- After n steps, a machine has counted at most n steps.
 pub few : (p : Listing) (c : Config) (n : ℕ) → (machine_at p c n).steps ≤ n
 unfolding machine_at
 few p c zero = omega arith
 few p c (suc n) = let step = one_more p c n (stops_at p c n) refl in omega (arith, step.1, few p c n)
 
--- If a machine has counted all of n steps, it has counted all of the earlier ones.
+-- If a machine has counted all of its steps, it had counted all of its steps at every earlier step.
 pub counted-before : (p : Listing) (c : Config) (n k : ℕ) → (machine_at p c (n + k)).steps ≡ n + k
     → (machine_at p c n).steps ≡ n
 counted-before p c n k all = let later = more p c n k in omega (arith, later.1, few p c n)
@@ -95,7 +95,7 @@ either_on p c n k counted false is on =
     let next : (machine_at p c (suc n)).steps ≡ suc n = omega (arith, counts p (machine_at p c n) is, counted) in
     on next ∙ ap (λ m. (machine_at p c m).steps) one
 
--- Running on without breakpoints leads to the number of steps that the machine has counted by then.
+-- A run without breakpoints ends at the number of steps that the machine has counted by then.
 pub run_on-plain : (p : Listing) (c : Config) (n k : ℕ) → (machine_at p c n).steps ≡ n
     → run_on p c [] n k ≡ (machine_at p c (n + k)).steps
 unfolding run_on

@@ -1,4 +1,4 @@
--- Snapshots of a machine, and runs that start from an earlier one.
+-- Lemmas about snapshots of a machine, and about runs that start from an earlier snapshot.
 use Rattle.std.proofs.Common.{◌≡◌, refl, sym, subst, ◌∙◌, ap, ℕ, ◌+◌, ◌-◌, ◌<◌, ◌≤◌, Bool, true, false, if◌then◌else◌, List, [], ◌∷◌, ◌++◌, length, take, get_or, Result, Ok, Err, arith}
 use Rattle.std.specs.Prelude.{IsOk}
 use Rattle.std.proofs.lemmas.List.Elements.{All-nil, All-cons, All-append, All-take}
@@ -14,7 +14,7 @@ use Rattle.debugger.specs.Session.{CanBeReplayed}
 use Rattle.debugger.specs.Snapshots.{IsOf, AreOf, IsBefore, StayOf, AreReplayed}
 use Rattle.debugger.proofs.Counted.{run_on-plain}
 
--- Running the remaining steps from an earlier machine leads to the same position as running from the start.
+-- Running the remaining steps from an earlier step ends at the same step as running from the start.
 pub run_on-early : (p : Listing) (c : Config) (n steps : ℕ) → (machine_at p c n).steps ≡ n → n ≤ steps
     → run_on p c [] n (steps - n) ≡ run_on p c [] 0 steps
 unfolding machine_at
@@ -40,7 +40,7 @@ replayed-early config machine later b left steps reported same at within is rest
     ∙ run_on-early machine.program config machine.state.steps steps counted within
     ∙ ap (λ (m : Course). run_on m.program config [] 0 steps) (sym later-at)
 
--- A restored machine is at its snapshot's position.
+-- A restored machine is at the step of its snapshot.
 pub at-early : (machine : Course) (config : Config) (reported : ℕ) → machine.config ≡ config → reported
     ≡ machine.state.steps
     → machine.state ≡ machine_at machine.program machine.config reported
@@ -49,7 +49,7 @@ at-early machine config reported same count at =
     at ∙ ap (λ n. machine_at machine.program machine.config n) count
     ∙ ap (λ c. machine_at machine.program c machine.state.steps) same
 
--- If a snapshot of the machine is added, all are still snapshots of one machine.
+-- If a snapshot of the same machine is added, all snapshots are still snapshots of one machine.
 pub stay-more : (machine : Course) (before : List Course) (snapshot : Course) → snapshot ≡ machine
     → StayOf machine before (before ++ snapshot ∷ [])
 stay-more machine before snapshot is m same all =
@@ -59,14 +59,14 @@ stay-more machine before snapshot is m same all =
     } in
     All-append (IsOf m) before (snapshot ∷ []) all (All-cons (IsOf m) snapshot [] of (All-nil (IsOf m)))
 
--- The snapshots are kept across two stages of a run.
+-- If `StayOf` holds for two successive parts of a run, it holds for both parts together.
 pub stay-on : (start now : Course) (first second third : List Course) → now.program ≡ start.program
     → now.config ≡ start.config → StayOf start first second → StayOf now second third → StayOf start first third
 stay-on start now first second third program config before more m same all =
     let like : IsOf now m = record { program = same.program ∙ sym program; config = same.config ∙ sym config } in
     more m like (before m same all)
 
--- The snapshots are kept across one more step.
+-- If `StayOf` holds for a run and for one more step, it holds for the run with this step.
 pub stay-step : (start now later : Course) (first second third : List Course)
     → now ≡ record start { state = machine_at start.program start.config now.state.steps }
     → later ≡ record now { state = (machine_step now.program now.state).state }
@@ -76,7 +76,7 @@ stay-step start now later first second third at step before more =
     (ap (λ (m : Course). m.program) step ∙ ap (λ (m : Course). m.program) at)
     (ap (λ (m : Course). m.config) step ∙ ap (λ (m : Course). m.config) at) before more
 
--- Snapshots taken during a run can be replayed from.
+-- The machine can be replayed from the snapshots that were taken during a run.
 pub replayed-more : (object : List ℕ) (config : Config) (machine : Course) (before after : List Course)
     → CanBeReplayed object config machine → AreReplayed object config before → StayOf machine before after
     → AreReplayed object config after
@@ -85,7 +85,7 @@ replayed-more object config machine before after can all stay m program same =
     let one : m.program ≡ machine.program = cc in
     stay m (record { program = one; config = same ∙ sym can.same }) (all m program same)
 
--- After a run, its snapshots can be replayed from.
+-- After a run, the machine can be replayed from its snapshots.
 pub replayed-on : (object : List ℕ) (config : Config) (machine later : Course) (before after : List Course)
     → CanBeReplayed object config machine → AreReplayed object config before
     → later ≡ record machine { state = machine_at machine.program machine.config later.state.steps }
@@ -100,7 +100,7 @@ replayed-on object config machine later before after can all at stay =
     } in
     (on, replayed-more object config machine before after can all stay)
 
--- A snapshot is pushed if there is memory.
+-- `StayOf` holds if a snapshot is added when there is enough memory.
 pub stay-pushed : (machine : Course) (before after : List Course) (snapshot : Course) (ok : Bool)
     → snapshot ≡ machine → after ≡ (if ok then before ++ snapshot ∷ [] else before) → StayOf machine before after
 stay-pushed machine before after snapshot true is pushed =
@@ -108,7 +108,7 @@ stay-pushed machine before after snapshot true is pushed =
 stay-pushed machine before after snapshot false is pushed =
     λ m same all. subst (λ (xs : List Course). AreOf m xs) (sym pushed) all
 
--- The same holds if the new snapshot is kept with only the permanent ones.
+-- `StayOf` also holds if all but the permanent snapshots are removed before the new snapshot is added.
 pub stay-replaced : (machine : Course) (stay : ℕ) (before first after : List Course) (snapshot : Course) (ok : Bool)
     → snapshot ≡ machine → first ≡ take stay before → after ≡ (if ok then first ++ snapshot ∷ [] else first)
     → StayOf machine before after
@@ -116,7 +116,7 @@ stay-replaced machine stay before first after snapshot ok is taken pushed m same
     stay-pushed machine first after snapshot ok is pushed m same
     (subst (λ (xs : List Course). AreOf m xs) (sym taken) (All-take (IsOf m) stay before all))
 
--- The snapshot that is found isn't later than the wanted step.
+-- The snapshot that is found is at or before the wanted step.
 pub before-is : (machine snapshot : Course) (snapshots kept : List Course) (at reported steps : ℕ) →
     AreOf machine snapshots
     → kept ≡ snapshots → at < length kept → snapshot ≡ get_or kept at snapshot → reported ≡ snapshot.state.steps
@@ -127,7 +127,7 @@ before-is machine snapshot snapshots kept at reported steps all same inside is c
   early = omega (arith, count, early);
 }
 
--- The snapshot that is found can run on in place of a machine that runs from the start.
+-- A machine that is restored from the snapshot can run on in place of a machine that runs from the start.
 early-by : (object : List ℕ) (config : Config) (snapshots : List Course) (snapshot : Course) (steps : ℕ)
     (read : Result Listing ObjectFault) → read_of object ≡ read → IsOk read → AreReplayed object config snapshots
     → ((m : Course) → AreOf m snapshots → IsBefore m snapshot steps)

@@ -1,4 +1,4 @@
--- The end of a run.
+-- Lemmas about the step at which a run ends.
 use Rattle.std.proofs.Common.{◌≡◌, ◌⊎◌, refl, ◌∙◌, ap, ℕ, zero, suc, ◌+◌, ◌<◌, Bool, true, false, if◌then◌else◌, List, arith, inl, inr}
 use Rattle.std.proofs.lemmas.Bool.Decides.{eqb_tells}
 use Rattle.nic_device.specs.declared.Config.{Config}

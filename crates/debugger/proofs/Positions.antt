@@ -1,4 +1,4 @@
--- Sessions before and after a command.
+-- Lemmas about the sessions before and after a command.
 use Rattle.std.proofs.Common.{◌≡◌, refl, sym, ◌∙◌, ap, ℕ, zero, suc, ◌+◌, ◌-◌, ◌≤◌, Bool, true, false, List, [], Option, None, Result, Ok, Err, if◌then◌else◌, arith, inl, inr}
 use Rattle.std.proofs.lemmas.Bool.Decides.{leb_tells}
 use Rattle.nic_device.specs.declared.Config.{Config}
@@ -16,7 +16,7 @@ use Rattle.debugger.specs.declared.command.DebugRefusal.TheVariants.{AtStart}
 use Rattle.debugger.specs.declared.command.View.{View}
 use Rattle.debugger.proofs.Counted.{counts, counted-before, run_on-plain}
 
--- How an answer and its session relate to each other and to the session before.
+-- How a command's result, the session after it and the session before it are related.
 record Stands (s : Session) (a : Answered) : Type 0 where
   shown : (view : View) → a.answer ≡ Ok view → view ≡ view_of a.session view.shown
   refused : (refusal : DebugRefusal) → a.answer ≡ Err refusal → a.session ≡ s
@@ -64,7 +64,7 @@ commands_show_their_position = record {
   show_vf = λ s function offset. refl;
 }
 
--- A run leads to a counted position.
+-- If the machine has counted all steps when a run starts, it has counted all steps when the run ends.
 counted-either : (p : Listing) (c : Config) (b : List ℕ) (n limit : ℕ) (stopped meets : Bool)
     → stops_at p c n ≡ stopped → (machine_at p c n).steps ≡ n
     → ((machine_at p c (suc n)).steps ≡ suc n

@@ -24,7 +24,7 @@ pub run_on-goes : (p : Listing) (c : Config) (b : List ℕ) (n limit : ℕ) → 
 unfolding run_on
 run_on-goes p c b n limit going passes = rw (going, passes) refl
 
--- A run of at least one step takes one, unless the machine has stopped.
+-- A run with a limit of at least one step takes a step, unless the machine has stopped.
 run_on-further : (p : Listing) (c : Config) (b : List ℕ) (n limit : ℕ) → stops_at p c n ≡ false
     → n < run_on p c b n (suc limit)
 unfolding run_on
@@ -39,7 +39,7 @@ pub meets-at : (b : List ℕ) (pc reported number : ℕ) (meets : Bool) → repo
     → meets ≡ has_break b number → has_break b pc ≡ meets
 meets-at b pc reported number meets first second is = ap (has_break b) (sym first ∙ sym second) ∙ sym is
 
--- A machine that has taken some of the steps.
+-- The machine `now` is the machine `start` after some of the steps of a run.
 pub record RanOn (start now : Course) (breakpoints : List ℕ) (limit made : ℕ) : Type 0 where
   pub at : now ≡ record start { state = machine_at start.program start.config now.state.steps }
   pub from : start.state.steps ≤ now.state.steps
@@ -47,7 +47,7 @@ pub record RanOn (start now : Course) (breakpoints : List ℕ) (limit made : ℕ
       ≡ run_on start.program start.config breakpoints start.state.steps limit
 
 module _ (start now : Course) (b : List ℕ) (limit made : ℕ) (ran : RanOn start now b limit made) where
-  -- One more step is the step of the machine after the steps so far.
+  -- The next step is the step that the machine takes after the steps so far.
   step-is : machine_step now.program now.state ≡
       machine_step start.program (machine_at start.program start.config now.state.steps)
   step-is = ap (λ (m : Course). machine_step m.program m.state) ran.at
@@ -71,7 +71,7 @@ module _ (start now : Course) (b : List ℕ) (limit made : ℕ) (ran : RanOn sta
       (run_on-further start.program start.config b now.state.steps (limit - made - 1)
       (stops-is false (sym (takes-goes now.program now.state takes))))
 
-  -- The case of a refused step.
+  -- The case in which a step runs out of memory.
   pub refused-short : {A E : Type 0} (result : Result A E) (later : Course) → later ≡ now → made < limit
       → StepTakesMemory now.program now.state
       → OnErr result (later.state.steps < run_on start.program start.config b start.state.steps limit)
@@ -86,7 +86,7 @@ module _ (start now : Course) (b : List ℕ) (limit made : ℕ) (ran : RanOn sta
       rw same (subst (λ (m : Course). StepTakesMemory m.program m.state) ran.at takes)
 
   module _ (later : Course) (step : later ≡ record now { state = (machine_step now.program now.state).state }) where
-    -- The case of a stopped machine.
+    -- The case in which the machine has stopped.
     same : (stopped : is_stopped (machine_step now.program now.state).answer ≡ true) → later ≡ now
     same stopped = step ∙ ap (λ s. record now { state = s }) (stays now.program now.state stopped)
 
@@ -109,7 +109,7 @@ module _ (start now : Course) (b : List ℕ) (limit made : ℕ) (ran : RanOn sta
         (stops-is true (sym stopped)))
         ∙ ap (run_on start.program start.config b now.state.steps) one ∙ ran.left
 
-    -- The case of a machine that continues.
+    -- The case in which the machine continues.
     next-steps : is_stopped (machine_step now.program now.state).answer ≡ false
         → later.state.steps ≡ suc now.state.steps
     next-steps going = ap (λ (m : Course). m.state.steps) step ∙ counts now.program now.state going

@@ -8,8 +8,8 @@ use Rattle.debugger.specs.declared.command.DebugRefusal.TheVariants.{NoSuchPc, T
 abbrev pub has_break : List ℕ → ℕ → Bool
 has_break breakpoints pc = list_any (λ set. set == pc) breakpoints
 
--- Sets a breakpoint at an instruction of a program with `count` instructions. There are at most 32 breakpoints. If it
--- is already set, nothing changes.
+-- Sets a breakpoint at an instruction of a program with `count` instructions. At most 32 breakpoints can be set. If
+-- this breakpoint is already set, nothing changes.
 abbrev pub with_break : ℕ → List ℕ → ℕ → Result (List ℕ) DebugRefusal
 with_break count breakpoints pc =
     if nat_lt pc count

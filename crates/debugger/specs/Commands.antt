@@ -14,12 +14,12 @@ use Rattle.debugger.specs.declared.command.DebugRefusal.{DebugRefusal}
 use Rattle.debugger.specs.declared.command.DebugRefusal.TheVariants.{AtStart, OutOfMemory}
 use Rattle.debugger.specs.declared.command.View.{View}
 
--- A command's answer, and the session after it.
+-- The result of a command, and the session after the command.
 pub record Answered : Type 0 where
   pub answer : Result View DebugRefusal
   pub session : Session
 
--- The session is shown.
+-- The command succeeds and shows the session.
 abbrev pub shows : Session → Option ℕ → Answered
 shows s shown = record { answer = Ok (view_of s shown); session = s }
 
@@ -31,16 +31,16 @@ refuses s refusal = record { answer = Err refusal; session = s }
 abbrev pub at : Session → ℕ → Session
 at s steps = record s { steps = steps }
 
--- The session with these breakpoints, or the refusal of the change.
+-- The session with these breakpoints, or the refusal to change the breakpoints.
 abbrev pub with_breakpoints : Session → Result (List ℕ) DebugRefusal → Answered
 with_breakpoints s (Ok breakpoints) = shows (record s { breakpoints = breakpoints }) None
 with_breakpoints s (Err refusal) = refuses s refusal
 
--- The result of a read through a port, without the read's side effects.
+-- What a read through a port would return, without the read's side effects.
 abbrev pub peeked : Session → Port → ℕ → Option ℕ
 peeked s port address = reported_word (step_of (machine_of s).device (Read port address)).reply
 
--- The session this many steps later.
+-- The session after taking this many steps, or fewer if the machine stops.
 abbrev pub stepped : Session → ℕ → Session
 stepped s count = at s (run_on s.program s.config [] s.steps count)
 
@@ -48,7 +48,7 @@ stepped s count = at s (run_on s.program s.config [] s.steps count)
 abbrev pub continued : Session → ℕ → Session
 continued s limit = at s (run_on s.program s.config s.breakpoints s.steps limit)
 
--- The answer of a command, and the session after it.
+-- The result of each command, and the session after it.
 abbrev pub command_of : Session → Command → Answered
 command_of s (Step count) = shows (stepped s count) None
 command_of s (Back count) = if nat_le count s.steps then shows (at s (s.steps - count)) None else refuses s AtStart
@@ -67,7 +67,7 @@ pub record IsOnTheWay (before after target : Session) : Type 0 where
   pub takes : StepTakesMemory before.program (machine_at before.program before.config after.steps)
 
 -- The session after memory ran out. `Step` and `Continue` have taken some of their steps, and the next step is one of
--- the remaining steps and may need memory. `Back` changed nothing, and the machine has taken at least `count` steps. No
+-- the remaining steps and may need memory. `Back` changed nothing, and the session is at step `count` or later. No
 -- other command needs memory.
 abbrev pub LeftBy : Session → Command → Session → Type 0
 LeftBy s (Step count) after = IsOnTheWay s after (stepped s count)

@@ -1,4 +1,4 @@
--- Laws of the debugger.
+-- Laws about the debugger.
 use Rattle.std.specs.Prelude.{◌≡◌, ◌⊎◌, ◌+◌, ◌-◌, ◌<◌, ◌≤◌, ℕ, true, false, List, [], Ok, Err}
 use Rattle.nic_device.specs.declared.Config.{Config}
 use Rattle.machine.specs.Machine.{machine_at}
@@ -12,8 +12,8 @@ use Rattle.debugger.specs.declared.command.Command.TheVariants.{Show, ShowVf}
 use Rattle.debugger.specs.declared.command.DebugRefusal.{DebugRefusal}
 use Rattle.debugger.specs.declared.command.View.{View}
 
--- An executed command shows the position of its session. A refused one leaves the session unchanged. No command changes
--- the program or the configuration, and the show commands change nothing.
+-- An executed command shows the state of the machine at the session's step. A refused command leaves the session
+-- unchanged. No command changes the program or the configuration, and the show commands change nothing.
 pub record CommandsShowTheirPosition : Type 0 where
   pub shown : (s : Session) (command : Command) (view : View) → (command_of s command).answer ≡ Ok view
       → view ≡ view_of (command_of s command).session view.shown
@@ -24,7 +24,7 @@ pub record CommandsShowTheirPosition : Type 0 where
   pub show : (s : Session) (address : ℕ) → (command_of s (Show address)).session ≡ s
   pub show_vf : (s : Session) (function offset : ℕ) → (command_of s (ShowVf function offset)).session ≡ s
 
--- The session's machine has counted all of its steps.
+-- The session's machine has counted all of the session's steps.
 abbrev pub IsCounted : Session → Type 0
 IsCounted s = (machine_of s).steps ≡ s.steps
 
@@ -35,9 +35,9 @@ pub record PositionsAreCounted : Type 0 where
       → IsCounted (record { program = program; config = config; steps = 0; breakpoints = breakpoints })
   pub kept : (s : Session) (command : Command) → IsCounted s → IsCounted (command_of s command).session
 
--- A run from step n that ends at step r, within its limit. Before r the machine doesn't stop, and it meets no
--- breakpoint between n and r. At r the run has reached its limit, the machine stops, or, after at least one step, the
--- next instruction has a breakpoint.
+-- A run starts at step n and ends at step r, within its limit. Before r, the machine doesn't stop. Between n and r, the
+-- next instruction never has a breakpoint. At r, the run has reached its limit, the machine stops, or, after at least
+-- one step, the next instruction has a breakpoint.
 pub record EndsFirst (program : Listing) (config : Config) (breakpoints : List ℕ) (n limit r : ℕ) : Type 0 where
   pub from : n ≤ r
   pub up_to : r ≤ n + limit
@@ -52,8 +52,8 @@ abbrev pub RunsEndFirst : Type 0
 RunsEndFirst = (program : Listing) (config : Config) (breakpoints : List ℕ) (n limit : ℕ)
     → EndsFirst program config breakpoints n limit (run_on program config breakpoints n limit)
 
--- Going back a number of steps and then forward by the same number leads to the same position, if the session's machine
--- has counted all of its steps and has at least this many.
+-- If a session's machine has counted all of the session's steps, and these are at least `count` steps, then going back
+-- `count` steps and forward again by `count` steps reaches the original step.
 abbrev pub BackAndOnAgain : Type 0
 BackAndOnAgain = (s : Session) (count : ℕ) → IsCounted s → count ≤ s.steps
     → run_on s.program s.config [] (s.steps - count) count ≡ s.steps

@@ -18,8 +18,8 @@ is_stopped answer.Stopped = true
 abbrev pub stops_at : Listing → Config → ℕ → Bool
 stops_at program config n = is_stopped (machine_step program (machine_at program config n)).answer
 
--- The position of a machine `limit` steps after step n. The run ends early if the machine stops, or if it meets a
--- breakpoint after a step.
+-- The step at which a run of at most `limit` steps from step n ends. The run ends early if the machine stops or if,
+-- after a step, the next instruction has a breakpoint.
 unfoldable pub run_on : Listing → Config → List ℕ → ℕ → ℕ → ℕ
 run_on program config breakpoints n zero = n
 run_on program config breakpoints n (suc limit) =

@@ -1,4 +1,4 @@
-//! The list of breakpoints at instructions.
+//! The list of a debugger's breakpoints.
 
 ghost use Rattle.std.specs.Prelude.{◌≡◌, IfErr, OnOk, OnErr, Ok, Err};
 ghost use Rattle.debugger.specs.Breakpoints.{has_break, with_break, without_break};
@@ -12,7 +12,7 @@ pub const BREAK_LIMIT: usize = 32;
 /// The numbers of the instructions with a breakpoint.
 pub(crate) type Breakpoints = ArrayVec<u32, BREAK_LIMIT>;
 
-/// Whether there is a breakpoint at an instruction.
+/// Whether a breakpoint is set at an instruction.
 pub(crate) fn has_break(breakpoints: &Breakpoints, pc: u32) -> bool
     ensures { result ≡ has_break breakpoints.now.items pc }
 {

@@ -1,4 +1,4 @@
-//! The debugger: a machine with breakpoints that can go back.
+//! The debugger: a machine that has breakpoints and can go back to earlier steps.
 
 ghost use Rattle.std.specs.Prelude.{◌≡◌, ◌≢◌, ◌<◌, ◌≤◌, ◌↔◌, [], Err, IfOk, IfErr};
 ghost use Rattle.std.specs.Result.{IsErrAnd};
@@ -18,9 +18,10 @@ use std::alloc::Global;
 use std::marker::Model;
 use std::mem;
 
-/// A machine with breakpoints. To be able to go back, it keeps its program, its configuration and, if there is memory
-/// for them, snapshots: one at each of the first 64 multiples of 256 steps, and one later snapshot that is replaced as
-/// the machine advances. It can't be dropped: `finish` ends it.
+/// A machine with breakpoints that can go back to earlier steps. To go back, a debugger keeps its program, its
+/// configuration and, if there is enough memory, snapshots of the machine. It keeps one snapshot at each of the first
+/// 64 multiples of 256 steps, and one later snapshot, which is replaced as the machine advances. A debugger can't be
+/// dropped: `finish` ends it.
 pub struct Debugger {
     alloc: Global,
     object: Vec<u8>,
@@ -50,7 +51,7 @@ impl Model for Debugger {
 }
 
 impl Debugger {
-    /// Creates a debugger of a program at step 0, on a new device of this configuration, without breakpoints.
+    /// Creates a debugger for a program, at step 0, on a new device with this configuration, and without breakpoints.
     ///
     /// Errors: `TooManyVfs` and `Fifo`, each exactly if `Device::new` returns it for the configuration; or
     /// `OutOfMemory`. The error contains the program, unchanged.
@@ -83,14 +84,14 @@ impl Debugger {
         }
     }
 
-    /// Executes a command and returns the machine's state after it. The state depends only on the number of steps to
-    /// which the commands so far lead, however it was reached. Which snapshots are kept affects an answer only if
-    /// memory runs out.
+    /// Executes a command and returns the machine's state after the command. This state depends only on the step that
+    /// the commands so far have reached, not on how they reached that step. Which snapshots are kept affects a result
+    /// only if memory runs out.
     ///
-    /// After a refusal the debugger is unchanged, with one exception: a `Step` or `Continue` that runs out of memory
-    /// has taken the steps before the refused one, and the next step is one that may need memory. `Back` can run out of
-    /// memory only if at least as many steps as it goes back were taken. `Break`, `Clear`, `Show` and `ShowVf` never
-    /// run out of memory.
+    /// After a refusal, the debugger is unchanged, with one exception: a `Step` or `Continue` that runs out of memory
+    /// has taken the steps before the refused step, and the next step is one that may need memory. `Back` can run out
+    /// of memory only if the machine has taken at least as many steps as `Back` goes back. `Break`, `Clear`, `Show` and
+    /// `ShowVf` never run out of memory.
     pub fn exec(&mut self, command: Command) -> Result<View, DebugRefusal>
         ensures answer { result ≢ Err DebugRefusal.OutOfMemory → result ≡ (command_of self.old command).answer }
         ensures session { result ≢ Err DebugRefusal.OutOfMemory → self.new ≡ (command_of self.old command).session }
@@ -122,7 +123,7 @@ impl Debugger {
         machine.finish();
     }
 
-    /// Returns the state of the machine, with a shown word.
+    /// Returns the state of the machine, with a value that a show command requested, if any.
     fn view(&self, shown: Option<u32>) -> View
         ensures { result ≡ view_of self.now shown }
     {
@@ -165,8 +166,8 @@ impl Debugger {
         }
     }
 
-    /// Executes `Command::Back`: runs a new machine from the last snapshot at or before the target step, or from the
-    /// start if there is none. The new machine then replaces this one.
+    /// Executes `Command::Back`: runs a new machine to the target step, starting from the last snapshot at or before
+    /// this step, or from step 0 if there is no such snapshot. The new machine then replaces the debugger's machine.
     fn back(&mut self, count: u64) -> Result<View, DebugRefusal>
         ensures { Does self.old (Command.Back count) result self.new }
     {

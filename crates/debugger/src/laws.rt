@@ -1,15 +1,15 @@
-//! Laws of the debugger. Each law is the contract of an empty function.
+//! Laws about the debugger. Each law is the contract of an empty function.
 
 ghost use Rattle.debugger.specs.Laws.{CommandsShowTheirPosition, PositionsAreCounted, RunsEndFirst, BackAndOnAgain};
 
-/// An executed command shows the machine after the session's steps. A refused one changes nothing. No command changes
-/// the program or the configuration, and the show commands change nothing at all.
+/// An executed command shows the state of the machine at the session's step. A refused command changes nothing. No
+/// command changes the program or the configuration, and the show commands change nothing at all.
 pub fn commands_show_their_position()
     ensures { CommandsShowTheirPosition }
 {}
 
-/// The number of a session's steps is the number of steps that its machine has counted, initially and after every
-/// command.
+/// A session's number of steps is the number of steps that its machine has counted. This holds initially and after
+/// every command.
 pub fn positions_are_counted()
     ensures { PositionsAreCounted }
 {}
@@ -20,7 +20,7 @@ pub fn runs_end_first()
     ensures { RunsEndFirst }
 {}
 
-/// Going back a number of steps and then forward by the same number leads to the same position.
+/// Going back a number of steps and then forward by the same number reaches the original step.
 pub fn back_and_on_again()
     ensures { BackAndOnAgain }
 {}

@@ -1,8 +1,8 @@
-//! The debugger of register scripts: steps forward and back, breakpoints, and views of registers.
+//! A debugger for register scripts, with steps forward and back, breakpoints, and views of registers.
 //!
 //! Contracts see a `Debugger` as a `Session`: its program, the configuration of its device, a number of steps and the
-//! breakpoints. The machine that it shows is always `machine_at` this number, however the session got there.
-//! `Debugger::exec` executes a `Command` as `command_of` defines. `nicbench` depends on this crate.
+//! breakpoints. The state that a debugger shows is always `machine_at` this number of steps, whichever commands were
+//! executed before. `Debugger::exec` executes a `Command` as `command_of` defines. `nicbench` depends on this crate.
 #![tactic(auto)]
 
 mod breakpoints;

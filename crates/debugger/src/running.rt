@@ -1,4 +1,4 @@
-//! Running a machine forward, and replaying it up to a step.
+//! Runs a machine forward, and replays a machine up to a step.
 
 ghost use Rattle.std.specs.Prelude.{◌≡◌, ◌<◌, ◌≤◌, [], IfOk, IsOk, OnOk, OnErr, Ok};
 ghost use Rattle.debugger.specs.Running.{is_stopped, run_on};
@@ -30,8 +30,8 @@ fn step(machine: &mut Machine) -> Result<bool, OutOfMemory>
     }
 }
 
-/// Takes `limit` steps, or fewer if the machine stops or if, after a step, its next instruction has a breakpoint. Takes
-/// the snapshots that become due.
+/// Takes `limit` steps, or fewer if the machine stops or if, after a step, the next instruction has a breakpoint. Takes
+/// each snapshot that becomes due during these steps.
 pub(crate) fn run_on(
     machine: &mut Machine,
     breakpoints: &Breakpoints,
@@ -78,8 +78,8 @@ fn start(alloc: Global, program: Program, config: Config) -> Result<Machine, Out
     }
 }
 
-/// Returns a machine at or before this step: restored from the last snapshot that isn't later, or a new one before its
-/// first step.
+/// Returns a machine at or before this step: a machine restored from the last snapshot at or before the step, or a new
+/// machine before its first step if there is no such snapshot.
 fn early(
     alloc: Global,
     object: &[u8],
@@ -109,8 +109,8 @@ fn early(
     }
 }
 
-/// Returns the machine of an object's program after this many steps, or fewer if it stops. It runs from the last
-/// snapshot at or before that step, or from the start if there is none.
+/// Returns a machine that runs an object's program, after this many steps, or fewer if the machine stops. The machine
+/// runs from the last snapshot at or before the last of these steps, or from step 0 if there is no such snapshot.
 pub(crate) fn replay(
     alloc: Global,
     object: &[u8],

@@ -16,7 +16,8 @@ const SNAPSHOT_LIMIT: usize = 64;
 /// The step of the last permanent snapshot.
 const FIRST_STEPS: u64 = SNAPSHOT_LIMIT as u64 * SNAPSHOT_STEPS;
 
-/// Snapshots of one machine, earliest first: the permanent ones, then a temporary one that later ones replace.
+/// Snapshots of one machine, earliest first: the permanent snapshots, then a temporary snapshot, which later snapshots
+/// replace.
 #[derive(Drop)]
 pub(crate) struct Snapshots {
     pub(crate) kept: Vec<MachineSnapshot>,
@@ -25,7 +26,7 @@ pub(crate) struct Snapshots {
 }
 
 impl Snapshots {
-    /// Returns an empty list of snapshots. The first is due at the first multiple of `SNAPSHOT_STEPS`.
+    /// Returns an empty list of snapshots. The first snapshot is due at the first multiple of `SNAPSHOT_STEPS`.
     pub(crate) fn new(alloc: Global) -> Snapshots
         ensures { result.kept.items ≡ [] }
     {
@@ -35,7 +36,7 @@ impl Snapshots {
         }
     }
 
-    /// Returns an empty list of snapshots, with none due before the last step that a machine counts.
+    /// Returns an empty list of snapshots. No snapshot is due before the last step that a machine can count.
     pub(crate) fn none(alloc: Global) -> Snapshots
         ensures { result.kept.items ≡ [] }
     {
@@ -45,7 +46,8 @@ impl Snapshots {
         }
     }
 
-    /// Takes a snapshot if one is due, in place of the temporary one. It is skipped if there is no memory for it.
+    /// Takes a snapshot if one is due; the new snapshot replaces the temporary snapshot. If there isn't enough memory,
+    /// skips the snapshot.
     pub(crate) fn keep(&mut self, machine: &Machine)
         ensures { StayOf machine.now self.old.kept.items self.new.kept.items }
     {
@@ -61,7 +63,7 @@ impl Snapshots {
         let _ = self.kept.push(snapshot);
     }
 
-    /// Returns the last snapshot at or before this step.
+    /// Returns the last snapshot at or before this step, or `None` if there is none.
     pub(crate) fn before(&self, steps: u64) -> Option<&MachineSnapshot>
         ensures { IfSome result (λ snapshot. (machine : Course) →
             AreOf machine self.now.kept.items → IsBefore machine snapshot.now steps) }
@@ -79,9 +81,9 @@ impl Snapshots {
     }
 }
 
-/// Returns the step at which the next snapshot is due after one at this step. Up to `FIRST_STEPS`, it is the next
-/// multiple of `SNAPSHOT_STEPS`. After that, it is the last multiple that is at most 1.5 times this step, so that going
-/// back from the furthest step reached replays less than a third of the steps.
+/// Returns the step at which the next snapshot is due, after a snapshot at this step. Below `FIRST_STEPS`, the result
+/// is the next multiple of `SNAPSHOT_STEPS`. From `FIRST_STEPS` on, it is the last multiple that is at most 1.5 times
+/// this step. So going back from the furthest step that was reached replays less than a third of the steps.
 fn next_after(steps: u64) -> u64
     ensures later { steps < 2 ^ 64 - 1 → steps < result }
     ensures near { FIRST_STEPS ≤ steps → 2 * result ≤ 3 * steps }

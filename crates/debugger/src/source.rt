@@ -1,4 +1,4 @@
-//! The program's object, from which the program is recreated.
+//! The object of a debugger's program, from which the program is recreated.
 
 ghost use Rattle.std.specs.Prelude.{◌≡◌, IfOk, IsOk, Ok};
 ghost use Rattle.program.specs.Object.{read_of};

@@ -1,4 +1,4 @@
-//! `nicbench`: the program, on standard input and standard output.
+//! The program `nicbench`, which reads standard input and writes to standard output.
 #![tactic(auto)]
 
 use bench::{FAILED, Input, NO_MEMORY, Outcome, Output, REFUSED_WORDS, bench, bench_threads};
@@ -30,8 +30,8 @@ fn refused_for_memory<R: Print>(rt: &R) -> u8 {
     }
 }
 
-/// Runs the bench on the process's arguments, standard input and standard output, and returns how it ended. After a
-/// failed write nothing more is written, not even buffered output.
+/// Runs the bench on the process's arguments, standard input and standard output, and returns how the bench ended.
+/// After a failed write, nothing more is written, not even buffered output.
 fn run(rt: &HostRuntime) -> io::Result<Outcome> {
     let alloc = rt.alloc();
     let words: Vec<String> = env::args(rt)?.collect(alloc)?;

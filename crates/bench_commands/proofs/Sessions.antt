@@ -19,7 +19,7 @@ use Rattle.bench_commands.specs.Debug.{session_text}
 use Rattle.bench_commands.specs.View.{answer_line}
 use Rattle.bench_commands.proofs.Appending.{Appends-both}
 
--- Some commands have run and their lines are written; the rest remain.
+-- Some commands have run, and their lines are written; the commands in `rest` remain.
 pub record IsDuring (old new : Option (List ℕ)) (start now : Session) (all rest : List Command) : Type 0 where
   pub done : List ℕ
   pub written : Appends old new done

@@ -115,10 +115,10 @@ fn end_words<W: Write>(output: &mut Output<W>, error: &Error) -> Outcome
 /// the help and the version, otherwise 3.
 ///
 /// After a failed write nothing more is written, and the status is `NO_MEMORY` (4) if the writer ran out of memory,
-/// otherwise `FAILED` (2). If a read fails, or if a million reads are made from a reader with at least a million bytes,
-/// the refusal `Input` is written, and the status is 2. If memory runs out, the refusal `OutOfMemory` is written after
-/// a prefix of the answer, and the status is 4. If the arguments request `threads`, nothing is read, and nothing is
-/// written except the refusal `OutOfMemory`.
+/// otherwise `FAILED` (2). If a read fails, the refusal `Input` is written, and the status is 2. The same happens if a
+/// million reads are made from a reader with at least a million bytes. If memory runs out, the refusal `OutOfMemory` is
+/// written after a prefix of the answer, and the status is 4. If the arguments request `threads`, nothing is read, and
+/// nothing is written except the refusal `OutOfMemory`.
 pub fn bench<'a, R: Read, W: Write, S: AsStr>(
     alloc: Global,
     input: &mut Input<R>,

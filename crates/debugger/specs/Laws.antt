@@ -52,8 +52,8 @@ abbrev pub RunsEndFirst : Type 0
 RunsEndFirst = (program : Listing) (config : Config) (breakpoints : List ℕ) (n limit : ℕ)
     → EndsFirst program config breakpoints n limit (run_on program config breakpoints n limit)
 
--- If a session's machine has counted all of the session's steps, and these are at least `count` steps, then going back
--- `count` steps and forward again by `count` steps reaches the original step.
+-- Assume that a session's machine has counted all of the session's steps, and that these are at least `count` steps.
+-- Then going back `count` steps and forward by `count` steps reaches the original step.
 abbrev pub BackAndOnAgain : Type 0
 BackAndOnAgain = (s : Session) (count : ℕ) → IsCounted s → count ≤ s.steps
     → run_on s.program s.config [] (s.steps - count) count ≡ s.steps

@@ -53,7 +53,7 @@ impl Model for Debugger {
 impl Debugger {
     /// Creates a debugger for a program, at step 0, on a new device with this configuration, and without breakpoints.
     ///
-    /// Errors: `TooManyVfs` and `Fifo`, each exactly if `Device::new` returns it for the configuration; or
+    /// Errors: `TooManyVfs` and `Fifo`, each exactly if `Device::new` returns this fault for the configuration; or
     /// `OutOfMemory`. The error contains the program, unchanged.
     pub fn new(alloc: Global, program: Program, config: Config) -> Result<Debugger, NewRefused>
         ensures made { IfOk result
@@ -166,8 +166,9 @@ impl Debugger {
         }
     }
 
-    /// Executes `Command::Back`: runs a new machine to the target step, starting from the last snapshot at or before
-    /// this step, or from step 0 if there is no such snapshot. The new machine then replaces the debugger's machine.
+    /// Executes `Command::Back`: runs a new machine to the target step. The new machine starts from the last snapshot
+    /// at or before the target step, or from step 0 if no such snapshot exists. It then replaces the debugger's
+    /// machine.
     fn back(&mut self, count: u64) -> Result<View, DebugRefusal>
         ensures { Does self.old (Command.Back count) result self.new }
     {

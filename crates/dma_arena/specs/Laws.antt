@@ -80,8 +80,8 @@ BlockLaw =
     (m : Memory) (number at : ℕ) (block : List ℕ) → IsWhole m → map.get m number ≡ Some block
     → InsideBlock m number at block
 
--- If bytes that fit are put into a block at an index, the block then contains them at that index, and the rest of the
--- block is unchanged.
+-- If bytes that fit are put into a block at an index, the block then contains them there, and the rest of the block is
+-- unchanged.
 abbrev pub PutLaw : Type 0
 PutLaw =
     (block : List ℕ) (at : ℕ) (bytes : List ℕ) → at + length bytes ≤ length block

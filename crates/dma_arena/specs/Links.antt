@@ -48,8 +48,8 @@ pub record Leaves (old new : Nodes) (p : ℕ) (l : Links) : Type 0 where
   pub came : (r : ℕ) (y : Links) → new r ≡ Some y → (x : Links) × (old r ≡ Some x) × (r ≢ p) × LeadsPast p l x y
   pub went : (r : ℕ) (x : Links) → old r ≡ Some x → r ≢ p → (y : Links) × (new r ≡ Some y) × LeadsPast p l x y
 
--- The links `y` at the index `r` are the links `x`, except that the end's `next` link and the first block's `prev` link
--- now point to the index `p`.
+-- The links `y` at the index `r` are the links `x`, with two exceptions: the end's `next` link and the first block's
+-- `prev` link are now `p`.
 pub record LeadsTo (p first r : ℕ) (x y : Links) : Type 0 where
   pub next_to : r ≡ list_end → y.next ≡ p
   pub next_kept : r ≢ list_end → y.next ≡ x.next

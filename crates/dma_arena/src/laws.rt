@@ -52,8 +52,8 @@ pub fn block_apart()
     ensures read { ReadsItsBlock }
 {}
 
-/// If bytes that fit are put into a block at an index, the block then contains them at that index, and the rest of the
-/// block is unchanged.
+/// If bytes that fit are put into a block at an index, the block then contains them there, and the rest of the block is
+/// unchanged.
 pub fn put()
     ensures { PutLaw }
 {}
@@ -76,8 +76,8 @@ pub fn numbers_stay()
 {}
 
 /// If arenas share no number, each block of an arena is in exactly one place: free, owned or lent. This holds for a new
-/// arena, and remains true when a block is taken, given, lent or taken back, when a foreign block is received or
-/// returned to its own arena, and when an arena is split.
+/// arena, and remains true when a block is taken, given, lent or taken back. It also remains true when a foreign block
+/// is received or returned to its own arena, and when an arena is split.
 pub fn each_block_once()
     ensures { MovesKeepEachOnce }
 {}

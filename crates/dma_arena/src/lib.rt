@@ -1,8 +1,8 @@
 //! Packet memory: 2,048-byte blocks, and the bus through which the device reads and writes them.
 //!
-//! At any time a block is in one place: free in an [`Arena`], owned as a [`Buf`] or in a [`Run`], or lent to the device
-//! in a [`LentMemory`], where bus address `a` is byte `a % 2048` of block `a / 2048`. An [`Octets`] stores bytes, for
-//! example those of a frame.
+//! At any time, a block is in one place: free in an [`Arena`], owned as a [`Buf`] or in a [`Run`], or lent to the
+//! device in a [`LentMemory`]. There, bus address `a` is byte `a % 2048` of block `a / 2048`. An [`Octets`] stores
+//! bytes, for example those of a frame.
 //!
 //! In contracts, an arena is its numbers, each free or in use (`specs/Numbers.antt`), and lent memory is a map from
 //! block number to bytes (`specs/Memory.antt`). The laws about arenas and lent memory are in `laws`; `proofs/` contains

@@ -138,8 +138,8 @@ impl Table {
     }
 
     /// Removes the block with this number. Returns `None` if that block isn't lent. If the removed block had the lowest
-    /// number and other blocks remain, `remove` searches for the new lowest number, starting after the slots that are
-    /// known to be empty.
+    /// number and other blocks remain, searches for the new lowest number, starting after the slots that are known to
+    /// be empty.
     pub(crate) fn remove(&mut self, number: u32) -> Option<Buf>
         ensures taken { result ≡ block_at self.old number }
         ensures left { self.new ≡ map.remove self.old number }

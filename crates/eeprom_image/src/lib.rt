@@ -1,5 +1,5 @@
-//! EEPROM images of the 82599: the source that is assembled into an image, the file that an image is loaded from and
-//! stored in, and the words and register writes in an image.
+//! EEPROM images of the 82599: the source that is assembled into an image, the file that stores an image, and the words
+//! and register writes in an image.
 //!
 //! An [`Image`] is a list of 64 to 16,384 16-bit words. The image's sections are inside it, and its checksum is
 //! correct. [`assemble`] returns the one image that EEPROM source describes, and [`load`] returns the image whose file

@@ -17,16 +17,15 @@ pub enum ObjectFault {
     /// The next two bytes aren't version 1, little-endian.
     #[error("an object of another version")]
     Version,
-    /// The header is cut off, its reserved field isn't 0, its length field isn't the number of bytes, the instructions
-    /// and data strings don't fill exactly this length, or their counts exceed a limit. The reserved field precedes the
-    /// length field.
+    /// The header is cut off, its reserved field before the length isn't 0, or its length isn't the number of bytes. Or
+    /// the instructions and data strings don't fill exactly this length, or their counts exceed a limit.
     #[error("an object of another length")]
     Length,
     /// The instruction with this number has an unknown operation.
     #[error("instruction {0}: no such operation")]
     Opcode(u16),
-    /// The instruction with this number has a field that is out of range, an unused field that isn't 0, or a data
-    /// string that doesn't exist or has a wrong length.
+    /// The instruction with this number has a field that is out of range or an unused field that isn't 0, or its data
+    /// string doesn't exist or has a wrong length.
     #[error("instruction {0}: a wrong operand")]
     Operand(u16),
     /// The instruction with this number jumps beyond the end of the program.

@@ -35,7 +35,7 @@ pub(crate) struct Header {
     strings: u16,
 }
 
-/// Returns the counts in the header, or `Length` unless the header and the instructions fit in the bytes.
+/// Returns the counts in the header if the header and the instructions fit in the bytes, otherwise `Length`.
 fn counts_in(bytes: &[u8]) -> Result<Header, ObjectFault>
     ensures value { result ≡ counts_in bytes.now }
     ensures fits { IfOk result (Fits bytes.now) }

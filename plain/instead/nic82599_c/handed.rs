@@ -21,7 +21,7 @@ pub struct KeptHandleOut {
 }
 
 impl HandleOut {
-    /// Creates an out-parameter that contains the handle of the card in a box with these parts.
+    /// Creates an out-parameter that contains a handle to the card whose box has these parts.
     pub fn of(parts: Parts<Card>) -> HandleOut {
         HandleOut { card: ManuallyDrop::new(Some(parts.into_box())) }
     }

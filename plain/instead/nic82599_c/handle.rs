@@ -7,7 +7,7 @@ use crate::card::{Card, Kept};
 use crate::kit::c::Held;
 use crate::kit::prelude::*;
 
-/// A handle of a card on the heap. In C it is a struct with one pointer.
+/// A handle to a card on the heap. In C, the handle is a struct with one pointer.
 #[repr(C)]
 pub struct Handle {
     card: Option<Box<Card>>,

@@ -1,7 +1,7 @@
 //! C's handles to a card and to a snapshot: pointers that C never dereferences.
 //!
-//! A struct with type parameters can't be passed to C, so each type has its own struct. Both structs own what a box
-//! with their value owns. One proof covers all such structs (`proofs/HandleForm.antt`).
+//! A struct with type parameters can't be passed to C, so each type has its own struct. Each such struct owns what a
+//! box with its value owns. One proof covers all such structs (`proofs/HandleForm.antt`).
 
 ghost use Rattle.std.specs.Prelude.{◌≡◌};
 ghost use Rattle.card.specs.contracts.card.Card.{the_row as card_row};

@@ -56,8 +56,8 @@ fn peek(card: &Card, port: Port, number: u32, word: &mut u32) -> u8
 }
 
 /// Reads a register of the physical function by its byte address, with the read's side effects. Returns DONE and stores
-/// the register's value in `word`, or returns STRAY and stores the value that a driver would read. A stray read changes
-/// nothing.
+/// the register's value in `word`, or returns STRAY and stores the value that a driver would read. A stray read leaves
+/// the card unchanged.
 #[unsafe(no_mangle)]
 pub extern "C" fn nic_read32(nic: &mut Handle, address: u32, word: &mut u32) -> u8
     ensures status { result ≡ status_of (reply_to nic.old.card.device (Event.Read Port.Pf address)) }
@@ -67,8 +67,8 @@ pub extern "C" fn nic_read32(nic: &mut Handle, address: u32, word: &mut u32) -> 
     read(nic.get_mut(), Port::Pf, address, word)
 }
 
-/// Writes a register of the physical function by its byte address. Returns DONE, or STRAY; a stray write changes
-/// nothing.
+/// Writes a register of the physical function by its byte address. Returns DONE, or STRAY; a stray write leaves the
+/// card unchanged.
 #[unsafe(no_mangle)]
 pub extern "C" fn nic_write32(nic: &mut Handle, address: u32, word: u32) -> u8
     ensures status { result ≡ status_of (reply_to nic.old.card.device (Event.Write Port.Pf address word)) }
@@ -79,7 +79,7 @@ pub extern "C" fn nic_write32(nic: &mut Handle, address: u32, word: u32) -> u8
 
 /// Reads a register of a virtual function by its byte offset, with the read's side effects. Returns DONE and stores the
 /// register's value in `word`, or returns STRAY and stores the value that a driver would read, even if there is no such
-/// virtual function. A stray read changes nothing.
+/// virtual function. A stray read leaves the card unchanged.
 #[unsafe(no_mangle)]
 pub extern "C" fn nic_vf_read32(nic: &mut Handle, vf: u8, offset: u32, word: &mut u32) -> u8
     ensures status { result ≡ status_of (reply_to nic.old.card.device (Event.Read (Port.Vf vf) offset)) }
@@ -89,7 +89,8 @@ pub extern "C" fn nic_vf_read32(nic: &mut Handle, vf: u8, offset: u32, word: &mu
     read(nic.get_mut(), Port::Vf(vf), offset, word)
 }
 
-/// Writes a register of a virtual function by its byte offset. Returns DONE, or STRAY; a stray write changes nothing.
+/// Writes a register of a virtual function by its byte offset. Returns DONE, or STRAY; a stray write leaves the card
+/// unchanged.
 #[unsafe(no_mangle)]
 pub extern "C" fn nic_vf_write32(nic: &mut Handle, vf: u8, offset: u32, word: u32) -> u8
     ensures status { result ≡ status_of (reply_to nic.old.card.device (Event.Write (Port.Vf vf) offset word)) }
@@ -98,7 +99,7 @@ pub extern "C" fn nic_vf_write32(nic: &mut Handle, vf: u8, offset: u32, word: u3
     write(nic.get_mut(), Port::Vf(vf), offset, word)
 }
 
-/// Stores the value that `nic_read32` would read in `word`, without the read's side effects: the card is unchanged.
+/// Stores in `word` the value that `nic_read32` would read, without the read's side effects: the card is unchanged.
 /// Returns DONE, or STRAY, which leaves `word` unchanged.
 #[unsafe(no_mangle)]
 pub extern "C" fn nic_peek32(nic: &mut Handle, address: u32, word: &mut u32) -> u8
@@ -110,7 +111,7 @@ pub extern "C" fn nic_peek32(nic: &mut Handle, address: u32, word: &mut u32) -> 
     peek(nic.get_mut(), Port::Pf, address, word)
 }
 
-/// Stores the value that `nic_vf_read32` would read in `word`, without the read's side effects: the card is unchanged.
+/// Stores in `word` the value that `nic_vf_read32` would read, without the read's side effects: the card is unchanged.
 /// Returns DONE, or STRAY, which leaves `word` unchanged.
 #[unsafe(no_mangle)]
 pub extern "C" fn nic_vf_peek32(nic: &mut Handle, vf: u8, offset: u32, word: &mut u32) -> u8

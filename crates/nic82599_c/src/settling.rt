@@ -51,7 +51,7 @@ fn event_of(step: Step) -> Event
     }
 }
 
-/// Adds the number of the step's kind, and the number of its queue or group, to a report.
+/// Adds the number of a step's kind, and the number of the step's queue or group, to the step's report.
 fn named(outcome: Outcome, step: Step) -> Outcome
     ensures { result ≡ named outcome step }
 {

@@ -83,7 +83,7 @@ pub(crate) fn section(words: &[u16], pointer: u16) -> &[u16]
     &words[first..first + count]
 }
 
-/// Returns the sum of the `count` words starting at index `first`, ignoring words past the end of the image.
+/// Returns the sum of the `count` words starting at index `first`, ignoring indices past the last word.
 fn sum_from<W: Words>(words: &W, first: usize, count: u16) -> u64
     requires { first < 2 ^ 32 }
     ensures sum { result ≡ sum (take count (drop first (W.words words.now))) }

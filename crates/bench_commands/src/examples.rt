@@ -21,8 +21,8 @@ pub fn run_with_options()
         (Input (Text (Run (record { vfs = 63; fifo = 4096; limit = 5 })))) }
 {}
 
-/// `nicbench debug` requests no virtual functions and a receive list of 64 frames, as `run` does. With `--fifo=1 --vfs
-/// 2`, it requests a receive list of 1 frame, and 2 virtual functions.
+/// `nicbench debug` requests the same device as `run`: no virtual functions, and a receive list of 64 frames. With
+/// `--fifo=1 --vfs 2`, it requests a receive list of 1 frame, and 2 virtual functions.
 pub fn debug_either_way()
     ensures alone { Asks (codes "nicbench" ∷ codes "debug" ∷ [])
         (Input (Text (Debug (record { vfs = 0; fifo = 64 })))) }

@@ -18,7 +18,7 @@ use std::alloc::Global;
 use std::marker::Model;
 use std::mem;
 
-/// A machine with breakpoints that can go back to earlier steps. To go back, a debugger keeps its program, its
+/// A machine that has breakpoints and can go back to earlier steps. To go back, a debugger keeps its program, its
 /// configuration and, if there is enough memory, snapshots of the machine. It keeps one snapshot at each of the first
 /// 64 multiples of 256 steps, and one later snapshot, which is replaced as the machine advances. A debugger can't be
 /// dropped: `finish` ends it.

@@ -22,9 +22,9 @@ pub const DATA_BYTES: usize = 16384;
 /// A program of the register-script language: its data strings and its instructions, both in order.
 ///
 /// A program has at most 4,096 instructions, and at most 1,024 data strings of 1 to 16,384 bytes each. Everything to
-/// which an instruction refers exists. A data string exists, and is 16 bytes long if a `poke` uses it. The number of a
-/// virtual function is below 63. A `peek` selects one of four words. The target of a jump is an instruction or the end
-/// of the program.
+/// which an instruction refers exists. The data string that an instruction uses exists, and is 16 bytes long if the
+/// instruction is a `poke`. The number of a virtual function is below 63. A `peek` selects one of four words. The
+/// target of a jump is an instruction or the end of the program.
 #[derive(Debug, Drop)]
 pub struct Program {
     strings: Vec<Octets>,

@@ -7,8 +7,8 @@ use Rattle.bench_commands.specs.declared.failure.Failure.TheVariants.{OutOfMemor
 use Rattle.bench_commands.proofs.Appending.{Appends-both, Appends-none}
 
 module _ (old new : Option (List ℕ)) (has_failed : Bool) where
-  -- If an answer is the only right answer, then writing this answer, or not completing it, is the same as writing or
-  -- not completing a right answer.
+  -- Assume that an answer is the only right answer. If the program wrote this answer or didn't complete it, the program
+  -- wrote a right answer or didn't complete it.
   pub gives-right : (r : Result ℕ Failure) (answer : Answer) (IsRight : Answer → Type 0) → IsRight answer
       → ((other : Answer) → IsRight other → other ≡ answer) → Gives r old new has_failed answer
       → GivesRight r old new has_failed IsRight

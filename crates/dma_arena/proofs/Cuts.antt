@@ -40,7 +40,7 @@ or_true true = refl
 or_true false = refl
 
 -- Assume that an arena's numbers are all free, and that the numbers of a part belong to the arena and are free in the
--- part. Then each block of the part is in exactly one place.
+-- part. If each block of the arena is in exactly one place, each block of the part is in exactly one place.
 part_case : (a part : Numbers) (hand : List ℕ) (m : Memory) → are_all_free a ≡ true → EachOnce a hand m
     → ((k : ℕ) → is_own part k ≡ true → (is_own a k ≡ true) × (is_free part k ≡ true)) → EachOnce part hand m
 part_case a part hand m all once within k own =

@@ -166,7 +166,7 @@ module _ {s : List (Option Block)} {f e n : ℕ} (table : IsTable s f e n) {m : 
   pub block_at-table : (q : ℕ) → at_place s q ≡ block_at m q
   block_at-table q = block_at-shown s q (table.numbered q) ∙ ap (λ (k : Memory). block_at k q) view
 
-  -- No block is lent if and only if no slot is the first with a block.
+  -- No block is lent if and only if the table has no lowest block.
 
   pub none_lent : f ≡ 65536 → m ≡ fin.empty
   none_lent e =
@@ -227,7 +227,7 @@ module _ {s : List (Option Block)} {f e n : ℕ} (table : IsTable s f e n) {m : 
       (λ r ne. get_or-set_other s q r (Some c) None ne)
       ∙ ap (λ (k : Memory). fin.insert k q c.bytes) view)
 
-  -- A block's bytes are replaced, and the memory says what its old bytes were.
+  -- A block's bytes are replaced, and its old bytes are the bytes in the memory.
 
   pub shown-exchanged : (q : ℕ) (c : Block) (bytes : List ℕ) → has_block m q ≡ true → c.bytes ≡ bytes
       → shown (set s q (Some c)) ≡ fin.insert m q bytes

@@ -2,7 +2,8 @@
 use Rattle.std.specs.Prelude.{ℕ, ◌+◌, ◌%◌, ◌==◌, Bool, List, take, sum, sum_by}
 use Rattle.eeprom_image.specs.Section.{section_at, pointers}
 
--- The sum of words 0x00 to 0x3F and of the words in each section that a pointer points to.
+-- The sum of words 0x00 to 0x3F, plus, for each pointer, the sum of the words in the section that this pointer points
+-- to.
 abbrev pub checked_sum : List ℕ → ℕ
 checked_sum words = sum (take 64 words) + sum_by (λ pointer. sum (section_at words pointer)) (pointers words)
 

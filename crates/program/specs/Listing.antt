@@ -9,7 +9,7 @@ use Rattle.program.specs.declared.instruction.Instruction.TheVariants.{Poke, Pee
 use Rattle.program.specs.declared.instruction.Instruction.TheVariants.{QueueStep, EepromStep, Link, Collect, Expect}
 use Rattle.program.specs.declared.instruction.Instruction.TheVariants.{And, JumpIfEqual, JumpUnlessEqual, Jump, Halt}
 
--- The data strings and the instructions of a program, both in order. Instructions refer to data strings and to other
+-- The data strings and the instructions of a program, both in order. Instructions refer to data strings and to
 -- instructions by number.
 pub record Listing : Type 0 where
   pub strings : List (List ℕ)

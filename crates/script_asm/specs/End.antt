@@ -18,7 +18,7 @@ is_end end line = is_only end (words_of line.text)
 abbrev pub has_end : List ℕ → List NumberedLine → Bool
 has_end end lines = list_any (is_end end) lines
 
--- The program of the lines before the first marker line, or of all lines if there is none.
+-- The program of the lines before the first marker line, or of all lines if there is no marker line.
 abbrev pub program_before : List ℕ → List NumberedLine → Result Listing ScriptFault
 program_before end lines = program_of_lines (before_first (is_end end) lines)
 

@@ -8,7 +8,7 @@ use Rattle.script_asm.specs.declared.faults.LineFault.TheVariants as line
 use Rattle.script_asm.specs.declared.faults.ScriptFault.{ScriptFault}
 use Rattle.script_asm.specs.declared.faults.ScriptFault.TheVariants.{Syntax, UnknownName, Range, TooLong, OutOfMemory}
 
--- The fault that is reported if a line has these two.
+-- The one of two faults that is reported if a line has both.
 abbrev pub reported_first : LineFault → LineFault → LineFault
 reported_first line.Syntax other = line.Syntax
 reported_first line.UnknownName line.Syntax = line.Syntax
@@ -21,7 +21,7 @@ reported_first line.Range line.Range = line.Range
 reported_first line.Range line.TooLong = line.Range
 reported_first line.TooLong other = other
 
--- Two parts of a line. If both are faulty, the fault that is reported first.
+-- Two parts of a line, or the fault if one part is faulty. If both parts are faulty, the fault that is reported first.
 abbrev pub both : {A B : Type 0} → Result A LineFault → Result B LineFault → Result (A × B) LineFault
 both (Ok a) (Ok b) = Ok (a, b)
 both (Ok a) (Err fault) = Err fault
@@ -33,7 +33,7 @@ abbrev pub number_fault : NumberFault → LineFault
 number_fault Malformed = line.Syntax
 number_fault TooLarge = line.Range
 
--- The script's fault for a line's fault, with the line's number.
+-- The script's fault for a fault in the line with this number.
 abbrev pub fault_at : ℕ → LineFault → ScriptFault
 fault_at number line.Syntax = Syntax number
 fault_at number line.UnknownName = UnknownName number
@@ -45,7 +45,7 @@ abbrev pub at_line : {A : Type 0} → ℕ → Result A LineFault → Result A Sc
 at_line number (Ok x) = Ok x
 at_line number (Err fault) = Err (fault_at number fault)
 
--- The result, seen through `view`, is the meaning, unless memory ran out.
+-- The result, converted by `view`, equals the meaning, unless memory ran out.
 abbrev pub Gives : {X Y : Type 0} → (X → Y) → Result X ScriptFault → Result Y ScriptFault → Type 0
 Gives view (Ok x) meaning = meaning ≡ Ok (view x)
 Gives view (Err fault) meaning = fault ≢ OutOfMemory → meaning ≡ Err fault

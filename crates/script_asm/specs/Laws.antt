@@ -46,7 +46,7 @@ drafts_in (Label name ∷ more) = drafts_in more
 drafts_in (Data name string ∷ more) = drafts_in more
 drafts_in (Instruction draft ∷ more) = draft ∷ drafts_in more
 
--- The place of the first label with this name among statements, if instructions are numbered starting at `first`.
+-- The number of the first label with this name among statements, if instructions are numbered starting at `first`.
 abbrev pub label_from : ℕ → List Statement → List ℕ → Option ℕ
 label_from first [] name = None
 label_from first (Empty ∷ more) name = label_from first more name
@@ -64,9 +64,9 @@ data_from first (Data other string ∷ more) name =
     if bytes_eq other name then Some first else data_from (first + 1) more name
 data_from first (Instruction draft ∷ more) name = data_from first more name
 
--- A statement fits after others. A label's name is new among labels, and a data name among data names. A data string is
--- at most 16,384 bytes long and is preceded by fewer than 1,024 others. An instruction is preceded by fewer than 4,096
--- others.
+-- A statement fits after others. A label's name is new among labels, and a data string's name is new among data names.
+-- A data string is at most 16,384 bytes long and is preceded by fewer than 1,024 data strings. An instruction is
+-- preceded by fewer than 4,096 instructions.
 abbrev pub FitsAfter : List Statement → Statement → Type 0
 FitsAfter before Empty = ⊤
 FitsAfter before (Label name) = label_from 0 before name ≡ None
@@ -74,13 +74,13 @@ FitsAfter before (Data name string) = (data_from 0 before name ≡ None) × (len
     × (length (strings_in before) < 1024)
 FitsAfter before (Instruction draft) = length (drafts_in before) < 4096
 
--- Statements fit, each after those before it.
+-- Each statement fits after the statements before it.
 abbrev pub Fit : List Statement → List Statement → Type 0
 Fit before [] = ⊤
 Fit before (statement ∷ more) = FitsAfter before statement × Fit (before ++ statement ∷ []) more
 
--- The program's instruction for a line's instruction. A label becomes its place, and a data name becomes its number.
--- Both must be defined, and poked data must be 16 bytes long.
+-- The program's instruction for an instruction as written in a line. Numbers replace the names of labels and data
+-- strings. These names must be defined, and poked data must be 16 bytes long.
 abbrev pub Means : (List ℕ → Option ℕ) → (List ℕ → Option ℕ) → List (List ℕ) → Draft → Step ℕ ℕ → Type 0
 Means labels names strings (Write address word) i = i ≡ Write address word
 Means labels names strings (Read address) i = i ≡ Read address
@@ -107,7 +107,7 @@ Means labels names strings (JumpUnlessEqual word name) i = (pc : ℕ) × (i ≡ 
 Means labels names strings (Jump name) i = (pc : ℕ) × (i ≡ Jump pc) × (labels name ≡ Some pc)
 Means labels names strings Halt i = i ≡ Halt
 
--- The program's instructions for the instructions of lines, in order.
+-- The program's instructions for instructions as written in lines, in order.
 abbrev pub Mean : (List ℕ → Option ℕ) → (List ℕ → Option ℕ) → List (List ℕ) → List Draft → List (Step ℕ ℕ) → Type 0
 Mean labels names strings [] [] = ⊤
 Mean labels names strings [] (i ∷ is) = ⊥
@@ -128,15 +128,15 @@ pub record IsSaid (text : List ℕ) (program : Listing) : Type 0 where
 abbrev pub ProgramIsWhatLinesSay : Type 0
 ProgramIsWhatLinesSay = (text : List ℕ) (program : Listing) → (program_of text ≡ Ok program) ↔ IsSaid text program
 
--- The place of a label and the number of a data string are determined by the statements before it.
+-- The statements before a label or a data string determine its number.
 pub record NamesHaveTheirPlaces : Type 0 where
-  -- The place of a name's first label is the number of instructions before it. The number of a name's first data string
-  -- is the number of data strings before it.
+  -- The first label with a name is numbered with the count of instructions before it. The first data string with a name
+  -- is numbered with the count of data strings before it.
   pub label : (before after : List Statement) (name : List ℕ) → label_from 0 before name ≡ None
       → label_from 0 (before ++ Label name ∷ after) name ≡ Some (length (drafts_in before))
   pub «data» : (before after : List Statement) (name string : List ℕ) → data_from 0 before name ≡ None
       → data_from 0 (before ++ Data name string ∷ after) name ≡ Some (length (strings_in before))
-  -- A name has a place or a number only if a statement defines it.
+  -- A name has a number only if a statement defines the name.
   pub given_label : (statements : List Statement) (name : List ℕ) (place : ℕ)
       → label_from 0 statements name ≡ Some place
       → (before : List Statement) × (after : List Statement) × (statements ≡ before ++ Label name ∷ after)
@@ -147,13 +147,13 @@ pub record NamesHaveTheirPlaces : Type 0 where
 
 -- The first fault of a source is reported.
 pub record FirstFaultDecides : Type 0 where
-  -- If all lines before it are read without a fault, a faulty line's fault is reported.
+  -- A faulty line's fault is reported if all lines before that line are read without a fault.
   pub lines : (text : List ℕ) (front : List NumberedLine) (line : NumberedLine) (back : List NumberedLine)
       (outline : Outline) (fault : ScriptFault)
       → lines_of text ≡ front ++ line ∷ back → with_lines blank front ≡ Ok outline
       → with_line outline line ≡ Err fault → program_of text ≡ Err fault
-  -- If no line is faulty, the fault of the first instruction that can't be resolved is reported: its label or data is
-  -- missing, or its data can't be poked.
+  -- If no line is faulty, the fault of the first instruction that can't be resolved is reported: its label or data name
+  -- isn't defined, or its data can't be poked.
   pub names : (text : List ℕ) (outline : Outline) (front : List DraftLine) (d : DraftLine) (back : List DraftLine)
       (instructions : List (Step ℕ ℕ)) (fault : ScriptFault)
       → with_lines blank (lines_of text) ≡ Ok outline → outline.drafts ≡ front ++ d ∷ back
@@ -167,14 +167,14 @@ rank line.UnknownName = 1
 rank line.Range = 2
 rank line.TooLong = 3
 
--- One of two operands has the fault.
+-- At least one of two operands has the fault.
 abbrev pub OneHas : {A B : Type 0} → Result A LineFault → Result B LineFault → LineFault → Type 0
 OneHas a b fault = (a ≡ Err fault) ⊎ (b ≡ Err fault)
 
 -- A line's faults are reported in order.
 pub record FaultsComeInOrder : Type 0 where
-  -- The fault reported for two operands is a fault of one of them. Neither has a fault that comes before it in the
-  -- order.
+  -- The fault that is reported for two operands is a fault of at least one operand. Neither operand has a fault with a
+  -- lower rank.
   pub operands : (a b : Result ℕ LineFault) (fault : LineFault) → both a b ≡ Err fault
       → OneHas a b fault × ((other : LineFault) → OneHas a b other → rank fault ≤ rank other)
   -- A line's own fault is reported, whatever the lines before it are.

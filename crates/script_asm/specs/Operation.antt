@@ -10,7 +10,7 @@ use Rattle.script_asm.specs.declared.faults.LineFault.TheVariants.{Syntax}
 use Rattle.script_asm.specs.Fault.{◌then◌, both}
 use Rattle.script_asm.specs.Target.{number_in, number_below, name_in, target_of}
 
--- An instruction as written in its line, with labels and data by name.
+-- An instruction as written in its line, which refers to labels and data strings by name.
 abbrev pub Draft : Type 0
 Draft = Instruction (List ℕ) (List ℕ)
 

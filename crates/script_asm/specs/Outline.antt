@@ -3,8 +3,7 @@ use Rattle.std.specs.Prelude.{◌≤◌, ℕ, List, [], length}
 use Rattle.script_asm.specs.Places.{Places, nowhere}
 use Rattle.script_asm.specs.declared.sheet.DraftLine.{DraftLine}
 
--- The places of the labels, the numbers of the data strings, and the strings and the instructions in the order of their
--- lines.
+-- The numbers of labels and of data strings by name, and the data strings and instructions in the order of their lines.
 pub record Outline : Type 0 where
   pub labels : Places
   pub data_numbers : Places

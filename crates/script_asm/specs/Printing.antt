@@ -14,34 +14,34 @@ place_text place =
     if (row_of place.row).count == 1 then (row_of place.row).name
     else (row_of place.row).name ++ (codes "[" ++ (decimal place.index ++ codes "]"))
 
--- The place, if the address is its first one.
+-- The place, if it starts at this address.
 abbrev pub if_first_at : ℕ → Place → Option Place
 if_first_at address place = if unwrap_or (address_among runs place) 0 == address then Some place else None
 
--- The register that has this first address.
+-- The register that starts at this address.
 abbrev pub place_first_at : ℕ → Option Place
 place_first_at address = elim (place_among runs address) [ None ↦ None | Some place ↦ if_first_at address place ]
 
--- A register's address: its name if this is the register's first address, otherwise the number.
+-- An address as text: a register's name if the register starts at this address, otherwise the number.
 abbrev pub target_text : ℕ → List ℕ
 target_text address = elim (place_first_at address) [ None ↦ word_text address | Some place ↦ place_text place ]
 
--- An interrupt group: the physical function's, or a virtual function's by its number.
+-- An interrupt group as text: `pf` for the physical function, or a virtual function's number.
 abbrev pub group_text : Group → List ℕ
 group_text Pf = codes "pf"
 group_text (Vf function) = word_text function
 
--- The direction of a queue.
+-- A queue's side as text.
 abbrev pub direction_text : Dir → List ℕ
 direction_text Rx = codes "rx"
 direction_text Tx = codes "tx"
 
--- The state of the link.
+-- The link's state as text.
 abbrev pub link_text : Bool → List ℕ
 link_text true = codes "up"
 link_text false = codes "down"
 
--- An instruction of a program, with data as `d` and labels as `L`, each followed by its number.
+-- A program's instruction as text. A data string is printed as `d` and its number, and a label as `L` and its number.
 abbrev pub instruction_text : Instruction ℕ ℕ → List ℕ
 instruction_text (Write address word) = codes "w " ++ (target_text address ++ (codes " " ++ word_text word))
 instruction_text (Read address) = codes "r " ++ target_text address

@@ -4,7 +4,7 @@ use Rattle.script_asm.specs.Prelude.{AllByRecursion, HaveWidths, IsListing, List
 use Rattle.script_asm.specs.Disassembly.{text_of}
 use Rattle.script_asm.specs.Script.{program_of}
 
--- A program's numbers fit in its fields: bytes, and 32-bit words.
+-- A program's data strings consist of bytes, and the numbers in its instructions fit the fields of an object.
 pub record HasWidths (program : Listing) : Type 0 where
   pub strings : AllByRecursion (AllByRecursion (λ byte. byte < 256)) program.strings
   pub instructions : AllByRecursion (λ i. HaveWidths (fields_of i)) program.instructions

@@ -15,7 +15,7 @@ use Rattle.script_asm.specs.Operation.{Draft}
 use Rattle.script_asm.specs.Outline.{Outline}
 use Rattle.script_asm.specs.Places.{place_of}
 
--- The place of the label that a line jumps to.
+-- The number of the label that a line jumps to.
 abbrev pub label_named : Outline → ℕ → List ℕ → Result ℕ ScriptFault
 label_named outline line name = ok_or (place_of outline.labels name) (UnknownLabel line)
 
@@ -23,7 +23,7 @@ label_named outline line name = ok_or (place_of outline.labels name) (UnknownLab
 abbrev pub data_named : Outline → ℕ → List ℕ → Result ℕ ScriptFault
 data_named outline line name = ok_or (place_of outline.data_numbers name) (UnknownLabel line)
 
--- The instruction, unless it pokes data that isn't 16 bytes long.
+-- The instruction, or `Range` if it pokes data that isn't 16 bytes long.
 abbrev pub fitting : Outline → ℕ → Instruction ℕ ℕ → Result (Instruction ℕ ℕ) ScriptFault
 fitting outline line (Poke address number) =
     if length (string_at outline.strings number) == 16 then Ok (Poke address number) else Err (Range line)
@@ -34,7 +34,8 @@ abbrev pub resolved : Outline → ℕ → Draft → Result (Instruction ℕ ℕ)
 resolved outline line draft =
     try_map (label_named outline line) (data_named outline line) draft then fitting outline line
 
--- The instructions in `before`, followed by these. If a line can't be resolved, the first such line's fault.
+-- The instructions in `before`, followed by the resolved instructions of these lines. If a line can't be resolved, the
+-- fault of the first such line.
 unfoldable pub with_resolved : Outline → List (Instruction ℕ ℕ) → List DraftLine
     → Result (List (Instruction ℕ ℕ)) ScriptFault
 with_resolved outline before [] = Ok before
@@ -66,8 +67,8 @@ IsInRange (JumpUnlessEqual word name) = ⊤
 IsInRange (Jump name) = ⊤
 IsInRange Halt = ⊤
 
--- The lines can be resolved to a program. Labels are at instructions or at the end, data numbers have their strings,
--- and everything is in range.
+-- The lines are ready to be resolved to a program. Each label is at an instruction or at the end, each data number has
+-- its data string, and all counts and numbers are in range.
 pub record IsReady (outline : Outline) : Type 0 where
   pub few_drafts : length outline.drafts ≤ 4096
   pub few_strings : length outline.strings ≤ 1024

@@ -13,14 +13,14 @@ use Rattle.script_asm.specs.Places.{place_of, with_place}
 use Rattle.script_asm.specs.Resolved.{with_resolved}
 use Rattle.script_asm.specs.Statement.{statement_of}
 
--- Adds a label at the next instruction. Its name must be new among labels.
+-- Adds a label at the next instruction. The label's name must be new among labels.
 abbrev pub with_label : Outline → ℕ → List ℕ → Result Outline ScriptFault
 with_label before line name =
     if is_some (place_of before.labels name) then Err (TwoLabels line)
     else Ok (record before { labels = with_place before.labels name (length before.drafts) })
 
--- Adds a data string. Its name must be new among data names. There are at most 1,024 data strings, of at most 16,384
--- bytes each.
+-- Adds a data string. The string's name must be new among data names. There are at most 1,024 data strings, of at most
+-- 16,384 bytes each.
 abbrev pub with_data : Outline → ℕ → List ℕ → List ℕ → Result Outline ScriptFault
 with_data before line name string =
     if is_some (place_of before.data_numbers name) then Err (TwoLabels line)
@@ -31,7 +31,7 @@ with_data before line name string =
     })
     else Err TooLong
 
--- Adds an instruction. There are at most 4,096.
+-- Adds an instruction. There are at most 4,096 instructions.
 abbrev pub with_draft : Outline → ℕ → Draft → Result Outline ScriptFault
 with_draft before line draft =
     if nat_lt (length before.drafts) 4096
@@ -55,16 +55,16 @@ unfoldable pub with_lines : Outline → List NumberedLine → Result Outline Scr
 with_lines before [] = Ok before
 with_lines before (line ∷ more) = with_line before line then λ after. with_lines after more
 
--- The program of all lines' contents, or its fault.
+-- The program that the contents of all lines form, or its fault.
 abbrev pub program_in : Outline → Result Listing ScriptFault
 program_in outline =
     with_resolved outline [] outline.drafts
     then λ instructions. Ok (record { strings = outline.strings; instructions = instructions })
 
--- The program of lines, or their fault.
+-- The program that these lines form, or their fault.
 abbrev pub program_of_lines : List NumberedLine → Result Listing ScriptFault
 program_of_lines lines = with_lines blank lines then program_in
 
--- The program of a source, or its fault.
+-- The program that a source means, or its fault.
 unfoldable pub program_of : List ℕ → Result Listing ScriptFault
 program_of text = program_of_lines (lines_of text)

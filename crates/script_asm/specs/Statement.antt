@@ -25,13 +25,14 @@ data_in (a ∷ []) = Err Syntax
 data_in (a ∷ b ∷ []) = both (name_in a) (bytes_in b) then λ found. Ok (Data found.0 found.1)
 data_in (a ∷ b ∷ c ∷ more) = Err Syntax
 
--- The statement, given whether its first word ends in a colon. A word with a final colon is a label; any other word
--- starts an instruction.
+-- The statement of a line with this first word. If the word ends in a colon, the line is a label, and `Some` contains
+-- the name before the colon. Otherwise the word starts an instruction.
 abbrev pub label_or_instruction : List ℕ → Option (List ℕ) → List (List ℕ) → Result Statement LineFault
 label_or_instruction word (Some name) operands = label_in name operands
 label_or_instruction word None operands = instruction_in word operands then λ instruction. Ok (Instruction instruction)
 
--- The statement of a line. A line without words is empty; any other defines data, is a label, or is an instruction.
+-- The statement of a line. A line without words is empty. Any other line defines data, is a label, or is an
+-- instruction.
 unfoldable pub statement_of : List (List ℕ) → Result Statement LineFault
 statement_of [] = Ok Empty
 statement_of (word ∷ operands) =

@@ -25,13 +25,14 @@ name_in word = if is_name word then (if nat_le (length word) 32 then Ok word els
 abbrev pub row_in : List ℕ → Result RowId LineFault
 row_in name = ok_or (row_with_name name) UnknownName
 
--- The first address of a row's register. Its index must be below the row's count.
+-- The first address of the register with this index in a row. The index must be below the number of registers in the
+-- row.
 abbrev pub register_address : RowId → ℕ → Result ℕ LineFault
 register_address row index =
     if nat_lt index (row_of row).count
     then Ok (unwrap_or (address_among runs (record { row = row; index = index })) 0) else Err Range
 
--- The address of a row and an index, either of which may be faulty.
+-- The first address of the register with this row and index, either of which may be faulty.
 abbrev pub address_in : Result RowId LineFault → Result ℕ LineFault → Result ℕ LineFault
 address_in row index = both row index then λ register. register_address register.0 register.1
 
@@ -39,18 +40,18 @@ address_in row index = both row index then λ register. register_address registe
 abbrev pub has_byte : ℕ → List ℕ → Bool
 has_byte byte word = nat_lt (position_or_len (λ b. b == byte) word) (length word)
 
--- The part of a word before this final byte.
+-- The part of a word before its last byte, if that byte is this one.
 abbrev pub before_last_byte : ℕ → List ℕ → Option (List ℕ)
 before_last_byte byte word =
     if slice_index word (length word - 1) == byte && nat_lt 0 (length word)
     then Some (take (length word - 1) word) else None
 
--- The address of a name and an index that a bracket must close.
+-- The address that a row's name and a bracketed index name. `None` means that the closing bracket is missing.
 abbrev pub indexed : List ℕ → Option (List ℕ) → Result ℕ LineFault
 indexed name None = Err Syntax
 indexed name (Some index) = if is_name name then address_in (row_in name) (number_in index) else Err Syntax
 
--- The address that a word names: `ROW[INDEX]`, `ROW` for its index 0, or a number.
+-- The address that a word names: `ROW[INDEX]`, `ROW` for the register with index 0, or a number.
 unfoldable pub target_of : List ℕ → Result ℕ LineFault
 target_of word =
     if has_byte 91 word then indexed (before_first (λ b. b == 91) word)

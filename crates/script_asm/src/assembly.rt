@@ -16,7 +16,7 @@ use program::Program;
 use std::alloc::Global;
 use text_format::{Line, Lines, Words};
 
-/// Adds the statement of a line.
+/// Adds a line's statement to the sheet.
 fn add_line<'a>(alloc: Global, sheet: &mut Sheet<'a>, line: Line<'a>) -> Result<(), ScriptFault>
     ensures { Gives (λ _. sheet.new) result (with_line sheet.old (line_of line.entry)) }
 {
@@ -25,7 +25,7 @@ fn add_line<'a>(alloc: Global, sheet: &mut Sheet<'a>, line: Line<'a>) -> Result<
     sheet.add(number, statement)
 }
 
-/// Reads all lines of a script, before names are looked up.
+/// Reads all lines of a script. Names aren't looked up yet.
 fn read_sheet(alloc: Global, text: &str) -> Result<Sheet<'_>, ScriptFault>
     ensures { Gives (λ sheet. sheet) result (with_lines blank (lines_of text.now)) }
 {
@@ -39,9 +39,9 @@ fn read_sheet(alloc: Global, text: &str) -> Result<Sheet<'_>, ScriptFault>
 /// Assembles a script into its program, or returns its fault.
 ///
 /// The first line with `Syntax`, `UnknownName`, `Range`, `TwoLabels` or `TooLong` is reported. If that line has several
-/// of these faults, the first in this list is reported. If there is no such line, the first line with one of these
-/// faults is reported: a label or data name that no line defines (`UnknownLabel`), or data to poke that isn't 16 bytes
-/// long (`Range`). `OutOfMemory` may be returned in place of any other result.
+/// of these faults, the first in this list is reported. If no line has any of these faults, the first line with one of
+/// two others is reported: it uses a label or data name that no line defines (`UnknownLabel`), or it pokes data that
+/// isn't 16 bytes long (`Range`). `OutOfMemory` may be returned in place of any other result.
 #[tactic(auto, unfolding(crate::specs::Script::program_of))]
 pub fn assemble(alloc: Global, text: &str) -> Result<Program, ScriptFault>
     ensures program { IfOk result (λ program. program_of text.now ≡ Ok program) }
@@ -62,7 +62,8 @@ fn is_only(word: &str, line: &str) -> bool
     }
 }
 
-/// Reads the lines before the line `end`, and returns whether there is one. The lines after it aren't read.
+/// Reads the lines before the first line that consists only of the given word `end`, and returns whether such a line
+/// exists. The lines after the `end` line aren't read.
 fn read_before<'a>(
     alloc: Global,
     lines: &mut Lines<'a>,
@@ -83,8 +84,8 @@ fn read_before<'a>(
     Ok((sheet, false))
 }
 
-/// Assembles the lines before the first line that consists only of the word `end`. The lines after it aren't read.
-/// Returns `None` if there is no `end` line and all lines form a script.
+/// Assembles the lines before the first line that consists only of the given word `end`. The lines after the `end` line
+/// aren't read. Returns `None` if there is no `end` line and all lines form a script.
 ///
 /// Faults are reported as by `assemble`. `OutOfMemory` may be returned in place of any other result.
 pub fn assemble_before(

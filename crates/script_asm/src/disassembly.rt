@@ -13,7 +13,7 @@ use std::alloc::Global;
 use std::fmt::Write;
 use text_format::BytesText;
 
-/// Appends the line of a data string.
+/// Appends the line that defines a data string.
 fn push_data_line(text: &mut String, number: usize, bytes: &[u8]) -> Result<(), OutOfMemory>
     ensures { IfOk result (λ _. string_bytes text.new ≡ string_bytes text.old ++ data_line number bytes.now) }
 {
@@ -23,7 +23,7 @@ fn push_data_line(text: &mut String, number: usize, bytes: &[u8]) -> Result<(), 
     }
 }
 
-/// Appends the lines of all data strings.
+/// Appends the lines that define these data strings.
 fn push_data_lines(text: &mut String, strings: &[Octets]) -> Result<(), OutOfMemory>
     ensures { IfOk result (λ _. string_bytes text.new ≡ string_bytes text.old ++ data_lines 0 strings.now) }
 {
@@ -52,7 +52,7 @@ fn is_target(code: &[Instruction], pc: u16) -> bool
     code.iter().any(|instruction| jumps_to(instruction, pc))
 }
 
-/// Appends the label of an instruction, if an instruction jumps to it.
+/// If an instruction jumps to the instruction with this number, appends its label.
 fn push_label_line(text: &mut String, code: &[Instruction], pc: u16) -> Result<(), OutOfMemory>
     ensures { IfOk result (λ _. string_bytes text.new ≡ string_bytes text.old ++ label_line_at code.now pc) }
 {
@@ -82,7 +82,7 @@ fn push_code_line(
     }
 }
 
-/// Appends the instructions, and the label after the last one.
+/// Appends the instructions, and a label after the last one if an instruction jumps there.
 fn push_code_lines(text: &mut String, code: &[Instruction]) -> Result<(), OutOfMemory>
     requires { length code.now ≤ 4096 }
     ensures { IfOk result (λ _. string_bytes text.new ≡ string_bytes text.old ++ code_lines code.now 0 code.now) }
@@ -161,10 +161,10 @@ fn have_widths(code: &[Instruction])
 }
 
 /// Returns the source of a program: its data strings with the names `d0`, `d1` and so on, then its instructions. Each
-/// jump target is preceded by its label: `L` and its number. If the address of `w` or `r` is a register's first
-/// address, it is printed as the register's name, with the index if the row has several registers. All other numeric
+/// jump target is preceded by its label: `L` and its number. If the address in a `w` or `r` is a register's first
+/// address, the register's name is printed instead, with the index if the row has several registers. All other numeric
 /// operands are printed as eight hex digits. The source assembles to the same program. Fails with `OutOfMemory` if
-/// there is no memory for it.
+/// there is no memory for the source.
 pub fn disassemble(alloc: Global, program: &Program) -> Result<String, OutOfMemory>
     ensures text { IfOk result (λ text. string_bytes text ≡ text_of program.now) }
     ensures means { IfOk result (λ text. program_of (string_bytes text) ≡ Ok program.now) }

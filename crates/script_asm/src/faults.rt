@@ -10,8 +10,9 @@ use thiserror::Error;
 /// Why an input isn't a script. The number in a variant is the line, counted from 1.
 ///
 /// The first line with `Syntax`, `UnknownName`, `Range`, `TwoLabels` or `TooLong` is reported. If that line has several
-/// of these faults, the first in this list is reported. Labels and data are looked up only if no line has one of these
-/// faults. Then the first line with `UnknownLabel`, or with `Range` for data that can't be poked, is reported.
+/// of these faults, the first in this list is reported. If no line has one of these faults, labels and data names are
+/// looked up. Then the first line with `UnknownLabel`, or with `Range` for poked data that isn't 16 bytes long, is
+/// reported.
 #[derive(Clone, Copy, Debug, PartialEq, Eq, Error)]
 pub enum ScriptFault {
     /// The line isn't a statement of the language.
@@ -26,12 +27,12 @@ pub enum ScriptFault {
     /// The line defines a label or data name that an earlier line already defined.
     #[error("line {0}: a name given twice")]
     TwoLabels(usize),
-    /// A number is out of its range, or an index isn't below its row's count. If no line has a fault of its own, this
-    /// is also reported for a line that pokes data that isn't 16 bytes long.
+    /// A number is out of its range, or an index isn't below the number of registers in its row. If no line has a fault
+    /// of its own, this is also reported for a line that pokes data that isn't 16 bytes long.
     #[error("line {0}: a number out of range")]
     Range(usize),
     /// A limit is exceeded: 4,096 instructions, 1,024 data strings, 16,384 bytes in a data string, or 32 bytes in the
-    /// name of a label or of data.
+    /// name of a label or data string.
     #[error("beyond a limit of scripts")]
     TooLong,
     /// There is no memory for the program. This may be returned in place of any other result.
@@ -59,7 +60,7 @@ impl<T: Drop> From<AllocFailed<T>> for ScriptFault {
     }
 }
 
-/// The faults of a line by itself, in the order in which they are reported.
+/// The faults that a line can have by itself, in the order in which they are reported.
 #[derive(Clone, Copy, Debug, PartialEq, Eq, Error)]
 pub enum LineFault {
     /// The line isn't a statement of the language.
@@ -90,7 +91,7 @@ impl From<NumberFault> for LineFault {
 }
 
 impl LineFault {
-    /// Returns the fault that is reported if a line has these two.
+    /// If a line has these two faults, returns the one that is reported.
     fn reported_first(self, other: LineFault) -> LineFault
         ensures { result ≡ reported_first self other }
     {
@@ -102,7 +103,7 @@ impl LineFault {
         }
     }
 
-    /// Returns the script's fault, given this fault of the line with this number.
+    /// Returns the script's fault for this fault in the line with this number.
     pub(crate) fn at(self, number: usize) -> ScriptFault
         ensures { result ≡ fault_at number self }
     {
@@ -115,7 +116,7 @@ impl LineFault {
     }
 }
 
-/// Returns two operands of a line, or the fault that is reported first if one or both are faulty.
+/// Returns two operands of a line. If an operand is faulty, returns the fault that is reported first.
 pub(crate) fn both<A: Drop, B: Drop>(
     a: Result<A, LineFault>,
     b: Result<B, LineFault>,

@@ -1,10 +1,11 @@
-//! Register scripts: programs, their source and their objects, and the machine that runs them.
+//! Register scripts: their source, their programs and objects, and the machine that runs a program.
 //!
-//! `assemble` turns a source into a `Program`, and `disassemble` turns a program into its source. Two crates are
-//! re-exported: `program`, with programs and their objects, and `machine`, which runs a program on a device.
+//! `assemble` turns a source into a `Program`, and `disassemble` turns a program into a source. The crate re-exports
+//! items from two others: `program`, which defines programs and their objects, and `machine`, which runs a program on a
+//! device.
 //!
-//! `program_of` defines the program that a source means, line by line, and `text_of` defines the source of a program.
-//! `nicbench` and the debugger depend on this crate.
+//! `program_of` defines, line by line, the program that a source means. `text_of` defines the source that a program
+//! disassembles to. `nicbench` and the debugger depend on this crate.
 #![tactic(auto)]
 
 mod assembly;

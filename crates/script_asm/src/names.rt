@@ -7,7 +7,7 @@ use crate::faults::LineFault;
 use std::marker::Model;
 use text_format::{NAME_LIMIT, is_name};
 
-/// A name of at most 32 bytes. Contracts see it as its bytes.
+/// A name of at most 32 bytes. In contracts, a name is its bytes.
 #[derive(Drop)]
 pub(crate) struct Name<'a> {
     text: &'a str,
@@ -22,7 +22,7 @@ impl<'a> Model for Name<'a> {
 }
 
 impl<'a> Name<'a> {
-    /// Checks that a word is a name, and returns it.
+    /// Returns the word as a name, or the fault if it isn't a name.
     pub(crate) fn of(word: &'a str) -> Result<Name<'a>, LineFault>
         ensures { result ≡ name_in word.now }
     {

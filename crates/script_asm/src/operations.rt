@@ -11,7 +11,7 @@ use crate::targets::{number, number_below, target};
 use program::{Dir, Group, Instruction, MAX_VFS};
 use text_format::Words;
 
-/// An instruction as written in its line, with labels and data by name.
+/// An instruction as written in its line, which refers to labels and data strings by name.
 pub(crate) type Draft<'a> = Instruction<Name<'a>, Name<'a>>;
 
 /// Returns the queue side that a word names: `rx` or `tx`.
@@ -65,7 +65,7 @@ fn number16(word: &str) -> Result<u16, LineFault>
     Ok(number as u16)
 }
 
-/// Returns the index of one of four words, 0 to 3.
+/// Returns the index of the 32-bit word that a `peek` selects, 0 to 3.
 fn word_number(word: &str) -> Result<u8, LineFault>
     ensures { result ≡ number_below 4 word.now }
 {
@@ -73,7 +73,7 @@ fn word_number(word: &str) -> Result<u8, LineFault>
     Ok(number as u8)
 }
 
-/// Returns the operation with this name and no operands.
+/// Returns the instruction for an operation with this name and no operands.
 fn alone<'a>(name: &str) -> Result<Draft<'a>, LineFault>
     ensures { result ≡ looked_up name.now table_alone }
 {
@@ -86,7 +86,7 @@ fn alone<'a>(name: &str) -> Result<Draft<'a>, LineFault>
     }
 }
 
-/// Returns the operation with this name and one operand.
+/// Returns the instruction for an operation with this name and one operand.
 fn with_one<'a>(name: &str, a: &'a str) -> Result<Draft<'a>, LineFault>
     ensures { result ≡ looked_up name.now (table_of_one a.now) }
 {
@@ -111,7 +111,7 @@ fn with_one<'a>(name: &str, a: &'a str) -> Result<Draft<'a>, LineFault>
     }
 }
 
-/// Returns the operation with this name and two operands.
+/// Returns the instruction for an operation with this name and two operands.
 fn with_two<'a>(name: &str, a: &'a str, b: &'a str) -> Result<Draft<'a>, LineFault>
     ensures { result ≡ looked_up name.now (table_of_two a.now b.now) }
 {
@@ -152,7 +152,7 @@ fn with_two<'a>(name: &str, a: &'a str, b: &'a str) -> Result<Draft<'a>, LineFau
     }
 }
 
-/// Returns the operation with this name and three operands.
+/// Returns the instruction for an operation with this name and three operands.
 fn with_three<'a>(name: &str, a: &str, b: &str, c: &str) -> Result<Draft<'a>, LineFault>
     ensures { result ≡ looked_up name.now (table_of_three a.now b.now c.now) }
 {
@@ -169,7 +169,7 @@ fn with_three<'a>(name: &str, a: &str, b: &str, c: &str) -> Result<Draft<'a>, Li
     }
 }
 
-/// Returns the instruction with this operation's name and these operands.
+/// Returns the instruction for an operation with this name and any number of operands.
 pub(crate) fn read_instruction<'a>(
     name: &str,
     mut operands: Words<'a>,

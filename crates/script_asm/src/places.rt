@@ -1,4 +1,4 @@
-//! The numbers of labels and data strings by name.
+//! A table of names, with the numbers of labels and data strings.
 
 ghost use Rattle.std.specs.Prelude.{◌≡◌, Ok};
 ghost use Rattle.script_asm.specs.Fault.{Gives};
@@ -10,8 +10,8 @@ use std::alloc::Global;
 use std::collections::BTreeMap;
 use std::marker::Model;
 
-/// Names with their numbers: a label has the number of the instruction after it, and a data name its data string's
-/// number. A lookup takes time logarithmic in the number of names.
+/// A table of names with their numbers. A label's number is the number of the instruction after it, and a data name's
+/// number is that of its data string. The time for a lookup is logarithmic in the number of names.
 #[derive(Drop)]
 pub(crate) struct Places<'a> {
     numbers: BTreeMap<&'a str, u16>,
@@ -28,7 +28,7 @@ impl<'a> Model for Places<'a> {
 }
 
 impl<'a> Places<'a> {
-    /// Returns an empty list of names.
+    /// Returns an empty table.
     pub(crate) fn new(alloc: Global) -> Places<'a>
         ensures { result ≡ nowhere }
     {

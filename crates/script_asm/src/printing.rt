@@ -12,7 +12,7 @@ use reg_table::{Place, addr_of, count_of, name_of, place_of};
 use std::fmt;
 use text_format::WordText;
 
-/// The printed form of a register: its name, with its index if the row has several registers.
+/// The printed form of a register: its row's name, followed by its index if the row has several registers.
 #[derive(Clone, Copy)]
 struct PlaceText(Place);
 
@@ -30,7 +30,7 @@ impl fmt::Display for PlaceText {
     }
 }
 
-/// Returns the register that has this first address.
+/// Returns the register that starts at this address.
 fn place_first_at(address: u32) -> Option<Place>
     ensures { result ≡ place_first_at address }
 {
@@ -42,7 +42,7 @@ fn place_first_at(address: u32) -> Option<Place>
     }
 }
 
-/// The printed form of a register's address: its name if this is the first address, otherwise a number.
+/// The printed form of an address: a register's name if the register starts at this address, otherwise a number.
 #[derive(Clone, Copy)]
 struct TargetText(u32);
 
@@ -64,7 +64,7 @@ enum Operand {
     Named(&'static str),
     /// A number, printed as eight hex digits.
     Word(u32),
-    /// A register's address, printed by name if it is the first one.
+    /// An address, printed as a register's name if the register starts there.
     Target(u32),
     /// A data string, by its number.
     Data(u16),
@@ -117,14 +117,14 @@ impl fmt::Display for Line {
     }
 }
 
-/// Returns the operand for a number of 8 or 16 bits.
+/// Returns the operand for an 8-bit or 16-bit number.
 fn number(number: u16) -> Operand
     ensures { result ≡ Operand.Word number }
 {
     Operand::Word(u32::from(number))
 }
 
-/// Returns the operand for a group of interrupts.
+/// Returns the operand for an interrupt group.
 fn group(group: Group) -> Operand
     ensures { operand_text result ≡ group_text group }
 {
@@ -134,7 +134,7 @@ fn group(group: Group) -> Operand
     }
 }
 
-/// Returns the operand for a side of a queue.
+/// Returns the operand for a queue's side: `rx` or `tx`.
 fn direction(direction: Dir) -> Operand
     ensures { operand_text result ≡ direction_text direction }
 {
@@ -151,7 +151,7 @@ fn link(up: bool) -> Operand
     Operand::Named(if up { "up" } else { "down" })
 }
 
-/// Returns the parts of an instruction's line, ready to print.
+/// Returns the operation's name and the operands of an instruction, ready to print.
 fn line_of(instruction: &Instruction) -> Line
     ensures { line_text result ≡ instruction_text instruction.now }
 {

@@ -16,15 +16,15 @@ use program::{DATA_BYTES, DATA_LIMIT, INSTRUCTION_LIMIT, Instruction, Octets, Pr
 use std::alloc::Global;
 use std::marker::Model;
 
-/// An instruction as written in its line, with the line's number.
+/// An instruction as written in its line, together with the line's number.
 #[derive(Drop)]
 pub(crate) struct DraftLine<'a> {
     line: usize,
     draft: Draft<'a>,
 }
 
-/// The places of the labels, the numbers of the data strings by name, and the strings and the instructions in the order
-/// of their lines. Empty lines take no space.
+/// The statements that have been read: the numbers of labels and of data strings by name, and the data strings and
+/// instructions in the order of their lines. Empty lines take no space.
 #[derive(Drop)]
 pub(crate) struct Sheet<'a> {
     labels: Places<'a>,
@@ -59,7 +59,7 @@ impl<'a> Model for Sheet<'a> {
 }
 
 impl<'a> Sheet<'a> {
-    /// Returns the sheet before the first line.
+    /// Returns an empty sheet, before the first line is read.
     pub(crate) fn new(alloc: Global) -> Sheet<'a>
         ensures { result ≡ blank }
     {
@@ -119,7 +119,7 @@ impl<'a> Sheet<'a> {
         }
     }
 
-    /// Returns the number of the instruction at the label that a line jumps to.
+    /// Returns the number of the instruction at the label with this name, to which a line jumps.
     fn label_named(&self, line: usize, name: &Name<'_>) -> Result<u16, ScriptFault>
         ensures { result ≡ label_named self.now line name.now }
     {
@@ -128,7 +128,7 @@ impl<'a> Sheet<'a> {
             .ok_or(ScriptFault::UnknownLabel(line))
     }
 
-    /// Returns the number of the data string that a line uses.
+    /// Returns the number of the data string with this name, which a line uses.
     fn data_named(&self, line: usize, name: &Name<'_>) -> Result<u16, ScriptFault>
         ensures { result ≡ data_named self.now line name.now }
     {
@@ -147,7 +147,7 @@ impl<'a> Sheet<'a> {
         }
     }
 
-    /// Returns the instruction, unless it pokes data that isn't 16 bytes long.
+    /// Returns the instruction, or `Range` if it pokes data that isn't 16 bytes long.
     fn fitting(&self, line: usize, instruction: Instruction) -> Result<Instruction, ScriptFault>
         ensures { result ≡ fitting self.now line instruction }
     {
@@ -190,7 +190,7 @@ impl<'a> Sheet<'a> {
         Ok(())
     }
 
-    /// Converts these instructions to instructions with numbers in place of names.
+    /// Returns these instructions with numbers in place of names.
     fn all_resolved(
         &self,
         alloc: Global,
@@ -205,7 +205,7 @@ impl<'a> Sheet<'a> {
         Ok(instructions)
     }
 
-    /// Converts all instructions to instructions with numbers in place of names.
+    /// Returns all instructions with numbers in place of names.
     fn instructions(&self, alloc: Global) -> Result<Vec<Instruction>, ScriptFault>
         ensures gives { Gives (λ instructions. instructions.items) result (with_resolved self.now [] self.now.drafts) }
         ensures few { length self.now.drafts ≤ 4096 }
@@ -213,7 +213,7 @@ impl<'a> Sheet<'a> {
         self.all_resolved(alloc, &self.drafts)
     }
 
-    /// Returns the program of all lines that were read.
+    /// Returns the program that the lines read so far form.
     pub(crate) fn into_program(self, alloc: Global) -> Result<Program, ScriptFault>
         requires { IsReady self }
         ensures { Gives (λ program. program) result (program_in self.entry) }

@@ -14,10 +14,10 @@ use program::Octets;
 use std::alloc::Global;
 use text_format::{HexFault, Line, Words, hex_bytes};
 
-/// The statement of a line.
+/// What a line states: nothing, a label, a data string or an instruction.
 #[derive(Drop)]
 pub(crate) enum Statement<'a> {
-    /// An empty line, or one with only a comment.
+    /// An empty line, or a line with only a comment.
     Empty,
     /// A label: the name of the next instruction.
     Label(Name<'a>),
@@ -39,7 +39,7 @@ fn read_bytes(alloc: Global, number: usize, word: &str) -> Result<Octets, Script
     }
 }
 
-/// Returns the statement of a data line: a name and its bytes.
+/// Returns the statement of a `data` line: a name and its bytes.
 fn read_data<'a>(
     alloc: Global,
     number: usize,

@@ -37,7 +37,7 @@ fn row(name: &str) -> Result<RowId, LineFault>
     row_named(name).ok_or(LineFault::UnknownName)
 }
 
-/// Returns the first address of a row's register with this index.
+/// Returns the first address of the register with this index in a row.
 fn register_address(row: RowId, index: u32) -> Result<u32, LineFault>
     ensures { result ≡ register_address row index }
 {
@@ -49,7 +49,8 @@ fn register_address(row: RowId, index: u32) -> Result<u32, LineFault>
     }
 }
 
-/// Returns the address of a row and an index, either of which may be faulty.
+/// Returns the first address of the register with this row and index. If the row or the index is faulty, returns the
+/// fault that is reported first.
 fn address(row: Result<RowId, LineFault>, index: Result<u32, LineFault>) -> Result<u32, LineFault>
     ensures { result ≡ address_in row index }
 {
@@ -57,18 +58,18 @@ fn address(row: Result<RowId, LineFault>, index: Result<u32, LineFault>) -> Resu
     register_address(row, index)
 }
 
-/// Returns the part of a word before a final bracket.
+/// Returns the part of a word before a final `]`.
 fn before_bracket(word: &str) -> Option<&str>
     ensures { option_copied result ≡ before_last_byte 93 word.now }
 {
     word.strip_suffix(']')
 }
 
-/// Returns the address in bytes that a word names: `ROW[INDEX]`, the first address of that register; `ROW`, for its
-/// index 0; or a number.
+/// Returns the byte address that a word names. The word is `ROW[INDEX]`, for the first address of that register; `ROW`,
+/// for the register with index 0; or a number.
 ///
-/// Errors: `Syntax` if the word has none of these forms, then `UnknownName` if there is no such row, then `Range` for a
-/// number that isn't below 2^32 or an index that isn't below the row's count.
+/// Errors, in this order: `Syntax` if the word has none of these forms, `UnknownName` if no row has this name, and
+/// `Range` if a number isn't below 2^32 or an index isn't below the number of registers in the row.
 #[tactic(auto, unfolding(crate::specs::Target::target_of))]
 pub fn target(word: &str) -> Result<u32, LineFault>
     ensures { result ≡ target_of word.now }

@@ -1,4 +1,4 @@
--- What the debugger's commands do, by numbers.
+-- What the debugger's commands do, stated in terms of instruction numbers and counts of steps.
 use Rattle.std.specs.Prelude.{ℕ, suc, ◌≡◌, ◌≢◌, ◌-◌, ◌<◌, ◌≤◌, ◌==◌, not, Bool, true, false, [], ◌∷◌, ◌++◌, length, filter}
 use Rattle.std.specs.Prelude.{None, Ok, Err}
 use Rattle.std.specs.List.{list_any}
@@ -16,8 +16,8 @@ use Rattle.machine.specs.declared.machine.StepAnswer.TheVariants.{Stopped}
 abbrev pub is_set : Session → ℕ → Bool
 is_set s pc = list_any (λ set. set == pc) s.breakpoints
 
--- A command returns the view of session `after`, which is the session afterwards. `IsRefused`: it returns this refusal
--- and leaves the session unchanged.
+-- `IsDone`: a command returns the view of session `after`, and this is the session after the command. `IsRefused`: a
+-- command returns this refusal and leaves the session unchanged.
 pub record IsDone (s : Session) (command : Command) (after : Session) : Type 0 where
   pub answer : (command_of s command).answer ≡ Ok (view_of after None)
   pub session : (command_of s command).session ≡ after
@@ -26,8 +26,8 @@ pub record IsRefused (s : Session) (command : Command) (refusal : DebugRefusal) 
   pub answer : (command_of s command).answer ≡ Err refusal
   pub session : (command_of s command).session ≡ s
 
--- A breakpoint is set at an instruction of the program. Setting one that is already set has no effect, even if 32 are
--- set. A new one becomes the last, and a 33rd is refused.
+-- A breakpoint is set at an instruction of the program. Setting a breakpoint that is already set has no effect, even if
+-- 32 are set. A new breakpoint becomes the last one, and a 33rd is refused.
 pub record BreaksAreSet (s : Session) (pc : ℕ) : Type 0 where
   pub outside : length s.program.instructions ≤ pc → IsRefused s (Break pc) NoSuchPc
   pub again : pc < length s.program.instructions → is_set s pc ≡ true → IsDone s (Break pc) s
@@ -36,7 +36,7 @@ pub record BreaksAreSet (s : Session) (pc : ℕ) : Type 0 where
   pub full : pc < length s.program.instructions → is_set s pc ≡ false → 32 ≤ length s.breakpoints →
       IsRefused s (Break pc) TooManyBreaks
 
--- A breakpoint that is set is cleared, and only that one.
+-- Clearing a breakpoint that is set removes that breakpoint and no other. Clearing one that isn't set is refused.
 pub record BreaksAreCleared (s : Session) (pc : ℕ) : Type 0 where
   pub set : is_set s pc ≡ true →
       IsDone s (Clear pc) (record s { breakpoints = filter (λ other. not (other == pc)) s.breakpoints })
@@ -47,7 +47,8 @@ pub record GoesBack (s : Session) (count : ℕ) : Type 0 where
   pub back : count ≤ s.steps → IsDone s (Back count) (record s { steps = s.steps - count })
   pub refused : s.steps < count → IsRefused s (Back count) AtStart
 
--- What the next step returns, the session after it, and whether its next instruction then has a breakpoint.
+-- What the next step returns, the session after that step, and whether the instruction that is next after it has a
+-- breakpoint.
 abbrev pub next_answer : Session → StepAnswer
 next_answer s = (machine_step s.program (machine_at s.program s.config s.steps)).answer
 
@@ -63,8 +64,8 @@ pub record StepsAreMade (s : Session) (more : ℕ) : Type 0 where
   pub stopped : next_answer s ≡ Stopped → IsDone s (Step (suc more)) s
   pub one : next_answer s ≢ Stopped → command_of s (Step (suc more)) ≡ command_of (one_on s) (Step more)
 
--- `Continue` does the same up to the first breakpoint after at least one step: a breakpoint at the session's current
--- instruction doesn't stop it.
+-- `Continue` takes steps in the same way, but ends at the first breakpoint that it reaches after at least one step. A
+-- breakpoint at the session's current instruction doesn't stop `Continue`.
 pub record RunsAreMade (s : Session) (more : ℕ) : Type 0 where
   pub none : IsDone s (Continue 0) s
   pub stopped : next_answer s ≡ Stopped → IsDone s (Continue (suc more)) s

@@ -1,4 +1,4 @@
--- The twelve bytes of each instruction in an object, one by one.
+-- Each of the twelve bytes of an instruction in an object, and the faults of bytes that aren't an object.
 use Rattle.std.specs.Prelude.{ℕ, ◌≡◌, ◌/◌, ◌%◌, true, false, List, [], ◌∷◌, ◌++◌, take, Ok, Err}
 use Rattle.program.specs.Bytes.{bytes_of_fields}
 use Rattle.program.specs.DmaRing.declared.dir.Dir.TheVariants.{Rx, Tx}
@@ -63,7 +63,7 @@ abbrev pub head : (instructions strings total : ℕ) → List ℕ
 head instructions strings total =
     0x4e ∷ 0x42 ∷ 0x53 ∷ 0x43 ∷ 1 ∷ 0 ∷ instructions ∷ 0 ∷ strings ∷ 0 ∷ 0 ∷ 0 ∷ total ∷ 0 ∷ 0 ∷ 0 ∷ []
 
--- An instruction of this operation, kind and 16-bit number, and of words below 256.
+-- An instruction with this operation and kind, and with a 16-bit number and two words that are each below 256.
 abbrev pub code : (op sub x a b : ℕ) → List ℕ
 code op sub x a b = op ∷ sub ∷ x ∷ 0 ∷ a ∷ 0 ∷ 0 ∷ 0 ∷ b ∷ 0 ∷ 0 ∷ 0 ∷ []
 
@@ -75,8 +75,8 @@ IsRefused bytes fault = read_of bytes ≡ Err fault
 abbrev pub one : List ℕ → List ℕ
 one instruction = head 1 0 28 ++ instruction
 
--- A fault in the header comes first: its first four bytes, the next two, and then each of its numbers. Missing bytes
--- count as wrong ones.
+-- A fault in the header is reported first: in its first four bytes, then in the next two, and then in each of its
+-- numbers. Missing bytes count as wrong.
 pub record HeadersAreFirst : Type 0 where
   pub none : IsRefused [] Magic
   pub three : IsRefused (take 3 (head 0 0 16)) Magic
@@ -98,8 +98,8 @@ pub record HeadersAreFirst : Type 0 where
   pub short_string : IsRefused (head 1 1 32 ++ code 23 0 0 0 0 ++ 3 ∷ 0 ∷ 1 ∷ 2 ∷ []) Length
   pub more : IsRefused (head 1 0 29 ++ code 23 0 0 0 0 ++ 0 ∷ []) Length
 
--- Next, the first faulty instruction is reported with its number: for its operation, then for an unused field that
--- isn't 0 or a number out of its range, and then for its target.
+-- After the header, the first faulty instruction is reported with its number. Its operation is checked first, then
+-- whether an unused field isn't 0 or a number is out of its range, and then its target.
 pub record InstructionsAreNext : Type 0 where
   pub none : IsRefused (one (code 0 0 0 0 0)) (Opcode 0)
   pub after_all : IsRefused (one (code 23 0 0 0 0)) (Opcode 0)

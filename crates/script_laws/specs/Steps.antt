@@ -24,27 +24,27 @@ use Rattle.program.specs.declared.instruction.Instruction.TheVariants as instr
 abbrev pub status_after : Listing → ℕ → Status
 status_after program pc = if pc == length program.instructions then Ended else Running
 
--- The accumulator after a reply to a read: its word, even if no register exists at the address.
+-- The accumulator after a reply to a read: the word in the reply, even if no register exists at the address.
 abbrev pub acc_read : Reply Block → ℕ → ℕ
 acc_read (Word w) acc = w
 acc_read (Stray w) acc = w
 acc_read other acc = acc
 
--- The accumulator after a reply to a peek at 16 bytes: word i of them, the low byte first.
+-- The accumulator after a reply to a peek at 16 bytes: word `i` of these bytes, with the low byte first.
 abbrev pub acc_seen : ℕ → Reply Block → ℕ → ℕ
 acc_seen i (Bytes bytes) acc =
     slice_index bytes (4 * i) + 0x100 * slice_index bytes (4 * i + 1) + 0x10000 * slice_index bytes (4 * i + 2)
     + 0x1000000 * slice_index bytes (4 * i + 3)
 acc_seen i other acc = acc
 
--- The free blocks after a reply: a block that it returns is free again.
+-- The free blocks after a reply. A block that the reply returns is free again.
 abbrev pub freed : Reply Block → Numbers → Numbers
 freed (Buf block) blocks = with_free blocks block.number true
 freed (Twice block) blocks = with_free blocks block.number true
 freed other blocks = blocks
 
--- A step that runs an event while these blocks are free: the device takes its step, its reply is returned, and `kept`
--- of the reply is in the accumulator.
+-- A step that runs an event while these blocks are free. The event is applied to the device, the step returns the
+-- device's reply, and `kept` determines the accumulator from that reply.
 pub record Made (program : Listing) (s : MachineState) (step : Step) (e : Event Block) (kept : Reply Block → ℕ → ℕ)
     (blocks : Numbers) : Type 0 where
   pub answer : step.answer ≡ answer.Made (step_of s.device e).reply
@@ -83,7 +83,7 @@ Makes program s e acc = Made program s (machine_step program s) e acc s.arena
 abbrev pub Acts : Listing → MachineState → (acc pc : ℕ) → Status → Type 0
 Acts program s acc pc status = Acted s (machine_step program s) acc pc status
 
--- Whether this instruction is the next of a running machine.
+-- The machine is running, and this instruction is next.
 abbrev pub IsNext : Listing → MachineState → Instruction ℕ ℕ → Type 0
 IsNext program s i = next_instruction program s ≡ Some i
 
@@ -121,8 +121,9 @@ pub record EventsAreMade (program : Listing) (s : MachineState) : Type 0 where
   pub link : (up : Bool) → IsNext program s (instr.Link up) → Makes program s (event.Link up) as_it_was
   pub collect : IsNext program s instr.Collect → Makes program s event.Collect as_it_was
 
--- An `expect` continues exactly if acc & M is V. Otherwise it fails with acc & M and V, and stays at its instruction.
--- An `and` leaves acc & V. A jump that isn't taken continues. A `halt` ends the machine at its instruction.
+-- An `expect` continues exactly if acc & M is V. Otherwise the `expect` fails with acc & M and V, and the machine stays
+-- at that instruction. An `and` with V leaves acc & V. A jump that isn't taken continues at the next instruction. A
+-- `halt` ends the machine at the `halt`.
 pub record MachinesAct (program : Listing) (s : MachineState) : Type 0 where
   pub expected : (want mask : ℕ) → IsNext program s (instr.Expect want mask) → bit_and s.acc mask ≡ want →
       Acts program s s.acc (s.pc + 1) (status_after program (s.pc + 1))

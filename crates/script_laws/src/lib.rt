@@ -1,8 +1,9 @@
-//! A second description of objects, the machine, the debugger, arenas and devices: each byte of an instruction, what
-//! each instruction does, breakpoints, the last block's number and how large a device can be. It is written by hand,
-//! independently of the definitions that the contracts of the crates below cite.
+//! A second description of objects, the machine, the debugger, arenas and devices. It states each byte of an
+//! instruction, what each instruction does, how breakpoints work, the number of the last block, and how large a device
+//! can be. The description is written by hand, independently of the definitions that the contracts of lower crates
+//! cite.
 //!
-//! Each law is the contract of a function that does nothing, or that calls one function with numbers.
+//! Each law is the contract of a function that does nothing, or that calls one function with fixed numbers.
 #![tactic(auto)]
 
 ghost use Rattle.std.specs.Prelude.{◌≡◌, Ok, Err, IfOk, IfErr};
@@ -16,11 +17,11 @@ use dma_arena::{Arena, ArenaFault};
 use nic_device::{Config, Device, NewFault};
 use std::alloc::Global;
 
-/// An instruction is twelve bytes long in an object: the operation, 1 to 22, its kind, 16 bits for a block, queue,
-/// function, data string or target, and two 32-bit words, each with the low byte first. The fields that an operation
-/// doesn't use are 0. The object of an `arrive` with a three-byte data string, followed by a `halt`, consists of these
-/// 45 bytes: 4e 42 53 43, version 1, two instructions, one data string, 0, and 45, the total number of bytes; then both
-/// instructions, and the string after its length.
+/// In an object, an instruction is twelve bytes long. It consists of the operation (1 to 22), its kind, 16 bits for a
+/// block, queue, function, data string or target, and two 32-bit words. Each number has the low byte first. The fields
+/// that an operation doesn't use are 0. As an example, the object of an `arrive` with a three-byte data string,
+/// followed by a `halt`, consists of 45 bytes. Its header is 4e 42 53 43, version 1, two instructions, one data string,
+/// 0, and the total number of bytes, 45. Both instructions follow, then the length of the data string, and the string.
 #[tactic(auto, using(crate::proofs::Objects::instructions, crate::proofs::Objects::objects))]
 pub fn instructions_are_bytes()
     ensures each { InstructionsAreBytes }
@@ -28,38 +29,40 @@ pub fn instructions_are_bytes()
 {}
 
 /// Bytes that aren't an object are refused with their first fault. 37 lists of bytes show this, and three more lists
-/// are objects. Faults are reported in this order: the first four bytes, the version, the numbers of the header or the
-/// parts, and the first faulty instruction, with its number. Within an instruction, the order is its operation, an
-/// operand that is out of its range or unused but not 0, and its target. Missing bytes of the header count as wrong
-/// ones.
+/// are objects. Faults are reported in this order: in the first four bytes, in the version, in the numbers of the
+/// header or the parts that they describe, and in the first faulty instruction, which is reported with its number.
+/// Within an instruction, the order is: its operation, an operand that is out of its range or unused but not 0, and its
+/// target. If bytes of the header are missing, they count as wrong.
 #[tactic(auto, using(crate::proofs::Objects::faults))]
 pub fn objects_have_an_order_of_faults()
     ensures { ObjectsHaveFaults }
 {}
 
-/// A step of a running machine runs the event of its next instruction, with that instruction's operands, and returns
+/// A step of a running machine runs the event of the next instruction, with that instruction's operands, and returns
 /// the device's reply. A read leaves the value in the accumulator, even the value of a stray access. A peek at 16 bytes
-/// leaves the word that its operand selects, the low byte first. No other event changes the accumulator. A block that
-/// the step lends is no longer free, and a block that a reply returns is free again. If the block to lend isn't free,
-/// no event is run. The next instruction is the one after it, and after the last instruction the machine has ended.
+/// leaves the word that the peek's operand selects, with the low byte first. No other event changes the accumulator. A
+/// block that the step lends is no longer free, and a block that a reply returns is free again. If the block to lend
+/// isn't free, no event is run. After the step, the following instruction is next; after the last instruction, the
+/// machine has ended.
 #[tactic(auto, using(crate::proofs::Steps::make))]
 pub fn instructions_make_events()
     ensures { InstructionsMakeEvents }
 {}
 
-/// An `expect` of V under a mask M continues exactly if acc & M is V. Otherwise it fails with acc & M and V, and stays
-/// at its instruction. An `and` leaves acc & V in the accumulator. A jump leads to its target if it is taken, depending
-/// on whether the accumulator equals its word, and otherwise to the next instruction. A `halt` ends the machine at its
-/// instruction. None of these changes the device or the blocks, and each counts as a step.
+/// An `expect` of V under a mask M continues exactly if acc & M is V, where acc is the accumulator. Otherwise the
+/// `expect` fails with acc & M and V, and the machine stays at that instruction. An `and` with V leaves acc & V in the
+/// accumulator. A conditional jump is taken or not, depending on whether the accumulator equals the jump's word. A jump
+/// that is taken continues at its target, and any other jump at the next instruction. A `halt` ends the machine at the
+/// `halt`. None of these instructions changes the device or the blocks, and each counts as a step.
 #[tactic(auto, using(crate::proofs::Steps::act_so))]
 pub fn instructions_act()
     ensures { InstructionsAct }
 {}
 
-/// A breakpoint is set at an instruction of the program. Setting one that is already set has no effect, even if 32 are
-/// set. If 32 are set, another one is refused with `TooManyBreaks`. A breakpoint after the last instruction is refused
-/// with `NoSuchPc`, as is clearing one that isn't set. Going back reduces the number of steps by the number requested;
-/// going back before the first step is refused with `AtStart`.
+/// A breakpoint is set at an instruction of the program. Setting a breakpoint that is already set has no effect, even
+/// if 32 are set. If 32 are set, a new breakpoint is refused with `TooManyBreaks`. Setting a breakpoint after the last
+/// instruction is refused with `NoSuchPc`, and so is clearing a breakpoint that isn't set. Going back reduces the
+/// number of steps by the number requested. Going back before the first step is refused with `AtStart`.
 #[tactic(auto, using(crate::proofs::Commands::breakpoints, crate::proofs::Commands::back))]
 pub fn breakpoints_are_bounded()
     ensures breaks { BreakpointsAreBounded }
@@ -67,13 +70,13 @@ pub fn breakpoints_are_bounded()
 {}
 
 /// A debugger's `Step` takes as many steps as requested, regardless of breakpoints, or fewer if the machine stops.
-/// `Continue` also ends after a step if the next instruction has a breakpoint. It takes at least one step if it can,
-/// even from an instruction with a breakpoint. With a count of 0, neither takes a step.
+/// `Continue` also ends after a step if the next instruction has a breakpoint. It takes at least one step if the
+/// machine can, even from an instruction with a breakpoint. With a count of 0, neither command takes a step.
 pub fn breakpoints_hold_runs()
     ensures { BreakpointsHoldRuns }
 {}
 
-/// An arena can consist of block 65,535 alone, which is then free. It is refused only for lack of memory.
+/// An arena can consist of block 65,535 alone, which is then free. Such an arena is refused only for lack of memory.
 pub fn last_block_is_there(alloc: Global) -> Result<Arena, ArenaFault>
     ensures made { IfOk result (λ arena. arena ≡ all_free 65535 1) }
     ensures refused { IfErr result (λ fault. fault ≡ ArenaFault.OutOfMemory) }
@@ -82,7 +85,7 @@ pub fn last_block_is_there(alloc: Global) -> Result<Arena, ArenaFault>
 }
 
 /// An arena can be split at each of its block numbers except the first, and at no other number. Blocks with lower
-/// numbers are then in the first part; the block with this number is the first one in the second part.
+/// numbers are then in the first part, and the block with this number is the first block in the second part.
 #[tactic(auto, using(crate::proofs::Arenas::split_so))]
 pub fn arenas_are_split_inside()
     ensures { ArenasAreSplit }
@@ -101,8 +104,8 @@ pub fn largest_device_is_there(alloc: Global) -> Result<Device, NewFault>
     )
 }
 
-/// A device with 64 virtual functions is refused because of their number, even with a receive list of no frames, which
-/// isn't allowed either.
+/// A device with 64 virtual functions is refused because of their number, even if its receive list has room for no
+/// frame, which isn't allowed either.
 pub fn no_device_has_64_functions(alloc: Global) -> Result<Device, NewFault>
     ensures { result ≡ Err NewFault.TooManyVfs }
 {

@@ -8,13 +8,14 @@ byte_of (Some high) (Some low) = Some (high * 16 + low)
 byte_of (Some high) None = None
 byte_of None low = None
 
--- A byte in front of the bytes that follow it; `None` if either is missing.
+-- A byte, followed by these bytes; `None` if the byte or the bytes are missing.
 abbrev pub onto : Option ℕ → Option (List ℕ) → Option (List ℕ)
 onto (Some byte) (Some bytes) = Some (byte ∷ bytes)
 onto (Some byte) None = None
 onto None bytes = None
 
--- The bytes that a word spells, two hex digits per byte; `None` if the word isn't whole bytes of hex.
+-- The bytes that a word spells, two hex digits per byte; `None` if a character isn't a hex digit or the number of
+-- digits is odd.
 unfoldable pub hex_bytes_of : List ℕ → Option (List ℕ)
 hex_bytes_of [] = Some []
 hex_bytes_of (digit ∷ []) = None

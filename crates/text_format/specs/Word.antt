@@ -2,7 +2,7 @@
 use Rattle.std.specs.Prelude.{ℕ, ◌-◌, List, ◌++◌, codes, false, length, replicate}
 use Rattle.std.specs.Fmt.{digits}
 
--- `0x`, then lower-case hex digits, padded with zeros to at least this many places.
+-- `0x`, then lower-case hex digits, padded with zeros to at least this many digits.
 abbrev pub hex_text : ℕ → ℕ → List ℕ
 hex_text places n = codes "0x" ++ (replicate (places - length (digits 16 false n)) 48 ++ digits 16 false n)
 

@@ -10,7 +10,7 @@ is_blank byte = byte == 32 || byte == 9
 abbrev pub ends_word : ℕ → Bool
 ends_word byte = byte == 35 || is_blank byte
 
--- The line up to its comment, which starts at the first `#`.
+-- The line without its comment, which starts at the first `#`.
 abbrev pub before_comment : List ℕ → List ℕ
 before_comment line = before_first (λ byte. byte == 35) line
 

@@ -18,7 +18,7 @@ pub enum HexFault {
     OutOfMemory,
 }
 
-/// Returns the fault for an error of the crate `hex`.
+/// Returns the fault for an error from the crate `hex`.
 fn fault_of(error: FromHexError) -> HexFault
     ensures { result ≡ HexFault.Malformed → error ≢ FromHexError.OutOfMemory }
 {
@@ -32,8 +32,8 @@ fn fault_of(error: FromHexError) -> HexFault
 
 /// Returns the bytes that a word spells in hex: two digits of either case per byte, the high digit first.
 ///
-/// Returns `Malformed` exactly if the word isn't whole bytes of hex. `OutOfMemory` may be returned in place of any
-/// result.
+/// Returns `Malformed` exactly if the word contains a character that isn't a hex digit, or an odd number of digits.
+/// `OutOfMemory` may be returned in place of any result.
 pub fn hex_bytes(alloc: Global, word: &str) -> Result<Vec<u8>, HexFault>
     ensures ok { IfOk result (λ bytes. hex_bytes_of word.now ≡ Some bytes.items) }
     ensures malformed { result ≡ Err HexFault.Malformed → hex_bytes_of word.now ≡ None }

@@ -1,9 +1,9 @@
-//! The elements of everything that the bench reads or prints as text: register scripts, EEPROM texts, debugger
-//! commands, lines to hash, and output.
+//! The elements of everything that the bench reads or prints as text: register scripts, sources of EEPROM images,
+//! debugger commands, lines to hash, and output.
 //!
-//! The crate parses lines, words, numbers, names and hex data. Each call works on one line or word, and only hex data
-//! allocates. It prints words, addresses and bytes: each type prints the text in its definition (`word_text`,
-//! `address_text`, `bytes_text`), without allocating.
+//! The crate parses lines, words, numbers, names and hex data. Each call parses one line or word, and only parsing hex
+//! data allocates memory. The crate also prints words, addresses and bytes, without allocating. Each type prints what
+//! its definition (`word_text`, `address_text`, `bytes_text`) says.
 #![tactic(auto)]
 
 mod bytes;

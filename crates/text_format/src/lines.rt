@@ -18,8 +18,8 @@ pub struct Line<'a> {
 
 /// An iterator over the lines of a text, in order.
 ///
-/// A line ends in LF or CR LF. The last line may lack its end, but then it isn't empty: a text that ends in LF has no
-/// empty line after it. A carriage return anywhere else is part of its line.
+/// A line ends in LF or CR LF. The last line may lack a line end, but then that line isn't empty: a text that ends in
+/// LF has no empty line after the LF. A carriage return anywhere else is part of the line that contains it.
 #[derive(Debug, Drop)]
 pub struct Lines<'a> {
     rest: &'a str,
@@ -41,7 +41,7 @@ impl<'a> Model for Lines<'a> {
 }
 
 impl<'a> Lines<'a> {
-    /// Returns the lines of a text, from its first, numbered from 1.
+    /// Returns an iterator over the lines of a text, numbered from 1.
     #[tactic(auto, unfolding(crate::specs::Lines::lines_of))]
     pub fn of(text: &'a str) -> Lines<'a>
         ensures { result ≡ lines_of text.now }
@@ -63,7 +63,7 @@ fn without_carriage_return(line: &str) -> &str
     }
 }
 
-/// Returns the first line of a text, and the text after it.
+/// Returns the first line of a text and the text after that line, or `None` if the text is empty.
 fn split_line(text: &str) -> Option<(&str, &str)>
     ensures cases { MatchOption result (lines text.now ≡ [])
         (λ parts. lines text.now ≡ parts.0.now ∷ lines parts.1.now) }

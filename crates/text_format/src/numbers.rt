@@ -9,7 +9,7 @@ use thiserror::Error;
 /// Why a word isn't a number.
 #[derive(Clone, Copy, Debug, PartialEq, Eq, Error)]
 pub enum NumberFault {
-    /// The word isn't decimal digits, or `0x` and hex digits.
+    /// The word is neither decimal digits nor `0x` followed by hex digits.
     #[error("no number")]
     Malformed,
     /// The number is 2^32 or more.
@@ -41,7 +41,7 @@ static DIGIT_VALUES: [u8; 256] = [
     36, 36, 36, 36, 36, 36, 36, 36, 36, 36, 36, 36, 36, 36, 36, 36,
 ];
 
-/// Returns the value of a digit or letter in radix 36; 36 for every other byte.
+/// Returns the value of a digit or letter in radix 36, or 36 for any other byte.
 #[inline(always)]
 fn digit_value(byte: u8) -> u8
     ensures { result ≡ digit_value byte }
@@ -49,7 +49,8 @@ fn digit_value(byte: u8) -> u8
     DIGIT_VALUES[usize::from(byte)]
 }
 
-/// Returns the value of a byte as a digit of the radix; at least the radix if it isn't a digit.
+/// Returns the value of a byte as a digit in this radix. If the byte isn't such a digit, the result is at least the
+/// radix.
 #[inline(always)]
 fn digit_of(radix: u8, byte: u8) -> u8
     requires { radix ≤ 36 }
@@ -63,7 +64,8 @@ fn digit_of(radix: u8, byte: u8) -> u8
     }
 }
 
-/// Returns the number that the leading digits of the radix represent, capped at 2^32, and the bytes after them.
+/// Returns the number that the leading digits in this radix represent, capped at 2^32, and the bytes after these
+/// digits.
 #[inline(always)]
 fn split_numeral(radix: u8, bytes: &[u8]) -> (u64, &[u8])
     requires low { 2 ≤ radix }
@@ -84,7 +86,7 @@ fn split_numeral(radix: u8, bytes: &[u8]) -> (u64, &[u8])
     (value, rest)
 }
 
-/// Returns the number that digits of the radix represent, capped at 2^32. `None` if another character is among them.
+/// Returns the number that digits in this radix represent, capped at 2^32, or `None` if any byte isn't such a digit.
 fn capped_numeral(radix: u8, digits: &[u8]) -> Option<u64>
     requires low { 2 ≤ radix }
     requires high { radix ≤ 36 }
@@ -96,7 +98,7 @@ fn capped_numeral(radix: u8, digits: &[u8]) -> Option<u64>
     }
 }
 
-/// Returns the number that digits of the radix represent.
+/// Returns the number that a word of digits in this radix represents.
 fn numeral(radix: u8, word: &str) -> Result<u32, NumberFault>
     requires low { 2 ≤ radix }
     requires high { radix ≤ 36 }

@@ -7,7 +7,8 @@ ghost use Rattle.text_format.specs.Words.{is_blank, ends_word, words_of};
 
 use std::marker::Model;
 
-/// An iterator over the words of a line, in order: its parts between spaces and tabs, before the first `#`.
+/// An iterator over the words of a line, in order. Words are separated by spaces and tabs, and end before the first
+/// `#`.
 ///
 /// Every other character is part of a word.
 #[derive(Debug, Drop)]
@@ -90,7 +91,7 @@ fn split_at_end(text: &str) -> (&str, &str)
     (&text[..end], &text[end..])
 }
 
-/// Returns the first word of a string, and the rest of the string after it.
+/// Returns the first word of a string and the string after that word, or `None` if the string contains no word.
 fn split_word(text: &str) -> Option<(&str, &str)>
     ensures { MatchOption result (words_of text.now ≡ [])
         (λ parts. words_of text.now ≡ parts.0.now ∷ words_of parts.1.now) }
@@ -104,7 +105,7 @@ fn split_word(text: &str) -> Option<(&str, &str)>
 }
 
 impl<'a> Words<'a> {
-    /// Returns the words of a line.
+    /// Returns an iterator over the words of a line.
     pub fn of(line: &'a str) -> Words<'a>
         ensures { result ≡ words_of line.now }
     {

@@ -16,7 +16,7 @@ pub const PLAIN: Setup = Setup {
     frame: 1518,
 };
 
-/// The number of calls, including the calls of idle steps.
+/// The number of calls, including the calls that ran idle steps.
 pub fn count_calls(calls: &Calls) -> usize {
     let (made, rested) = calls.kept();
     let mut steps = rested.count();
@@ -37,7 +37,7 @@ pub enum Why {
     Call,
 }
 
-/// The reason in a fault.
+/// The reason that a fault states.
 pub fn reason(fault: &PmdFault) -> Why {
     match fault {
         PmdFault::BadSize => Why::BadSize,
@@ -71,8 +71,8 @@ pub const TCP6_FRAME: [u8; 74] = [
     0x00, 0x00, 0x50, 0x10, 0x00, 0x00, 0x00, 0x00, 0x00, 0x00,
 ];
 
-/// Creates a promiscuous device with one virtual function and a receive list of `fifo` frames. The steps of this queue
-/// run before each call.
+/// Creates a promiscuous device with one virtual function and a receive list of `fifo` frames. The steps that serve
+/// this queue run before each call.
 pub fn opened(rt: &impl Hand, fifo: u16, queue: u16) -> Direct {
     set_up(rt, fifo, queue, &PLAIN)
 }
@@ -84,18 +84,18 @@ pub fn set_up(rt: &impl Hand, fifo: u16, queue: u16, setup: &Setup) -> Direct {
     direct
 }
 
-/// Like `opened`, without a setup.
+/// Like `opened`, but without a setup.
 pub fn untouched(rt: &impl Hand, fifo: u16, queue: u16) -> Direct {
     let device = done(rt, Device::new(rt.alloc(), Config { vfs: 1, fifo }));
     Direct::new(rt.alloc(), device, queue)
 }
 
-/// Runs the steps of a device's queue 0 before each call.
+/// Gives access to a device. The steps that serve queue 0 run before each call.
 pub fn stepped(rt: &impl Hand, device: Device) -> Direct {
     Direct::new(rt.alloc(), device, 0)
 }
 
-/// Runs the steps of a different queue of a device before each later call.
+/// Gives access to the same device. The steps that serve this queue run before each later call.
 pub fn stepped_on(rt: &impl Hand, direct: Direct, queue: u16) -> Direct {
     Direct::new(rt.alloc(), in_hand(direct), queue)
 }
@@ -147,7 +147,7 @@ pub fn end(rt: &impl Hand, device: Device) -> Vec<(u8, Octets)> {
     frames
 }
 
-/// What remains of a driver: its arena, and the numbers of lost blocks, returned packets and accepted packets.
+/// What a stopped driver leaves: its arena, and the numbers of lost blocks, returned packets and accepted packets.
 pub fn left_by(home: Home) -> (Arena, u32, usize, usize) {
     let Home {
         arena,
@@ -215,7 +215,7 @@ pub fn frame_of(rt: &impl Hand, number: u16) -> Vec<u8> {
     bytes
 }
 
-/// A TCP segment with this low byte of a port, which changes its hash.
+/// A TCP segment with this low byte in a port number. The byte changes the segment's hash.
 pub fn segment(rt: &impl Hand, number: u8) -> Vec<u8> {
     let mut frame = TCP_FRAME;
     frame[35] = number;

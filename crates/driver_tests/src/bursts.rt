@@ -116,7 +116,7 @@ fn forty_come(rt: &impl Hand, bursts: &mut Bursts) {
     same(rt, bursts.writes(RDT), before.saturating_add(2));
 }
 
-/// Receives forty packets in bursts and sends them in one.
+/// Receives forty packets in bursts and sends them in one burst.
 fn forty_come_and_go(rt: &impl Hand) {
     let mut bursts = Bursts::new(rt, 64, 128);
     forty_come(rt, &mut bursts);
@@ -132,8 +132,9 @@ fn packets_come_and_go_by_bursts_with_one_tail_write_each(rt: HostRuntime) {
     forty_come_and_go(&rt);
 }
 
-/// A step of the test: frames with these numbers arrive; a burst receives at most this many packets; or a burst sends,
-/// and frees sent packets if fewer than this many slots are free.
+/// A step of the test. Frames arrive, with numbers from the first number up to the one before the second. Or a burst
+/// receives at most this many packets. Or a burst sends packets, and frees sent packets if fewer than this many slots
+/// are free.
 #[derive(Clone, Copy)]
 enum Step {
     Arrive(u16, u16),

@@ -1,5 +1,5 @@
-//! A shared device doesn't close with the wrong passes. Its history stays unchanged and accepts further calls up to its
-//! limit, and the device closes with the right passes.
+//! A shared device doesn't close with the wrong passes. After such a refusal, the history is unchanged and accepts
+//! further calls up to its limit, and the device closes with the right passes.
 
 use crate::bench::{count_calls, end};
 use crate::outcome::{Hand, done, push, refused, same, same_pair, sees, some};
@@ -17,7 +17,7 @@ fn called(rt: &impl Hand) -> (Bench, Vec<Pass>) {
     (bench, passes_of(rt, [first, second]))
 }
 
-/// Checks that a shared device doesn't close with these passes, for this reason. Returns both.
+/// Checks that a shared device doesn't close with these passes, for this reason. Returns the device and the passes.
 fn stays_open(
     rt: &impl Hand,
     bench: Bench,

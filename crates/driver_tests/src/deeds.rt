@@ -1,10 +1,10 @@
-//! Actions of other programs next to a driver of queue 0, as data, and the events that they consist of.
+//! Actions that other programs take next to a driver of queue 0, as data, and the events of each action.
 
 use crate::bench::TCP_FRAME;
 use crate::outcome::{Hand, done, empty, push, some};
 use nic_device::{Arena, Dir, Event, Octets, Port};
 
-/// A place in memory.
+/// A location in memory that an action uses.
 #[derive(Clone, Copy)]
 pub enum At {
     /// The bus address 0.
@@ -13,7 +13,7 @@ pub enum At {
     Receive,
     /// The driver's transmit ring.
     Transmit,
-    /// A free range in the block of its receive ring.
+    /// A free range in the block of the driver's receive ring.
     Free,
     /// Block 100, for a ring of the other programs.
     Ring,
@@ -26,7 +26,7 @@ pub enum At {
 pub struct Rings(pub u32, pub u32);
 
 impl Rings {
-    /// The bus address of this place.
+    /// The bus address of this location.
     pub fn address(self, at: At) -> u32 {
         let Rings(receive, transmit) = self;
         match at {
@@ -43,7 +43,7 @@ impl Rings {
 /// An action of the other programs.
 #[derive(Clone, Copy)]
 pub enum Deed {
-    /// They write a value to a register at a port, by the register's number there.
+    /// They write a value to the register with this number at a port.
     Writes(Port, u32, u32),
     /// They take this many blocks, starting at a block number.
     Takes(u32, u32),
@@ -51,17 +51,17 @@ pub enum Deed {
     Lends(u32, u32),
     /// They fill the eight slots of a ring with one byte value.
     Fills(At, u8),
-    /// They write a descriptor to the eight slots of a ring. The descriptor consists of a buffer's place and of the
-    /// value of its second half.
+    /// They write a descriptor to the eight slots of a ring. The descriptor's first half is the address of a buffer,
+    /// and its second half is this value.
     Names(At, At, u64),
     /// Queue 3 receives a TCP segment through a ring of 8 slots.
     Receives(At),
-    /// Queue 3 fetches this many slots of a ring of 8 slots. If a second place is given, the ring's head is written
+    /// Queue 3 fetches this many slots of a ring of 8 slots. If a second location is given, the ring's head is written
     /// back there.
     Sends(At, Option<At>, u32),
 }
 
-/// The events of the actions so far, the others' blocks that aren't lent, and the driver's rings.
+/// The events of the actions so far, the other programs' blocks that aren't lent, and the driver's rings.
 pub struct Doing {
     list: Vec<Event>,
     blocks: Arena,
@@ -78,7 +78,7 @@ impl Doing {
         }
     }
 
-    /// Returns the events, and the blocks that they don't lend.
+    /// Returns the events, and the blocks that these events don't lend.
     pub fn finish(self) -> (Vec<Event>, Arena) {
         let Doing {
             list,

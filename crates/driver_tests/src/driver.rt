@@ -50,7 +50,7 @@ const PUBLISHED_KEY: [u8; 40] = [
     0x6a, 0x42, 0xb7, 0x3b, 0xbe, 0xac, 0x01, 0xfa,
 ];
 
-/// A device with 16 pools, and a driver of the sixth queue of the virtual function, which gets all frames.
+/// A device with 16 pools, and a driver of the virtual function's sixth queue. This queue receives all frames.
 fn sixth_queue(rt: &impl Hand) -> Rig {
     let setup = Setup {
         mode: Mode::Pools16,
@@ -73,7 +73,7 @@ fn tcp_is_hashed(rt: &impl Hand, rig: &mut Rig) {
     release(rt, &mut rig.pmd, packet);
 }
 
-/// With 16 pools, a virtual function has eight queues. A frame's redirection table entry selects one of them.
+/// With 16 pools, a virtual function has eight queues. A frame's redirection table entry selects one of these queues.
 #[test]
 fn the_sixth_queue_of_a_function_receives_by_the_hash(rt: HostRuntime) {
     let rt = &rt;
@@ -134,15 +134,15 @@ fn five_frames_go_through_a_ring_of_1024(rt: HostRuntime) {
     go_through(&rt, 1024, (0, 1048), 9, 5);
 }
 
-/// The steps before each call.
+/// Which device steps run before each call.
 #[derive(Clone, Copy)]
 enum Steps {
     OnQueue(u16),
     Nothing,
 }
 
-/// A refused start on queue 0: its name, the steps, the size of a ring, the blocks as first and count, the reason, and
-/// whether blocks are already lent.
+/// A refused start on queue 0: the row's name, the steps, the size of a ring, the blocks as first and count, the
+/// reason, and whether blocks are already lent.
 type Start<'a> = (&'a str, Steps, u16, (u32, u32), Why, bool);
 
 #[rattlefmt::skip]
@@ -170,7 +170,8 @@ pub fn refused_start<N: Nic>(
     )
 }
 
-/// Closes or stops what a refused start returned. Returns the reason for the refusal, and whether blocks were lent.
+/// Closes the arena that a refused start returned, or stops the driver that it returned. Returns the reason for the
+/// refusal, and whether blocks were lent.
 pub fn come_home<N: Nic>(rt: &impl Hand, nic: &mut N, refusal: StartRefused) -> (Why, bool) {
     let StartRefused { fault, rest } = refusal;
     let (packets, is_lent) = match rest {
@@ -201,8 +202,8 @@ fn start_beside(rt: &impl Hand, steps: Steps, size: u16, numbers: (u32, u32)) ->
     }
 }
 
-/// A start on a queue that no device has. The size of a ring, the length of frames and the number of blocks are checked
-/// first.
+/// A start on a queue that no device has: the row's name, the size of a ring, the length of frames, the number of
+/// blocks, and the reason for the refusal. Size, length and number of blocks are checked before the queue.
 type Unnamed<'a> = (&'a str, u16, u16, u32, Why);
 
 #[rattlefmt::skip]
@@ -277,7 +278,7 @@ pub fn unsent<N: Nic>(
     some(rt, packet)
 }
 
-/// Checks that the driver refuses to take the packet back. Returns its one block.
+/// Checks that the driver refuses to take the packet back. Returns the packet's only block.
 fn foreign_released(rt: &impl Hand, pmd: &mut Pmd, packet: Packet) -> Buf {
     let Packet {
         mut bufs,

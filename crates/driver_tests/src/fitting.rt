@@ -57,8 +57,8 @@ fn set_up(rt: &impl Hand, bench: &Bench, pass: Pass) -> Pass {
     nic.finish()
 }
 
-/// Whether the frames fit the driver's packets according to a closed history. Checks that they fit if one more entry of
-/// the driver's pass is assumed to come before its first event.
+/// Whether the frames fit the driver's packets according to a closed history. Also checks that the frames fit if one
+/// more entry of the driver's pass is assumed to precede the driver's first event.
 fn fits_in(rt: &impl Hand, bench: Bench, passes: [Pass; 2], frame: u16) -> bool {
     let passes = done(rt, Vec::from_array(rt.alloc(), passes));
     let closed = done(rt, bench.close(passes));

@@ -1,4 +1,5 @@
-//! The calls on an owned device as a history. A driver of queue 0 made some of them, and other programs made the rest.
+//! The calls on an owned device as a history. A driver of queue 0 made some of these calls, and other programs made the
+//! others.
 
 use crate::outcome::{Hand, done, push, some};
 use device_lock::{Call, Entry, Watched, left_alone};
@@ -38,7 +39,7 @@ pub fn finished(rt: &impl Hand, history: &mut Vec<Entry>, pass: u8, direct: Dire
     device
 }
 
-/// Appends calls to a history. The marked ones are the driver's.
+/// Appends calls to a history. The driver made the marked calls, and other programs made the others.
 pub fn add_marked(rt: &impl Hand, history: &mut Vec<Entry>, marks: &[bool], calls: Vec<Call>) {
     let mut number: usize = 0;
     for call in calls {

@@ -82,21 +82,21 @@ enum What {
     Advanced,
 }
 
-/// The kind of write, and its places: where a frame and its descriptor were written, or where a sent packet or a
+/// The kind of write, and its locations: where a frame and its descriptor were written, or where a sent packet or a
 /// fetched descriptor was reported.
 type Reported<P> = (What, P, P);
 
 const NO_WRITE: Reported<At> = (What::Nothing, Zero, Zero);
 
-/// Actions of others, in order. (A table of lists can't be a constant, and proving it would need a step for each
-/// element.)
+/// Three actions of others, in order. (A table of lists can't be a constant, and proving such a table would need a step
+/// for each element.)
 type Deeds = (Deed, Deed, Deed);
 
 /// No action: no block is taken.
 const NONE: Deed = Takes(0, 0);
 
 /// Actions of others while a driver runs: the name of the case, the device, the others' blocks as first and count, the
-/// actions, whether the driver's queue is left alone, and the first report of a step of queue 3.
+/// actions, whether the driver's queue is left alone, and the first write that a step of queue 3 reports.
 type Row<'a> = (&'a str, On, (u32, u32), Deeds, bool, Reported<At>);
 
 /// Blocks with the same numbers as the driver's.
@@ -121,7 +121,8 @@ const POOL_RESET: Deed = Writes(Port::Pf, 0x00300, 0x0400_0000);
 /// The virtual function writes RDT of its queue 1.
 const OTHER_RDT: Deed = Writes(Port::Vf(0), 0x1058, 5);
 
-/// The second halves of descriptors: of a frame's buffer, and of 60 bytes with which a packet continues or ends.
+/// The second halves of descriptors: for a frame's buffer, and for 60 bytes of a packet that continues after them or
+/// ends with them.
 const FRAME: u64 = 0;
 
 const GOES_ON: u64 = 0x000F_0000_2A30_003C;
@@ -129,9 +130,9 @@ const GOES_ON: u64 = 0x000F_0000_2A30_003C;
 const ENDS: u64 = 0x000F_0000_2B30_003C;
 
 /// In the first rows, other programs write registers, take and lend blocks, and write descriptors. In the last rows, a
-/// step of queue 3 writes to memory, in some of them into the driver's blocks. Only the reply shows this, whichever
-/// pass runs the step. The ring of queue 3 may be in one of the driver's blocks, where all bytes are 0 and therefore
-/// name block 0, or it may be the driver's own ring.
+/// step of queue 3 writes to memory, and in some of these rows into the driver's blocks. Only the reply shows this
+/// write, whichever pass runs the step. The ring of queue 3 may be in one of the driver's blocks. All bytes of that
+/// ring are 0, so its descriptors name block 0. Or the ring may be the driver's own ring.
 #[rattlefmt::skip]
 const ROWS: [Row<'static>; 28] = [
     ("nothing is done", On::Plain, SAME, (NONE, NONE, NONE), true, NO_WRITE),
@@ -173,7 +174,7 @@ const ROWS: [Row<'static>; 28] = [
         (What::Sent, Transmit, Zero)),
 ];
 
-/// A device, a started driver of its queue 0, the places of the driver's two rings, and the history.
+/// A device, a started driver of its queue 0, the addresses of the driver's two rings, and the history.
 struct Begun {
     device: Device,
     pmd: Pmd,
@@ -211,7 +212,7 @@ fn traffic(rt: &impl Hand, schedule: &mut Schedule, count: u16) {
     }
 }
 
-/// Sends a packet. If it is returned, releases it.
+/// Sends a packet. If the packet is returned, releases it.
 pub fn offer<N: Nic>(rt: &impl Hand, nic: &mut N, pmd: &mut Pmd, packet: Packet) {
     match pmd.tx(rt.alloc(), nic, packet) {
         Ok(TxAnswer::Taken) => {}
@@ -238,7 +239,7 @@ fn drive<N: Nic>(rt: &impl Hand, nic: &mut N, pmd: &mut Pmd) {
     }
 }
 
-/// Lists with the steps of queue 0, and among them one list of events of others.
+/// Lists with the steps of queue 0, and among these lists one with the other programs' events.
 fn schedule_with(rt: &impl Hand, list: Vec<Event>) -> Schedule {
     let mut schedule = empty(rt);
     traffic(rt, &mut schedule, 40);
@@ -336,7 +337,7 @@ fn first_reported(history: &mut [Entry]) -> Reported<u64> {
     first
 }
 
-/// The history of a driver in the case of a row, and the places of its rings.
+/// Runs a driver in the case of a row. Returns the history, and the addresses of the driver's rings.
 fn endured(rt: &impl Hand, on: On, blocks: (u32, u32), deeds: Deeds) -> (Vec<Entry>, Rings) {
     let begun = begin_on(rt, &on.setup());
     let rings = begun.rings;
@@ -353,8 +354,8 @@ fn is_address(rt: &impl Hand, name: &str, what: &str, reported: u64, wanted: u32
     holds(rt, name, what, reported == u64::from(wanted));
 }
 
-/// Runs a driver in the case of a row, and checks the verdict on its history. If the queue isn't left alone, that must
-/// not change when the steps of queue 3 are assigned to the driver's pass.
+/// Runs a driver in the case of a row, and checks the verdict on its history. If the queue isn't left alone, the
+/// verdict must stay the same when the steps of queue 3 are assigned to the driver's pass.
 fn check(rt: &impl Hand, (name, on, blocks, deeds, spares, wanted): Row<'_>) {
     let (mut history, rings) = endured(rt, on, blocks, deeds);
     let is_alone = is_left_alone(history.as_slice());

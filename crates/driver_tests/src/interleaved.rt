@@ -21,7 +21,7 @@ pub fn unstepped(rt: &impl Hand, device: Device) -> Interleaved {
     during(rt, device, empty(rt))
 }
 
-/// Like `unstepped`, but both sides of queue 0 are switched before each of the next 200 calls.
+/// Like `unstepped`, but the steps that turn both sides of queue 0 on or off run before each of the next 200 calls.
 fn switched(rt: &impl Hand, device: Device) -> Interleaved {
     let mut schedule = empty(rt);
     for _list in 0..200 {
@@ -66,8 +66,8 @@ fn empty_comes_back(rt: &impl Hand, nic: &mut Interleaved, pmd: &mut Pmd) {
     release(rt, pmd, packet);
 }
 
-/// Sends seven packets, which the ring accepts but which aren't transmitted. The stop times out. Other faults of a
-/// packet are reported before the full ring.
+/// Sends seven packets, which the ring accepts but which aren't transmitted. Stopping the driver times out. Other
+/// faults of a packet are reported before the full ring.
 fn seven_are_taken(rt: &impl Hand, nic: &mut Interleaved, pmd: Pmd) -> Pmd {
     let mut pmd = pmd;
     for _packet in 0..7 {
@@ -91,7 +91,7 @@ fn fill_a_ring(rt: &impl Hand) {
     same(rt, end(rt, without_blocks(rt, nic)).len(), 0);
 }
 
-/// If both sides are switched on at the start and no steps run afterwards, the ring accepts exactly seven packets.
+/// If both sides are enabled at the start and no steps run afterwards, the ring accepts exactly seven packets.
 #[test]
 fn a_ring_of_eight_takes_seven_packets_that_nobody_sends(rt: HostRuntime) {
     fill_a_ring(&rt);
@@ -109,8 +109,8 @@ fn last_is_a_fault(rt: &impl Hand, mut replies: Vec<Reply>) {
     emptied(rt, replies);
 }
 
-/// Lists for two calls. Before the first call, a frame arrives and a tail beyond the ring is written; before the
-/// second, the device receives.
+/// Lists of foreign events for two calls. Before the first call, a frame arrives and a tail beyond the ring is written;
+/// before the second, the device receives.
 fn foreign_tail(rt: &impl Hand) -> Schedule {
     let (mut first, mut second) = (empty(rt), empty(rt));
     push(rt, &mut first, Event::Arrive(Octets::of(frame_of(rt, 0))));
@@ -122,7 +122,7 @@ fn foreign_tail(rt: &impl Hand) -> Schedule {
 /// Marks that identify the driver's calls among five: one follows two foreign events, the other follows one.
 const OWN: &[bool] = &[false, false, true, false, true];
 
-/// Finishes an `Interleaved` with five calls, of which the last foreign one met a fault.
+/// Finishes an `Interleaved` with five calls. The last foreign call must have met a fault.
 fn after_a_fault(rt: &impl Hand, nic: Interleaved) -> Device {
     let Finished {
         device,
@@ -157,7 +157,7 @@ fn a_foreign_tail_switches_the_queue_off(rt: HostRuntime) {
 }
 
 /// Sets up the transmit ring of another queue, with 8 slots in the first of two lent blocks. Each descriptor names 60
-/// bytes of the second block.
+/// bytes in the second block.
 fn lay_out<N: Nic>(rt: &impl Hand, nic: &mut N, queue: u16, [ring, data]: [Buf; 2]) {
     let (base, [low, middle, high, _]) = (ring.block() * 2048, (data.block() * 2048).to_le_bytes());
     let side = 0x06000 + 0x40 * u32::from(queue);
@@ -174,8 +174,8 @@ fn lay_out<N: Nic>(rt: &impl Hand, nic: &mut N, queue: u16, [ring, data]: [Buf; 
     }
 }
 
-/// Lists in which queues 3 and 6 send alternately, queue 0 sends, and the device receives. The first 200 lists switch
-/// these queues on. After that, a frame arrives in every eighth list.
+/// Lists in which queues 3 and 6 send alternately, queue 0 sends, and the device receives. The first 200 lists contain
+/// the steps that turn these three queues on. After that, a frame arrives in every eighth list.
 fn busy(rt: &impl Hand, count: u16) -> Schedule {
     let mut schedule = empty(rt);
     for number in 0..count {
@@ -216,7 +216,7 @@ fn went_out(rt: &impl Hand, frames: &[(u8, Octets)], count: u16) {
     same(rt, usize::from(number), usize::from(count));
 }
 
-/// A device on which queues 3 and 6 have a ring and a buffer each, from the blocks of an arena.
+/// A device on which queues 3 and 6 each have a ring and a buffer, in blocks from an arena.
 fn with_two_queues(rt: &impl Hand, others: &mut Arena) -> Device {
     let mut direct = opened(rt, 1024, 0);
     for queue in [3, 6] {
@@ -226,7 +226,8 @@ fn with_two_queues(rt: &impl Hand, others: &mut Arena) -> Device {
     in_hand(direct)
 }
 
-/// If a packet is waiting, checks that it contains the frame with this number and sends it. Returns the next number.
+/// If a packet is waiting, checks that it contains the frame with this number, and sends the packet. Returns the number
+/// of the next frame.
 fn next_goes_on(rt: &impl Hand, nic: &mut Interleaved, pmd: &mut Pmd, number: u16) -> u16 {
     match received(rt, nic, pmd) {
         Some(packet) => {
@@ -261,7 +262,8 @@ fn a_thousand_go_through(rt: &impl Hand, device: Device) -> Device {
     in_hand(direct)
 }
 
-/// Closes a device to which blocks of one arena are lent, and returns the blocks. Returns its transmitted frames.
+/// Closes a device to which blocks of one arena are lent, and gives these blocks back to the arena. Returns the
+/// device's transmitted frames.
 fn apart(rt: &impl Hand, device: Device, others: Arena) -> Vec<(u8, Octets)> {
     let mut bufs = empty(rt);
     let (memory, frames) = taken_apart(device);

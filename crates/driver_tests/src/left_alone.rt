@@ -1,4 +1,4 @@
-//! Whether a closed history leaves a queue alone in which another pass made an event.
+//! Whether a closed history leaves a queue alone if the history contains an event of another pass.
 
 use crate::bench::{block_in, end};
 use crate::outcome::{Hand, done, fail, holds, some};
@@ -30,10 +30,10 @@ impl Deed {
     }
 }
 
-/// An event of another pass, the value of GCR_EXT before it, and whether queue 0 is left alone. It is left alone if
-/// others write other queues, the filter or the global enables of both directions, take blocks that the driver doesn't
-/// lend, or write to such blocks. It isn't left alone if they access a register on which the queue relies, reset its
-/// pool, or access its driver's blocks.
+/// An event of another pass, the value of GCR_EXT before it, and whether queue 0 is left alone. The queue is left alone
+/// if others write registers of other queues, of the filter or the global enables of both directions, take blocks that
+/// the driver doesn't lend, or write to such blocks. The queue isn't left alone if others access a register on which it
+/// relies, reset its pool, or access its driver's blocks.
 type Row<'a> = (&'a str, u32, Deed, bool);
 
 #[rattlefmt::skip]

@@ -1,4 +1,4 @@
-//! Which packets a driver sends, by length, and how many of them a reap counts.
+//! Which packet lengths a driver sends, and how many packets a reap counts.
 
 use crate::bench::{PLAIN, Why, end, in_hand, release, set_up, stops};
 use crate::driver::unsent;
@@ -28,7 +28,7 @@ fn packet_of(rt: &impl Hand, rig: &mut Rig, len: u16) -> Packet {
     some(rt, rig.pmd.packet(len))
 }
 
-/// A packet with Bufs for `held` bytes that claims to be `more` bytes long.
+/// A packet with Bufs for `held` bytes that claims to be `more` bytes longer.
 fn claiming(rt: &impl Hand, rig: &mut Rig, held: u16, more: u16) -> Packet {
     let mut packet = packet_of(rt, rig, held);
     packet.len = held.saturating_add(more);
@@ -39,7 +39,7 @@ fn claiming(rt: &impl Hand, rig: &mut Rig, held: u16, more: u16) -> Packet {
 /// longer isn't sent.
 const LONGEST: [(u16, u16); 4] = [(1518, 1514), (1519, 1515), (4100, 4096), (9728, 9724)];
 
-/// Checks that a packet of the longest length is sent, and a longer one is returned.
+/// Checks that a packet of the longest length is sent, and that a longer packet is returned.
 fn is_the_longest(rt: &impl Hand, (frame, longest): (u16, u16)) {
     let mut rig = rig_for(rt, frame);
     let packet = packet_of(rt, &mut rig, longest);
@@ -76,7 +76,7 @@ fn a_packet_is_as_long_as_its_bufs(rt: HostRuntime) {
     sends_what_its_bufs_hold(&rt);
 }
 
-/// The number of packets that reaps count until none is outstanding.
+/// The total number of packets that reaps count until no packet is outstanding.
 fn all_freed(rt: &impl Hand, rig: &mut Rig) -> u16 {
     let mut all: u16 = 0;
     for _turn in 0..20 {

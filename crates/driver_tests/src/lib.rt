@@ -1,8 +1,9 @@
-//! Tests of facts about a shared device and the driver that no contract states. Calls made by several threads to one
-//! device return, each with the reply to its own event, and then the shared device closes. The driver's calls succeed
-//! if there is enough memory: on a device that the test owns, among foreign events, and on a device that threads share.
-//! The device does what these calls request. A driver can always be stopped, whatever others do to its queue, even next
-//! to another driver on threads. A task without a thread gives up. Workers meet at each point.
+//! Tests of facts about a shared device and the driver that no contract states. If several threads call one device,
+//! each call returns with the reply to its own event, and the shared device closes afterwards. If there is enough
+//! memory, the driver's calls succeed: on a device that the test owns, among foreign events, and on a device that
+//! threads share. The device does what the driver's calls request. A driver can always be stopped, whatever others do
+//! to its queue, even if another driver runs on another thread. A task without a thread gives up. Workers meet at each
+//! point.
 #![tactic(auto)]
 
 #[cfg(test)]

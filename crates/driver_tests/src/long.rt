@@ -84,7 +84,7 @@ fn ends_empty(rt: &impl Hand, rig: Rig, packets: (usize, usize)) {
     same(rt, end(rt, in_hand(direct)).len(), 0);
 }
 
-/// A frame fills two blocks and part of a third, with three descriptors of each ring.
+/// A frame fills two blocks and part of a third, and takes three descriptors in each ring.
 #[test]
 fn a_frame_of_5_000_bytes_is_received_and_sent_again(rt: HostRuntime) {
     let rt = &rt;
@@ -95,7 +95,8 @@ fn a_frame_of_5_000_bytes_is_received_and_sent_again(rt: HostRuntime) {
     goes_out(rt, rig, packet, (1, 1));
 }
 
-/// The length of a frame in bytes, and the number of Bufs of its packet. The frame fills none of them, some or all.
+/// The length of a frame in bytes, and the number of Bufs of its packet. The frame fills none of these Bufs, some of
+/// them or all.
 #[rattlefmt::skip]
 const IN_BUFS: [(u16, usize); 11] = [
     (60, 1), (2047, 1), (2048, 1), (2049, 2), (4095, 2), (4096, 2), (4097, 3), (6144, 3), (8192, 4), (8193, 5),
@@ -165,7 +166,7 @@ fn made_no_call(rt: &impl Hand, direct: Direct) {
     end(rt, in_hand(direct));
 }
 
-/// A 5,000-byte packet, filled with these bytes by two writes, each of which continues in the next Buf. A write that
+/// A 5,000-byte packet, filled with these bytes by two writes, each of which continues into the next Buf. A write that
 /// would extend one byte beyond the packet is refused.
 fn filled(rt: &impl Hand, pmd: &mut Pmd, frame: &[u8]) -> Packet {
     let (first, others) = frame.split_at(frame.len() / 2);
@@ -186,7 +187,7 @@ fn a_packet_of_5_000_bytes_is_filled_and_sent(rt: HostRuntime) {
     goes_out(rt, rig, packet, (0, 1));
 }
 
-/// Ring sizes, in descriptors, and frame sizes, in bytes, that no driver supports.
+/// Pairs of a ring size in descriptors and a frame size in bytes that no driver supports.
 const NO_SIZES: [(u16, u16); 3] = [(1032, 9728), (256, 9729), (256, 1517)];
 
 /// Checks that starting a driver with this size for these frames makes no call.

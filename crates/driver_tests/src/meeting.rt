@@ -6,10 +6,10 @@ use std::sync::atomic::{AtomicU64, Ordering};
 use std::sync::{Mutex, Wait};
 use std::thread;
 
-/// How many times a task looks for another one that is sure to come: enough to outlast any test. Other threads may run
-/// after each look.
+/// How many times a task looks for another task that is sure to arrive: enough to outlast any test. Other threads may
+/// run after each look.
 pub const PATIENT: u32 = u32::MAX;
-/// How many times a task looks for another one that comes only later.
+/// How many times a task looks for another task that arrives only later.
 pub const SHORT: u32 = 1_000;
 
 /// The number of points in a worker's run.
@@ -64,7 +64,7 @@ fn count_missing(starts: &[Start]) -> u32 {
     missing
 }
 
-/// Checks that a task has met the other.
+/// Checks that a task has met the other task.
 fn has_met<R: Hand>(rt: &R, cell: TaskCell<Meet<'_, R>, bool>) {
     match cell {
         TaskCell::Ended(met) => sees(rt, met),
@@ -99,7 +99,7 @@ fn two_tasks_meet(rt: HostRuntime) {
     same(&rt, missing as usize, 0);
 }
 
-/// Passes the points one after the other. After each point, checks that every worker has reached it.
+/// Passes the points one after the other. After each point, checks that every worker has reached that point.
 fn go_through<G: Gate>(
     rt: &impl Hand,
     gate: &G,
@@ -134,7 +134,7 @@ fn three_workers_meet_at_each_point(rt: HostRuntime) {
     });
 }
 
-/// A member at a later point also counts as being at an earlier one, and no member waits for one that left.
+/// A member at a later point also counts as being at each earlier point. No member waits for a member that has left.
 #[test]
 fn no_one_waits_for_who_is_ahead_or_left(rt: HostRuntime) {
     let gate = Lockstep::new(&rt, 2);

@@ -17,7 +17,7 @@ impl Random {
         Random { state: seed }
     }
 
-    /// The next number, by three shifts that are each combined with exclusive or.
+    /// The next number. Each of three shifts is combined with the state by exclusive or.
     pub fn next(&mut self) -> u32 {
         self.state ^= self.state.wrapping_mul(8192);
         self.state ^= self.state >> 17;
@@ -57,7 +57,8 @@ fn address(random: &mut Random) -> u32 {
     first.saturating_add(16 * (random.next() % 128))
 }
 
-/// The event that lends the block with this number if it is free in the arena, or else the event that takes it back.
+/// If the block with this number is free in the arena, the event that lends the block; otherwise the event that takes
+/// it back.
 pub fn lend(arena: &mut Arena, block: u32) -> Event {
     match arena.take_at(block) {
         Some(buf) => Event::Lend(buf),
@@ -65,7 +66,7 @@ pub fn lend(arena: &mut Arena, block: u32) -> Event {
     }
 }
 
-/// An event on interrupts, the link or the EEPROM.
+/// An event that concerns interrupts, the link or the EEPROM.
 fn other_event(random: &mut Random) -> Event {
     match random.byte() % 8 {
         0 => Event::Write(Port::Pf, 0x00808, random.next()), // EICS
@@ -80,7 +81,7 @@ fn other_event(random: &mut Random) -> Event {
 }
 
 /// A source of foreign events: pseudo-random numbers, and two arenas with the same block numbers, 200 to 231. None of
-/// the blocks is the driver's.
+/// these blocks belongs to the driver.
 pub struct Others {
     /// The generator for the events.
     pub random: Random,
@@ -98,7 +99,7 @@ impl Others {
         }
     }
 
-    /// An event on memory other than the driver's.
+    /// An event that accesses memory other than the driver's.
     fn memory_event(&mut self) -> Event {
         let block = self.random.block();
         match self.random.byte() % 5 {

@@ -52,7 +52,7 @@ pub fn same(rt: &impl Abort, reported: usize, wanted: usize) {
     assert_eq!(rt; reported, wanted);
 }
 
-/// Checks a condition of the case with this name.
+/// Checks a condition in the case with this name.
 pub fn holds(rt: &impl Abort, name: &str, what: &str, is_so: bool) {
     assert!(rt; is_so, "{name}: {what}");
 }
@@ -78,7 +78,7 @@ pub fn push<T>(rt: &impl Abort, list: &mut Vec<T>, item: T) {
     done(rt, list.push(item));
 }
 
-/// Stores a value where there is none.
+/// Stores a value in an option that must be `None`.
 pub fn put<T>(rt: &impl Abort, at: &mut Option<T>, value: T) {
     none(rt, mem::replace(at, Some(value)));
 }

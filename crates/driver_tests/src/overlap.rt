@@ -20,7 +20,7 @@ const SEVENTEEN: [(u32, u32); 17] = [
     (14, 1), (15, 1), (16, 1),
 ];
 
-/// The reported job is the first that shares a block with an earlier one, not that earlier one.
+/// The reported job is the first one that shares a block with an earlier job. The earlier job isn't reported.
 #[rattlefmt::skip]
 const TEAMS: [Team<'static>; 9] = [
     ("no jobs", &[], RunFault::NoJobs),
@@ -70,7 +70,7 @@ fn pass_of(rt: &impl Hand, job: Job) -> Pass {
     pass
 }
 
-/// Why the jobs aren't run. Checks that they are returned, and collects their passes.
+/// Why the jobs are refused. Checks that they are returned, and collects their passes.
 fn refusal_of(
     rt: &impl Hand,
     bench: &Bench,

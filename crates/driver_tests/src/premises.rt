@@ -7,7 +7,7 @@ use device_lock::{Entry, Watched, left_alone};
 use nic_device::{Arena, Buf, Event, EventNote, Octets, Port, Reply, ReplyNote};
 use pmd::{Doubt, Driven, Given, begins_well, judge, never_asked_on, others_lend_none};
 
-/// The driver's pass; `OTHER` is the pass of all others.
+/// The driver's pass. `OTHER` is the pass of all other programs.
 const DRIVER: u8 = 0;
 
 const OTHER: u8 = 1;
@@ -65,9 +65,10 @@ enum Deed {
     Peeks(u32),
     Pokes(u32),
     Steps,
-    /// A receive step of this queue wrote a descriptor at this address, and this many bytes from the second address on.
+    /// A receive step of this queue wrote a descriptor at the first address, and this many bytes starting at the second
+    /// address.
     Wrote(u16, u64, u64, usize),
-    /// A transmit step of this queue sent a frame and, if an address is given, reported it there.
+    /// A transmit step of this queue sent a frame. If an address is given, the step reported the frame there.
     Sent(u16, Option<u64>),
     Advanced(u16, Option<u64>),
     /// A frame with this length in bytes arrives and is accepted.
@@ -102,7 +103,7 @@ fn taken(rt: &impl Hand, number: u32) -> (Arena, Buf) {
     (arena, buf)
 }
 
-/// Closes the arena with its block.
+/// Gives a block back to its arena, and closes the arena.
 fn close(rt: &impl Hand, arena: Arena, buf: Buf) {
     let mut arena = arena;
     done(rt, arena.give(buf));
@@ -203,7 +204,7 @@ fn add(rt: &impl Hand, history: &mut Vec<Entry>, (pass, deed): (u8, Deed)) {
     push(rt, history, entry);
 }
 
-/// The entries of a history.
+/// Returns a history with these entries.
 fn written(rt: &impl Hand, made: &[(u8, Deed)]) -> Vec<Entry> {
     let mut history = empty(rt);
     for entry in made {
@@ -275,7 +276,7 @@ const BESIDE: [Beside<'static>; 68] = [
     ("the last 16 bytes of block 5 poked", 0, (OTHER, Deed::Pokes(0x2FF0)), 2, false),
     ("the first 16 bytes after block 5 poked", 0, (OTHER, Deed::Pokes(0x3000)), 2, true),
     ("block 5 looked at", 0, (OTHER, Deed::Peeks(0x2800)), 2, true),
-    // Steps of other queues, made by any pass.
+    // Steps of other queues, run by any pass.
     ("64 bytes up to block 5", 0, (OTHER, Deed::Wrote(1, 0x8000, 0x27C0, 64)), 2, true),
     ("65 bytes into block 5", 0, (OTHER, Deed::Wrote(1, 0x8000, 0x27C0, 65)), 2, false),
     ("4,096 bytes over blocks 4 to 6", 0, (OTHER, Deed::Wrote(1, 0x8000, 0x27FF, 4096)), 2, false),
@@ -302,7 +303,8 @@ const BESIDE: [Beside<'static>; 68] = [
     ("a frame that arrives", 0, (OTHER, Deed::Arrives(60)), 2, true),
 ];
 
-/// The driver's entries, with one more inserted after the first `after` of them, and a write of GCR_EXT before all.
+/// The driver's entries, with one more entry inserted after the first `after` of them, and a write of GCR_EXT before
+/// all entries.
 fn beside(rt: &impl Hand, mode: u32, more: (u8, Deed), after: usize) -> Vec<Entry> {
     let mut history = written(rt, &[(OTHER, Deed::Sets(GCR_EXT, mode))]);
     for (place, own) in OWN.into_iter().enumerate() {
@@ -343,8 +345,8 @@ fn around(rt: &impl Hand, made: Made) -> Vec<Entry> {
     written(rt, &[first, second, third, (DRIVER, Deed::Reads), last])
 }
 
-/// A case: its entries, the number of entries of the driver's pass before its first own one, the arguments of its
-/// start, and whether it begins well.
+/// A case: its name, its entries, the number of entries of the driver's pass before the driver's own first entry, the
+/// arguments of the driver's start, and whether the driver begins well.
 type Begins<'a> = (&'a str, Made, usize, Given, bool);
 
 /// Enables jumbo frames.
@@ -402,8 +404,8 @@ fn a_driver_begins_well_or_not(rt: HostRuntime) {
     check_begins(&rt, &BEGINS);
 }
 
-/// A case: its entries, the number of entries of the driver's pass before its first own one, and whether the queue was
-/// never enabled before.
+/// A case: its name, its entries, the number of entries of the driver's pass before the driver's own first entry, and
+/// whether no one requested before that entry that the queue be enabled.
 type Asked<'a> = (&'a str, Made, usize, bool);
 
 /// The value that requests that a side be enabled.
@@ -447,8 +449,8 @@ fn a_queue_was_never_asked_on_or_was(rt: HostRuntime) {
     check_asked(&rt, &ASKED);
 }
 
-/// Entries around the first one of a driver with blocks 4 to 11, the number of entries of its pass before that, and
-/// whether others lend none of these blocks.
+/// Entries around the first entry of a driver with blocks 4 to 11, the number of entries of its pass before the
+/// driver's own first entry, and whether others lend none of these blocks.
 #[rattlefmt::skip]
 const LENT: [Asked<'static>; 14] = [
     ("block 3", [(OTHER, Deed::Lends(3)), NOTHING, NOTHING, NOTHING], 0, true),
@@ -494,7 +496,7 @@ const ASKS_ON: (u8, Deed) = (OTHER, Deed::Sets(TXDCTL_0, ON));
 
 const DISTURBS: (u8, Deed) = (OTHER, Deed::Sets(CTRL, 0));
 
-/// A case: its entries, the arguments of the driver's start, and the first doubt.
+/// A case: its name, its entries, the arguments of the driver's start, and the first doubt.
 type Judged<'a> = (&'a str, Made, Given, Option<Doubt>);
 
 #[rattlefmt::skip]

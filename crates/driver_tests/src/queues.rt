@@ -1,11 +1,11 @@
-//! A queue at a port of a device that the test owns.
+//! Requests to a queue at a port of a device that the test owns.
 
 use crate::bench::{PLAIN, Why, end, in_hand, reason};
 use crate::outcome::{Hand, done, holds, refused, same, sees, some};
 use nic_device::{Config, Device, Dir, Mode, Port};
 use pmd::{Direct, POLLS, Queue, Setup, pf_setup};
 
-/// A device with two virtual functions and 64 pools, of which the steps of queue 2 run.
+/// A device with two virtual functions and 64 pools, on which the steps of queue 2 run.
 fn opened(rt: &impl Hand) -> Direct {
     let device = done(rt, Device::new(rt.alloc(), Config { vfs: 2, fifo: 64 }));
     let mut direct = Direct::new(rt.alloc(), device, 2);
@@ -52,7 +52,8 @@ enum Ask {
     Ready,
 }
 
-/// A case: its name, the queue's port and its number there, the request, and why it is refused.
+/// A case: its name, the queue's port and its number at that port, the request, and why the request is refused, if it
+/// is.
 type Row<'a> = (&'a str, Port, u16, Ask, Option<Why>);
 
 #[rattlefmt::skip]
@@ -64,7 +65,7 @@ const ROWS: [Row<'static>; 5] = [
     ("a function that isn't there has no queue", Port::Vf(2), 0, Ask::Ready, Some(Why::DeviceFault)),
 ];
 
-/// Makes the request to a queue. Returns why it is refused.
+/// Makes the request to a queue. Returns why the request is refused, if it is.
 fn asked(rt: &impl Hand, direct: &mut Direct, queue: &Queue, ask: Ask) -> Option<Why> {
     let alloc = rt.alloc();
     let fault = match ask {
@@ -85,8 +86,8 @@ fn asked(rt: &impl Hand, direct: &mut Direct, queue: &Queue, ask: Ask) -> Option
     Some(reason(&fault))
 }
 
-/// Makes the request to a queue of a new device. Returns why it is refused, and whether queue 2 then has the registers
-/// of an enabled queue.
+/// Makes the request to a queue of a new device. Returns why the request is refused, if it is, and whether queue 2 then
+/// has the registers of an enabled queue.
 fn asked_of(rt: &impl Hand, port: Port, number: u16, ask: Ask) -> (Option<Why>, bool) {
     let mut direct = opened(rt);
     let queue = some(rt, Queue::new(port, number));

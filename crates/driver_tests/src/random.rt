@@ -21,7 +21,7 @@ pub const SEEDS: [u32; 20] = [
     0xAAAA_AAAA, 0xC0DE_CAFE, 0xDEAD_BEEF, 0xFFFF_0000, 0xFFFF_FFFF,
 ];
 
-/// A history's facts about queue 0: the waiting frames, the written ones, the numbers of arrived and transmitted
+/// What a history says about queue 0: the waiting frames, the written frames, the numbers of arrived and transmitted
 /// frames, and the collected frames.
 #[derive(Drop)]
 struct Tally<'a> {
@@ -87,7 +87,7 @@ fn are_first(records: &[Record], frames: &[&[u8]]) -> bool {
     true
 }
 
-/// Sends a packet. If the ring is full, releases it.
+/// Sends a packet. If the ring is full, releases the packet.
 fn offer<N: Nic>(rt: &impl Hand, nic: &mut N, pmd: &mut Pmd, packet: Packet) {
     match done(rt, pmd.tx(rt.alloc(), nic, packet)) {
         TxAnswer::Taken => {}
@@ -113,7 +113,7 @@ fn drive<N: Nic>(rt: &impl Hand, random: &mut Random, nic: &mut N, pmd: &mut Pmd
     }
 }
 
-/// A driver among random events, what remains of its `Interleaved`, and the history before it.
+/// A driver among random events, what remains of its `Interleaved`, and the history of the calls made earlier.
 struct During {
     pmd: Pmd,
     left: Left,
@@ -132,8 +132,8 @@ fn driven(rt: &impl Hand, others: &mut Others) -> During {
     During { pmd, left, history }
 }
 
-/// Checks that the returned packets are the first frames that a history wrote for queue 0, and that no more packets
-/// were transmitted than accepted. The history must leave queue 0 alone.
+/// Checks that the returned packets are the first frames that were written for queue 0 in a history, and that no more
+/// packets were transmitted than accepted. The history must leave queue 0 alone.
 fn is_well(rt: &impl Hand, history: &[Entry], pmd: &Pmd) {
     sees(rt, is_left_alone(history));
     let mut tally = Tally::new(rt);

@@ -1,10 +1,10 @@
-//! A packet is created from bytes and read back.
+//! Tests that create a packet from bytes and read it back.
 
 use crate::bench::{end, in_hand, opened, reap, release, send, started, stops};
 use crate::outcome::{Hand, done, same, same_bytes, sees, some};
 use pmd::Packet;
 
-/// The bytes of a packet of two blocks, with two special numbers where the blocks meet.
+/// The bytes of a packet of two blocks, with two special values at the boundary between the blocks.
 fn bytes_of_two_blocks() -> [u8; 3000] {
     let mut bytes = [0x5A; 3000];
     bytes[2047] = 1;
@@ -12,7 +12,7 @@ fn bytes_of_two_blocks() -> [u8; 3000] {
     bytes
 }
 
-/// Checks that these are the packet's bytes, with each way of reading it.
+/// Checks that these are the packet's bytes, with each call that reads a packet.
 fn reads(rt: &impl Hand, packet: &Packet, bytes: &[u8; 3000]) {
     same_bytes(rt, done(rt, packet.to_vec(rt.alloc())).as_slice(), bytes);
     let mut seam = [0; 2];

@@ -8,8 +8,9 @@ use pmd::{Gate, Lockstep};
 use std::sync::atomic::{AtomicU64, Ordering};
 use std::sync::{Mutex, Wait};
 
-/// A gate whose first point lets a worker pass only while both workers are at it. There, each worker looks for the
-/// other a limited number of times. The other points are open, and the first point is open to everyone else.
+/// A gate whose first point lets a worker pass only while both workers are at that point. At the first point, each
+/// worker looks for the other worker a limited number of times. All other points are open, and everyone except the
+/// workers may also pass the first point.
 #[derive(Drop)]
 struct Meeting<'a, R> {
     rt: &'a R,
@@ -85,7 +86,8 @@ const ONE_FRAME: Order = Order {
     frames: 1,
 };
 
-/// Runs two workers without other events. Checks that nothing else failed and no block was lost.
+/// Runs two workers without other events. Checks that no worker ended for any other reason than a shut gate or a full
+/// history, and that no block was lost.
 fn alone<G: Gate + Sync>(rt: &impl Hand, gate: &G, order: Order) -> Came {
     let came = run_team(rt, gate, order, Beside::new(rt, How::Nothing, 1));
     sees(rt, came.failed == 0 && came.lost == [0, 0]);
@@ -111,8 +113,8 @@ fn two_workers_stand_at_one_point(rt: HostRuntime) {
     is_counted(&rt, &came, (1, 0, 0));
 }
 
-/// If one worker runs after the other, the first finds nobody at the first point and is shut out. Both get all blocks
-/// back.
+/// If one worker runs after the other, the first finds nobody at the first point and is shut out. Both workers get all
+/// blocks back.
 #[test]
 fn workers_one_after_the_other_do_not_meet(rt: HostRuntime) {
     let gate = InTurn {
@@ -161,8 +163,8 @@ fn limited(rt: &impl Hand, limit: u32) -> bool {
     met
 }
 
-/// Whatever the limit, from just after the setup to where both workers are done, every call returns, the history closes
-/// with at most that many entries, and all blocks are returned.
+/// Limits range from just above the entries of the setup to enough for both workers. With each of these limits, every
+/// call returns, the history closes with at most that many entries, and all blocks are returned.
 #[test]
 fn a_full_history_ends_both_workers(rt: HostRuntime) {
     sees(&rt, limited(&rt, 300));
@@ -202,7 +204,8 @@ fn a_neighbour_visits_two_workers(rt: HostRuntime) {
     }
 }
 
-/// Runs two workers while a stranger makes events. Checks that it makes at least the minimum number.
+/// Runs two workers while a stranger makes events. Checks that the stranger makes at least the minimum number of
+/// events.
 fn end_beside(rt: &impl Hand, order: Order, seed: u32) {
     let beside = Beside::new(rt, How::Meddles, seed);
     let came = run_team(rt, &Lockstep::new(rt, 3), order, beside);

@@ -1,4 +1,5 @@
-//! Lists of foreign events for an `Interleaved`, what remains of it at the end, and the return of blocks.
+//! Lists of foreign events for an `Interleaved`, what remains of an `Interleaved` at the end, and the return of blocks
+//! to arenas.
 
 use crate::history::add_marked;
 use crate::outcome::{Hand, done, emptied, empty, none, push, put, some};
@@ -6,16 +7,17 @@ use device_lock::Entry;
 use nic_device::{Arena, Buf, Device, Dir, Event, LentMemory, Reply};
 use pmd::{Finished, Interleaved};
 
-/// Lists of foreign events, one for each of the next calls.
+/// Lists of foreign events, one list for each of the next calls.
 pub type Schedule = Vec<Vec<Event>>;
 
-/// Appends the switches of both sides of queue 0 to a list.
+/// Appends to a list the steps that turn both sides of queue 0 on or off.
 pub fn push_switches(rt: &impl Hand, list: &mut Vec<Event>) {
     push(rt, list, Event::QueueStep(Dir::Rx, 0));
     push(rt, list, Event::QueueStep(Dir::Tx, 0));
 }
 
-/// Appends the steps of queue 0 to a list: both sides are switched, it transmits, and the device receives.
+/// Appends the steps of queue 0 to a list: both sides are turned on or off, the queue transmits, and the device
+/// receives.
 pub fn push_steps(rt: &impl Hand, list: &mut Vec<Event>) {
     push_switches(rt, list);
     push(rt, list, Event::TxStep(0));
@@ -53,7 +55,7 @@ pub struct Left {
     pub history: Vec<Entry>,
     /// The number of foreign events.
     pub foreign: usize,
-    /// The blocks of foreign events.
+    /// The blocks that foreign events took or didn't lend.
     pub bufs: Vec<Buf>,
 }
 
@@ -131,7 +133,7 @@ fn not_whole(rt: &impl Hand, mut arenas: Vec<Arena>) -> Vec<Arena> {
 }
 
 /// Returns each block to the first arena in which it is missing, and checks that none is missing afterwards. Returns
-/// the number of arenas that didn't close before.
+/// the number of arenas that didn't close before the blocks were returned.
 pub fn all_home(rt: &impl Hand, mut bufs: Vec<Buf>, arenas: Vec<Arena>) -> usize {
     let mut away = not_whole(rt, arenas);
     let count = away.len();

@@ -1,4 +1,4 @@
-//! Calls of several passes on a shared device: their replies, refusals, and the history.
+//! Calls that several passes make on a shared device: the replies, the refusals and the history.
 
 use crate::bench::{count_calls, end, is_done, word_in};
 use crate::outcome::{
@@ -106,8 +106,8 @@ pub fn write_and_read(rt: &impl Hand, bench: &Bench, pass: Pass) -> Pass {
     pass
 }
 
-/// Switches a side of a queue on and off through the lock. Each switch is a write and a poll. Each of these four calls
-/// follows four device steps.
+/// Enables and disables a side of a queue through the lock. Each change takes a write and a poll. Each of these four
+/// calls follows four device steps.
 pub fn switch(rt: &impl Hand, bench: &Bench, pass: Pass, queue: u16) -> Pass {
     let mut nic = ThroughLock::new(rt, bench, pass, queue);
     let at = some(rt, Queue::new(Port::Pf, queue));
@@ -118,7 +118,7 @@ pub fn switch(rt: &impl Hand, bench: &Bench, pass: Pass, queue: u16) -> Pass {
     nic.finish()
 }
 
-/// A thread's work with its pass: it writes and reads a register, or it switches queue 5 or 6.
+/// A thread's work with its pass: the thread writes and reads a register, or it enables and disables queue 5 or 6.
 #[derive(Clone, Copy)]
 enum Deed {
     Words,
@@ -166,7 +166,8 @@ fn two_threads_switch_queues_of_one_device(rt: HostRuntime) {
     two_threads(&rt, Deed::Switches, 1, (40, 20));
 }
 
-/// Each of 64 passes switches the queue with twice its number plus one, up to queue 127, with 20 calls each.
+/// Each of 64 passes enables and disables one queue with 20 calls. The queue's number is twice the pass's number plus
+/// one, so the last queue is 127.
 fn switch_64_queues(rt: &impl Hand) {
     let (bench, mut passes) = shared(rt, 1, 64, 1280);
     let mut back = empty(rt);
@@ -184,7 +185,7 @@ fn queues_up_to_the_last_are_stepped_through_the_lock(rt: HostRuntime) {
     switch_64_queues(&rt);
 }
 
-/// Reads HLREG0 through a way to access a device.
+/// Reads HLREG0 through a `Nic` and checks its value.
 fn read_hlreg0<N: Nic>(rt: &impl Hand, nic: &mut N) {
     let reported = done(rt, nic.call(rt.alloc(), Event::Read(Port::Pf, 0x04240)));
     same(rt, word_in(rt, reported) as usize, 0x403);
@@ -207,7 +208,7 @@ fn five_and_seven(rt: &impl Hand, bench: &Bench, pass: Pass) -> Pass {
     pass
 }
 
-/// One pass makes calls, each after steps, until the history is full.
+/// One pass makes calls, each of which follows device steps, until the history is full.
 fn call_after_steps(rt: &impl Hand) {
     let (bench, mut passes) = shared(rt, 1, 1, 7);
     let pass = five_and_seven(rt, &bench, some(rt, passes.pop()));
@@ -220,7 +221,7 @@ fn a_call_is_after_the_steps_of_its_queue(rt: HostRuntime) {
     call_after_steps(&rt);
 }
 
-/// Closes a shared device without a pass, and then with it.
+/// Tries to close a shared device without one of its passes, and then closes it with that pass.
 fn withhold_a_pass(rt: &impl Hand) {
     let (bench, mut passes) = shared(rt, 1, 2, 100);
     let withheld = some(rt, passes.pop());
@@ -288,7 +289,7 @@ fn a_full_history_takes_no_call(rt: HostRuntime) {
 }
 
 /// Checks that a shared device doesn't close with these passes, because the calls of the pass with this tag aren't in
-/// its history. Returns both.
+/// its history. Returns the device and the passes.
 fn differs(rt: &impl Hand, bench: Bench, passes: Vec<Pass>, tag: u8) -> (Bench, Vec<Pass>) {
     let CloseRefused {
         fault,

@@ -1,4 +1,5 @@
-//! A worker ends early for one reason, and then its driver fails to stop for another. The first reason is reported.
+//! A worker ends early for one reason, and then its driver fails to stop for another reason. The first reason is
+//! reported.
 
 use crate::bench::{end, in_hand, make, stepped, stops};
 use crate::outcome::{Hand, done, emptied, empty, fail, push, same, sees, some};
@@ -45,7 +46,7 @@ impl<'a, R: Caller> Gate for Shutting<'a, R> {
     fn leave(&self, _worker: usize) {}
 }
 
-/// A job of queue 0.
+/// A job on queue 0.
 fn job(rt: &impl Hand, pass: Pass) -> Vec<Job> {
     let job = Job {
         pass,

@@ -1,6 +1,6 @@
-//! Two drivers of the queues of one pool, while 10,000 frames arrive. A stranger resets the device, the pool and the
-//! function, takes and lends blocks of the drivers' rings, and writes random values to registers on which the queues
-//! rely.
+//! Two drivers, one for each of two queues of a pool, run while 10,000 frames arrive. A stranger resets the device, the
+//! pool and the function, takes and lends blocks of the drivers' rings, and writes random values to registers on which
+//! the queues rely.
 
 use crate::bench::segment;
 use crate::hostile::offer;
@@ -14,7 +14,7 @@ use device_lock::Pass;
 use nic_device::{Arena, Buf, Event, Mode, Octets, Port};
 use pmd::{Home, Pmd, Rest, StartRefused, StopRefused, ThroughLock};
 
-/// The number of rounds in a run. Four frames arrive in each round. There is one run for each of twenty seeds.
+/// The number of rounds in a run. Four frames arrive in each round. Each of twenty seeds determines one run.
 const TURNS: u32 = 125;
 
 /// The number of rounds after which everything is set up again.
@@ -90,7 +90,7 @@ impl Driver {
         put(rt, &mut self.pass, nic.finish());
     }
 
-    /// Receives up to two packets and sends them back, whatever the replies are.
+    /// Receives up to two packets and sends them back, whatever the results are.
     fn turn(&mut self, rt: &impl Hand, bench: &Bench) {
         let Some(mut pmd) = self.pmd.take() else {
             return;
@@ -215,7 +215,7 @@ impl Storm {
     }
 }
 
-/// All passes after a storm, the arenas of the drivers, and the stranger's blocks.
+/// What remains after a storm: all passes, the drivers' arenas, and the stranger's blocks.
 struct Over {
     passes: Vec<Pass>,
     arenas: Vec<Arena>,
@@ -241,7 +241,7 @@ fn end_storm(rt: &impl Hand, storm: Storm) -> Over {
     }
 }
 
-/// Runs all rounds of a storm, with the setup.
+/// Runs all rounds of a storm, and sets everything up again every `SPELL` rounds.
 fn all_turns(rt: &impl Hand, bench: &Bench, storm: &mut Storm) {
     for number in 0..TURNS {
         if number % SPELL == 0 {

@@ -1,5 +1,5 @@
-//! Other programs next to two workers: a neighbour that visits while they wait for the frames, or a stranger that makes
-//! random events on the queues and the blocks of both.
+//! Other programs next to two workers: a neighbour that visits while the workers wait for the frames, or a stranger
+//! that makes random events on the queues and blocks of both workers.
 
 use crate::bench::{is_done, word_in};
 use crate::hostile::WRITES;
@@ -15,7 +15,7 @@ use std::sync::atomic::{AtomicU64, Ordering};
 /// The neighbour's number at the gate, after those of the workers and the calling thread.
 const NEIGHBOUR: usize = 3;
 
-/// The minimum and the maximum number of events of the stranger.
+/// The minimum and the maximum number of events that the stranger makes.
 pub const LEAST: u32 = 1_000;
 
 const MOST: u32 = 20_000;
@@ -68,9 +68,9 @@ impl Beside {
         bufs
     }
 
-    /// Acts through the other programs' pass. A visit takes place after both workers have started, and no step runs
-    /// before it is over. The stranger continues until the workers have ended, within its minimum and maximum number of
-    /// events.
+    /// Acts through the other programs' pass. A visit takes place after both workers have started, and no device step
+    /// runs before the visit is over. The stranger continues until the workers have ended, within its minimum and
+    /// maximum number of events.
     pub fn act<G: Gate>(
         &mut self,
         rt: &impl Hand,
@@ -115,7 +115,7 @@ impl Beside {
         let_reply_go(rt, &mut self.bufs, taken);
     }
 
-    /// A write that doesn't leave a queue alone, to one of the first three queues.
+    /// A write from the table `WRITES`, moved to the registers of one of the first three queues.
     fn write(&mut self, port: Port) -> Event {
         let random = &mut self.others.random;
         let (address, word, _spares) = WRITES[usize::from(random.byte() % 24)];
@@ -123,7 +123,7 @@ impl Beside {
         Event::Write(port, address.saturating_add(64 * queue), word)
     }
 
-    /// An event on the queues and blocks of the workers.
+    /// An event that may disturb the workers' queues and blocks.
     fn hostile_event(&mut self) -> Event {
         let block = self.others.random.next() % (2 * BLOCKS);
         let random = &mut self.others.random;

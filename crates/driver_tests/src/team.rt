@@ -19,7 +19,7 @@ use std::thread::join_mut;
 /// A shared device with one virtual function.
 pub type Bench = Shared<1, 64>;
 
-/// The number of blocks of each worker, which start at block 0 and at block 32.
+/// The number of blocks of each worker. The workers' blocks start at block 0 and at block 32.
 pub const BLOCKS: u32 = 32;
 
 /// The number of entries in a history after the setup: 54 writes, each after four steps.
@@ -100,7 +100,7 @@ pub fn blocks_of(rt: &impl Hand, queue: u16) -> Arena {
     )
 }
 
-/// A job for each of two passes, on the queue with the pass's tag.
+/// A job for each of two passes, on the queue that the pass's tag determines.
 fn jobs(rt: &impl Hand, passes: Vec<Pass>, rounds: u32) -> Vec<Job> {
     let mut jobs = empty(rt);
     for pass in passes {
@@ -193,7 +193,7 @@ pub struct Came {
     pub away: usize,
 }
 
-/// What must still be stopped and closed, with the outcome so far: the running drivers with their queues, and the
+/// The outcome so far, and what must still be stopped and closed: the running drivers with their queues, and the
 /// arenas.
 struct Ending {
     came: Came,
@@ -202,7 +202,7 @@ struct Ending {
 }
 
 impl Ending {
-    /// Starts the outcome of a run with this many accepted frames, and this many calls of the other program.
+    /// Starts the outcome of a run with this many accepted frames, and this many calls made by the other program.
     fn new(rt: &impl Hand, fed: usize, beside: usize) -> Ending {
         let came = Came {
             fed,
@@ -267,7 +267,7 @@ impl Ending {
         pass
     }
 
-    /// Adds what the history shows.
+    /// Adds to the outcome what the history shows.
     fn look(&mut self, rt: &impl Hand, closed: &Closed<1, 64>) {
         self.came.made = closed.history().len();
         self.came.alone = [closed.left_alone(0, 0), closed.left_alone(1, 1)];
@@ -275,7 +275,7 @@ impl Ending {
         same(rt, beside.len(), self.came.beside);
     }
 
-    /// Stops the running drivers on the owned device. Frames that are transmitted during this are appended to `sent`.
+    /// Stops the running drivers on the owned device. Frames that are transmitted meanwhile are appended to `sent`.
     fn stop_all(&mut self, rt: &impl Hand, device: Device, sent: &mut Sent) -> Device {
         let mut device = device;
         for _driver in 0..self.running.len() {
@@ -297,7 +297,7 @@ impl Ending {
 /// The transmitted frames that weren't collected, as queue and length, in order.
 pub type Sent = VecDeque<(u16, usize)>;
 
-/// Adds the frame that a reply reports as transmitted, or removes the one that it reports as collected.
+/// Adds the frame that a reply reports as transmitted, or removes the frame that it reports as collected.
 fn add_sent(rt: &impl Hand, sent: &mut Sent, reply: &ReplyNote) {
     match reply {
         ReplyNote::Sent { queue, len, .. } => done(rt, sent.push_back((*queue, *len))),
@@ -334,7 +334,7 @@ fn are_sent(rt: &impl Hand, sent: &Sent, frames: &[(u8, Octets)]) {
 }
 
 /// Closes a device. Checks that the transmitted frames agree with the history, and that each block is free again.
-/// Returns the number of arenas that didn't close before.
+/// Returns the number of arenas that didn't close before the blocks were returned.
 pub fn apart(
     rt: &impl Hand,
     device: Device,

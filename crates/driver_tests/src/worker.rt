@@ -53,7 +53,7 @@ fn is_on(rt: &impl Caller, bench: &Bench, pass: &mut Pass, register: u32) -> boo
     word & 0x0200_0000 != 0
 }
 
-/// The oldest transmitted frame. Empty if there is none.
+/// The oldest transmitted frame, or an empty one if there is none.
 fn collected(rt: &impl Caller, bench: &Bench, pass: &mut Pass) -> Octets {
     match reply(rt, bench, pass, Event::Collect) {
         Reply::Frame { bytes, .. } => bytes,
@@ -111,7 +111,7 @@ fn set_up(rt: &impl Hand, bench: &Bench, pass: Pass) -> Pass {
     nic.finish()
 }
 
-/// A job of queue 0 that polls once for a packet.
+/// A job on queue 0 that polls once for a packet.
 fn job(rt: &impl Hand, pass: Pass) -> Vec<Job> {
     let job = Job {
         pass,
@@ -128,7 +128,7 @@ fn job(rt: &impl Hand, pass: Pass) -> Vec<Job> {
     jobs
 }
 
-/// Runs the job while both frames arrive. Checks that one is accepted. Returns the worker's outcome.
+/// Runs the job while both frames arrive. Checks that one frame is accepted. Returns the worker's outcome.
 fn run<G: Gate + Sync>(
     rt: &impl Hand,
     gate: &G,
@@ -211,8 +211,8 @@ fn run_one(rt: &impl Hand) {
 }
 
 /// A worker polls once for a packet, then reaps until the packet's five descriptors are done, which takes one call
-/// each. Therefore the frame is already transmitted when the worker reaches its last point. Only after that does it
-/// stop its driver.
+/// each. Therefore the frame is already transmitted when the worker reaches its last point. The worker stops its driver
+/// only after that point.
 #[test]
 fn a_worker_reaps_all_before_its_last_point_and_stops_after_it(rt: HostRuntime) {
     run_one(&rt);

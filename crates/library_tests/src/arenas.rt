@@ -1,4 +1,4 @@
-//! Packet memory, and fetching a descriptor.
+//! Packet memory calls and the fetch of a descriptor, with allocations that fail.
 
 use crate::outcome::{done, none, put, some};
 use crate::sums::{START, end_arena, end_memory, with, with_arena, with_buf, with_bytes};

@@ -1,4 +1,4 @@
-//! Events of an owned device, and a run of several.
+//! An event on an owned device, and a run of several events, with allocations that fail.
 
 use crate::outcome::{done, none, put, some};
 use crate::sums::{START, end_device, with, with_device, with_event};
@@ -9,8 +9,8 @@ use std::process::Abort;
 use std::sync::Wait;
 
 /// Register writes, by address and word, that enable reception and give queue 0 a ring of eight slots in each
-/// direction: the receive ring at byte 0 of block 0, the transmit ring at its byte 1,024. Slot 0 of each belongs to the
-/// device.
+/// direction: the receive ring at byte 0 of block 0, and the transmit ring at byte 1,024 of that block. Slot 0 of each
+/// ring belongs to the device.
 #[rattlefmt::skip]
 const WRITES: [(u32, u32); 11] = [
     (0x03000, 1),            // RXCTRL
@@ -49,7 +49,7 @@ fn make<R: Abort>(rt: &R, device: &mut Device, event: Event) {
     }
 }
 
-/// Returns a device with a ready queue 0 and with blocks 0 to 2 of an arena lent to it, and the arena.
+/// Returns a device with a ready queue 0, and an arena whose blocks 0 to 2 are lent to the device.
 pub fn ready<R: Abort>(rt: &R, alloc: Global) -> (Device, Arena) {
     let mut device = done(rt, Device::new(alloc, Config { vfs: 0, fifo: 64 }));
     let mut arena = done(rt, Arena::new(alloc, 0, 24));

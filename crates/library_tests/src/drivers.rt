@@ -95,8 +95,8 @@ pub fn arena_of<R: Abort>(rt: &R, home: Home) -> Arena {
     arena
 }
 
-/// Puts the free list of an arena into a fixed order. All blocks must be free. Each is taken and given back in order,
-/// so the next blocks taken don't depend on earlier use.
+/// Puts the free list of an arena into a fixed order. All blocks must be free. Each block is taken and given back, in
+/// ascending order, so the next blocks taken don't depend on earlier use.
 fn in_turn<R: Abort>(rt: &R, arena: Arena) -> Arena {
     let mut arena = arena;
     for block in 0..32 {
@@ -116,8 +116,8 @@ enum Kind {
     Stop,
 }
 
-/// A driver of queue 0 that makes a call. It has the packet to send or the packet that was received. While the driver
-/// isn't started, its arena is kept here.
+/// A driver of queue 0 that makes a call, with the packet to send or the received packet. While the driver isn't
+/// started, its arena is kept here.
 struct Driving {
     kind: Kind,
     nic: Direct,
@@ -224,7 +224,7 @@ impl Driving {
         }
     }
 
-    /// Reaps. Afterwards nothing is outstanding.
+    /// Reaps. Afterwards no packet is outstanding.
     fn reap<R: Abort>(&mut self, rt: &R, alloc: Global, pmd: &mut Pmd) -> bool {
         match pmd.reap(alloc, &mut self.nic) {
             Ok(reaped) => reaped.idle,
@@ -262,7 +262,7 @@ impl Driving {
         made
     }
 
-    /// Releases a received packet, has all accepted packets transmitted, and stops.
+    /// Releases a received packet, lets the device transmit all accepted packets, and stops the driver.
     fn settle<R: Abort>(&mut self, rt: &R, alloc: Global) {
         let mut pmd = some(rt, self.pmd.take());
         if let Some(packet) = self.packet.take() {

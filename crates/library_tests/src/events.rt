@@ -14,7 +14,8 @@ fn two_replies(rt: &impl Hand, device: &mut Device, first: u32, second: u32) -> 
     done(rt, device.run(rt.alloc(), events))
 }
 
-/// A device replies to reads of HLREG0 and of an address without a register in order.
+/// If a list contains a read of HLREG0 and a read of an address without a register, the device replies to both in
+/// order.
 #[test]
 fn a_run_answers_in_order(rt: HostRuntime) {
     let rt = &rt;

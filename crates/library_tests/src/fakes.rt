@@ -73,8 +73,8 @@ impl<'a> Read for FailingReader<'a> {
     }
 }
 
-/// A writer that accepts this many writes, fails at the next one with an error of this kind, and counts the writes
-/// after it.
+/// A writer that accepts this many writes, fails at the next write with an error of this kind, and counts the writes
+/// after that failure.
 #[derive(Drop)]
 pub struct FailingWriter {
     pub taken: u32,

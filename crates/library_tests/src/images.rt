@@ -16,8 +16,8 @@ fn device_with(rt: &impl Hand, image: Image) -> Device {
     device
 }
 
-/// A reset applies the image's write to FCTRL after its writes to CTRL and EERD. EEC reports the image's size, and EERD
-/// reads word 0x0D, which points to the CSR section.
+/// A reset applies the image's write to FCTRL after the image's writes to CTRL and EERD. EEC reports the image's size,
+/// and EERD reads word 0x0D, which points to the CSR section.
 #[test]
 fn an_image_is_applied_and_read(rt: HostRuntime) {
     let rt = &rt;

@@ -1,4 +1,4 @@
-//! Inputs, and failing reads and writes.
+//! The program's inputs, and reads and writes that fail.
 
 use crate::fakes::{Drip, FailingFlush, FailingReader, FailingWriter, Flood, Newlines};
 use crate::outcome::{done, holds, refused, same};
@@ -160,12 +160,12 @@ fn writer(taken: u32, kind: ErrorKind) -> FailingWriter {
     }
 }
 
-/// Words, an input, and the exit status for both.
+/// The words of a command line, an input, and the exit status for this command line and input.
 type Case<'w, 's, 'b> = (&'w [&'s str], &'b [u8], u8);
 
 /// Runs the program with a writer that fails with an error of this kind. If a write failed, the program exits with the
-/// given status and doesn't write again. Otherwise it exits with the status for its input. Returns whether a write
-/// failed.
+/// given status and doesn't write again. Otherwise the program exits with the status for its input. Returns whether a
+/// write failed.
 fn fails_at(
     rt: &impl Abort,
     alloc: Global,
@@ -183,8 +183,8 @@ fn fails_at(
     writer.has_failed
 }
 
-/// Fails each read of a reader that returns one byte at a time, including the read at the end. The answer is only the
-/// failure.
+/// Makes each read fail in turn, from a reader that returns one byte at a time, including the read at the end. The
+/// program reports only the failure.
 fn is_unread_at_each(rt: &impl Abort, alloc: Global, (words, input, _own): Case<'_, '_, '_>) {
     for reads in 0..=input.len() {
         let mut reader = FailingReader {
@@ -195,7 +195,7 @@ fn is_unread_at_each(rt: &impl Abort, alloc: Global, (words, input, _own): Case<
     }
 }
 
-/// Fails each write in turn. The status is 2, or 4 if the error is lack of memory.
+/// Makes each write fail in turn. The status is 2, or 4 if the error is lack of memory.
 fn is_unwritten_at_each(rt: &impl Abort, alloc: Global, case: Case<'_, '_, '_>) {
     let pipe = (ErrorKind::BrokenPipe, 2);
     let memory = (ErrorKind::OutOfMemory, 4);
@@ -209,13 +209,13 @@ fn is_unwritten_at_each(rt: &impl Abort, alloc: Global, case: Case<'_, '_, '_>) 
     holds(rt, "the writes come to an end", false);
 }
 
-/// Fails each read and each write of a command in turn.
+/// Makes each read and each write of a command fail in turn.
 fn fails_at_each(rt: &impl Abort, alloc: Global, case: Case<'_, '_, '_>) {
     is_unread_at_each(rt, alloc, case);
     is_unwritten_at_each(rt, alloc, case);
 }
 
-/// Returns the program's output for words and bytes.
+/// Returns the program's output for the words of a command line and the bytes of an input.
 fn made(alloc: Global, words: &[&str], bytes: &[u8]) -> Vec<u8> {
     let mut reader = bytes;
     let (written, _outcome) = ran(alloc, words, &mut reader);
@@ -239,7 +239,7 @@ fn reads_and_writes_of_each_command_fail(rt: HostRuntime) {
     fails_at_each(rt, alloc, (&LOAD, &image, 0));
 }
 
-/// Flushing a writer fails with an error of this kind. It determines the status, and nothing more is written.
+/// Flushing a writer fails with an error of this kind. The error determines the status, and nothing more is written.
 fn flush_fails(rt: &impl Abort, kind: ErrorKind, wanted: u8) {
     let mut output = Output::of(FailingFlush(kind));
     same(rt, u64::from(output.flush(1)), u64::from(wanted));

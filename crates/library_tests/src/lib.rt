@@ -1,15 +1,15 @@
-//! Tests that no table of values can express. Packet memory calls and the run of a list of events succeed if there is
-//! enough memory. Packet memory can be sent to another thread. Other tests cover an EEPROM image in a device, snapshots
-//! of devices and machines, the longest inputs, and the program's failing reads and writes.
+//! Tests that no table of values can express. If there is enough memory, packet memory calls succeed, and so does the
+//! run of a list of events. Packet memory can be sent to another thread. Other tests cover an EEPROM image in a device,
+//! snapshots of devices and machines, the longest inputs, and the program's failing reads and writes.
 //!
-//! Other tests check what happens if memory runs out: for each call that may fail for this reason, one of its
-//! allocations fails. Each of these tests makes a single call, most of them through `trial`. It prints `call` before
-//! the call and `end` after it. If the call was refused, the test checks that nothing changed and that all moved values
-//! were returned, and makes the call again. The results are then as if no allocation had failed. The tests by
-//! themselves make no allocation fail. `dev/refusals` runs each test once for each allocation of its call, and makes
-//! that allocation fail.
+//! Further tests check what happens if memory runs out, for each call that may fail for this reason: one of the call's
+//! allocations then fails. Each of these tests makes a single call, in most cases through `trial`. The test prints
+//! `call` before the call and `end` after it. If the call was refused, the test checks that nothing changed and that
+//! all moved values were returned, and makes the call again. The results must then be as if no allocation had failed.
+//! The tests by themselves make no allocation fail. `dev/refusals` runs each test once for each allocation of its call,
+//! and makes that allocation fail.
 //!
-//! The results of the libraries' calls and the output of the program are tested by the tables of `conformance`.
+//! The tables of `conformance` test the results of the libraries' calls and the output of the program.
 #![tactic(auto)]
 
 #[cfg(test)]

@@ -1,4 +1,4 @@
-//! The calls made on an owned device, one by one and as a history.
+//! The calls made on an owned device, listed one by one and as a history.
 
 use crate::devices::number_of;
 use crate::outcome::{done, none, put, some};

@@ -19,7 +19,7 @@ pub struct Opened {
     pub bench: Bench,
     /// The only pass of the device.
     pub pass: Pass,
-    /// The blocks for its calls.
+    /// The blocks for the pass's calls.
     pub arena: Arena,
 }
 
@@ -79,7 +79,8 @@ fn event_of<R: Abort>(rt: &R, alloc: Global, arena: &mut Arena, arrives: bool) -
     }
 }
 
-/// Returns the checksum of the reply if the event ran. If it was refused for lack of memory, the event is put back.
+/// Returns the checksum of the reply if the event ran. If the event was refused for lack of memory, puts the event
+/// back.
 fn answered<R: Abort>(
     rt: &R,
     answer: Result<Reply, CallFault>,
@@ -286,7 +287,7 @@ fn a_shared_device_is_made(rt: HostRuntime) {
     );
 }
 
-/// The positions of a pass in a closed history.
+/// The positions of a pass's entries in a closed history.
 struct Positions {
     closed: Closed<0, 64>,
     arena: Arena,

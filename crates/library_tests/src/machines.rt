@@ -1,4 +1,4 @@
-//! The machine of scripts.
+//! The machine that runs scripts, with allocations that fail.
 
 use crate::outcome::{done, none, put, some};
 use crate::sums::{START, with};
@@ -38,7 +38,7 @@ pub fn program<R: Abort>(rt: &R, alloc: Global) -> Program {
     done(rt, assemble(alloc, SCRIPT))
 }
 
-/// Adds a machine to a checksum, as its public calls show it.
+/// Adds to a checksum what a machine's public calls show.
 pub fn with_machine(sum: u64, machine: &Machine) -> u64 {
     let sum = with(with(sum, machine.steps()), u64::from(machine.pc()));
     let mut sum = with(sum, u64::from(machine.acc()));
@@ -172,7 +172,7 @@ impl Trial for Stepping {
     }
 }
 
-/// Tests the step after this many others.
+/// Tests the step after this many earlier steps.
 fn steps<R: Abort + Wait + Print>(rt: &R, alloc: Global, steps: u32) {
     let subject = Stepping {
         machine: machine_after(rt, alloc, steps),

@@ -1,5 +1,5 @@
-//! Packet memory with ample room. Each call is made by a separate function whose contract says nothing about blocks:
-//! facts about all blocks would make each step of a test slow to prove.
+//! Packet memory calls with ample memory. Each call is made by a separate function whose contract says nothing about
+//! blocks: facts about all blocks would make each step of a test slow to prove.
 
 use crate::device::{device, end, make, stepped};
 use crate::outcome::{Hand, done, holds, none, refused, same, some};
@@ -117,8 +117,8 @@ fn no_run_of_two(rt: &impl Hand, arena: &mut Arena) {
     none(rt, arena.take_run(2));
 }
 
-/// Returns the two blocks of a run, the higher one first. Checks that the run is finished only after both are taken
-/// out.
+/// Returns the two blocks of a run, the higher one first. Checks that the run is finished only after both blocks are
+/// taken out.
 fn both_of(rt: &impl Hand, run: Run) -> (Buf, Buf) {
     let mut run = run;
     let high = some(rt, run.pop());
@@ -129,8 +129,8 @@ fn both_of(rt: &impl Hand, run: Run) -> (Buf, Buf) {
     (high, low)
 }
 
-/// If block 1 is taken, the lowest run of two consists of blocks 2 and 3. It returns the higher one first, and is
-/// finished after both are taken out.
+/// If block 1 is taken, the lowest run of two consists of blocks 2 and 3. This run returns the higher block first, and
+/// is finished after both blocks are taken out.
 #[test]
 fn a_run_is_taken_and_comes_back(rt: HostRuntime) {
     let rt = &rt;
@@ -156,7 +156,7 @@ fn no_arena(rt: &impl Hand, first: u32, count: u32, wanted: ArenaFault) {
     holds(rt, "why there is no arena", fault == wanted);
 }
 
-/// An arena contains at least one block, and only numbers below 65,536.
+/// An arena contains at least one block, and only blocks with numbers below 65,536.
 #[test]
 fn arenas_have_their_limits(rt: HostRuntime) {
     let rt = &rt;
@@ -172,7 +172,7 @@ fn is_free_from(rt: &impl Hand, arena: &Arena, first: u64, free: u64) {
     same(rt, u64::from(arena.free_blocks()), free);
 }
 
-/// An arena is split only strictly inside, and only while all its blocks are free.
+/// An arena is split only between two of its blocks, and only while all its blocks are free.
 #[test]
 fn arenas_are_split_inside(rt: HostRuntime) {
     let rt = &rt;
@@ -190,12 +190,12 @@ fn arenas_are_split_inside(rt: HostRuntime) {
     close(rt, above);
 }
 
-/// Checks that an arena returns a block with a number that is free in the arena.
+/// Checks that an arena refuses and returns a block with a number that is free in the arena.
 fn handed_back(rt: &impl Hand, arena: &mut Arena, buf: Buf) -> Buf {
     refused(rt, arena.give(buf))
 }
 
-/// Checks that lent memory returns a block with a number that is already lent.
+/// Checks that lent memory refuses and returns a block with a number that is already lent.
 fn lent_once(rt: &impl Hand, memory: &mut LentMemory, buf: Buf) -> Buf {
     match refused(rt, memory.lend(buf)) {
         LendRefused::Twice(buf) => buf,
@@ -203,7 +203,8 @@ fn lent_once(rt: &impl Hand, memory: &mut LentMemory, buf: Buf) -> Buf {
     }
 }
 
-/// A block of another arena is refused while its number is free here. It is also refused while its number is lent.
+/// A block of another arena is refused while its number is free in this arena. Such a block is also refused while its
+/// number is lent.
 #[test]
 fn blocks_of_another_arena_are_reported(rt: HostRuntime) {
     let rt = &rt;
@@ -222,7 +223,7 @@ fn blocks_of_another_arena_are_reported(rt: HostRuntime) {
     close(rt, other);
 }
 
-/// Checks that a device returns a block with a number that is already lent.
+/// Checks that a device refuses and returns a block with a number that is already lent.
 fn lent_twice(rt: &impl Hand, device: &mut Device, buf: Buf) -> Buf {
     match stepped(rt, device, Event::Lend(buf)) {
         Reply::Twice(buf) => buf,
@@ -238,7 +239,7 @@ fn taken_back(rt: &impl Hand, device: &mut Device, block: u32) -> Buf {
     }
 }
 
-/// A device accepts each block number only once at a time. The event returns the other block, and the lent one is
+/// A device accepts each block number only once at a time. The event returns the refused block, and the lent block is
 /// unchanged.
 #[test]
 fn a_device_is_lent_a_number_once(rt: HostRuntime) {

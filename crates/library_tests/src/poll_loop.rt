@@ -29,7 +29,7 @@ fn in_turn() -> [u8; 128] {
     reta
 }
 
-/// TCP frames go to queue 0 or 1 by their hash: entry i of the redirection table contains i mod 2.
+/// The hash of a TCP frame selects queue 0 or 1: entry i of the redirection table contains i mod 2.
 fn two_queues() -> Setup {
     Setup {
         mode: Mode::Off,
@@ -56,7 +56,7 @@ fn arrive<N: Nic>(rt: &impl Abort, alloc: Global, nic: &mut N, frame: &[u8]) {
     }
 }
 
-/// Whether a driver received all its frames and nothing is outstanding.
+/// Whether a driver received all its frames and no packet is outstanding.
 fn is_idle<N: Nic>(rt: &impl Abort, alloc: Global, nic: &mut N, pmd: &mut Pmd) -> bool {
     pmd.handed().len() == FRAMES && done(rt, pmd.reap(alloc, nic)).idle
 }
@@ -81,7 +81,7 @@ fn poll<N: Nic>(rt: &impl Abort, alloc: Global, nic: &mut N, pmd: &mut Pmd) {
     }
 }
 
-/// Starts a driver, delivers frames for its queue, sends each received packet, and stops.
+/// Starts a driver, delivers frames for its queue, sends each received packet, and stops the driver.
 fn drive<R: Abort + Wait>(
     rt: &R,
     alloc: Global,

@@ -7,13 +7,13 @@ use std::alloc::{AllocError, Global};
 use std::fmt::Write;
 use std::test::Fail;
 
-/// Whether `nicbench run` exits with this status for a script, and its output ends with this string.
+/// Whether `nicbench run` exits with this status for a script and prints output that ends with this string.
 fn ends_so(alloc: Global, script: &str, end: &str, wanted: u8) -> bool {
     let (written, outcome) = ran(alloc, &["nicbench", "run"], &mut script.as_bytes());
     outcome == Outcome::Ended(wanted) && written.as_slice().ends_with(end.as_bytes())
 }
 
-/// Returns the start, then `count` times the part, then the rest.
+/// Returns a string that consists of the start, the part repeated `count` times, and the rest.
 fn repeated(
     alloc: Global,
     start: &str,
@@ -48,7 +48,7 @@ const ROWS: [Row<'static>; 10] = [
     ("data d ", "5a", 16_385, "5", "refused Syntax 1\n", 2),
 ];
 
-/// Checks that each script has the outcome in its row.
+/// Checks that each script ends as its row says.
 fn end_as_reported(rt: &impl Hand, rows: &[Row<'_>]) -> Result<(), AllocError> {
     for (start, part, count, rest, end, ended) in rows {
         let script = repeated(rt.alloc(), start, part, *count, rest)?;
@@ -104,14 +104,14 @@ fn object(alloc: Global, instructions: u16, strings: u16) -> Result<Vec<u8>, All
     Ok(bytes)
 }
 
-/// Whether `nicbench dis` exits with this status for an object, and its output ends with this string.
+/// Whether `nicbench dis` exits with this status for an object and prints output that ends with this string.
 fn is_listed(alloc: Global, object: &[u8], end: &str, wanted: u8) -> bool {
     let mut input = object;
     let (written, outcome) = ran(alloc, &["nicbench", "dis"], &mut input);
     outcome == Outcome::Ended(wanted) && written.as_slice().ends_with(end.as_bytes())
 }
 
-/// The name of a row, its object's numbers of instructions and data strings, the end of the output, and the exit
+/// The name of a row, the numbers of instructions and data strings in the object, the end of the output, and the exit
 /// status.
 const OBJECTS: [(&str, u16, u16, &str, u8); 4] = [
     ("4,096 instructions", 4096, 0, "\nhalt\n", 0),

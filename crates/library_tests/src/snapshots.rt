@@ -44,7 +44,7 @@ fn are_free(rt: &impl Hand, arena: &Arena, is_four: bool, count: u64) {
     same(rt, u64::from(arena.free_blocks()), count);
 }
 
-/// Restoring fails if the arena doesn't contain block 4, and takes no block from it.
+/// If the arena doesn't contain block 4, restoring fails and takes no block from the arena.
 #[test]
 fn a_device_needs_its_blocks(rt: HostRuntime) {
     let rt = &rt;
@@ -110,7 +110,7 @@ fn a_machine_is_restored(rt: HostRuntime) {
     machine.finish();
 }
 
-/// Checks that the copy of an image assembled from source has the same words, and this word at index 0x3F.
+/// Assembles an image from a source. Checks that a copy of the image has the same words, and this word at index 0x3F.
 fn is_copied(rt: &impl Hand, text: &str, last: u16) {
     let image = image(rt, text);
     let copy = done(rt, image.copy());

@@ -21,7 +21,7 @@ pub fn with_bytes(sum: u64, bytes: &[u8]) -> u64 {
     sum
 }
 
-/// Adds a word, or the lack of one, to a checksum.
+/// Adds a word, or the fact that there is none, to a checksum.
 fn with_word(sum: u64, word: Option<u32>) -> u64 {
     match word {
         Some(word) => with(with(sum, 1), u64::from(word)),

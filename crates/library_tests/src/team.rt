@@ -52,7 +52,7 @@ fn frames<R: Abort>(rt: &R, alloc: Global) -> Vec<Vec<u8>> {
     frames
 }
 
-/// Runs the workers. If that is refused, checks that all jobs and frames were returned, and runs them again.
+/// Runs the workers. If the run is refused, checks that all jobs and frames were returned, and runs the workers again.
 fn run_team<R: Abort + Threads + Wait + Sync + Print>(
     rt: &R,
     alloc: Global,
@@ -80,7 +80,7 @@ fn run_team<R: Abort + Threads + Wait + Sync + Print>(
     }
 }
 
-/// Whether a worker completed. If it didn't, the reason must be lack of memory or of a thread.
+/// Whether a worker completed its job. If it didn't, the reason must be lack of memory or lack of a thread.
 fn is_whole<R: Abort>(rt: &R, fault: Option<WorkerFault>) -> bool {
     match fault {
         None => true,

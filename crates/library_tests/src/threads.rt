@@ -34,7 +34,7 @@ fn two_workers_part_ten_frames(rt: HostRuntime) {
     prints(&rt, 2, 10, text);
 }
 
-/// A single worker gets all frames. There may be no frames.
+/// A single worker gets all frames. A run with no frames is allowed.
 #[test]
 fn one_worker_has_all_frames(rt: HostRuntime) {
     prints(
@@ -95,7 +95,7 @@ fn a_failed_write_ends_the_summary(rt: HostRuntime) {
     }
 }
 
-/// Checks the outcome of words that read nothing and write at most a message about the words.
+/// Checks the outcome of a command line that reads no input and writes at most a message about its words.
 fn ends(rt: &impl Team, words: &[&str], wanted: Outcome) {
     let (written, outcome) = ran(rt.alloc(), words, &mut &b""[..]);
     holds(rt, "how they end", outcome == wanted);

@@ -6,7 +6,8 @@ use std::sync::Wait;
 
 /// A call with everything that it needs.
 pub trait Trial {
-    /// Makes the call. Returns `false` if it was refused for lack of memory; all moved values are then back in `self`.
+    /// Makes the call. If the call was refused for lack of memory, returns `false`, and all moved values are back in
+    /// `self`.
     fn call<R: Abort + Wait>(&mut self, rt: &R, alloc: Global) -> bool;
 
     /// Returns a checksum of everything that a refused call must leave unchanged, including the moved values.
@@ -16,7 +17,7 @@ pub trait Trial {
     fn end<R: Abort + Wait>(self, rt: &R, alloc: Global) -> u64;
 }
 
-/// Makes a call that may be refused for lack of memory. Checks that everything ends as it does for the same call
+/// Makes a call that may be refused for lack of memory. Checks that the results are the same as for the same call
 /// without a refusal.
 pub fn tried<R: Abort + Wait + Print, T: Trial>(rt: &R, alloc: Global, subject: T, calm: T) {
     let (mut subject, mut calm) = (subject, calm);
@@ -38,7 +39,7 @@ pub fn tried<R: Abort + Wait + Print, T: Trial>(rt: &R, alloc: Global, subject: 
 
 /// A call that creates something new and changes nothing else.
 pub trait Maker: Drop {
-    /// Returns a checksum of the value that the call creates. Returns `None` if it was refused for lack of memory.
+    /// Returns a checksum of the value that the call creates, or `None` if the call was refused for lack of memory.
     fn make<R: Abort>(&self, rt: &R, alloc: Global) -> Option<u64>;
 
     /// Returns a checksum of the call's input.

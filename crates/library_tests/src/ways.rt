@@ -1,4 +1,4 @@
-//! The ways to access a device.
+//! Calls through each kind of access to a device (`Nic`), with allocations that fail.
 
 use crate::devices::{frame, number_of, ready, to_lend};
 use crate::locks::{Bench, Opened, closed, lends_in, open_bench};
@@ -12,8 +12,8 @@ use std::alloc::Global;
 use std::process::Abort;
 use std::sync::Wait;
 
-/// Runs the event of a call through a way to access a device, and adds the reply to a checksum. Returns `false` if it
-/// was refused for lack of memory; the event is then put back.
+/// Runs the event of a call through a `Nic`, and adds the reply to a checksum. If the call was refused for lack of
+/// memory, returns `false` and puts the event back.
 fn called<R: Abort, N: Nic>(
     rt: &R,
     alloc: Global,
@@ -34,13 +34,13 @@ fn called<R: Abort, N: Nic>(
     }
 }
 
-/// A way to access an owned device.
+/// Access to an owned device.
 trait Ends: Nic {
     /// Returns the device, and a checksum with the other replies added.
     fn ended<R: Abort>(self, rt: &R, sum: u64) -> (Device, u64);
 }
 
-/// An event to run through a way to access an owned device.
+/// An event to run on an owned device through a `Nic`.
 struct InHand<N> {
     nic: N,
     arena: Arena,

@@ -1,4 +1,4 @@
-//! The call of a case: its name and the words after it.
+//! The call in a case: the function's name and the words after it.
 
 use text_format::Words;
 

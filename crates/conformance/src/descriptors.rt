@@ -1,7 +1,7 @@
 //! `dma_ring`: rings and the fields of descriptors. A 64-bit number is written as two words, the high half first.
 //!
-//! A ring is written as length, head and tail. `ring` prints its number of slots, and the number of slots that the
-//! device owns or `outside`.
+//! A ring is written as length, head and tail. `ring` prints the number of slots, and then either the number of slots
+//! that the device owns, or `outside`.
 
 use crate::call::Call;
 use dma_ring::{

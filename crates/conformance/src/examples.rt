@@ -1,4 +1,5 @@
-//! Runs each example of `examples/` through the program, and prints whether the output matches its file.
+//! Runs each example in `examples/` through the program, and prints whether the output matches the file with the
+//! expected output.
 //!
 //! `examples/NAME.nic` is a script, and `examples/NAME.out` the output of `nicbench run` for it. `examples/NAME.debug`
 //! is a script with debugger commands, and `NAME.out` the output of `nicbench debug`. `examples/NAME.txt` is a key with
@@ -11,7 +12,7 @@ use crate::scripts::answer;
 use crate::texts::hex_in;
 use std::{fs, io};
 
-/// The runs with their expected output in `NAME.out`: the name, the command line, the kind of the input file, and the
+/// The runs whose expected output is in `NAME.out`: the name, the command line, the kind of the input file, and the
 /// exit status.
 const RUNS: [(&str, &str, &str, u8); 15] = [
     ("first", "nicbench run", "nic", 0),

@@ -2,8 +2,8 @@
 //!
 //! `assemble TEXT` and `load BYTES` print an image as its number of words, the words other than 0xFFFF, and its
 //! register writes, or print the fault. The file of an assembled image is loaded again, and `other` is printed if the
-//! loaded image differs. `load BYTES` creates a file of this many 0xFF bytes, except for the words that follow as pairs
-//! of index and value.
+//! loaded image differs. `load BYTES` creates a file of `BYTES` bytes. All of them are 0xFF, except in the words that
+//! follow as pairs of index and value.
 
 use crate::call::Call;
 use crate::texts::plain;

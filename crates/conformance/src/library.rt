@@ -1,5 +1,5 @@
-//! Tables of expected results for the lower libraries' public calls, with values typed in from the datasheet, from
-//! published examples and by hand.
+//! Tables of expected results for the lower libraries' public calls, with values taken from the datasheet, taken from
+//! published examples, or written by hand.
 //!
 //! `data/libraries/NAME.cases` is the table of the library NAME. A case is a line `CALL WORDS = ANSWER`; the library's
 //! module defines the calls. Empty lines and lines that begin with `#` are ignored. A case needs no proof, so
@@ -46,7 +46,7 @@ fn run_case(rt: &HostRuntime, library: &str, case: &str) -> io::Result<()> {
     println!(rt; "FAIL {library}: {asked} = {answered}")
 }
 
-/// Runs the cases of a library's table and prints their number.
+/// Runs the cases in a library's table and prints the number of cases.
 fn run_table(rt: &HostRuntime, library: &str) -> io::Result<()> {
     let alloc = rt.alloc();
     let path = format!(in alloc; "libraries/{library}.cases")?;

@@ -1,7 +1,7 @@
 //! Runs tables of small scripts and other inputs through the program, and prints the cases with unexpected output.
 //!
-//! A table is a file of `data/`. It starts with the setup, the lines that are prepended to each of its scripts. After
-//! them come its cases, each preceded by a blank line:
+//! A table is a file in `data/`. The table starts with its setup: the lines that are prepended to each of its scripts.
+//! The cases follow, each preceded by a blank line:
 //!
 //! ```text
 //! == what the case shows
@@ -13,12 +13,12 @@
 //! limit 2
 //! ```
 //!
-//! `$` is followed by the command line, if it isn't `nicbench run`. After `$x` the lines are the bytes of the input, in
-//! hex. An instruction's expected output follows `#>`, which the assembler reads as a comment. After `--` come the
-//! expected status and the output that follows the instructions' lines; without this line they are status 0 and `ok`
-//! with the number of instructions. `-- 3 with` only requires that each line below it, of which there must be at least
-//! one, is a part of the output. `-- 2 each` tests each line above it, of which there must be at least one, separately:
-//! after the setup, it must print exactly the text below.
+//! `$` is followed by the command line, unless the command line is `nicbench run`. After `$x`, the lines are the bytes
+//! of the input, in hex. An instruction's expected output follows `#>`, which the assembler reads as a comment. `--` is
+//! followed by the expected status, and then by the output after the instructions' lines. Without a `--` line, status 0
+//! is expected, and `ok` with the number of instructions. `-- 3 with` only requires that each line below it is a part
+//! of the output; there must be at least one such line. `-- 2 each` tests each line above it separately; there must be
+//! at least one such line. After the setup, each of them must print exactly the text below.
 
 use crate::texts::hex_in;
 use bench_commands::{Input, Outcome, Output, bench};
@@ -27,7 +27,7 @@ use std::fmt::Write;
 use std::{fs, io};
 use text_format::number;
 
-/// The tables of `data/`, by name.
+/// The tables in `data/`, by name.
 const TABLES: [&str; 22] = [
     "grammar",
     "words",
@@ -62,8 +62,8 @@ struct Case<'a> {
     lines: &'a str,
     /// The expected exit status.
     status: u32,
-    /// How `printed` is compared with the output. If empty, it is everything after the lines of the instructions;
-    /// `with` and `each` are described above; `ok` expects `ok` with the number of instructions.
+    /// How `printed` is compared with the output. If `how` is empty, `printed` must be everything after the lines of
+    /// the instructions. `with` and `each` are described above, and `ok` expects `ok` with the number of instructions.
     how: &'a str,
     printed: &'a str,
 }
@@ -108,7 +108,7 @@ fn wanted(alloc: Global, script: &str, case: Case<'_>) -> Result<String, AllocEr
     Ok(printed)
 }
 
-/// Whether there is at least one part, one per line, and each occurs somewhere in the output.
+/// Whether each part occurs somewhere in the output. There must be at least one part, and each is a line.
 fn has_parts(printed: &str, parts: &str) -> bool {
     for part in parts.lines() {
         if part.is_empty() || !printed.contains(part) {
@@ -118,7 +118,7 @@ fn has_parts(printed: &str, parts: &str) -> bool {
     !parts.is_empty()
 }
 
-/// The status returned for words that request threads. The program itself never exits with it.
+/// The status returned for words that request threads. The program itself never exits with this status.
 const NOT_ENDED: u8 = 255;
 
 /// Runs the program with these words. Returns its output and its exit status.
@@ -170,7 +170,7 @@ fn ends_so(alloc: Global, setup: &str, case: Case<'_>) -> Result<bool, AllocErro
     Ok(u32::from(status) == case.status && is_printed)
 }
 
-/// Runs the cases of a table, and prints those that differ and their number.
+/// Runs the cases in a table, and prints the cases that differ and the number of cases.
 fn run_table(rt: &HostRuntime, name: &str) -> io::Result<()> {
     let alloc = rt.alloc();
     let path = format!(in alloc; "{name}.cases")?;

@@ -1,7 +1,7 @@
 //! `text_format`: lines, words, numbers, names and hex data.
 //!
 //! In a string, `\n`, `\r` and `\t` stand for a line feed, a carriage return and a tab. `lines` prints a bar, then each
-//! line's number, its contents and a bar. `words` prints the words between bars.
+//! line's number, its contents and a bar. `words` prints a bar, then each word and a bar.
 
 use crate::call::Call;
 use std::alloc::{AllocError, Global};

@@ -18,7 +18,7 @@ use Rattle.script_asm.proofs.RowNames.{row-IsGood, no_bracket, bracket, before_b
 row_in-name : (r : RowId) → row_in (row_of r).name ≡ Ok r
 row_in-name r = ap (λ o. ok_or o UnknownName) (found_by_name r (row_of r).name refl)
 
--- A place's first address is the address that `register_address` returns.
+-- `register_address` returns the first address of a place.
 register_address-first : (p : Place) (a : ℕ) → p.index < (row_of p.row).count → unwrap_or (address_among runs p) 0 ≡ a
     → register_address p.row p.index ≡ Ok a
 register_address-first p a below is = rw (lt-ltb p.index (row_of p.row).count below) (ap Ok is)
@@ -75,7 +75,7 @@ target_of-word : (n : ℕ) → n < 2 ^ 32 → target_of (word_text n) ≡ Ok n
 unfolding target_of is_name
 target_of-word n small = rw (no_bracket (word_text n) (tame-word n small)) (number_in-word n small)
 
--- The place printed for an address has it as its first address.
+-- The place that is printed for an address starts at that address.
 pub record IsFirst (p : Place) (a : ℕ) : Type 0 where
   pub below : p.index < (row_of p.row).count
   pub is : unwrap_or (address_among runs p) 0 ≡ a

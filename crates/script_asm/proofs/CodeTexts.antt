@@ -1,4 +1,4 @@
--- The lines of a program's code read back as its statements.
+-- Proves that the lines of a program's code read back as its statements.
 use Rattle.std.proofs.Common.{◌≡◌, refl, sym, ap, subst, ℕ, ◌+◌, ◌<◌, ◌≤◌, Bool, true, false, cond, ◌==◌, List, [], ◌∷◌, ◌++◌, length, map, append_assoc, append-nil, Ok, arith}
 use Rattle.std.specs.Prelude.{decimal}
 use Rattle.text_format.specs.Lines.{numbered_from}

@@ -1,4 +1,4 @@
--- Lemmas about the lines before the first one that ends a script.
+-- Lemmas about the lines before the first line that ends a script.
 use Rattle.std.proofs.Common.{◌≡◌, ◌+◌, ap, arith, refl, ◌∙◌, Bool, true, false, not, List, [], ◌∷◌, ℕ, suc, take, drop, Ok, Err}
 use Rattle.std.specs.List.{after_first, before_first, list_any, prefix_len}
 use Rattle.script_asm.specs.Prelude.{NumberedLine}

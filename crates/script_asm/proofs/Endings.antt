@@ -1,4 +1,4 @@
--- The result of `strip_suffix` for the last byte of a word.
+-- Proves that `strip_suffix` with a single byte returns what `before_last_byte` defines.
 use Rattle.std.proofs.Common.{refl, sym, ◌∙◌, ap, ◌≡◌, ◌≢◌, ◌<◌, ℕ, ◌+◌, ◌-◌, List, [], ◌∷◌, ◌++◌, length, take, slice_index, get_or, Option, Some, None, MatchOption, Bor, inl, inr, nat_lt, true, length-append, eq-eqb, arith}
 use Rattle.std.specs.Option.{option_copied}
 use Rattle.std.proofs.lemmas.List.{take_more}

@@ -1,4 +1,4 @@
--- The first fault of a script determines the result.
+-- Proves that the first fault in a script determines the result.
 use Rattle.std.proofs.Common.{◌≡◌, ◌∙◌, ap, ℕ, List, [], ◌∷◌, ◌++◌, Result, Ok}
 use Rattle.program.specs.declared.instruction.Instruction.{Instruction as Step}
 use Rattle.script_asm.specs.Prelude.{NumberedLine}

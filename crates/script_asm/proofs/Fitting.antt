@@ -1,4 +1,4 @@
--- The statements of a program's source fit.
+-- Lemmas for proving that the statements in a program's source fit.
 use Rattle.std.proofs.Common.{◌≡◌, ◌≢◌, refl, sym, ◌∙◌, ap, subst, ℕ, ◌+◌, ◌<◌, ◌≤◌, Bool, true, false, cond, List, [], ◌∷◌, ◌++◌, length, length-append, append_assoc, append-nil, None, arith}
 use Rattle.std.specs.Prelude.{decimal}
 use Rattle.std.proofs.lemmas.Bool.{false_from_ne_true}
@@ -127,7 +127,7 @@ pub no_drafts : (number : ℕ) (strings : List (List ℕ)) → drafts_in (data_s
 no_drafts number [] = refl
 no_drafts number (string ∷ more) = no_drafts (number + 1) more
 
--- All statements of a program's source.
+-- All statements in a program's source.
 abbrev pub statements_of : Listing → List Statement
 statements_of program = data_statements 0 program.strings ++ code_statements program.instructions 0 program.instructions
 

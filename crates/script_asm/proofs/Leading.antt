@@ -1,4 +1,4 @@
--- A statement that fits is accepted, and an accepted statement fits.
+-- Proves that a statement that fits is accepted, and that an accepted statement fits.
 use Rattle.std.proofs.Common.{◌≡◌, refl, sym, ◌∙◌, ap, ℕ, ◌+◌, ◌<◌, Bool, true, false, cond, is_some, ◌&&◌, nat_le, nat_lt, List, [], ◌∷◌, ◌++◌, length, Option, Some, None, Ok, Err, arith}
 use Rattle.std.proofs.lemmas.Bool.{lt-ltb, le-leb, ltb-true, leb-true, and_parts}
 use Rattle.std.proofs.lemmas.List.{map-append}
@@ -15,7 +15,7 @@ use Rattle.script_asm.proofs.Marks.{label_from-append, data_from-append}
 use Rattle.script_asm.proofs.Tied.{written, Ties, count, same_labels, same_names, put-place, more_strings, more_drafts}
 use Rattle.script_asm.proofs.Tied.{no_more}
 
--- The outline after a statement that fits.
+-- The statement is accepted, and the outline afterwards matches the statements up to and including this one.
 abbrev Leads : Outline → List Statement → ℕ → Statement → Type 0
 Leads o before line s = (a : Outline) × (with_statement o line s ≡ Ok a) × Ties a (before ++ s ∷ [])
 

@@ -1,4 +1,4 @@
--- Every statement's numbers are in range.
+-- Proves that the numbers in every statement are in range.
 use Rattle.std.proofs.Common.{◌≤◌, ℕ, cond, length, List, [], ◌∷◌, Option, Some, None, Ok, Err, IfOk, inl, inr, arith, eqb}
 use Rattle.std.specs.Bool.{⊤}
 use Rattle.script_asm.specs.Prelude.{hex_bytes_of, ok_or}
@@ -26,7 +26,7 @@ bytes_in-some word = then-IfOk (λ bytes. 1 ≤ length bytes) (ok_or (hex_bytes_
       | inr (test, other) ↦ rw test (omega (arith, other))
     ]
 
--- A statement is in range: the numbers of its instruction are, and its data contains at least one byte.
+-- A statement is in range: the numbers in its instruction are in range, and its data contains at least one byte.
 abbrev pub States : Statement → Type 0
 States Empty = ⊤
 States (Label name) = ⊤

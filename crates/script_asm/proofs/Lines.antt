@@ -14,7 +14,7 @@ stopped : (here : Result Outline ScriptFault) (fault : ScriptFault) (f : Outline
     → here ≡ Err fault → (here then f) ≡ Err fault
 stopped here fault f e = rw e refl
 
--- The remaining lines are read on top of what a line added.
+-- After a line was added, the remaining lines are read into the resulting outline.
 pub with_lines-added : (before after : Outline) (lines : List NumberedLine) (line : NumberedLine)
     (more : List NumberedLine) → lines ≡ line ∷ more
     → with_line before line ≡ Ok after → with_lines before lines ≡ with_lines after more

@@ -1,4 +1,4 @@
--- Lemmas about the places of names among statements.
+-- Lemmas about the numbers that statements give to names.
 use Rattle.std.proofs.Common.{◌≡◌, refl, sym, ◌∙◌, ap, ℕ, suc, ◌+◌, Bool, true, false, cond, List, [], ◌∷◌, ◌++◌, length, Option, Some, None, arith, add-zero}
 use Rattle.std.proofs.lemmas.Slice.Eq.{bytes_eq-Decides}
 use Rattle.script_asm.specs.Prelude.{bytes_eq}
@@ -6,7 +6,7 @@ use Rattle.script_asm.specs.Laws.{strings_in, drafts_in, label_from, data_from}
 use Rattle.script_asm.specs.declared.statements.Statement.{Statement}
 use Rattle.script_asm.specs.declared.statements.Statement.TheVariants.{Empty, Label, Data, Instruction}
 
--- The first value if there is one, otherwise the second.
+-- The first value if it is present, otherwise the second.
 abbrev pub or_else : Option ℕ → Option ℕ → Option ℕ
 or_else (Some x) other = Some x
 or_else None other = other

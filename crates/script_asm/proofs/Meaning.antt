@@ -1,4 +1,4 @@
--- The program that statements form, and the first fault.
+-- Proves which program the statements form, and that the first fault is reported.
 use Rattle.std.proofs.Common.{◌≡◌, refl, sym, ◌∙◌, ap, subst, ℕ, List, [], ◌∷◌, ◌++◌, Option, Result, Ok, append-nil, append_assoc}
 use Rattle.std.specs.FinMap as fin
 use Rattle.program.specs.declared.instruction.Instruction.{Instruction as Step}
@@ -25,7 +25,7 @@ joined : (before : List (Step ℕ ℕ)) (x : Step ℕ ℕ) (more : List (Step �
     → (before ++ x ∷ []) ++ more ≡ before ++ x ∷ more
 joined before x more = append_assoc before (x ∷ []) more
 
--- The instructions resolved from these drafts, appended to those before.
+-- The result is the instructions in `before`, followed by the instructions that these drafts mean.
 record Resolved (o : Outline) (before : List (Step ℕ ℕ)) (drafts : List DraftLine) (result : List (Step ℕ ℕ)) : Type 0
   where
     added : List (Step ℕ ℕ)
@@ -58,7 +58,7 @@ Mean-with_resolved o before (d ∷ more) (i ∷ is) mean =
     ap (λ r. r then λ i. with_resolved o (before ++ i ∷ []) more) (Means-resolved o d.line d.draft i mean.0)
     ∙ Mean-with_resolved o (before ++ i ∷ []) more is mean.1 ∙ ap Ok (joined before i is)
 
--- Before the first line there are no statements.
+-- The blank outline matches the empty list of statements.
 ties-blank : Ties blank []
 ties-blank = record {
   labels = fin.get-empty {X = ℕ} (slice_cmp nat_cmp);
@@ -68,7 +68,7 @@ ties-blank = record {
   drafts = refl;
 }
 
--- The lookups of an outline and of its statements are equal as functions.
+-- The functions that look up names in an outline equal the functions that look up names in its statements.
 same_labels : (o : Outline) (ss : List Statement) → Ties o ss → place_of o.labels ≡ label_from 0 ss
 same_labels o ss ties = λ i name. ties.labels name i
 

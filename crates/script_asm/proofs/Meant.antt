@@ -1,4 +1,4 @@
--- The program's instruction for an instruction on a line.
+-- Proves which instruction of the program an instruction on a line becomes.
 use Rattle.std.proofs.Common.{◌≡◌, refl, sym, ◌∙◌, ap, ℕ, List, length, Option, Some, None, Ok, ◌==◌, eq-eqb, eqb-true}
 use Rattle.program.specs.declared.instruction.Instruction.{Instruction as Step}
 use Rattle.program.specs.declared.instruction.Instruction.TheVariants.{Poke, Arrive, JumpIfEqual, JumpUnlessEqual, Jump}

@@ -1,4 +1,4 @@
--- A name's place is the place that the statements define.
+-- Proves that a name has exactly the number that the statements define.
 use Rattle.std.proofs.Common.{◌≡◌, refl, ◌∙◌, ap, ℕ, ◌+◌, Bool, true, false, cond, List, [], ◌∷◌, ◌++◌, length, Some, None, arith}
 use Rattle.std.proofs.lemmas.Slice.Eq.{bytes_eq-Decides}
 use Rattle.script_asm.specs.Prelude.{bytes_eq}

@@ -1,4 +1,4 @@
--- An ordered map keyed by names, viewed as the numbers of the names.
+-- Lemmas about an ordered map from names to numbers, viewed as a table of names.
 use Rattle.std.proofs.Common.{map, ◌≡◌, ℕ, true, false, cond, Some, List, [], ◌∷◌, refl, sym, ap, ◌∙◌}
 use Rattle.std.specs.BTreeMap as tree
 use Rattle.std.specs.Cmp.{eq_by_cmp_equiv}
@@ -26,7 +26,7 @@ find_shown (e ∷ es) q =
       | false ↦ find_shown es q
     ]
 
--- A name's number is the map's value for it.
+-- A name's number is the value that the map has for the name.
 pub place_of-shown : (m : Names) (q : List ℕ) → place_of (shown m) q ≡ tree.get_by (λ k. slice_cmp nat_cmp q k.now) m
 place_of-shown m q = fin.get-from_entries nat_list_cmp_total _ q ∙ find_shown m.entries q
 

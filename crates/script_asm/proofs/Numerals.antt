@@ -1,4 +1,4 @@
--- Printed numbers read back.
+-- Proves that printed numbers read back.
 use Rattle.std.proofs.Common.{◌≡◌, refl, ◌∙◌, ap, ℕ, ◌-◌, ◌^◌, ◌<◌, ◌≤◌, zero, suc, Bool, true, false, not, ◌&&◌, ◌==◌, List, [], ◌∷◌, ◌++◌, length, length-append, Ok, arith}
 use Rattle.std.specs.Prelude.{replicate, decimal, codes, nat_eq}
 use Rattle.std.specs.Char.{digit_value, is_digit}
@@ -34,7 +34,7 @@ decimal_digit-plain b e = grind (arith, nat_tests)
 decimal_digit-name : (b : ℕ) → is_digit b 10 ≡ true → continues_name b ≡ true
 decimal_digit-name b e = grind (arith, nat_tests)
 
--- Padding with zeros keeps all bytes digits.
+-- If all bytes are digits, they still are after padding with zeros.
 zeros-all : (k : ℕ) (ds : List ℕ) → list_all (λ b. is_digit b 16) ds ≡ true
     → list_all (λ b. is_digit b 16) (replicate k 48 ++ ds) ≡ true
 zeros-all zero ds all = all

@@ -1,4 +1,4 @@
--- The faults of a line are reported in order.
+-- Proves that the faults of a line are reported in order.
 use Rattle.std.proofs.Common.{◌≡◌, ◌≤◌, ◌⊎◌, refl, ◌∙◌, ap, ℕ, true, cond, is_some, List, Option, Some, None, Result, Ok, Err, arith, inl, inr}
 use Rattle.script_asm.specs.Prelude.{NumberedLine}
 use Rattle.script_asm.specs.Fault.{◌then◌, both, reported_first, at_line, fault_at}
@@ -11,7 +11,7 @@ use Rattle.script_asm.specs.declared.faults.LineFault.TheVariants.{Syntax, Unkno
 use Rattle.script_asm.specs.declared.faults.ScriptFault.TheVariants.{TwoLabels}
 use Rattle.script_asm.specs.declared.statements.Statement.TheVariants.{Label, Data}
 
--- The reported fault is one of the two, and neither comes before it.
+-- The reported fault is one of two faults, and neither of the two comes before it in the order.
 record IsFirst (e f reported : LineFault) : Type 0 where
   one : (e ≡ reported) ⊎ (f ≡ reported)
   before_one : rank reported ≤ rank e

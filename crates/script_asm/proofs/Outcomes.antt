@@ -48,7 +48,8 @@ ok_or-IfOk P None e h = tt
 pub IfOk-of : {A E : Type 0} (P : A → Type 0) (r : Result A E) (x : A) → r ≡ Ok x → IfOk r P → P x
 IfOk-of P r x is h = let P2 : Result _ _ → Type 0 = λ q. IfOk q P in subst P2 is h
 
--- If two steps returned a value, the first returned a value and the second returned its result.
+-- If two steps together returned a value, then the first step returned a value, and the second step returned the
+-- result.
 pub stepped : {A B E : Type 0} (r : Result A E) (f : A → Result B E) (y : B) → (r then f) ≡ Ok y
     → (x : A) × (r ≡ Ok x) × (f x ≡ Ok y)
 stepped (Ok x) f y e = (x, refl, e)

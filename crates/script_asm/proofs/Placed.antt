@@ -1,4 +1,4 @@
--- The statements of a program's source fit, and the names in it have the program's places.
+-- Proves that the statements in a program's source fit, and that the names in it have the program's numbers.
 use Rattle.std.proofs.Common.{◌≡◌, refl, sym, ◌∙◌, ap, ℕ, ◌+◌, ◌<◌, ◌≤◌, Bool, true, false, List, [], ◌∷◌, ◌++◌, length, map, append-nil, Some, arith, inl, inr}
 use Rattle.program.specs.declared.instruction.Instruction.{Instruction as Step}
 use Rattle.script_asm.specs.Prelude.{IsListing, Listing, bytes_eq}
@@ -55,7 +55,7 @@ drafts_in-statements program =
     (no_drafts 0 program.strings)
     ∙ drafts_in-code program.instructions 0 program.instructions
 
--- The places of data names and labels among the statements.
+-- The numbers of data names and labels among the statements.
 data-found : (n : ℕ) (strings : List (List ℕ)) (ss : List Statement) (m : ℕ) → n ≤ m → m < n + length strings
     → n + length strings ≤ 1024
     → data_from n (data_statements n strings ++ ss) (data_name m) ≡ Some m

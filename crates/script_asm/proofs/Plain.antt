@@ -1,4 +1,4 @@
--- Words of printable bytes, and lines of these words.
+-- Lemmas about words of printable bytes, and about lines that consist of such words.
 use Rattle.std.proofs.Common.{◌≡◌, refl, ◌∙◌, ap, ℕ, ◌-◌, ◌<◌, zero, suc, Bool, true, false, not, ◌&&◌, ◌==◌, nat_le, nat_lt, List, [], ◌∷◌, ◌++◌, length, get_or, take, arith}
 use Rattle.std.specs.List.{All, AllByRecursion, list_all, slice_split, position_or_len}
 use Rattle.std.specs.Str.Lines.{lines, lines_of_parts, strip_carriage_return}
@@ -110,7 +110,7 @@ more_parts : (first : List ℕ) (parts : List (List ℕ)) → HasFirst parts
     → lines_of_parts (first ∷ parts) ≡ strip_carriage_return first ∷ lines_of_parts parts
 more_parts first parts (second, more, is) = rw is refl
 
--- A text that starts with a line splits into that line and the lines of the rest.
+-- A text that starts with a line splits into that line and the lines of the remaining text.
 pub lines-more : (line rest : List ℕ) → list_all is_inline line ≡ true → lines (line ++ 10 ∷ rest) ≡ line ∷ lines rest
 lines-more line rest e =
     ap lines_of_parts (slice_split_at (λ b. b == 10) line 10 rest (all_none is_inline (λ b. b == 10) not_feed line e)

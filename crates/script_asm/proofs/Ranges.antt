@@ -1,4 +1,4 @@
--- Numbers written in a line are in range.
+-- Proves that the numbers written in a line are in range.
 use Rattle.std.proofs.Common.{◌≡◌, ◌<◌, refl, ℕ, Bool, true, false, cond, nat_lt, List, [], ◌∷◌, Result, Ok, Err, IfOk, codes}
 use Rattle.script_asm.specs.Prelude.{AllByRecursion, IsGroup, bytes_eq}
 use Rattle.script_asm.proofs.Prelude.{ltb-true}
@@ -33,7 +33,7 @@ group_in-fits word =
 abbrev R : Draft → Type 0
 R d = IsInRange d
 
--- A property of each row of a table is a property of the lookup's result.
+-- If each row of a table has a property, the result of a lookup has this property.
 looked_up-IfOk : (name : List ℕ) (table : List (List ℕ × Result Draft LineFault))
     → AllByRecursion (λ row. IfOk row.1 R) table → IfOk (looked_up name table) R
 looked_up-IfOk name [] all = tt

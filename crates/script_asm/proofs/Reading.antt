@@ -1,4 +1,4 @@
--- Each instruction of a program reads back from its line.
+-- Proves that each instruction of a program reads back from its line.
 use Rattle.std.proofs.Common.{refl, ℕ, List, [], ◌∷◌, arith}
 use Rattle.std.specs.Prelude.{codes}
 use Rattle.program.specs.declared.instruction.Instruction.{Instruction as Step}

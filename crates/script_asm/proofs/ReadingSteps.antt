@@ -1,4 +1,4 @@
--- The steps of interrupts, queues and the link read back from their lines.
+-- Proves that the steps for interrupts, queues and the link read back from their lines.
 use Rattle.std.proofs.Common.{refl, ℕ, Bool, true, false, List, [], ◌∷◌, arith}
 use Rattle.std.specs.Prelude.{codes}
 use Rattle.program.specs.declared.instruction.Instruction.TheVariants.{IntStep, QueueStep, Link}

@@ -1,4 +1,4 @@
--- The outline of all lines can be resolved to a program.
+-- Proves that the outline of all lines can be resolved to a program.
 use Rattle.std.proofs.Common.{◌≡◌, ◌<◌, ◌≤◌, refl, ℕ, ◌+◌, Bool, true, false, cond, is_some, ◌&&◌, nat_le, nat_lt, length, List, [], ◌∷◌, ◌++◌, Option, Some, None, Ok, Err, IfOk, IfSome, arith, length-append}
 use Rattle.std.specs.FinMap as fin
 use Rattle.std.proofs.lemmas.Bool.{ltb-true, leb-true, and_parts}
@@ -18,7 +18,7 @@ use Rattle.script_asm.proofs.Outcomes.{cond-IfOk}
 use Rattle.script_asm.proofs.LineRanges.{States}
 use Rattle.script_asm.proofs.ResolvedSound.{AllByRecursion-push}
 
--- Each name's number has a property.
+-- The number of each name in a table has a property.
 abbrev pub Stand : Places → (ℕ → Type 0) → Type 0
 Stand places P = (name : List ℕ) → IfSome (place_of places name) P
 

@@ -1,4 +1,4 @@
--- The outline of all lines can be resolved to a program: induction over the lines.
+-- Proves by induction over the lines that the outline of all lines can be resolved to a program.
 use Rattle.std.proofs.Common.{◌≡◌, subst, ℕ, List, [], ◌∷◌, Result, Ok, Err, IfOk}
 use Rattle.script_asm.specs.Prelude.{NumberedLine, words_of}
 use Rattle.script_asm.specs.Fault.{◌then◌, at_line}

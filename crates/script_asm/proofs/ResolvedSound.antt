@@ -1,4 +1,4 @@
--- Resolved instructions are sound and form a program.
+-- Proves that resolved instructions are sound and form a program.
 use Rattle.std.proofs.Common.{◌≡◌, ◌<◌, ◌≤◌, sym, ◌∙◌, ap, subst, ℕ, ◌+◌, List, [], ◌∷◌, ◌++◌, length, Ok, IfOk, inl, inr, arith, length-append, zero-add}
 use Rattle.program.specs.declared.instruction.Instruction.TheVariants.{VfWrite, VfRead, Lend, Unlend, Poke, Peek, Arrive, TxStep, IntStep, QueueStep, JumpIfEqual, JumpUnlessEqual, Jump}
 use Rattle.script_asm.specs.Prelude.{AllByRecursion, IsListing, IsSound, string_at}

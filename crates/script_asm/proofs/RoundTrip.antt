@@ -1,4 +1,4 @@
--- A program's source means that program.
+-- Proves that a program's source means that program.
 use Rattle.std.proofs.Common.{◌≡◌, refl, sym, ◌∙◌, ℕ, zero, suc, ◌==◌, ◌<◌, Bool, true, false, ◌||◌, List, [], ◌∷◌, length, map, arith, eq-eqb}
 use Rattle.std.specs.Str.Lines.{lines}
 use Rattle.program.specs.declared.instruction.Instruction.{Instruction as Step}
@@ -14,7 +14,7 @@ use Rattle.script_asm.proofs.Spelling.{named}
 use Rattle.script_asm.proofs.Texts.{Reads, reads-data}
 use Rattle.script_asm.proofs.CodeTexts.{code_statements, reads-code, reading_of-numbered}
 
--- The target of a jump is a labeled instruction.
+-- Each number that this instruction jumps to is a jump target in the program, so it has a label.
 abbrev Targets : List (Step ℕ ℕ) → Step ℕ ℕ → Type 0
 Targets code i = (m : ℕ) → jumps_to m i ≡ true → is_target code m ≡ true
 

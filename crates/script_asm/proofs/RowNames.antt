@@ -1,4 +1,4 @@
--- The names of rows, and the bracket after a name.
+-- Lemmas about the names of rows, and about the bracket after a name.
 use Rattle.std.proofs.Common.{◌≡◌, refl, ℕ, ◌<◌, Bool, true, false, ◌&&◌, ◌==◌, nat_lt, List, [], ◌∷◌, ◌++◌, length, length-append, arith}
 use Rattle.std.proofs.Math.Seq.{take-append_seam, drop-append-add}
 use Rattle.reg_table.specs.declared.rows.RowId.TheVariants.{Ctrl}
@@ -8,7 +8,7 @@ use Rattle.script_asm.specs.Target.{has_byte}
 use Rattle.script_asm.proofs.Numerals.{is_tame}
 use Rattle.script_asm.proofs.Plain.{is_plain}
 
--- A row's name is a name without brackets, and the row has few registers.
+-- A row's name is a name without brackets, and the row has fewer than 65,536 registers.
 pub good_row : RowId → Bool
 good_row r = is_name (row_of r).name && (list_all is_tame (row_of r).name && nat_lt (row_of r).count 65536)
 

@@ -1,4 +1,4 @@
--- The outline of lines matches their statements.
+-- Proves that the outline of lines matches their statements.
 use Rattle.std.proofs.Common.{◌≡◌, refl, sym, ◌∙◌, ap, subst, List, [], ◌∷◌, ◌++◌, Result, Ok, Err, append_assoc, append-nil}
 use Rattle.script_asm.specs.Prelude.{NumberedLine}
 use Rattle.script_asm.specs.Fault.{◌then◌, at_line}
@@ -23,7 +23,7 @@ line-Ok : (b a : Outline) (line : NumberedLine) (s : Statement) → reading_of l
     → with_statement b line.number s ≡ Ok a → with_line b line ≡ Ok a
 line-Ok b a line s here e = ap (λ r. at_line line.number r then λ s. with_statement b line.number s) here ∙ e
 
--- Reading lines with these statements leads to a matching outline.
+-- The lines are read without a fault, and the outline afterwards matches the statements.
 abbrev pub Reached : Outline → List Statement → List NumberedLine → List Statement → Type 0
 Reached o before lines ss = (r : Outline) × (with_lines o lines ≡ Ok r) × Ties r (before ++ ss)
 

@@ -1,4 +1,4 @@
--- The line of an instruction reads back as that instruction.
+-- Lemmas for proving that the line of an instruction reads back as that instruction.
 use Rattle.std.proofs.Common.{◌≡◌, refl, ℕ, ◌^◌, ◌<◌, List, [], ◌∷◌, Ok}
 use Rattle.std.specs.Prelude.{codes, decimal}
 use Rattle.program.specs.declared.instruction.Instruction.{Instruction as Step}
@@ -13,7 +13,7 @@ use Rattle.script_asm.specs.declared.statements.Statement.TheVariants.{Instructi
 use Rattle.script_asm.proofs.Addresses.{number_in-word}
 use Rattle.script_asm.proofs.Plain.{IsWord, joined}
 
--- The printed names of labels and of data.
+-- The printed names of labels and of data strings.
 abbrev pub label_name : ℕ → List ℕ
 label_name pc = 76 ∷ decimal pc
 

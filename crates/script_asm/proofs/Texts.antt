@@ -1,4 +1,4 @@
--- The lines of a program's source read back as its statements.
+-- Lemmas for proving that the lines of a program's source read back as its statements.
 use Rattle.std.proofs.Common.{◌≡◌, refl, sym, ◌∙◌, ap, subst, ℕ, zero, suc, ◌+◌, ◌/◌, ◌%◌, ◌<◌, ◌≤◌, true, false, cond, ◌==◌, List, [], ◌∷◌, ◌++◌, length, map, get_or, slice_index, append_assoc, Result, Ok, Err, Some, arith}
 use Rattle.std.specs.Prelude.{codes, decimal}
 use Rattle.std.specs.Str.Lines.{lines}
@@ -24,7 +24,7 @@ use Rattle.script_asm.proofs.Spelling.{data_name}
 abbrev pub say : List ℕ → Result Statement LineFault
 say line = statement_of (words_of line)
 
--- The lines of a text read as these statements.
+-- The lines of a text are read as these statements.
 pub record Reads (text : List ℕ) (statements : List Statement) : Type 0 where
   pub is : map say (lines text) ≡ map Ok statements
 
@@ -32,7 +32,7 @@ one_more : (line : List ℕ) (lines : List (List ℕ)) (s : Statement) (ss : Lis
     → map say lines ≡ map Ok ss → map say (line ∷ lines) ≡ map Ok (s ∷ ss)
 one_more line lines s ss here rest = cc
 
--- A line of words, followed by the rest of the text.
+-- A line of words is read as one statement, and the rest of the text as the further statements.
 pub reads-line : (text : List ℕ) (words : List (List ℕ)) (rest : List ℕ) (s : Statement) (ss : List Statement)
     → AllByRecursion IsWord words
     → text ≡ joined words ++ 10 ∷ [] → statement_of words ≡ Ok s → Reads rest ss → Reads (text ++ rest) (s ∷ ss)

@@ -1,4 +1,4 @@
--- The outline of lines, related to their statements.
+-- Lemmas about an outline that matches the statements of the lines read so far.
 use Rattle.std.proofs.Common.{◌≡◌, refl, sym, ◌∙◌, ap, ℕ, ◌+◌, Bool, true, false, cond, List, [], ◌∷◌, ◌++◌, length, map, Option, Some, None, append-nil, arith}
 use Rattle.std.proofs.lemmas.Slice.Eq.{bytes_eq-Decides}
 use Rattle.script_asm.specs.Prelude.{bytes_eq}
@@ -30,7 +30,8 @@ length-written (d ∷ more) = let h = length-written more in omega (arith, h)
 pub count : (o : Outline) (before : List Statement) → Ties o before → length o.drafts ≡ length (drafts_in before)
 count o before ties = sym (length-written o.drafts) ∙ ap length ties.drafts
 
--- A statement without a label, or without data, keeps the lookup of labels, or of data.
+-- A statement that isn't a label doesn't change the lookup of labels, and one without data doesn't change the lookup of
+-- data.
 pub same_labels : (o : Outline) (before : List Statement) (s : Statement) → Ties o before
     → ((n : ℕ) (name : List ℕ) → label_from n (s ∷ []) name ≡ None)
     → (name : List ℕ) → place_of o.labels name ≡ label_from 0 (before ++ s ∷ []) name
@@ -47,7 +48,7 @@ same_names o before s ties none name =
     ∙ ap (or_else (data_from 0 before name)) (sym (none (0 + length (strings_in before)) name))
     ∙ sym (data_from-append 0 before (s ∷ []) name)
 
--- Looking up a new name after the others.
+-- A lookup gives the same result whether a new name is tried before or after the other names.
 put : (b : Bool) (n m : ℕ) (o : Option ℕ) → n ≡ m → (b ≡ true → o ≡ None)
     → cond b (Some n) o ≡ or_else o (cond b (Some m) None)
 put true n m o is new = rw (new refl) (ap Some is)

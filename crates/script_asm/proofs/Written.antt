@@ -41,7 +41,7 @@ pub code_lines-ended : (text : List ℕ) (code rest : List (Instruction ℕ ℕ)
 unfolding code_lines
 code_lines-ended text code rest k past = ap (λ rest. text ++ code_lines code k rest) (drop_all k rest past)
 
--- A result whose text equals `text` also has the whole text, if both are equal.
+-- If a result's text equals `text`, and `text` equals `whole`, then the result's text equals `whole`.
 pub written : {A E : Type 0} (r : Result A E) (text after whole : List ℕ) → IfOk r (λ _. after ≡ text) → text ≡ whole
     → IfOk r (λ _. after ≡ whole)
 written (Ok x) text after whole is e = is ∙ e

@@ -1,4 +1,4 @@
--- Where an arena is split.
+-- Proves at which block numbers an arena can be split.
 use Rattle.std.proofs.Common.{◌≡◌, ℕ, ◌+◌, ◌-◌, true, refl, arith}
 use Rattle.std.proofs.lemmas.List.{length-replicate}
 use Rattle.script_laws.specs.Arenas.{IsSplit, ArenasAreSplit}

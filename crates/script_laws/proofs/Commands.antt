@@ -1,4 +1,4 @@
--- What the debugger's commands do.
+-- Proves what the debugger's commands do.
 use Rattle.std.proofs.Common.{◌≡◌, ◌≢◌, ℕ, true, false, length, refl}
 use Rattle.std.proofs.lemmas.Bool.{lt-ltb, le-ltb, le-leb, lt-leb}
 use Rattle.debugger.specs.Running.{is_stopped, run_on}
@@ -52,7 +52,7 @@ goes_back s count = record {
 pub back : SessionsGoBack
 back s count = goes_back s count
 
--- Whether a machine stopped, by its answer.
+-- A machine stopped exactly if its step returned `Stopped`.
 stops : (a : StepAnswer) → a ≡ answer.Stopped → is_stopped a ≡ true
 stops a is = rw is refl
 

@@ -1,4 +1,4 @@
--- The bytes of each instruction.
+-- Proves the bytes of each instruction in an object, and the faults of bytes that aren't an object.
 use Rattle.std.proofs.Common.{refl}
 use Rattle.program.specs.Object.{laid_out, header_in, string_in, strings_in, all_fields_in, meanings, read_of}
 use Rattle.script_laws.specs.Objects.{InstructionsAreBytes, ObjectsAreBytes, ObjectsHaveFaults}

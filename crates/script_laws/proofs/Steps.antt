@@ -1,4 +1,4 @@
--- What a step of the machine does.
+-- Proves what a step of the machine does.
 use Rattle.std.proofs.Common.{◌≡◌, ℕ, ◌+◌, bit_and, false, Some, refl, ap, sym, subst, ◌∙◌}
 use Rattle.std.proofs.lemmas.Bool.{eq-eqb, ne_eqb}
 use Rattle.card.specs.Card.{arena_after}
@@ -28,7 +28,7 @@ stepped : (program : Listing) (s : MachineState) (i : Instruction ℕ ℕ) → I
 unfolding machine_step
 stepped program s i next = ap (executed_if_some program s) next
 
--- The part of a reply to a read, and of a reply to a peek, that is kept in the accumulator.
+-- Both descriptions keep the same part of a reply to a read, and of a reply to a peek, in the accumulator.
 same_read : (r : Reply Block) (acc : ℕ) → word_read r acc ≡ acc_read r acc
 same_read (reply.Word w) acc = refl
 same_read other acc = refl
@@ -37,7 +37,7 @@ same_seen : (i : ℕ) (r : Reply Block) (acc : ℕ) → word_peeked i r acc ≡ 
 same_seen i (reply.Bytes bytes) acc = refl
 same_seen i other acc = refl
 
--- A block that a reply returns is free again.
+-- Both descriptions free the same block after a reply: the block that the reply returns.
 same_freed : (r : Reply Block) (blocks : Numbers) → arena_after blocks r ≡ freed r blocks
 same_freed (reply.Buf block) blocks = refl
 same_freed (reply.Twice block) blocks = refl
@@ -75,13 +75,13 @@ module _ (program : Listing) (s : MachineState) where
         steps = refl;
       })
 
-  -- An event whose reply isn't kept.
+  -- An event whose reply doesn't change the accumulator.
   plain : (i : Instruction ℕ ℕ) (e : Event Block) → IsNext program s i
       → executed_if_some program s (Some i) ≡ all_made program s s.arena s.acc (step_of s.device e)
       → Makes program s e as_it_was
   plain i e next is = made_by i e as_it_was s.arena next is
 
-  -- An event with this word of its reply kept, in two formulations.
+  -- An event for which the accumulator keeps this word of the reply, in both descriptions.
   kept : (i : Instruction ℕ ℕ) (e : Event Block) (acc : Reply Block → ℕ → ℕ) (word : ℕ) → IsNext program s i
       → word ≡ acc (step_of s.device e).reply s.acc
       → executed_if_some program s (Some i) ≡ all_made program s s.arena word (step_of s.device e)

@@ -1,4 +1,4 @@
--- Lemmas: where leading blanks and words end in a text.
+-- Lemmas about where leading blanks and words end in a text.
 use Rattle.std.proofs.Common.{refl, sym, subst, ◌≡◌, ℕ, zero, suc, ◌+◌, ◌<◌, not, Bool, true, false, List, length, get_or, Some, None, inl, inr, arith}
 use Rattle.std.specs.List.{position, position_or_len, prefix_len}
 use Rattle.std.specs.Str.{IsUtf8, IsCharBoundary}

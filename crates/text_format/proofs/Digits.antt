@@ -1,4 +1,4 @@
--- Capping the value at 2^32 keeps every smaller value exact and marks every larger one.
+-- Proves that capping a value at 2^32 keeps every smaller value exact, and reports every larger value as 2^32.
 use Rattle.std.proofs.Common.{refl, ap, arith, sym, ◌∙◌, ◌≡◌, ◌<◌, ◌≤◌, ℕ, ◌+◌, ◌*◌, Bool, true, false, nat_lt, List, [], ◌∷◌, length, ◌^◌, ◌==◌, ◌&&◌, min, Some, None, Ok, Err, if◌then◌else◌, inl, inr}
 use Rattle.std.specs.List.{list_all}
 use Rattle.std.specs.Char.{is_digit, digit_value}

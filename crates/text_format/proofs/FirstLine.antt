@@ -1,4 +1,4 @@
--- Lemmas: the first line of a text.
+-- Lemmas about the first line of a text.
 use Rattle.std.proofs.Common.{refl, sym, ◌∙◌, ap, ◌≡◌, ◌≢◌, ℕ, ◌<◌, ◌-◌, ◌+◌, ◌==◌, false, List, [], ◌∷◌, ◌++◌, length, get_or, take, arith, inl, inr}
 use Rattle.std.specs.List.{position_or_len, before_first, after_first, slice_split}
 use Rattle.std.specs.Str.Lines.{lines, lines_of_parts, strip_carriage_return}

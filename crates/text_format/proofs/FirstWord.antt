@@ -1,4 +1,4 @@
--- Lemmas: the first word of a text.
+-- Lemmas about the first word of a text.
 use Rattle.std.proofs.Common.{refl, sym, ap, ◌∙◌, ◌≡◌, ℕ, suc, ◌+◌, ◌==◌, ◌||◌, not, Bool, true, false, cond, List, [], ◌∷◌, length, take, drop, filter, inl, inr, arith}
 use Rattle.std.specs.List.{position_or_len, before_first, slice_split, onto_first}
 use Rattle.std.proofs.lemmas.Bool.{cases_Bool}
@@ -53,8 +53,8 @@ ends hash blank byte = hash byte || blank byte
 abbrev pub end_in : (ℕ → Bool) → (ℕ → Bool) → List ℕ → ℕ
 end_in hash blank text = position_or_len (ends hash blank) text
 
--- The first part ends where the first word ends; the remaining nonempty parts are the nonempty parts of the rest of the
--- text.
+-- The first part ends where the first word ends. The other nonempty parts are the nonempty parts of the text from that
+-- end on.
 abbrev FirstPart : (ℕ → Bool) → (ℕ → Bool) → List ℕ → Type 0
 FirstPart hash blank text = (others : List (List ℕ))
     × (parts_of hash blank text ≡ take (end_in hash blank text) text ∷ others)

@@ -1,4 +1,4 @@
--- Lemmas: the leading digits of a text.
+-- Lemmas about the leading digits of a text.
 use Rattle.std.proofs.Common.{ap, sym, ◌∙◌, arith, ◌≡◌, ◌<◌, ◌≤◌, ℕ, ◌+◌, ◌*◌, ◌^◌, true, cond, min, List, [], ◌∷◌, length, take, drop, None, inl, inr}
 use Rattle.std.specs.Char.{is_digit, digit_value}
 use Rattle.std.proofs.lemmas.Bool.{cases_Bool, lt-ltb}
@@ -19,7 +19,7 @@ drop-digit : (radix byte : ℕ) (more : List ℕ) → is_digit byte radix ≡ tr
 drop-digit radix byte more digit =
     ap (λ n. drop n (byte ∷ more)) (front-yes radix byte more digit) ∙ drop_next (digits_in_front radix more) byte more
 
--- Adding the next digit to the value leaves the number that the remaining digits continue.
+-- After the next digit is added to the value, the remaining digits continue that value to the same number.
 pub front-next : (radix value next digit byte : ℕ) (rest more : List ℕ) → rest ≡ byte ∷ more → digit ≡ digit_value byte
     → digit < radix → next ≡ min (value * radix + digit) (2 ^ 32)
     → capped_numeral radix next (take (digits_in_front radix more) more)

@@ -1,4 +1,4 @@
--- The text that `{:08x}` prints.
+-- Lemmas about the text that `{:08x}` prints.
 use Rattle.std.proofs.Common.{arith, ◌∙◌, ap, ◌≡◌, ℕ, ◌-◌, ◌^◌, List, [], ◌++◌, length, false, append-nil}
 use Rattle.std.specs.Prelude.{replicate}
 use Rattle.std.specs.Fmt.{digits, format_spec, padded_integral, char_count}

@@ -1,4 +1,4 @@
--- Lemmas: bytes printed as hex text.
+-- Lemmas about bytes that are printed as hex text.
 use Rattle.std.proofs.Common.{refl, ap, ◌≡◌, ℕ, List, [], ◌∷◌, ◌++◌, ◌*◌, length, ◌/◌, ◌%◌, ◌<◌, Bool, true, ◌&&◌, ltb, slice_index}
 use Rattle.std.specs.Str.{IsUtf8, IsAscii}
 use Rattle.std.proofs.lemmas.Bool.Decides.{Decides-by_and, Decides-ltb}
@@ -14,7 +14,7 @@ encode_with-append t [] ys = refl
 encode_with-append t (x ∷ xs) ys =
     ap (λ more. slice_index t (x / 16) ∷ slice_index t (x % 16) ∷ more) (encode_with-append t xs ys)
 
--- The text of two joined lists of bytes is their two texts joined.
+-- The text of two lists of bytes, joined, is the texts of both lists, joined.
 pub bytes_text-append : (xs ys : List ℕ) → bytes_text (xs ++ ys) ≡ bytes_text xs ++ bytes_text ys
 bytes_text-append xs ys = encode_with-append lower_digits xs ys
 

@@ -1,4 +1,4 @@
--- `hex` decodes a word to exactly the bytes that it spells.
+-- Proves that the crate `hex` decodes a word to exactly the bytes that the word spells.
 use Rattle.std.proofs.Common.{◌≢◌, ◌⊎◌, refl, sym, ◌∙◌, ap, ◌≡◌, ℕ, ◌+◌, ◌*◌, ◌%◌, ◌==◌, Bool, true, false, List, [], ◌∷◌, length, Option, Some, None, Result, Ok, Err, arith, cond, inl, inr}
 use Rattle.std.proofs.lemmas.Bool.{eqb-true}
 use Rattle.std.specs.Result.{result_ok}
@@ -40,7 +40,7 @@ by_parity : (text : List ℕ) (odd : Bool) → (length text % 2 == 1) ≡ odd
 by_parity text true e = sym (hex_bytes_of-odd text (eqb-true _ _ e))
 by_parity text false e = result_ok-decode_pairs 0 text
 
--- The result of `hex`, without its error, is the definition's result.
+-- Apart from the kind of error, the crate `hex` returns the result of the definition.
 result_ok-decode_of : (text : List ℕ) → result_ok (decode_of text) ≡ hex_bytes_of text
 result_ok-decode_of text = by_parity text (length text % 2 == 1) refl
 

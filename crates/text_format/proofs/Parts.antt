@@ -1,4 +1,4 @@
--- Lemmas: splitting a text at the bytes that pass a test.
+-- Lemmas about splitting a text at the bytes that pass a test.
 use Rattle.std.proofs.Common.{refl, arith, ◌≡◌, ℕ, not, Bool, true, false, cond, ◌<◌, get_or, List, [], ◌∷◌, length}
 use Rattle.std.specs.List.{position_or_len, prefix_len, slice_split, onto_first, All}
 use Rattle.std.proofs.lemmas.List.Sums.{prefix_len_passes}

@@ -39,7 +39,7 @@ drop-unblank : (blank : ℕ → Bool) (byte : ℕ) (more : List ℕ) → blank b
 drop-unblank blank byte more other =
     ap (λ n. drop n (byte ∷ more)) (position-yes (λ b. not (blank b)) byte more (ap not other))
 
--- Skipping the leading blanks leaves the words as they are, and the rest doesn't begin with a blank.
+-- Skipping the leading blanks doesn't change the words, and the text after the blanks doesn't begin with a blank.
 abbrev After : (ℕ → Bool) → (ℕ → Bool) → List ℕ → Type 0
 After hash blank text = BeginsUnblank blank (drop (front_of blank text) text)
     × (filled (parts_of hash blank text) ≡ filled (parts_of hash blank (drop (front_of blank text) text)))

@@ -5,7 +5,7 @@ use Rattle.script_asm.specs.Outline.{blank}
 use Rattle.script_asm.specs.Script.{with_lines}
 use Rattle.script_asm.proofs.assembly.read_before.Given as goal
 
--- Reading the remaining lines into the current sheet is the same as reading all lines into a blank one.
+-- Reading the remaining lines into the current sheet has the same result as reading all lines into a blank sheet.
 abbrev pub invariant-script : goal.invariant-script
 invariant-script l = record {
   said : with_lines l.sheet (before_first (is_end l.end) l.lines)

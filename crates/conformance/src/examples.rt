@@ -3,10 +3,10 @@
 //!
 //! `examples/NAME.nic` is a script, and `examples/NAME.out` the output of `nicbench run` for it. `examples/NAME.debug`
 //! is a script with debugger commands, and `NAME.out` the output of `nicbench debug`. `examples/NAME.txt` is a key with
-//! hex lines, and `NAME.out` the output of `nicbench hash`. `examples/NAME.eeprom` is an EEPROM image's source,
-//! `NAME.hex` the image that `nicbench eeprom` creates from it, in hex, and `NAME.out` the output of `nicbench eeprom
-//! --load` for that image. `examples/NAME.object` is the object of `NAME.nic`, in hex, and `NAME.dis` the output of
-//! `nicbench dis` for it.
+//! hex lines, and `NAME.out` the output of `nicbench hash`. `examples/NAME.eeprom` is an EEPROM image's source, and
+//! `NAME.hex` is the image that `nicbench eeprom` creates from this source, in hex. `NAME.out` is the output of
+//! `nicbench eeprom --load` for that image. `examples/NAME.object` is the object of `NAME.nic`, in hex, and `NAME.dis`
+//! the output of `nicbench dis` for it.
 
 use crate::scripts::answer;
 use crate::texts::hex_in;

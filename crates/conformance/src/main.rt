@@ -1,6 +1,6 @@
 //! Runs tables and examples through the program and through the lower libraries, and prints those with unexpected
-//! results: the scripts of `data/*.cases` (`scripts.rt`), the calls of `data/libraries/` (`library.rt`) and the
-//! examples of `data/examples/` (`examples.rt`).
+//! results. The scripts are in `data/*.cases` (`scripts.rt`), the calls in `data/libraries/` (`library.rt`), and the
+//! examples in `data/examples/` (`examples.rt`).
 #![tactic(auto)]
 
 mod call;

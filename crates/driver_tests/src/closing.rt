@@ -114,8 +114,8 @@ fn a_missing_pass_is_reported_before_a_foreign_one(rt: HostRuntime) {
     swap_a_pass(&rt);
 }
 
-/// Checks the positions of the calls of pass 1 and of pass 0 in the history: the first three belong to pass 1, the next
-/// ten to pass 0.
+/// Checks the positions of the calls of pass 1 and of pass 0 in the history. The first three calls belong to pass 1,
+/// and the next ten to pass 0.
 fn look_for_calls(rt: &impl Hand) {
     let (bench, passes) = called(rt);
     let closed = done(rt, bench.close(passes));

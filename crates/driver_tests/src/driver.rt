@@ -141,8 +141,8 @@ enum Steps {
     Nothing,
 }
 
-/// A refused start on queue 0: the row's name, the steps, the size of a ring, the blocks as first and count, the
-/// reason, and whether blocks are already lent.
+/// A refused start on queue 0: the row's name, the steps, the size of a ring, and the blocks as first and count. Then
+/// come the reason, and whether blocks are already lent.
 type Start<'a> = (&'a str, Steps, u16, (u32, u32), Why, bool);
 
 #[rattlefmt::skip]
@@ -202,8 +202,8 @@ fn start_beside(rt: &impl Hand, steps: Steps, size: u16, numbers: (u32, u32)) ->
     }
 }
 
-/// A start on a queue that no device has: the row's name, the size of a ring, the length of frames, the number of
-/// blocks, and the reason for the refusal. Size, length and number of blocks are checked before the queue.
+/// A refused start on a queue that no device has: the row's name, the size of a ring, the length of frames, the number
+/// of blocks, and the reason. The size, the length and the number of blocks are checked before the queue.
 type Unnamed<'a> = (&'a str, u16, u16, u32, Why);
 
 #[rattlefmt::skip]

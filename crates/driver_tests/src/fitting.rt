@@ -9,9 +9,9 @@ use pmd::{Setup, ThroughLock, frames_fit, pf_setup};
 /// A shared device without virtual functions.
 type Bench = Shared<0, 64>;
 
-/// The length of an arriving frame in bytes, the maximum length of a driver's frames with their check sequence, whether
-/// the frame is accepted, and whether it fits the driver's packets or was dropped. The packets have one, two or five
-/// 2,048-byte blocks.
+/// The length of an arriving frame in bytes, and the maximum length of a driver's frames with their check sequence.
+/// Then come whether the frame is accepted, and whether it fits the driver's packets or was dropped. The packets have
+/// one, two or five 2,048-byte blocks.
 #[rattlefmt::skip]
 const ROWS: [(&str, u16, u16, bool, bool); 8] = [
     ("one block holds it", 2048, 1518, true, true),
@@ -73,9 +73,9 @@ fn fits_in(rt: &impl Hand, bench: Bench, passes: [Pass; 2], frame: u16) -> bool 
     answer
 }
 
-/// Whether a frame of this length is accepted by a device that is set up for 9,728-byte frames, including their check
-/// sequence, and whether the frames fit a driver that makes its first event immediately afterwards. A longer frame is
-/// accepted after that event.
+/// Returns whether a frame of this length is accepted by a device that is set up for 9,728-byte frames, including their
+/// check sequence. Also returns whether the frames fit a driver that makes its first event immediately afterwards. A
+/// longer frame is accepted after that event.
 fn fits(rt: &impl Hand, len: u16, frame: u16) -> (bool, bool) {
     let (bench, mut passes) = done(rt, Bench::new(rt.alloc(), 1, 2, 1000));
     let other = some(rt, passes.pop());

@@ -46,8 +46,8 @@ pub const WRITES: [(u32, u32, bool); 24] = [
     (0x04A80, 0, true),             // DMATXCTL, transmission disabled
 ];
 
-/// How others set the device up: without pools and hashing; with queue 0 as the virtual function's; or with hashing
-/// that sends TCP segments over IPv4 to queue 3 and all other frames to queue 0.
+/// How others set the device up: without pools and hashing, with queue 0 as the virtual function's, or with hashing.
+/// Hashing sends TCP segments over IPv4 to queue 3, and all other frames to queue 0.
 #[derive(Clone, Copy)]
 enum On {
     Plain,
@@ -95,8 +95,8 @@ type Deeds = (Deed, Deed, Deed);
 /// No action: no block is taken.
 const NONE: Deed = Takes(0, 0);
 
-/// Actions of others while a driver runs: the name of the case, the device, the others' blocks as first and count, the
-/// actions, whether the driver's queue is left alone, and the first write that a step of queue 3 reports.
+/// Actions of others while a driver runs: the name of the case, the device, the others' blocks as first and count, and
+/// the actions. Then come whether the driver's queue is left alone, and the first write that a step of queue 3 reports.
 type Row<'a> = (&'a str, On, (u32, u32), Deeds, bool, Reported<At>);
 
 /// Blocks with the same numbers as the driver's.

@@ -31,9 +31,9 @@ impl Deed {
 }
 
 /// An event of another pass, the value of GCR_EXT before it, and whether queue 0 is left alone. The queue is left alone
-/// if others write registers of other queues, of the filter or the global enables of both directions, take blocks that
-/// the driver doesn't lend, or write to such blocks. The queue isn't left alone if others access a register on which it
-/// relies, reset its pool, or access its driver's blocks.
+/// if others write registers of other queues, of the filter, or the global enables of both directions. It is also left
+/// alone if others take blocks that the driver doesn't lend, or write to such blocks. The queue isn't left alone if
+/// others access a register on which it relies, reset its pool, or access its driver's blocks.
 type Row<'a> = (&'a str, u32, Deed, bool);
 
 #[rattlefmt::skip]

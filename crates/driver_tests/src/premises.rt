@@ -1,6 +1,6 @@
-//! The premises of the laws about a driver's packets and blocks, tested with pairs of histories: one that just
-//! satisfies a premise, and one that doesn't because a single entry differs slightly. The entries are written out here,
-//! so each row shows the premise itself, regardless of what a device would have replied.
+//! The premises of the laws about a driver's packets and blocks, tested with pairs of histories. One history just
+//! satisfies a premise, and the other doesn't because a single entry differs slightly. The entries are written out
+//! here, so each row shows the premise itself, regardless of what a device would have replied.
 
 use crate::outcome::{Hand, done, empty, holds, push, some};
 use device_lock::{Entry, Watched, left_alone};
@@ -345,8 +345,8 @@ fn around(rt: &impl Hand, made: Made) -> Vec<Entry> {
     written(rt, &[first, second, third, (DRIVER, Deed::Reads), last])
 }
 
-/// A case: its name, its entries, the number of entries of the driver's pass before the driver's own first entry, the
-/// arguments of the driver's start, and whether the driver begins well.
+/// A case: its name, its entries, and the number of entries of the driver's pass before the driver's own first entry.
+/// Then come the arguments of the driver's start, and whether the driver begins well.
 type Begins<'a> = (&'a str, Made, usize, Given, bool);
 
 /// Enables jumbo frames.
@@ -404,8 +404,8 @@ fn a_driver_begins_well_or_not(rt: HostRuntime) {
     check_begins(&rt, &BEGINS);
 }
 
-/// A case: its name, its entries, the number of entries of the driver's pass before the driver's own first entry, and
-/// whether no one requested before that entry that the queue be enabled.
+/// A case: its name, its entries, and the number of entries of the driver's pass before the driver's own first entry.
+/// Then comes whether no one requested before that entry that the queue be enabled.
 type Asked<'a> = (&'a str, Made, usize, bool);
 
 /// The value that requests that a side be enabled.
@@ -449,8 +449,8 @@ fn a_queue_was_never_asked_on_or_was(rt: HostRuntime) {
     check_asked(&rt, &ASKED);
 }
 
-/// Entries around the first entry of a driver with blocks 4 to 11, the number of entries of its pass before the
-/// driver's own first entry, and whether others lend none of these blocks.
+/// Entries around the first entry of a driver with blocks 4 to 11, and the number of entries of its pass before the
+/// driver's own first entry. Then comes whether others lend none of these blocks.
 #[rattlefmt::skip]
 const LENT: [Asked<'static>; 14] = [
     ("block 3", [(OTHER, Deed::Lends(3)), NOTHING, NOTHING, NOTHING], 0, true),

@@ -1,6 +1,6 @@
 //! Two drivers, one for each of two queues of a pool, run while 10,000 frames arrive. A stranger resets the device, the
-//! pool and the function, takes and lends blocks of the drivers' rings, and writes random values to registers on which
-//! the queues rely.
+//! pool and the function, and takes and lends blocks of the drivers' rings. The stranger also writes random values to
+//! registers on which the queues rely.
 
 use crate::bench::segment;
 use crate::hostile::offer;

@@ -1,5 +1,5 @@
-//! Other programs next to two workers: a neighbour that visits while the workers wait for the frames, or a stranger
-//! that makes random events on the queues and blocks of both workers.
+//! Other programs next to two workers. A neighbour visits while the workers wait for the frames, or a stranger makes
+//! random events on the queues and blocks of both workers.
 
 use crate::bench::{is_done, word_in};
 use crate::hostile::WRITES;

@@ -9,8 +9,8 @@ use std::process::Abort;
 use std::sync::Wait;
 
 /// Register writes, by address and word, that enable reception and give queue 0 a ring of eight slots in each
-/// direction: the receive ring at byte 0 of block 0, and the transmit ring at byte 1,024 of that block. Slot 0 of each
-/// ring belongs to the device.
+/// direction. The receive ring is at byte 0 of block 0, and the transmit ring at byte 1,024 of that block. Slot 0 of
+/// each ring belongs to the device.
 #[rattlefmt::skip]
 const WRITES: [(u32, u32); 11] = [
     (0x03000, 1),            // RXCTRL

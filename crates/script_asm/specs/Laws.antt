@@ -152,7 +152,7 @@ pub record FirstFaultDecides : Type 0 where
       (outline : Outline) (fault : ScriptFault)
       → lines_of text ≡ front ++ line ∷ back → with_lines blank front ≡ Ok outline
       → with_line outline line ≡ Err fault → program_of text ≡ Err fault
-  -- If no line is faulty, the fault of the first instruction that can't be resolved is reported: its label or data name
+  -- If no line is faulty, the fault of the first instruction that can't be resolved is reported. Its label or data name
   -- isn't defined, or its data can't be poked.
   pub names : (text : List ℕ) (outline : Outline) (front : List DraftLine) (d : DraftLine) (back : List DraftLine)
       (instructions : List (Step ℕ ℕ)) (fault : ScriptFault)

@@ -40,8 +40,8 @@ fn read_sheet(alloc: Global, text: &str) -> Result<Sheet<'_>, ScriptFault>
 ///
 /// The first line with `Syntax`, `UnknownName`, `Range`, `TwoLabels` or `TooLong` is reported. If that line has several
 /// of these faults, the first in this list is reported. If no line has any of these faults, the first line with one of
-/// two others is reported: it uses a label or data name that no line defines (`UnknownLabel`), or it pokes data that
-/// isn't 16 bytes long (`Range`). `OutOfMemory` may be returned in place of any other result.
+/// two others is reported. Such a line uses a label or data name that no line defines (`UnknownLabel`), or pokes data
+/// that isn't 16 bytes long (`Range`). `OutOfMemory` may be returned in place of any other result.
 #[tactic(auto, unfolding(crate::specs::Script::program_of))]
 pub fn assemble(alloc: Global, text: &str) -> Result<Program, ScriptFault>
     ensures program { IfOk result (λ program. program_of text.now ≡ Ok program) }

@@ -162,9 +162,9 @@ fn have_widths(code: &[Instruction])
 
 /// Returns the source of a program: its data strings with the names `d0`, `d1` and so on, then its instructions. Each
 /// jump target is preceded by its label: `L` and its number. If the address in a `w` or `r` is a register's first
-/// address, the register's name is printed instead, with the index if the row has several registers. All other numeric
-/// operands are printed as eight hex digits. The source assembles to the same program. Fails with `OutOfMemory` if
-/// there is no memory for the source.
+/// address, the register's name is printed instead. An index follows if the row has several registers. All other
+/// numeric operands are printed as eight hex digits. The source assembles to the same program. Fails with `OutOfMemory`
+/// if there is no memory for the source.
 pub fn disassemble(alloc: Global, program: &Program) -> Result<String, OutOfMemory>
     ensures text { IfOk result (λ text. string_bytes text ≡ text_of program.now) }
     ensures means { IfOk result (λ text. program_of (string_bytes text) ≡ Ok program.now) }

@@ -4,17 +4,18 @@ ghost use Rattle.script_asm.specs.Laws.{ProgramIsWhatLinesSay, FirstFaultDecides
 ghost use Rattle.script_asm.specs.Laws.{NamesHaveTheirPlaces};
 ghost use Rattle.script_asm.specs.ReadBack.{TextsReadBack};
 
-/// A source means a program exactly if each of its lines is a statement that fits the lines before it, and the
-/// statements form the program, in order. To fit, a label's name must be new among labels, and a data string's name
-/// must be new among data names. A data string must be at most 16,384 bytes long and be preceded by fewer than 1,024
-/// data strings. An instruction must be preceded by fewer than 4,096 instructions. A line with a name longer than 32
-/// bytes isn't a statement.
+/// A source means a program exactly if each line is a statement that fits the lines before it, and the statements form
+/// the program, in order. To fit, a label's name must be new among labels, and a data string's name must be new among
+/// data names. A data string must be at most 16,384 bytes long and be preceded by fewer than 1,024 data strings. An
+/// instruction must be preceded by fewer than 4,096 instructions. A line with a name longer than 32 bytes isn't a
+/// statement.
 pub fn program_is_what_lines_say()
     ensures { ProgramIsWhatLinesSay }
 {}
 
 /// The first faulty line is reported. If no line is faulty, the first instruction with one of two faults is reported
-/// with its line: it uses a label or data name that isn't defined, or it pokes data that isn't 16 bytes long.
+/// with its line. Such an instruction uses a label or data name that isn't defined, or pokes data that isn't 16 bytes
+/// long.
 pub fn first_fault_decides()
     ensures { FirstFaultDecides }
 {}

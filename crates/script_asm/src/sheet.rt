@@ -23,8 +23,8 @@ pub(crate) struct DraftLine<'a> {
     draft: Draft<'a>,
 }
 
-/// The statements that have been read: the numbers of labels and of data strings by name, and the data strings and
-/// instructions in the order of their lines. Empty lines take no space.
+/// The statements read so far: the numbers of labels and data strings by name, and the data strings and instructions in
+/// the order of their lines. Empty lines take no space.
 #[derive(Drop)]
 pub(crate) struct Sheet<'a> {
     labels: Places<'a>,

@@ -68,8 +68,8 @@ fn before_bracket(word: &str) -> Option<&str>
 /// Returns the byte address that a word names. The word is `ROW[INDEX]`, for the first address of that register; `ROW`,
 /// for the register with index 0; or a number.
 ///
-/// Errors, in this order: `Syntax` if the word has none of these forms, `UnknownName` if no row has this name, and
-/// `Range` if a number isn't below 2^32 or an index isn't below the number of registers in the row.
+/// Errors, in this order: `Syntax` if the word has none of these forms, then `UnknownName` if no row has this name.
+/// Then comes `Range`, if a number isn't below 2^32 or an index isn't below the number of registers in the row.
 #[tactic(auto, unfolding(crate::specs::Target::target_of))]
 pub fn target(word: &str) -> Result<u32, LineFault>
     ensures { result ≡ target_of word.now }

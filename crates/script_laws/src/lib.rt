@@ -29,10 +29,10 @@ pub fn instructions_are_bytes()
 {}
 
 /// Bytes that aren't an object are refused with their first fault. 37 lists of bytes show this, and three more lists
-/// are objects. Faults are reported in this order: in the first four bytes, in the version, in the numbers of the
-/// header or the parts that they describe, and in the first faulty instruction, which is reported with its number.
-/// Within an instruction, the order is: its operation, an operand that is out of its range or unused but not 0, and its
-/// target. If bytes of the header are missing, they count as wrong.
+/// are objects. Faults are reported in this order: in the first four bytes, in the version, and in the numbers of the
+/// header or the parts that they describe. Then the first faulty instruction is reported with its number. Within an
+/// instruction, the order is: its operation, an operand that is out of its range or unused but not 0, and its target.
+/// If bytes of the header are missing, they count as wrong.
 #[tactic(auto, using(crate::proofs::Objects::faults))]
 pub fn objects_have_an_order_of_faults()
     ensures { ObjectsHaveFaults }

@@ -141,8 +141,8 @@ enum Steps {
     Nothing,
 }
 
-/// A refused start on queue 0: the row's name, the steps, the size of a ring, and the blocks as first and count. Then
-/// come the reason, and whether blocks are already lent.
+/// A refused start on queue 0: the row's name, the steps, the size of a ring, and the blocks as first and count. The
+/// last two fields are the reason, and whether blocks are already lent.
 type Start<'a> = (&'a str, Steps, u16, (u32, u32), Why, bool);
 
 #[rattlefmt::skip]

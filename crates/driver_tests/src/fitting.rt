@@ -9,9 +9,9 @@ use pmd::{Setup, ThroughLock, frames_fit, pf_setup};
 /// A shared device without virtual functions.
 type Bench = Shared<0, 64>;
 
-/// The length of an arriving frame in bytes, and the maximum length of a driver's frames with their check sequence.
-/// Then come whether the frame is accepted, and whether it fits the driver's packets or was dropped. The packets have
-/// one, two or five 2,048-byte blocks.
+/// The length of an arriving frame in bytes, and the maximum length of a driver's frames with their check sequence. The
+/// last two fields say whether the frame is accepted, and whether it fits the driver's packets or was dropped. The
+/// packets have one, two or five 2,048-byte blocks.
 #[rattlefmt::skip]
 const ROWS: [(&str, u16, u16, bool, bool); 8] = [
     ("one block holds it", 2048, 1518, true, true),

@@ -96,7 +96,8 @@ type Deeds = (Deed, Deed, Deed);
 const NONE: Deed = Takes(0, 0);
 
 /// Actions of others while a driver runs: the name of the case, the device, the others' blocks as first and count, and
-/// the actions. Then come whether the driver's queue is left alone, and the first write that a step of queue 3 reports.
+/// the actions. The last two fields are whether the driver's queue is left alone, and the first write that a step of
+/// queue 3 reports.
 type Row<'a> = (&'a str, On, (u32, u32), Deeds, bool, Reported<At>);
 
 /// Blocks with the same numbers as the driver's.

@@ -346,7 +346,7 @@ fn around(rt: &impl Hand, made: Made) -> Vec<Entry> {
 }
 
 /// A case: its name, its entries, and the number of entries of the driver's pass before the driver's own first entry.
-/// Then come the arguments of the driver's start, and whether the driver begins well.
+/// The last two fields are the arguments of the driver's start, and whether the driver begins well.
 type Begins<'a> = (&'a str, Made, usize, Given, bool);
 
 /// Enables jumbo frames.
@@ -405,7 +405,7 @@ fn a_driver_begins_well_or_not(rt: HostRuntime) {
 }
 
 /// A case: its name, its entries, and the number of entries of the driver's pass before the driver's own first entry.
-/// Then comes whether no one requested before that entry that the queue be enabled.
+/// The last field says whether no one requested before that entry that the queue be enabled.
 type Asked<'a> = (&'a str, Made, usize, bool);
 
 /// The value that requests that a side be enabled.
@@ -450,7 +450,7 @@ fn a_queue_was_never_asked_on_or_was(rt: HostRuntime) {
 }
 
 /// Entries around the first entry of a driver with blocks 4 to 11, and the number of entries of its pass before the
-/// driver's own first entry. Then comes whether others lend none of these blocks.
+/// driver's own first entry. The last field says whether others lend none of these blocks.
 #[rattlefmt::skip]
 const LENT: [Asked<'static>; 14] = [
     ("block 3", [(OTHER, Deed::Lends(3)), NOTHING, NOTHING, NOTHING], 0, true),

@@ -175,7 +175,7 @@ fn a_full_history_ends_both_workers(rt: HostRuntime) {
 }
 
 /// A neighbour's visits, by name: the number of blocks that each worker loses, and whether each queue is left alone.
-/// Then comes the number of arenas that don't close before those blocks are returned.
+/// The last field is the number of arenas that don't close before those blocks are returned.
 #[rattlefmt::skip]
 const VISITS: [(&str, How, [u32; 2], [bool; 2], usize); 2] = [
     ("taken blocks are counted and come home", How::Takes, [2, 0], [false, true], 1),

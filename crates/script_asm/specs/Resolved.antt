@@ -15,11 +15,11 @@ use Rattle.script_asm.specs.Operation.{Draft}
 use Rattle.script_asm.specs.Outline.{Outline}
 use Rattle.script_asm.specs.Places.{place_of}
 
--- The number of the label that a line jumps to.
+-- The number of the label with this name, which this line refers to.
 abbrev pub label_named : Outline → ℕ → List ℕ → Result ℕ ScriptFault
 label_named outline line name = ok_or (place_of outline.labels name) (UnknownLabel line)
 
--- The number of the data string that a line names.
+-- The number of the data string with this name, which this line refers to.
 abbrev pub data_named : Outline → ℕ → List ℕ → Result ℕ ScriptFault
 data_named outline line name = ok_or (place_of outline.data_numbers name) (UnknownLabel line)
 

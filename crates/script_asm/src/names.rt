@@ -22,7 +22,7 @@ impl<'a> Model for Name<'a> {
 }
 
 impl<'a> Name<'a> {
-    /// Returns the word as a name, or the fault if it isn't a name.
+    /// Returns the word as a name, or the fault if it isn't a name of at most 32 bytes.
     pub(crate) fn of(word: &'a str) -> Result<Name<'a>, LineFault>
         ensures { result ≡ name_in word.now }
     {

@@ -119,7 +119,7 @@ impl<'a> Sheet<'a> {
         }
     }
 
-    /// Returns the number of the instruction at the label with this name, to which a line jumps.
+    /// Returns the number of the instruction at the label with this name, which this line refers to.
     fn label_named(&self, line: usize, name: &Name<'_>) -> Result<u16, ScriptFault>
         ensures { result ≡ label_named self.now line name.now }
     {
@@ -128,7 +128,7 @@ impl<'a> Sheet<'a> {
             .ok_or(ScriptFault::UnknownLabel(line))
     }
 
-    /// Returns the number of the data string with this name, which a line uses.
+    /// Returns the number of the data string with this name, which this line refers to.
     fn data_named(&self, line: usize, name: &Name<'_>) -> Result<u16, ScriptFault>
         ensures { result ≡ data_named self.now line name.now }
     {

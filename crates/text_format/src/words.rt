@@ -7,8 +7,8 @@ ghost use Rattle.text_format.specs.Words.{is_blank, ends_word, words_of};
 
 use std::marker::Model;
 
-/// An iterator over the words of a line, in order. Words are separated by spaces and tabs, and end before the first
-/// `#`.
+/// An iterator over the words of a line, in order. Spaces and tabs separate words, and the first `#` starts a comment,
+/// which contains no words.
 ///
 /// Every other character is part of a word.
 #[derive(Debug, Drop)]

@@ -71,8 +71,8 @@ fn example(rt: &HostRuntime, name: &str, kind: &str) -> io::Result<Vec<u8>> {
     Ok(text.into_bytes())
 }
 
-/// Whether the program, run with these words on an example's file of one kind, writes exactly the file of the other
-/// kind and exits with this status.
+/// Whether the program, run with these words on an example's file of the first kind, writes exactly the example's file
+/// of the second kind and exits with this status.
 fn is_as_written(
     rt: &HostRuntime,
     name: &str,

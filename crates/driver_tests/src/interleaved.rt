@@ -119,7 +119,8 @@ fn foreign_tail(rt: &impl Hand) -> Schedule {
     done(rt, Vec::from_array(rt.alloc(), [first, second]))
 }
 
-/// Marks that identify the driver's calls among five: one follows two foreign events, the other follows one.
+/// Marks that identify the driver's calls among five calls. The driver's first call follows two foreign events, and the
+/// second follows one.
 const OWN: &[bool] = &[false, false, true, false, true];
 
 /// Finishes an `Interleaved` with five calls. The last foreign call must have met a fault.

@@ -138,7 +138,7 @@ fn a_point_is_shut_to_one_worker(rt: HostRuntime) {
     }
 }
 
-/// If a gate lets no worker pass, both report it and get all blocks back, and no frame arrives.
+/// If a gate lets no worker pass, both workers report the shut gate and get all blocks back, and no frame arrives.
 #[test]
 fn a_gate_that_is_shut_ends_both_workers(rt: HostRuntime) {
     let came = alone(&rt, &Shut, ONE_FRAME);

@@ -1,4 +1,4 @@
--- Scripts that end at a marker line, with other lines after it.
+-- Scripts that end at a marker line, after which other lines may follow.
 use Rattle.std.specs.Prelude.{ℕ, Bool, false, List, [], ◌∷◌, Result}
 use Rattle.script_asm.specs.Prelude.{Listing, NumberedLine, after_first, before_first, bytes_eq, list_any, words_of}
 use Rattle.script_asm.specs.Script.{program_of_lines}

@@ -28,14 +28,14 @@ pub enum ScriptFault {
     #[error("line {0}: a name given twice")]
     TwoLabels(usize),
     /// A number is out of its range, or an index isn't below the number of registers in its row. If no line has a fault
-    /// of its own, this is also reported for a line that pokes data that isn't 16 bytes long.
+    /// of its own, this fault is also reported for a line that pokes data that isn't 16 bytes long.
     #[error("line {0}: a number out of range")]
     Range(usize),
     /// A limit is exceeded: 4,096 instructions, 1,024 data strings, 16,384 bytes in a data string, or 32 bytes in the
     /// name of a label or data string.
     #[error("beyond a limit of scripts")]
     TooLong,
-    /// There is no memory for the program. This may be returned in place of any other result.
+    /// There is no memory for the program. This fault may be returned in place of any other result.
     #[error("out of memory")]
     OutOfMemory,
 }

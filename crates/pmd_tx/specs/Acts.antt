@@ -1,4 +1,5 @@
--- The effect of one driver call that sends, in one record: the calls made, and the ring before and after.
+-- The effect of one driver call that sends, as one record: the device calls that it made, and the ring before and
+-- after.
 use Rattle.std.specs.Prelude.{◌≡◌, ℕ, List, length, Bool, if◌then◌else◌, Option, Some, None, Result, Ok, Err, IfSome, IfNone, IfErr}
 use Rattle.pmd_access.specs.NicDevice.DmaArena.Numbers.{Numbers}
 use Rattle.pmd_access.specs.DeviceLock.declared.entry.Call.{Call}
@@ -17,8 +18,8 @@ abbrev pub failed_in : {A : Type 0} → Result A TxFault → Option PmdFault
 failed_in (Ok x) = None
 failed_in (Err f) = Some f.fault
 
--- Calls were made, some of them the driver's own; they lead from ring `v` to ring `w`. Each packet that they accept is
--- in the blocks with these numbers. A fault follows from the last of them or from the refused one.
+-- The device calls that were made, some of them the driver's own, lead from ring `v` to ring `w`. Each packet that they
+-- accept is in the blocks with these numbers. A fault follows from the last of these calls or from the refused call.
 pub record Acts (blocks : List ℕ) (f : Option PmdFault) (old : List Call) (v : Sender) (new : List Call) (w : Sender)
     : Type 0 where
   pub plays : PlaysWith blocks old v new w
@@ -31,8 +32,8 @@ pub record Continues (f : Option PmdFault) (old : List Call) (v : Sender) (new :
   pub kept : IsNoneAccepted v w
   pub layout : w.layout ≡ v.layout
 
--- The oldest `parts` segments were reaped, which end `packets` packets, and their blocks are free in the arena. The
--- tail has passed all segments that remain.
+-- The oldest `parts` segments, of which `packets` end a packet, were reaped. Their blocks are free in the arena. The
+-- tail has passed all remaining segments.
 pub record HasReaped (f : Option PmdFault) (old : List Call) (v : Sender) (a : Numbers) (new : List Call) (w : Sender)
     (b : Numbers) (parts packets : ℕ) : Type 0 where
   pub acts : (blocks : List ℕ) → Acts blocks f old v new w
@@ -42,8 +43,8 @@ pub record HasReaped (f : Option PmdFault) (old : List Call) (v : Sender) (a : N
   pub accepted : w.accepted ≡ v.accepted
   pub layout : w.layout ≡ record v.layout { next = w.layout.next }
 
--- The number of segments and packets reaped. The result says whether a segment was reaped, and whether it ends its
--- packet.
+-- The number of segments reaped, and the number of packets reaped. The result says whether a segment was reaped, and
+-- whether that segment ends its packet.
 
 abbrev pub parts_reaped : Result (Option Bool) PmdFault → ℕ
 parts_reaped (Ok (Some end)) = 1

@@ -14,7 +14,7 @@ abbrev pub padded_packet : Packet → Packet
 padded_packet p =
     if nat_lt p.len 60 then record p { bufs = with_first p.bufs p.len (replicate (60 - p.len) 0); len = 60 } else p
 
--- The packet with these first bytes and this length, if the length is below 60.
+-- If the length is below 60, the packet with these first bytes and this length; otherwise the packet unchanged.
 abbrev pub unpadded : Packet → ℕ → List ℕ → Packet
 unpadded p len start = if nat_lt len 60 then record p { bufs = with_first p.bufs 0 start; len = len } else p
 

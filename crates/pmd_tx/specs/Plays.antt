@@ -11,13 +11,13 @@ use Rattle.pmd_access.specs.declared.fault.PmdFault.{PmdFault}
 use Rattle.pmd_access.specs.declared.fault.PmdFault.TheVariants as fault
 use Rattle.pmd_tx.specs.Sending.{Sender, Move, Accepts, Elsewhere, IsOwn, moved, is_healthy, is_sent, descriptor_at, first_end}
 
--- The driver after these moves, with the replies of these calls: all that its code knows.
+-- The driver after these moves, given the replies to these calls. This is everything that the driver's code knows.
 abbrev pub played_by : Sender → List Move → List Call → Sender
 played_by v [] calls = v
 played_by v (m ∷ moves) [] = v
 played_by v (m ∷ moves) (n ∷ calls) = played_by (moved v m n.reply) moves calls
 
--- Each call is the event of its move.
+-- Each of these calls has the event of its move.
 abbrev pub AllOwn : Sender → List Move → List Call → Type 0
 AllOwn v [] [] = ⊤
 AllOwn v [] (n ∷ calls) = ⊥
@@ -32,8 +32,8 @@ is_elsewhere m = false
 abbrev pub OthersStep : List Move → List Call → Type 0
 OthersStep moves calls = StepsWhere is_elsewhere moves calls
 
--- Some calls were made, which lead the driver from one state to the other through these moves. The calls that aren't
--- its own are device steps.
+-- Calls were made that lead the driver from one state to the other through these moves. The calls that aren't the
+-- driver's own are device steps.
 abbrev pub Plays : List Call → Sender → List Call → Sender → Type 0
 Plays old v new w =
     (moves : List Move) × (since : List Call) × (new ≡ old ++ since) × AllOwn v moves since
@@ -44,18 +44,19 @@ abbrev pub AcceptsIn : List ℕ → Move → Type 0
 AcceptsIn blocks (Accepts p) = p.blocks ≡ blocks
 AcceptsIn blocks m = ⊤
 
--- This holds for each of these moves.
+-- Each packet that one of these moves accepts is in the blocks with these numbers.
 abbrev pub AllAcceptIn : List ℕ → List Move → Type 0
 AllAcceptIn blocks [] = ⊤
 AllAcceptIn blocks (m ∷ moves) = AcceptsIn blocks m × AllAcceptIn blocks moves
 
--- The calls made are the driver's moves, which lead it from its old state to the new one, and device steps. Each packet
--- that they accept is in the blocks with these numbers.
+-- The calls made are device steps and the driver's moves, which lead the driver from its old state to its new one. Each
+-- packet that these moves accept is in the blocks with these numbers.
 pub record PlaysWith (blocks : List ℕ) (old : List Call) (v : Sender) (new : List Call) (w : Sender) : Type 0 where
   pub plays : Plays old v new w
   pub accepts : AllAcceptIn blocks plays.0
 
--- The last call looked at the end of the oldest outstanding packet, which isn't done. No packet was accepted before it.
+-- The last call read the descriptor that ends the oldest outstanding packet, and found the packet not done. No packet
+-- was accepted before that call.
 pub record LooksLast (old : List Call) (v : Sender) (new : List Call) (w : Sender) : Type 0 where
   pub mid : List Call
   pub before : Sender
@@ -68,8 +69,8 @@ pub record LooksLast (old : List Call) (v : Sender) (new : List Call) (w : Sende
   pub accepted : before.accepted ≡ v.accepted
   pub left : w ≡ record before { done = 0 }
 
--- The last call was a move of the driver, and its reply isn't one that a healthy queue sends. Each packet accepted
--- before it, or that it was to accept, is in the blocks with these numbers.
+-- The last call was a move of the driver, and the reply to it isn't one that a healthy queue sends. Each packet that
+-- was accepted before this call, or that the call was to accept, is in the blocks with these numbers.
 pub record Faults (blocks : List ℕ) (old : List Call) (v : Sender) (new : List Call) : Type 0 where
   pub mid : List Call
   pub before : Sender
@@ -82,8 +83,8 @@ pub record Faults (blocks : List ℕ) (old : List Call) (v : Sender) (new : List
   pub adds : Adds mid new event reply
   pub sick : is_healthy move reply ≡ false
 
--- After these calls, the refused event is a move that the driver may make next. Each packet accepted before it, or that
--- it was to accept, is in the blocks with these numbers.
+-- After these calls, the refused event is a move that the driver may make next. Each packet that was accepted before
+-- this move, or that the move was to accept, is in the blocks with these numbers.
 pub record AsksNext (blocks : List ℕ) (old : List Call) (v : Sender) (new : List Call) : Type 0 where
   pub before : Sender
   pub move : Move
@@ -93,9 +94,9 @@ pub record AsksNext (blocks : List ℕ) (old : List Call) (v : Sender) (new : Li
   pub mine : is_elsewhere move ≡ false
   pub accepts : AcceptsIn blocks move
 
--- After `DeviceFault`, the last call was a move of the driver, and its reply isn't one that a healthy queue sends.
--- After a refused call, its event is a move that the driver may make next. Each packet accepted, or to be accepted, is
--- in the blocks with these numbers.
+-- After `DeviceFault`, the last call was a move of the driver, and the reply to it isn't one that a healthy queue
+-- sends. After a refused call, that call's event is a move that the driver may make next. Each packet accepted, or to
+-- be accepted, is in the blocks with these numbers.
 abbrev pub FaultsBy : PmdFault → List ℕ → List Call → Sender → List Call → Type 0
 FaultsBy fault.DeviceFault blocks old v new = Faults blocks old v new
 FaultsBy (fault.Call refusal) blocks old v new = AsksNext blocks old v new

@@ -39,7 +39,7 @@ are_out a (n ∷ numbers) =
 abbrev pub goes_home : Sender → Numbers → Packet → Bool
 goes_home v a p = are_out a (numbers_of p.bufs) && not (list_any (λ n. keeps v n) (numbers_of p.bufs))
 
--- Whether there is no room for a packet. All slots except one may be outstanding.
+-- Whether the ring has no room for a packet. Outstanding segments may take all slots except one.
 abbrev pub is_full : Sender → Packet → Bool
 is_full v p = not (nat_lt (length v.outstanding + parts_for p.len) v.layout.size)
 
@@ -64,7 +64,7 @@ IsTried (Ok Taken) = ⊤
 IsTried (Ok (RingFull p)) = ⊥
 IsTried (Err f) = IsLate f.fault
 
--- The answer follows from the packet's check. A refusal or a full ring returns the packet.
+-- The result follows from the packet's check. If the packet is refused or the ring is full, the packet is returned.
 abbrev pub IsAnswer : Gate → Packet → Result TxAnswer TxFault → Type 0
 IsAnswer (Refused f) p r = r ≡ Err (record { fault = f; packet = Some p })
 IsAnswer Full p r = r ≡ Ok (RingFull p)
@@ -75,8 +75,8 @@ IsShut (Refused f) = ⊤
 IsShut Full = ⊤
 IsShut Open = ⊥
 
--- If the ring is reported as full, the outstanding segments and the packet's together would take more than all but one
--- of the ring's slots.
+-- If the ring is reported as full, the outstanding segments and the packet's own would together leave no slot of the
+-- ring free.
 abbrev pub IsFullWhereReported : Sender → Packet → Result TxAnswer TxFault → Type 0
 IsFullWhereReported v given (Ok (RingFull p)) = v.layout.size ≤ length v.outstanding + parts_for given.len
 IsFullWhereReported v given (Ok Taken) = ⊤
@@ -88,7 +88,7 @@ returned (Ok Taken) = None
 returned (Ok (RingFull p)) = Some p
 returned (Err f) = f.packet
 
--- The packet was accepted, as the newest.
+-- The packet was accepted and is the newest.
 pub record IsAccepted (v : Sender) (p : Packet) (w : Sender) : Type 0 where
   pub accepted : w.accepted ≡ v.accepted ++ accepted_of p ∷ []
   pub outstanding : w.outstanding ≡ v.outstanding ++ segments_of (outgoing_of p)
@@ -114,7 +114,7 @@ abbrev pub ends_in : List Segment → ℕ
 ends_in [] = 0
 ends_in (s ∷ segments) = (if s.part.last then 1 else 0) + ends_in segments
 
--- The oldest `parts` outstanding segments were reaped, which end `packets` packets, and their blocks are free in the
+-- The oldest `parts` outstanding segments, of which `packets` end a packet, were reaped. Their blocks are free in the
 -- arena.
 pub record Frees (v w : Sender) (a b : Numbers) (parts packets : ℕ) : Type 0 where
   pub few : parts ≤ length v.outstanding
@@ -122,7 +122,7 @@ pub record Frees (v w : Sender) (a b : Numbers) (parts packets : ℕ) : Type 0 w
   pub home : b ≡ with_all_free a (take parts (blocks_of v.outstanding))
   pub packets_are : packets ≡ ends_in (take parts v.outstanding)
 
--- Some of the oldest outstanding segments were reaped, which end `packets` packets, and their blocks are free in the
+-- Some of the oldest outstanding segments, of which `packets` end a packet, were reaped. Their blocks are free in the
 -- arena.
 abbrev pub FreesSome : Sender → Sender → Numbers → Numbers → ℕ → Type 0
 FreesSome v w a b packets = (parts : ℕ) × Frees v w a b parts packets

@@ -38,7 +38,7 @@ newest_part (k ∷ l ∷ kept) left = newest_part (l ∷ kept) left
 unfoldable pub outstanding_of : List Piece → List Kept → List Segment
 outstanding_of pieces accepted = paired (places_of pieces) (latest (length pieces) accepted)
 
--- A piece agrees with a part on its length, the packet's length, and whether it is the last.
+-- A piece agrees with a part on the part's length, on the packet's length, and on whether the part is the last.
 pub record Tells (p : Piece) (q : Part) : Type 0 where
   pub len : p.len ≡ length q.bytes
   pub whole : p.whole ≡ q.whole
@@ -90,7 +90,7 @@ pub record IsRing (l : Layout) (pieces : List Piece) (waiting : List Block) (len
   pub beside : All (λ (p : Piece). is_ring_block l.ring l.size p.block ≡ false) pieces
   pub apart : AreDistinct (places_of pieces)
 
--- A packet in hand, as lending its first block accepts it.
+-- How a packet in hand is accepted when its first block is lent.
 abbrev pub sent_as : Packet → Outgoing
 sent_as p = record { blocks = take (parts_for p.len) (numbers_of p.bufs); kept = kept_of p }
 

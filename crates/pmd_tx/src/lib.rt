@@ -1,8 +1,8 @@
 //! The transmit half of the poll-mode driver.
 //!
 //! `ring.rt` contains one step for each access that the driver makes to its ring; `sending.rt` and `reaping.rt` build
-//! on these. Contracts say which calls are the driver's and which step each call is, and how its plain state follows
-//! from them.
+//! on these steps. The contracts state which calls are the driver's own, which step each of them performs, and how the
+//! driver's plain state follows from these calls.
 #![tactic(auto)]
 
 mod answer;

@@ -1,4 +1,4 @@
-//! Padding: a packet is sent with at least 60 bytes.
+//! Zero-pads short packets: a packet is sent with at least 60 bytes.
 
 ghost use Rattle.std.specs.Prelude.{◌≡◌, ◌≤◌, ◌<◌, ◌∷◌, ◌+◌, length, take, drop};
 ghost use Rattle.pmd_tx.specs.Padding.{first_bytes, padded_packet, unpadded, with_first};
@@ -9,7 +9,7 @@ use std::mem;
 /// The minimum length of a sent packet in bytes.
 const SHORTEST: u16 = 60;
 
-/// Pads a packet with zero bytes to 60 bytes.
+/// Pads a packet with zero bytes to 60 bytes, if it is shorter.
 pub(crate) fn pad(packet: Packet) -> Packet
     requires { 0 < length packet.bufs }
     ensures { result ≡ padded_packet packet }
@@ -33,7 +33,7 @@ pub(crate) fn pad(packet: Packet) -> Packet
     }
 }
 
-/// The bytes that padding may overwrite.
+/// Returns the bytes that padding may overwrite: the first 60 bytes of the packet's first block.
 pub(crate) fn start_of(packet: &Packet) -> [u8; 60]
     requires { 0 < length packet.now.bufs }
     ensures { result ≡ first_bytes packet.now.bufs }
@@ -65,7 +65,7 @@ pub(crate) fn unpad(packet: Packet, len: u16, start: &[u8; 60]) -> Packet
     }
 }
 
-/// Writes these bytes into the first Buf, starting at its byte `at`.
+/// Writes these bytes into the first of the Bufs, starting at byte `at` of that Buf.
 fn put_first(bufs: Bufs, at: usize, bytes: &[u8]) -> Bufs
     requires some { 0 < length bufs }
     requires room { at + length bytes.now ≤ 2048 }
@@ -82,7 +82,7 @@ fn put_first(bufs: Bufs, at: usize, bytes: &[u8]) -> Bufs
     }
 }
 
-/// Puts a Buf before the others.
+/// Returns Bufs that consist of `first`, followed by `others`.
 pub(crate) fn after(first: Buf, others: Bufs) -> Bufs
     requires { length others < 5 }
     ensures { result ≡ first ∷ others }
@@ -112,7 +112,7 @@ pub(crate) fn repacked(first: Buf, others: Bufs, len: u16, rss: u8, hash: u32) -
     }
 }
 
-/// Puts a Buf back before the others.
+/// Puts a Buf back in front of the others.
 pub(crate) fn put_back(bufs: &mut Bufs, first: Buf)
     requires { length bufs.old < 5 }
     ensures { bufs.new ≡ first ∷ bufs.old }

@@ -13,13 +13,13 @@ use std::collections::VecDeque;
 /// A part of a packet: its block, its length, the packet's length, and whether it is the packet's last part.
 #[derive(Clone, Copy)]
 pub(crate) struct Piece {
-    /// The block that contains it.
+    /// The block that contains the part.
     pub(crate) block: u32,
-    /// Its length in bytes.
+    /// The part's length in bytes.
     pub(crate) len: u16,
     /// The packet's length in bytes.
     pub(crate) whole: u16,
-    /// Whether it is the packet's last part.
+    /// Whether the part is the packet's last.
     pub(crate) last: bool,
 }
 
@@ -34,8 +34,8 @@ pub(crate) fn parts_for(len: u16) -> u16
     ((u32::from(len) + 2047) / 2048) as u16
 }
 
-/// Appends the pieces of a packet of `whole` bytes: one in block `first` and one in each of these Bufs. The queue
-/// already has room for them.
+/// Appends a packet's pieces to `pieces`, which has room for them: one in block `first` and one in each of the Bufs
+/// `others`. The packet has `whole` bytes.
 pub(crate) fn add_pieces(pieces: &mut VecDeque<Piece>, first: u32, others: &Bufs, whole: u16)
     requires room { deque_len pieces.old + 1 + length others.now ≤ deque_capacity pieces.old }
     requires full { 2048 * length others.now ≤ whole }
@@ -62,7 +62,7 @@ pub(crate) fn add_pieces(pieces: &mut VecDeque<Piece>, first: u32, others: &Bufs
     });
 }
 
-/// The index of the first piece that ends its packet. The newest piece must end one.
+/// Returns the index of the first piece that ends its packet. The newest piece must end its packet.
 pub(crate) fn first_last(pieces: &VecDeque<Piece>) -> u16
     requires some { 0 < length pieces.now.items }
     requires few { length pieces.now.items ≤ 1024 }

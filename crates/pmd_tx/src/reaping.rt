@@ -16,9 +16,9 @@ use pmd_access::{Arena, Nic, PmdFault};
 use std::alloc::Global;
 
 impl TransmitRing {
-    /// Frees the blocks of sent packets, oldest first. It first continues with the packets that have waited since
-    /// earlier calls, as `flush` does. Its clauses promise that, if it returns without a fault, the tail has passed
-    /// both the freed packets and the oldest remaining one.
+    /// Frees the blocks of sent packets, oldest first. Before that, the call continues with the packets that have
+    /// waited since earlier calls, as `flush` does. If the call returns without a fault, its clauses promise that the
+    /// tail has passed both the freed packets and the oldest remaining packet.
     ///
     /// `DeviceFault` if the device sends a reply that a healthy queue can't send, `Call` if a call was refused. Blocks
     /// already freed stay free.
@@ -29,11 +29,12 @@ impl TransmitRing {
         arena: &mut Arena,
     ) -> Result<Reaped, PmdFault>
         requires { AreOut arena.old (blocks_of self.old.outstanding) }
-        // The calls are the ring's moves, in order, with device steps in between, even if it fails.
+        // Even if `reap` fails, the device calls that it makes are the ring's moves, in order, with device steps in
+        // between.
         ensures plays { (blocks : List ℕ) → PlaysWith blocks (N.made nic.old) self.old (N.made nic.new) self.new }
         // `idle` is set exactly if no packet is outstanding.
         ensures idle { IfOk result (λ done. IsTrue done.idle ↔ (self.new.outstanding ≡ [])) }
-        // The last call showed that the oldest packet isn't done.
+        // If `idle` isn't set, the last device call showed that the oldest packet isn't done.
         ensures waits { IfOk result (λ done.
             done.idle ≡ false → LooksLast (N.made nic.old) self.old (N.made nic.new) self.new) }
         ensures freed { IfOk result (λ done. FreesSome self.old self.new arena.old arena.new done.freed) }
@@ -44,8 +45,8 @@ impl TransmitRing {
         // In the ring's layout, only the slot of the oldest packet changes.
         ensures layout { self.new.layout ≡ record self.old.layout { next = self.new.layout.next } }
         ensures late { IfErr result (λ fault. IsLate fault) }
-        // After `DeviceFault`, the last call was a move of the driver and its reply is one that a healthy queue never
-        // sends. After `Call`, the refused event is a move that the driver may make next.
+        // After `DeviceFault`, the last device call was a move of the driver, and the reply to it is one that a healthy
+        // queue never sends. After `Call`, the refused event is a move that the driver may make next.
         ensures faults { (blocks : List ℕ) → IfErr result (λ fault.
             FaultsBy fault blocks (N.made nic.old) self.old (N.made nic.new)) }
         ensures began { BeganAs N.began nic.old nic.new }
@@ -69,7 +70,8 @@ impl TransmitRing {
 }
 
 impl TransmitRing {
-    /// Frees the block of the oldest segment, if its packet was sent. Returns whether the segment ends its packet.
+    /// Frees the block of the oldest segment, if its packet was sent, and returns whether the segment ends its packet.
+    /// Returns `None` if the packet isn't done.
     fn reap_oldest<N: Nic>(
         &mut self,
         alloc: Global,
@@ -91,7 +93,8 @@ impl TransmitRing {
         }
     }
 
-    /// Looks at the end of the oldest packet, unless its segments are known to be done. Returns whether they are.
+    /// Returns whether the oldest packet's segments are done. Unless they are known to be done, it reads the descriptor
+    /// that ends the packet.
     fn see_oldest<N: Nic>(&mut self, alloc: Global, nic: &mut N) -> Result<bool, PmdFault>
         requires some { 0 < length self.old.outstanding }
         requires settled { self.old.posted ≡ length self.old.outstanding }

@@ -34,7 +34,7 @@ use std::collections::VecDeque;
 use std::marker::Model;
 use std::mem;
 
-/// A driver's transmit ring, and the packets it accepted.
+/// A driver's transmit ring, with the packets that the ring has accepted.
 pub struct TransmitRing {
     port: Port,
     tail: u32,
@@ -85,9 +85,9 @@ impl Model for TransmitRing {
 }
 
 impl TransmitRing {
-    /// Creates a ring of 1 to 1,024 slots for a queue that is being enabled; nothing is outstanding. The ring occupies
-    /// consecutive blocks starting at block `ring`, all below 65,536. `tail` is the number of the tail register at the
-    /// port; `limit` is the maximum length of a packet, 60 to 10,240 bytes. It allocates nothing.
+    /// Creates a ring of 1 to 1,024 slots for a queue that is being enabled, with nothing outstanding. The ring
+    /// occupies consecutive blocks starting at block `ring`, all below 65,536. `tail` is the number of the tail
+    /// register at the port; `limit` is the maximum length of a packet, 60 to 10,240 bytes. The call allocates nothing.
     #[tactic(auto, using(crate::proofs::Outstanding::outstanding))]
     pub fn new(
         alloc: Global,
@@ -121,15 +121,15 @@ impl TransmitRing {
         }
     }
 
-    /// The packets accepted so far, oldest first.
+    /// Returns the packets accepted so far, oldest first.
     pub fn accepted(&self) -> &[Record]
         ensures { result.now ≡ self.now.accepted }
     {
         self.accepted.as_slice()
     }
 
-    /// Closes the ring. Returns the lent blocks, which must still be taken back, the blocks of waiting segments, and
-    /// the accepted packets, oldest first. If there is no memory, returns the ring unchanged.
+    /// Closes the ring. Returns the lent blocks, which must still be taken back; the blocks of waiting segments; and
+    /// the accepted packets, oldest first. If there is no memory, the call returns the ring unchanged.
     #[tactic(auto, using(crate::proofs::Outstanding::outstanding))]
     pub fn close(self, alloc: Global) -> Result<(Reclaim, Bufs, Vec<Record>), TransmitRing>
         ensures way { IfOk result (λ ends. ends.0 ≡ record { lent = lent_of self; lost = 0 }) }
@@ -160,10 +160,10 @@ impl TransmitRing {
         Ok((Reclaim::of(lent), waiting, accepted))
     }
 
-    /// The number of the first block that the ring occupies.
+    /// Returns the number of the first block that the ring occupies.
     pub fn ring_block(&self) -> u32
         ensures block { result ≡ self.now.layout.ring }
-        // Below 65,536.
+        // The number is below 65,536.
         ensures small { result < 65536 }
     {
         u32::from(self.ring)
@@ -178,8 +178,8 @@ impl TransmitRing {
         self.limit
     }
 
-    /// Returns whether the ring keeps the block with this number: a block that it occupies, or an outstanding segment's
-    /// block.
+    /// Returns whether the ring keeps the block with this number: the ring occupies the block, or the block belongs to
+    /// an outstanding segment.
     #[tactic(auto, using(crate::proofs::Outstanding::outstanding))]
     pub fn keeps(&self, block: u32) -> bool
         ensures { result ≡ keeps self.now block }
@@ -187,7 +187,8 @@ impl TransmitRing {
         is_ring_block(self.ring_block(), self.size, block) || holds(&self.pieces, block)
     }
 
-    /// Returns whether there isn't room for `more` segments. All slots of the ring except one may be outstanding.
+    /// Returns whether the ring has too little room for `more` segments. Outstanding segments may take all slots of the
+    /// ring except one.
     #[tactic(auto, using(crate::proofs::Outstanding::outstanding))]
     pub(crate) fn is_full(&self, more: u16) -> bool
         requires { more ≤ 32 }
@@ -196,7 +197,8 @@ impl TransmitRing {
         self.count() + more >= self.size
     }
 
-    /// The number of segments that still fit, 0 to 1,023. All slots of the ring except one may be outstanding.
+    /// Returns the number of segments that still fit, 0 to 1,023. Outstanding segments may take all slots of the ring
+    /// except one.
     #[tactic(auto, using(crate::proofs::Outstanding::outstanding))]
     pub fn vacant(&self) -> u16
         ensures vacant { result ≡ self.now.layout.size - 1 - length self.now.outstanding }
@@ -214,12 +216,12 @@ impl TransmitRing {
         self.pieces.len() as u16
     }
 
-    /// The number of packets accepted but not yet reaped, which is the number of last parts among the outstanding
-    /// segments.
+    /// Returns the number of packets that are accepted but not yet reaped. This is the number of outstanding segments
+    /// that end a packet.
     #[tactic(auto, using(crate::proofs::Counting::counting))]
     pub fn outstanding(&self) -> u16
         ensures packets { result ≡ packets_in self.now.outstanding }
-        // Below 1,024.
+        // The number is below 1,024.
         ensures few { result < 1024 }
     {
         count_ends(&self.pieces) as u16
@@ -236,7 +238,7 @@ impl TransmitRing {
         self.poked
     }
 
-    /// Returns whether the block of the next segment without a written descriptor is lent.
+    /// Returns whether the block of the next segment to get a descriptor is lent.
     pub(crate) fn is_next_lent(&self) -> bool
         ensures reported { (result ≡ true) ↔ (self.now.poked < self.now.lent) }
         ensures order { self.now.poked ≤ self.now.lent }
@@ -278,7 +280,7 @@ impl TransmitRing {
         next_slot(self.size, self.next)
     }
 
-    /// The slot `after` places past the oldest segment's slot.
+    /// Returns the slot that is `after` slots past the oldest segment's slot.
     fn slot(&self, after: u16) -> u16
         requires { after ≤ self.now.layout.size }
         ensures { result ≡ slot_at self.now.layout after }
@@ -286,7 +288,7 @@ impl TransmitRing {
         slot_after(self.size, self.next, after)
     }
 
-    /// The bus address of the descriptor `after` places past the oldest segment's descriptor.
+    /// Returns the bus address of the descriptor that is `after` descriptors past the oldest segment's.
     fn descriptor(&self, after: u16) -> u32
         requires { after ≤ self.now.layout.size }
         ensures { result ≡ descriptor_at self.now.layout after }
@@ -296,8 +298,8 @@ impl TransmitRing {
 }
 
 impl TransmitRing {
-    /// Lends the first block of a packet, which accepts the packet. Returns the Bufs that contain none of its bytes. If
-    /// the block can't be lent, returns the packet.
+    /// Lends the first block of a packet, which accepts the packet. Returns the Bufs that contain none of the packet's
+    /// bytes. If the first block can't be lent, returns the packet.
     ///
     /// `DeviceFault` if a block with its number is already lent.
     pub(crate) fn accept<N: Nic>(
@@ -472,7 +474,7 @@ impl TransmitRing {
 
     /// Advances the tail, handing all segments to the device.
     ///
-    /// `DeviceFault` if the port has no such register.
+    /// `DeviceFault` if the port has no register with the tail's number.
     pub(crate) fn advance<N: Nic>(&mut self, alloc: Global, nic: &mut N) -> Result<(), PmdFault>
         requires all { self.old.poked ≡ length self.old.outstanding }
         requires some { self.old.posted < self.old.poked }
@@ -500,7 +502,7 @@ impl TransmitRing {
         u32::from(self.slot(self.poked))
     }
 
-    /// Writes the tail register. Returns whether the port has it.
+    /// Writes the tail register. Returns whether the port has this register.
     fn write_tail<N: Nic>(
         &self,
         alloc: Global,
@@ -517,7 +519,7 @@ impl TransmitRing {
         write(alloc, nic, self.port, self.tail, word)
     }
 
-    /// Records that the tail has passed these segments.
+    /// Records that the tail has passed all segments with a written descriptor.
     fn keep_advanced(&mut self)
         ensures { self.new ≡ advanced self.old }
     {
@@ -526,7 +528,7 @@ impl TransmitRing {
 }
 
 impl TransmitRing {
-    /// Looks at the end of the oldest packet. Returns whether it was sent.
+    /// Reads the descriptor that ends the oldest packet. Returns whether the packet was sent.
     ///
     /// `DeviceFault` if the ring is no longer lent.
     pub(crate) fn look<N: Nic>(&mut self, alloc: Global, nic: &mut N) -> Result<bool, PmdFault>
@@ -560,7 +562,7 @@ impl TransmitRing {
         first_last(&self.pieces)
     }
 
-    /// Records whether the oldest packet was sent, given the descriptor of its last segment.
+    /// Records and returns whether the oldest packet was sent, given the descriptor of its last segment.
     fn see(&mut self, end: u16, bytes: &[u8; 16]) -> bool
         requires end { end ≡ first_end self.old.outstanding }
         requires posted { end < self.old.posted }

@@ -37,7 +37,7 @@ pub fn are_out(arena: &Arena, bufs: &Bufs) -> bool
     true
 }
 
-/// Returns whether a block can be returned to the arena, and no Buf after this one has its number.
+/// Returns whether this Buf's block can be returned to the arena and no later Buf has the same number.
 fn is_out(arena: &Arena, bufs: &Bufs, number: usize, block: u32) -> bool
     requires { number < length bufs.now }
     ensures { result ≡ (is_own arena.now block && not (is_free arena.now block)
@@ -46,7 +46,7 @@ fn is_out(arena: &Arena, bufs: &Bufs, number: usize, block: u32) -> bool
     arena.owns(block) && !arena.is_free(block) && !comes_again(bufs, number, block)
 }
 
-/// Returns whether a Buf after this one has the block's number.
+/// Returns whether a later Buf has the same block number.
 fn comes_again(bufs: &Bufs, number: usize, block: u32) -> bool
     requires { number < length bufs.now }
     ensures { result ≡ list_any (λ b. block == b) (drop (number + 1) (numbers_of bufs.now)) }
@@ -80,19 +80,22 @@ impl TransmitRing {
         false
     }
 
-    /// Sends a packet of 1 byte to the limit, zero-padded to 60 bytes if it is shorter. For each part, it lends the
-    /// block and writes the descriptor. Then it advances the tail past this packet and past those queued earlier. It
-    /// first continues with a packet that has waited since an earlier call. `elsewhere` says whether another ring of
-    /// the driver has lent a block with one of the packet's block numbers.
+    /// Sends a packet of at least 1 byte and at most the limit; a packet shorter than 60 bytes is zero-padded to 60.
+    /// The call first continues with a packet that has waited since an earlier call. For each part of the new packet,
+    /// it then lends the block and writes the descriptor. Finally it advances the tail past this packet and past those
+    /// queued earlier. `elsewhere` says whether another ring of the driver has lent a block with one of the packet's
+    /// block numbers.
     ///
-    /// It checks the packet before any event. `BadSize` if its length is out of range or above the capacity of its
-    /// blocks; `ForeignBlock` if its blocks can't be returned to the arena or one of them is lent elsewhere; `RingFull`
-    /// if the outstanding segments and the packet's together would take more than all but one of the ring's slots.
+    /// The packet is checked before any event. The result is `BadSize` if the packet's length is out of range or above
+    /// the capacity of its blocks. It is `ForeignBlock` if the packet's blocks can't be returned to the arena or one of
+    /// them is lent elsewhere. It is `RingFull` if the outstanding segments and the packet's own would together leave
+    /// no slot of the ring free.
     ///
-    /// After that, `DeviceFault` if the device sends a reply that a healthy queue can't send; `Call` if a call was
-    /// refused, or if there was no memory for the record. If none of its blocks was lent yet, the packet is returned;
-    /// after `DeviceFault`, its blocks have the same numbers. Otherwise it is accepted, and the next call continues
-    /// with it. Blocks that contain no bytes of an accepted packet return to the arena.
+    /// After the check, the result is `DeviceFault` if the device sends a reply that a healthy queue can't send. It is
+    /// `Call` if a call was refused, or if there was no memory for the record. If none of the packet's blocks was lent
+    /// yet, the packet is returned; after `DeviceFault`, its blocks have the same numbers. Otherwise the packet is
+    /// accepted, and the next call continues with it. Blocks that contain no bytes of an accepted packet return to the
+    /// arena.
     pub fn send<N: Nic>(
         &mut self,
         alloc: Global,
@@ -125,13 +128,13 @@ impl TransmitRing {
         }
     }
 
-    /// Does the work of `send` but doesn't advance the tail, so that one `flush` can advance it past several packets.
-    /// For each part of the packet, it lends the block and writes the descriptor. It first finishes lending and writing
-    /// for a packet that has waited since an earlier call.
+    /// Does the work of `send` except advancing the tail, which one `flush` can later advance past several packets. The
+    /// call first lends the remaining blocks and writes the remaining descriptors of a packet that has waited since an
+    /// earlier call. Then, for each part of the new packet, it lends the block and writes the descriptor.
     ///
-    /// It returns what `send` returns. If none of its blocks was lent yet, the packet is returned; otherwise it is
-    /// accepted, and the next call continues with it. The device sends it after `flush`, `send` or `reap` has advanced
-    /// the tail past it.
+    /// The call returns what `send` returns. If none of the packet's blocks was lent yet, the packet is returned;
+    /// otherwise it is accepted, and the next call continues with it. The device sends an accepted packet after
+    /// `flush`, `send` or `reap` has advanced the tail past it.
     pub fn queue<N: Nic>(
         &mut self,
         alloc: Global,
@@ -188,7 +191,7 @@ impl TransmitRing {
         Gate::Open
     }
 
-    /// Continues with the waiting packet, then queues this one, which passed the check.
+    /// Continues with the waiting packet, then queues `packet`, which passed the check.
     fn queue_through<N: Nic>(
         &mut self,
         alloc: Global,
@@ -260,8 +263,8 @@ impl TransmitRing {
         }
     }
 
-    /// Pads a packet and lends its first block. Returns the Bufs that contain none of its bytes. If that block can't be
-    /// lent, returns the packet as it was.
+    /// Pads a packet and lends its first block. Returns the Bufs that contain none of the packet's bytes. If the first
+    /// block can't be lent, undoes the padding and returns the packet.
     fn accept_padded<N: Nic>(
         &mut self,
         alloc: Global,
@@ -290,9 +293,10 @@ impl TransmitRing {
 }
 
 impl TransmitRing {
-    /// Continues with accepted packets that the tail hasn't passed. For the last of them it lends the remaining blocks
-    /// and writes the remaining descriptors; then it advances the tail past all of them. Without a fault, every block
-    /// is lent and the tail has passed everything. It makes no call if the tail has passed all packets.
+    /// Continues with the accepted packets that the tail hasn't passed. For the newest of these packets, the call lends
+    /// the remaining blocks and writes the remaining descriptors; then it advances the tail past all of them. If there
+    /// is no fault, every block is lent and the tail has passed every packet. If the tail had already passed all
+    /// packets, no device call is made.
     ///
     /// `DeviceFault` if the device sends a reply that a healthy queue can't send, `Call` if a call was refused; the
     /// next call continues.
@@ -317,8 +321,8 @@ impl TransmitRing {
         }
     }
 
-    /// Lends the remaining blocks and writes the remaining descriptors of the waiting packet, if there is one. It
-    /// leaves the tail unchanged.
+    /// If a packet is waiting, lends its remaining blocks and writes its remaining descriptors. The tail stays
+    /// unchanged.
     fn ask_waiting<N: Nic>(&mut self, alloc: Global, nic: &mut N) -> Result<(), PmdFault>
         ensures asks { Asks N.began N.refuses (fault_in result) nic.old nic.new }
         ensures continues { Continues (fault_in result) (N.made nic.old) self.old (N.made nic.new) self.new }

@@ -1,5 +1,5 @@
--- A legal history of a sound device that leaves a queue alone, and what holds at each point at which its pass has made
--- given calls.
+-- Legal histories of a sound device that leave a queue alone, and what holds at each point where the driver's pass has
+-- made given calls.
 use Rattle.std.specs.Prelude.{[], ◌++◌, ◌<◌, ◌∷◌, ◌≡◌, List, ℕ}
 use Rattle.pmd_driver.specs.DeviceLock.History.{AreEvents, IsLegal}
 use Rattle.ring_laws.specs.Alone.{LeavesAloneFrom}
@@ -7,7 +7,8 @@ use Rattle.driver_laws.specs.StartPrelude.{Block, Blocks, Call, Entry, Event, Is
 use Rattle.driver_laws.specs.StartPrelude.{call_in, calls_of, leads_to, reply_to}
 use Rattle.driver_laws.specs.{Moves.IsMet, Standing.IsLeft}
 
--- The history begins with a sound device, in any state, with this number of virtual functions.
+-- The history begins with a sound device in any state. The device has this number of virtual functions, and the history
+-- is legal and leaves the queue alone.
 pub record IsAlong (w : Watched) (origin : State) (h : List Entry) : Type 0 where
   pub small : w.queue < 128
   pub sound : IsSound origin
@@ -21,7 +22,7 @@ abbrev pub AtEntries : Watched → List Entry → List Call → (List Entry → 
 AtEntries w h calls P =
     (done rest : List Entry) → done ++ rest ≡ h → calls_of w.pass done ≡ calls → P done
 
--- `P` holds for the state at each of these points.
+-- `P` holds for the state at each point where the pass has made exactly these calls.
 abbrev pub AtCalls : Watched → State → List Entry → List Call → (State → Type 0) → Type 0
 AtCalls w origin h calls P = AtEntries w h calls (λ done. P (leads_to origin done))
 
@@ -35,7 +36,7 @@ BeforeLast w origin h calls P =
 abbrev pub IsKept : Watched → Blocks → (State → Type 0) → Type 0
 IsKept w mine P = (s : State) (e : Event Block) → IsLeft w mine s e → P s → P (after s e)
 
--- The driver's own call leads from `P` to `Q`, if it can be made.
+-- If the driver's own call can be made in a state where `P` holds, `Q` holds after the call.
 abbrev pub Leads : ℕ → Call → (State → Type 0) → (State → Type 0) → Type 0
 Leads queue c P Q =
     (s : State) → IsMet queue s → IsEvent c.event → c.reply ≡ reply_to s c.event → P s → Q (after s c.event)

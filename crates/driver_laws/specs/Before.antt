@@ -1,4 +1,4 @@
--- Entries before the place where the device agrees with both halves, for example those of a driver's start.
+-- Entries before the point where the device agrees with both halves, for example those of a driver's start.
 use Rattle.std.specs.Prelude.{[], ⊤, ◌*◌, ◌==◌, ◌||◌, ◌∷◌, ◌≢◌, ◌≤◌, All, List, false, ℕ}
 use Rattle.pmd_driver.specs.NicDevice.RegisterFile.Settings.{frame_limit}
 use Rattle.driver_laws.specs.StartPrelude.{AreEvents, Block, Blocks, Call, Entry, Event, FitsBlocks, IsLegal, LendsNone}

@@ -12,8 +12,8 @@ use Rattle.pmd_driver.specs.{Life.KeepsHalves, PmdAccess.Begun.From, PmdAccess.B
 use Rattle.pmd_driver.specs.PmdAccess.{Begun.began_in_hand, Made.InHand, Scheduled.Handled}
 use Rattle.pmd_driver.specs.{PmdAccess.Scheduled.own_calls, Started.HasStarted}
 
--- A legal history of a sound device in any initial state, and its retagged form: the same calls, but those that the
--- driver's author made alongside the driver carry another pass's tag.
+-- A legal history of a sound device in any initial state, and the retagged form of that history. The retagged form
+-- contains the same calls, but those that the driver's author made alongside the driver carry another pass's tag.
 pub record WasReported (origin : State) (h g : List Entry) : Type 0 where
   pub sound : IsSound origin
   pub events : AreEvents h
@@ -21,19 +21,19 @@ pub record WasReported (origin : State) (h g : List Entry) : Type 0 where
   pub same : AreSame h g
 
 -- The retagged history leaves the queue alone. So after the first entry of the driver's pass, the author's calls write
--- no row of the queue and no setting, and don't reset its pool. They lend, take and poke no block that the driver
--- itself lends.
+-- no row of the queue and no setting, and don't reset the queue's pool. They lend, take and poke no block that the
+-- driver itself lends.
 pub record IsRetagged (w : Watched) (origin : State) (h g : List Entry) : Type 0 where
   pub small : w.queue < 128
   pub vfs : w.vfs ≡ origin.vfs
   pub was : WasReported origin h g
   pub alone : LeavesAloneFrom w origin g
 
--- From one moment of a running driver to the next, with the calls so far that were the driver's own. Either a call to
--- `rx`, `tx`, `reap`, `rx_burst` or `tx_burst`, as its clause `drives` says; then all calls are the driver's own. Or
--- any calls of the author, through any way to the device, with at most one call to `packet` or `release`, as its clause
--- `halves` says. In the second case, the way's record of its calls may start fresh, for example if a `Direct` is
--- finished and another one is created.
+-- From one moment of a running driver to the next, given the calls so far that were the driver's own. In the first
+-- case, there was a call to `rx`, `tx`, `reap`, `rx_burst` or `tx_burst`, as its clause `drives` says; then all calls
+-- are the driver's own. In the second case, there were any calls of the author, through any `Nic`, with at most one
+-- call to `packet` or `release`, as its clause `halves` says. In the second case, the `Nic`'s record of its calls may
+-- start fresh, for example if a `Direct` is finished and another one is created.
 
 abbrev pub DroveBy : Moment → List Call → Moment → List Call → Type 0
 DroveBy m own n then = Drove m n × (since : List Call) × (n.made ≡ m.made ++ since) × (then ≡ own ++ since)
@@ -48,9 +48,9 @@ abbrev pub AllFollowBy : Moment → List Call → List Moment → List Call → 
 AllFollowBy m own [] then = then ≡ own
 AllFollowBy m own (n ∷ later) then = (next : List Call) × FollowsBy m own n next × AllFollowBy n next later then
 
--- A `start` brought the driver up, as its clause `started` says, and the other moments follow the moment when it
--- returned. The driver's own calls are the calls of its start and its calls since. Other calls of its pass may precede
--- them, no matter which of the calls made before the start are reported as the pass's.
+-- A `start` brought the driver up, as its clause `started` says, and the other moments follow the moment when the start
+-- returned. The driver's own calls are the calls of its start and its calls since then. Other calls of its pass may
+-- precede these, no matter which of the calls made before the start are reported as the pass's.
 pub record IsReportedBy (q : AtPort) (size frame : ℕ) (old : List Call) (a : Numbers) (m : Moment) (later : List Moment)
     (ahead own : List Call) : Type 0 where
   pub started : HasStarted q size frame old a m.made m.driver
@@ -61,8 +61,8 @@ pub record IsReportedBy (q : AtPort) (size frame : ℕ) (old : List Call) (a : N
   pub access : started.2.receive.quiet.0 ≡ old ++ first
   pub since : AllFollowBy m (ahead ++ start) later own
 
--- A driver that is reported this way, over a retagged history. Just before its first access, its port and queue name
--- this queue, and the device's frame limit is the driver's packet limit.
+-- A driver that is reported this way, over a retagged history. Just before the driver's first access, its port and
+-- queue name this queue, and the device's frame limit is the driver's packet limit.
 pub record Beside : Type 0 where
   pub course : Course
   pub open course use *
@@ -75,7 +75,7 @@ pub record Beside : Type 0 where
   pub reported : IsReportedBy q size frame old a m later ahead own
   pub ground : BeforeLast w origin g (ahead ++ reported.first) (HasGround w.queue q frame)
 
--- Its last moment.
+-- The last moment of this driver.
 abbrev pub now : Beside → Moment
 now x = last x.m x.later
 
@@ -83,7 +83,7 @@ now x = last x.m x.later
 abbrev pub IsReportedBeside : Beside → Type 0
 IsReportedBeside x = calls_of x.w.pass x.g ≡ x.own
 
--- The moments are also reported for the driver's own calls alone, with the same driver at each.
+-- The same moments, reported for the driver's own calls alone. At each of them, the driver is the same.
 abbrev pub by_own : List Call → Moment → Moment
 by_own own m = record m { made = own }
 
@@ -95,7 +95,7 @@ pub record IsReportedAgain (q : AtPort) (size frame : ℕ) (old : List Call) (a 
   pub access : reported.started.2.receive.quiet.0 ≡ ahead ++ x.first
   pub ends : last (by_own (ahead ++ x.start) m) others ≡ by_own own (last m later)
 
--- So all laws about what a driver's calls report apply to the retagged history.
+-- It follows that all laws about what a driver's calls report apply to the retagged history.
 abbrev pub OwnAreReported : Type 0
 OwnAreReported =
     (q : AtPort) (size frame : ℕ) (old : List Call) (a : Numbers) (m : Moment) (later : List Moment)
@@ -136,16 +136,16 @@ pub record IsCalledBeside (x : Beside) (n : Moment) : Type 0 where
   pub made : n.made ≡ (now x).made ++ since
   pub look : EndsAt x.w.pass x.g (x.own ++ since)
 
--- If that call polls in vain, what the driver had handed out is everything delivered before the entry of its last poll.
--- The entries counted are the original history's entries that correspond to the retagged ones.
+-- If that call polls in vain, what the driver had handed out is everything delivered before the entry of the call's
+-- last poll. The entries counted are the original history's entries that correspond to the retagged ones.
 abbrev pub NoneIsAllBefore : Type 0
 NoneIsAllBefore =
     (x : Beside) (n : Moment) (called : IsCalledBeside x n) → LooksInVain (now x) n →
     (early : List Entry) → AreSame early called.look.before →
     handed_of (now x).driver.rings ≡ delivered x.w.queue x.origin early
 
--- What it had handed out is also everything delivered before the call's own first event, whatever the author did before
--- it.
+-- What the driver had handed out is also everything delivered before the call's own first event, whatever the author
+-- did before that event.
 abbrev pub NoneIsAllAtFirst : Type 0
 NoneIsAllAtFirst =
     (x : Beside) (n : Moment) (called : IsCalledBeside x n) → LooksInVain (now x) n →
@@ -153,8 +153,8 @@ NoneIsAllAtFirst =
     AddsHarmless x.own (calls_of x.w.pass before) → AreSame early before →
     handed_of (now x).driver.rings ≡ delivered x.w.queue x.origin early
 
--- If that call ends with a packet outstanding, not everything that the driver had accepted was sent before its first
--- event.
+-- If that call ends with a packet outstanding, not everything that the driver had accepted was sent before the call's
+-- first event.
 abbrev pub WaitingIsNotAll : Type 0
 WaitingIsNotAll =
     (x : Beside) (n : Moment) (called : IsCalledBeside x n) → Waits (now x) n →
@@ -162,8 +162,8 @@ WaitingIsNotAll =
     AddsHarmless x.own (calls_of x.w.pass before) → AreSame early before →
     bytes_of (accepted_of (now x).driver.rings) ≢ sent_since x.w.queue x.origin [] early
 
--- Entries after a retagged history that are retagged too: pass 0 made these calls in them, and they lead to the given
--- device.
+-- Entries that follow a retagged history and are retagged too. In them, pass 0 made these calls, and they lead to the
+-- given device.
 pub record GoesOn (origin : State) (before reported es again : List Entry) (calls : List Call) (device : State) :
     Type 0 where
   pub was : WasReported origin (before ++ es) (reported ++ again)
@@ -171,9 +171,9 @@ pub record GoesOn (origin : State) (before reported es again : List Entry) (call
   pub leads : leads_to origin (before ++ es) ≡ device
 
 -- The calls through a `Direct` or an `Interleaved` continue a retagged history. Marks say which of the calls are the
--- driver's own; an `Interleaved` has further marks for its own and foreign calls. This may continue through several
--- ways in succession. If two drivers share one device, each has its own marks, according to which the other driver's
--- calls aren't its own.
+-- driver's own; an `Interleaved` has further marks for its own and foreign calls. The retagged history may continue in
+-- this manner through several `Direct`s or `Interleaved`s in succession. If two drivers share one device, each driver
+-- has separate marks, according to which the other driver's calls aren't its own.
 
 abbrev pub DirectIsRetagged : Type 0
 DirectIsRetagged =

@@ -1,5 +1,6 @@
--- A driver whose author makes any other calls alongside it. If nobody else lends a block of its arena that it tries to
--- lend, none of its calls finds the device at fault, and each block is in one place.
+-- A driver whose author makes any other calls alongside it. Suppose that nobody else lends a block of the driver's
+-- arena that the driver tries to lend. Then none of its calls finds the device at fault, and each block is in one
+-- place.
 use Rattle.std.specs.Prelude.{if◌then◌else◌, ◌+◌, ◌++◌, ◌≡◌, IsTrue, List, ℕ}
 use Rattle.driver_laws.specs.StartPrelude.{Call, arena_of, calls_of}
 use Rattle.driver_laws.specs.StartPrelude.{halted_of, has_block, is_free, is_own, places_of}
@@ -10,8 +11,9 @@ use Rattle.driver_laws.specs.Beside.{Beside, IsReportedBeside, now}
 use Rattle.driver_laws.specs.Faultless.{FindsFault, IsFresh, MeetsFault, NoneLent}
 
 -- In the retagged history, the driver's own calls up to its last moment were made, then one more of its calls, and
--- perhaps others after. Just before its first access, the waiting frames were short and the blocks of its arena that it
--- tries to lend weren't lent. After its first entry, neither another pass nor the author tries to lend any of them.
+-- perhaps others after that call. Just before the driver's first access, the waiting frames were short and the blocks
+-- of its arena that it tries to lend weren't lent. After the first entry of the driver's pass, neither another pass nor
+-- the author tries to lend any of these blocks.
 pub record IsCalledApart (x : Beside) (n : Moment) : Type 0 where
   pub fresh :
       BeforeLast x.w x.origin x.g (x.ahead ++ x.reported.first) (IsFresh x.w.queue x.frame (asked_of x.w x.a x.g))
@@ -21,7 +23,7 @@ pub record IsCalledApart (x : Beside) (n : Moment) : Type 0 where
   pub more : List Call
   pub all : calls_of x.w.pass x.g ≡ (x.own ++ since) ++ more
 
--- No history of this kind has a call that finds the device at fault, nor a burst that meets it at fault.
+-- In no history of this kind does a call find the device at fault, or a burst meet the device at fault.
 
 abbrev pub NoCallFindsFault : Type 0
 NoCallFindsFault = (x : Beside) (n : Moment) → FindsFault (now x) n → ¬ IsCalledApart x n
@@ -42,14 +44,14 @@ pub record IsAloneBeside (x : Beside) : Type 0 where
   pub fresh : BeforeLast x.w x.origin x.g (x.ahead ++ x.reported.first) (NoneLent (asked_of x.w x.a x.g))
   pub others : OthersLendNone x.w.pass (asked_of x.w x.a x.g) x.g
 
--- Each of these blocks that is lent to the device is out.
+-- Each block of the arena that the driver tries to lend is out if it is lent to the device.
 abbrev pub LentIsOut : Type 0
 LentIsOut =
     (x : Beside) → IsAloneBeside x → (number : ℕ) → IsTrue (asked_of x.w x.a x.g number) →
     IsTrue (has_block (memory_after x.origin x.h) number) → IsTrue (is_out (now x).driver.rings number)
 
--- Each block that was free in the arena handed to the driver, or out of it then, is in one place. Others may have lent
--- those among them that were out, or that the driver handed out.
+-- Each block that was free in the arena handed to the driver, or that was out of the arena then, is in one place.
+-- Others may have lent those of these blocks that were out, or that the driver handed out.
 abbrev pub EachInOnePlace : Type 0
 EachInOnePlace =
     (x : Beside) → IsAloneBeside x → (outside hand elsewhere : List ℕ) →

@@ -14,9 +14,9 @@ StartAdds =
     (start : List Call) × (first : List Call) × (new ≡ old ++ start) × (up.receive.quiet.0 ≡ old ++ first)
 
 -- A legal history that leaves the queue alone in its retagged form. In it, a start made these calls, perhaps after
--- others of its pass and perhaps followed by more. Just before its first access, both sides were off, the waiting
--- frames were short and the blocks of its arena that it tries to lend weren't lent. After its first entry, neither
--- another pass nor the author tries to lend any of them.
+-- others of its pass and perhaps followed by more. Just before the start's first access, both sides were off, the
+-- waiting frames were short and the blocks of the arena that the pass tries to lend weren't lent. After the pass's
+-- first entry, neither another pass nor the author tries to lend any of these blocks.
 pub record BeginsBeside : Type 0 where
   pub course : Course
   pub open course use *

@@ -26,7 +26,7 @@ SentIsPrefix =
     (x : Beside) (new : List Call) → IsStoppedBeside x new → TakesOnceOff x.q (now x).made new →
     IsSentInOrder x.course (accepted_of (now x).driver.rings)
 
--- After the calls so far have switched both sides off, nothing more is delivered or sent on the queue.
+-- After the stop's calls so far have switched both sides off, nothing more is delivered or sent on the queue.
 abbrev pub SilentOnceOff : Type 0
 SilentOnceOff =
     (x : Beside) (new : List Call) (stopped : IsStoppedBeside x new)

@@ -6,8 +6,8 @@ use Rattle.pmd_driver.specs.PmdAccess.Packet.{Kept}
 use Rattle.ring_laws.specs.Delivered as receive
 use Rattle.ring_laws.specs.Laws as transmit
 
--- A driver is started with an arena, after some calls of its pass. Its queue is watched over a history that begins in
--- some state.
+-- A driver is started with an arena, after some calls of its pass. The driver's queue is watched over a history that
+-- begins in some state.
 pub record Course : Type 0 where
   pub w : Watched
   pub origin : State

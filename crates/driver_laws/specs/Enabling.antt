@@ -6,8 +6,8 @@ use Rattle.driver_laws.specs.StartPrelude.{enable_row}
 use Rattle.driver_laws.specs.StartPrelude.{has_bit, named, place}
 use Rattle.pmd_driver.specs.NicDevice.declared.event.Event.TheVariants as event
 
--- Nothing is outstanding if the word requests that the transmit side be enabled. There is no condition for the receive
--- side.
+-- If the word requests that the transmit side be enabled, nothing is outstanding. For the receive side, every word is
+-- allowed.
 abbrev pub MayAsk : Dir → ℕ → Halves → Type 0
 MayAsk Rx word h = ⊤
 MayAsk Tx word h = has_bit 25 word ≡ true → h.transmit.outstanding ≡ []

@@ -10,12 +10,12 @@ abbrev pub Each : (Call → Type 0) → List Call → Type 0
 Each P [] = ⊤
 Each P (c ∷ cs) = P c × Each P cs
 
--- The number names a register of the driver's queue, at its port.
+-- At the driver's port, the number names a register of the driver's queue.
 abbrev pub NamesDriven : AtPort → Port → ℕ → Type 0
 NamesDriven q port number =
     (row : RowId) × (port ≡ q.port) × (is_driven row ≡ true) × IsNumberOf q.port row q.queue number
 
--- The event writes no register, or only the queue's.
+-- If the event writes a register, this is one of the driver's queue.
 abbrev pub IsPlain : AtPort → Event Block → Type 0
 IsPlain q (event.Write port number word) = NamesDriven q port number
 IsPlain q other = ⊤

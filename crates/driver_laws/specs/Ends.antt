@@ -34,11 +34,12 @@ abbrev pub LeavesSent : Ended → Type 0
 LeavesSent x = IsSentInOrder x.course (left_accepted x.left)
 
 -- The packets that the driver's stop returns as handed out are a prefix of those delivered. The frames sent are a
--- prefix of those that it returns as accepted.
+-- prefix of those that the stop returns as accepted.
 abbrev pub LeftIsPrefix : Type 0
 LeftIsPrefix = (x : Ended) → IsToStop x → LeavesHanded x × LeavesSent x
 
--- Both lists are in order during and after the stop too, including everything delivered and sent in the meantime.
+-- Packets and frames are also in order during and after the stop, including everything delivered and sent in the
+-- meantime.
 
 abbrev pub HandedOverStop : Type 0
 HandedOverStop = (x : Ended) → IsOver x → LeavesHanded x

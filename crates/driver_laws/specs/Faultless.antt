@@ -29,9 +29,9 @@ FindsFault m n =
     WhereUp m.driver.rings n.driver.rings
     (λ r s. FindsBy DeviceFault (is_own r.arena) m.made (halves_of r) n.made)
 
--- In its history, the pass made the calls up to this last moment, and perhaps more after them. Just before the driver's
--- first access, the waiting frames were short and the blocks of its arena that its pass tries to lend weren't lent.
--- After the pass's first entry, no other pass tries to lend any of them.
+-- In its history, the pass made the calls up to the last moment, and perhaps more after them. Just before the driver's
+-- first access, the waiting frames were short and the blocks of the driver's arena that the pass tries to lend weren't
+-- lent. After the pass's first entry, no other pass tries to lend any of these blocks.
 pub record IsReportedApart (x : Reported) (n : Moment) : Type 0 where
   pub fresh :
       BeforeLast x.w x.origin x.h x.reported.started.2.receive.quiet.0
@@ -44,7 +44,8 @@ pub record IsReportedApart (x : Reported) (n : Moment) : Type 0 where
 abbrev pub NoCallFindsFault : Type 0
 NoCallFindsFault = (x : Reported) (n : Moment) → FindsFault (now x) n → ¬ IsReportedApart x n
 
--- The fault that a burst met, whatever it returned: while it made room, with a packet, or none.
+-- The fault that a burst met, if any, whatever the burst returned. It met the fault while it made room, or with a
+-- packet.
 abbrev pub met_by : (failed : Option PmdFault) (given left : List Packet) (result : Result ℕ PmdFault) (old : List Call)
     (r : Running) (new : List Call) (s : Running) → SendsWith failed given left result old r new s → Option PmdFault
 met_by None given left result old r new s sends = sends.met
@@ -70,8 +71,9 @@ abbrev pub IsQuietAndFresh : ℕ → AtPort → ℕ → Blocks → State → Typ
 IsQuietAndFresh queue q frame own s = IsQuiet queue q frame s × IsFresh queue frame own s
 
 -- A legal history of a sound device that leaves the queue alone, in which a start made these calls, perhaps followed by
--- more. Just before its first access, both sides were off, the waiting frames were short and the blocks of its arena
--- that its pass tries to lend weren't lent. After the pass's first entry, no other pass tries to lend any of them.
+-- more. Just before the start's first access, both sides were off, the waiting frames were short and the blocks of the
+-- arena that the pass tries to lend weren't lent. After the pass's first entry, no other pass tries to lend any of
+-- these blocks.
 pub record BeginsApart : Type 0 where
   pub course : Course
   pub open course use *

@@ -23,9 +23,9 @@ NoneIsLent w origin h calls a =
     (number : ℕ) → is_free a number ≡ true → is_asked calls number ≡ true →
     BeforeLast w origin h calls (λ s. IsFalse (has_block s.memory number))
 
--- If the queue is off just before the start's first call, the start sees no side on. Each value written to the receive
--- ring's registers takes effect, and each of the ring's blocks is lent, if no free block of the arena that the start
--- tries to lend is already lent.
+-- Suppose that both sides of the queue are off just before the start's first call. Then the start sees no side on.
+-- Suppose also that no free block of the arena that the start tries to lend is already lent. Then each value written to
+-- the receive ring's registers takes effect, and each of the ring's blocks is lent.
 abbrev pub ReceiveIsReady : Type 0
 ReceiveIsReady =
     (w : Watched) (q : AtPort) (origin : State) (h : List Entry) (size frame : ℕ) (old : List Call) (a : Numbers)
@@ -33,8 +33,8 @@ ReceiveIsReady =
     BeforeNext w origin h old (IsQuiet w.queue q frame) → ReceiveFails DeviceFault q size old a new b out →
     NoneIsLent w origin h new b → Never w origin h new
 
--- Next, each value written to the transmit ring's registers takes effect, and each of the ring's blocks is lent, under
--- the same conditions.
+-- Next, under the same conditions, each value written to the transmit ring's registers takes effect, and each of the
+-- ring's blocks is lent.
 abbrev pub TransmitIsReady : Type 0
 TransmitIsReady =
     (w : Watched) (q : AtPort) (origin : State) (h : List Entry) (size frame : ℕ) (old : List Call) (a : Numbers)

@@ -10,8 +10,8 @@ abbrev pub doers_of : (own : Blocks) (old : List Call) (h : Halves) (new : List 
     → List Doer
 doers_of own old h new f = f.drives.drives.0 ++ (doers_other f.adds.0 ++ f.doer ∷ [])
 
--- If a history drives the halves and shares the numbers with no other pass, no call in it ends this way. The calls
--- before it lend only what the driver's calls may lend.
+-- If a history drives the halves and shares the numbers with no other pass, no call in the history ends with the device
+-- at fault. The calls before that call lend only what the driver's calls may lend.
 abbrev pub NoFault : Type 0
 NoFault =
     (w : Watched) (origin : State) (start rest more : List Entry) (h : Halves) (doers : List Doer) (own : Blocks)

@@ -1,4 +1,4 @@
--- How far a start got that ends with the device at fault.
+-- How far a start had come that ends with the device at fault.
 use Rattle.std.specs.Prelude.{[], ⊤, ◌≡◌, ◌⊎◌, List, true, ℕ}
 use Rattle.pmd_driver.specs.PmdRx.Filling.{StopsFilling}
 use Rattle.ring_laws.specs.ReceiveUp.{IsUp}
@@ -62,7 +62,7 @@ LendsFresh w origin h q size frame old a new (inl x) = NoneIsLent w origin h new
 LendsFresh w origin h q size frame old a new (inr (inl x)) = NoneIsLent w origin h new x.arena
 LendsFresh w origin h q size frame old a new (inr (inr x)) = ⊤
 
--- A start that returns `DeviceFault` during its events ends in one of these ways.
+-- A start that returns `DeviceFault` during its events either fails early or fails while it fills the receive ring.
 abbrev pub FaultsAreEarlyOrFilling : Type 0
 FaultsAreEarlyOrFilling =
     (q : AtPort) (size frame : ℕ) (old : List Call) (a : Numbers) (new : List Call) (e : StartRefused) →
@@ -76,7 +76,7 @@ NoFaultIsEarly =
     (new : List Call) → IsAlong w origin h → BeforeNext w origin h old (IsQuiet w.queue q frame) →
     (x : FaultsEarly q size frame old a new) → LendsFresh w origin h q size frame old a new x → Never w origin h new
 
--- When it began to fill the ring, the device and the driver agreed on both sides, and the receive side was up.
+-- When the start began to fill the ring, the device and the driver agreed on both sides, and the receive side was up.
 abbrev pub FillingBeginsWell : Type 0
 FillingBeginsWell =
     (w : Watched) (q : AtPort) (origin : State) (h : List Entry) (size frame : ℕ) (old : List Call) (a : Numbers)

@@ -20,8 +20,8 @@ spares_all (Some p) word =
     not (is_setting p.row) && not (is_receive p.row) && not (is_transmit p.row)
     && not (asks_pool_reset (row_of p.row).kind word)
 
--- Whether an event is harmless. Through the physical function, it writes no register that a queue relies on; through a
--- virtual function, it writes none at all. It lends, takes and pokes no block.
+-- Whether an event is harmless. Through the physical function, a harmless event writes no register that a queue relies
+-- on; through a virtual function, it writes no register at all. It lends, takes and pokes no block.
 abbrev pub is_harmless : Event Block → Bool
 is_harmless (event.Write Pf number word) = spares_all (place_among runs number) word
 is_harmless (event.Write (Vf v) offset word) = false
@@ -48,8 +48,8 @@ AreHarmless (c ∷ calls) = IsTrue (is_harmless c.event) × AreHarmless calls
 abbrev pub AddsHarmless : List Call → List Call → Type 0
 AddsHarmless old new = (more : List Call) × (new ≡ old ++ more) × AreHarmless more
 
--- A call of a harmless event through a way to a device adds only harmless calls, by the way's clause `made`. A refused
--- call adds only harmless calls too, by its clause `refused`.
+-- A call of a harmless event through a `Nic` adds only harmless calls, by the `Nic`'s clause `made`. A refused call
+-- adds only harmless calls too, by the clause `refused`.
 abbrev pub CallsAddHarmless : Type 0
 CallsAddHarmless =
     (old new : List Call) (e : Event Block) (reply : Reply Block) → Adds old new e reply → IsTrue (is_harmless e) →
@@ -65,13 +65,13 @@ OthersHarmless (d ∷ doers) [] = ⊤
 OthersHarmless (d ∷ doers) (c ∷ calls) =
     (IsTrue (is_neither d) → IsTrue (is_harmless c.event)) × OthersHarmless doers calls
 
--- Some calls were made that lead the halves from one state to another. Those that belong to neither half are harmless.
+-- Calls were made that lead the halves from one state to another. Those that belong to neither half are harmless.
 abbrev pub Leads : List Call → Halves → List Call → Halves → Type 0
 Leads old h new k =
     (doers : List Doer) × (since : List Call) × (new ≡ old ++ since) × AllOwn h doers since
     × (k ≡ played_by h doers since) × OthersHarmless doers since
 
--- So the driver's calls lead the halves on, because those that belong to neither half are device steps.
+-- The driver's calls lead the halves on, because the calls that belong to neither half are device steps.
 abbrev pub DrivesLead : Type 0
 DrivesLead = (old new : List Call) (h k : Halves) → Drives old h new k → Leads old h new k
 

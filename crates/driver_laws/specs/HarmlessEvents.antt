@@ -31,7 +31,8 @@ pub record WritesAre (word : ℕ) : Type 0 where
   pub reset : IsNot 0x00300 0x04000000 × IsNot 0x003FC 0x04000000
   pub no_reset : IsHarmless 0x00300 0x03FFFFFF × IsHarmless 0x003FC 0xF8000000
 
--- Writes by a virtual function aren't harmless, nor are lending, taking or poking a block. Every other event is.
+-- Writes by a virtual function aren't harmless, nor are lending, taking or poking a block. Every other event is
+-- harmless.
 pub record OthersAre : Type 0 where
   pub function : (v offset word : ℕ) → is_harmless (event.Write (Vf v) offset word) ≡ false
   pub lend : (block : Block) → is_harmless (event.Lend block) ≡ false

@@ -1,4 +1,4 @@
--- The replies to a driver's calls, over a history that leaves its queue alone, are those of a healthy queue.
+-- Over a history that leaves the driver's queue alone, the replies to the driver's calls are those of a healthy queue.
 use Rattle.std.specs.Prelude.{[], ⊤, ◌∷◌, IsTrue, List}
 use Rattle.pmd_driver.specs.Apart.{is_healthy}
 use Rattle.driver_laws.specs.StartPrelude.{AllLendApart, Blocks, Call, Doer, Entry, Halves, OnlyLent, State, Watched}

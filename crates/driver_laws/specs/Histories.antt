@@ -11,8 +11,8 @@ use Rattle.ring_laws.specs.Delivered as receive
 use Rattle.ring_laws.specs.ReceiveUp as receiving
 use Rattle.ring_laws.specs.Laws as transmit
 
--- Which half an entry belongs to, and the doers that remain after it. The entries of the driver's pass belong to the
--- doers in turn; entries of other passes belong to neither half.
+-- Which half an entry belongs to, and the doers that remain after that entry. The entries of the driver's pass belong
+-- to the doers in turn; entries of other passes belong to neither half.
 abbrev pub doer_of : Bool → List Doer → Doer
 doer_of false doers = Sends Elsewhere
 doer_of true [] = Sends Elsewhere
@@ -45,7 +45,7 @@ pub record IsDriven (w : Watched) (origin : State) (start rest : List Entry) (h 
   pub own : AllOwn h doers (calls_of w.pass rest)
   pub others : OthersLeaveAlone w (lent_by w.pass (start ++ rest)) (leads_to origin start) doers rest
 
--- What the driver returned is a prefix of what was delivered since its receive side was last enabled.
+-- What the driver returned is a prefix of what was delivered since the queue's receive side was last enabled.
 abbrev pub HandedIsPrefix : Type 0
 HandedIsPrefix =
     (w : Watched) (origin : State) (start rest : List Entry) (h : Halves) (doers : List Doer) →
@@ -85,7 +85,8 @@ NoneIsAllBefore =
     (played_by h early (calls_of w.pass before)).receive.handed
     ≡ delivered w.queue origin (start ++ before)
 
--- What was sent on the queue since then is a prefix of what the driver accepted, and all of it if none is outstanding.
+-- What was sent on the queue after the first entries is a prefix of what the driver accepted, and all of it if no
+-- packet is outstanding.
 abbrev pub SentIsPrefix : Type 0
 SentIsPrefix =
     (w : Watched) (origin : State) (start rest : List Entry) (h : Halves) (doers : List Doer) →
@@ -101,8 +102,8 @@ IdleIsAllSent =
     bytes_of (played_by h doers (calls_of w.pass rest)).transmit.accepted
     ≡ sent_in w.queue (leads_to origin start) rest
 
--- If the queue's transmit side is up at the end of the first entries, everything sent after them is counted since it
--- was last enabled.
+-- If the queue's transmit side is up at the end of the first entries, everything sent after them is counted since that
+-- side was last enabled.
 abbrev pub CountedWhereUp : Type 0
 CountedWhereUp =
     (w : Watched) (origin : State) (start rest : List Entry) (h : Halves) (doers : List Doer) →

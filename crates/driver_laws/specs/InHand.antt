@@ -41,7 +41,7 @@ DirectIsHistory =
     began_in_hand d (From (leads_to s before)) → LeavesAlone (in_hand s queue) (before ++ entries_in d.calls) →
     IsHistoryOf s queue (before ++ entries_in d.calls) d.calls d.device
 
--- The calls through an `Interleaved`, together with the foreign events, form a history too, if these leave the queue
+-- The calls through an `Interleaved`, together with the foreign events, form a history too, if they leave the queue
 -- alone from that state on.
 abbrev pub InterleavedIsHistory : Type 0
 InterleavedIsHistory =
@@ -71,10 +71,10 @@ pub record IsHistoryAtLock (vfs fifo tag queue : ℕ) (h : List Entry) (calls : 
   pub along : IsAlong (at_lock vfs tag queue) (new_state vfs fifo) h
   pub made : calls_of tag h ≡ calls
 
--- The calls through a `ThroughLock`, at any time, form a history up to each place where its pass had made exactly these
--- calls. The premise: `left_alone` is true for its tag and the queue. If the pass is among those that closed the
--- history, with these calls and perhaps more after them, there is a place of this kind right after the last of these
--- calls (`CallsStand`).
+-- The calls through a `ThroughLock`, at any time, form a history up to each point where its pass had made exactly these
+-- calls. The premise: `left_alone` is true for the pass's tag and the queue. If the pass is among those that closed the
+-- history, with these calls and perhaps more after them, such a point comes right after the last of these calls
+-- (`CallsStand`).
 abbrev pub ClosedIsHistory : Type 0
 ClosedIsHistory =
     (vfs fifo queue : ℕ) (h : List Entry) (ps : List PassValue) (t : AtLock) → queue < 128 → IsClosed vfs fifo h ps →

@@ -62,9 +62,9 @@ abbrev pub LaysOn : AtPort → Laid → List Call → Laid → Type 0
 LaysOn q l [] last = last ≡ l
 LaysOn q l (c ∷ cs) last = (m : Laid) × Lays q l c.event m × LaysOn q m cs last
 
--- Over a legal history that leaves the queue alone, take a call of its pass before which port and queue name it and its
--- transmit side is off. If that call and the pass's calls after it lay out the ring in this way, nothing is sent on the
--- queue from that call on.
+-- Over a legal history that leaves the queue alone, take a call of the driver's pass. Just before that call, port and
+-- queue name the queue, and the queue's transmit side is off. If that call and the pass's calls after it lay out the
+-- ring in this order, nothing is sent on the queue from that call on.
 abbrev pub LaidQueueIsSilent : Type 0
 LaidQueueIsSilent =
     (w : Watched) (q : AtPort) (frame : ℕ) (origin : State) (h done rest : List Entry) (e : Entry) (last : Laid) →

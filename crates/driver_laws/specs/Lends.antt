@@ -1,4 +1,5 @@
--- What a driver lends over its life: blocks of the arena handed to it, none of which its other half has lent.
+-- What a driver lends over its life: blocks of the arena handed to the driver, none of which the driver's other half
+-- has lent.
 use Rattle.std.specs.Prelude.{ℕ, List}
 use Rattle.driver_laws.specs.StartPrelude.{Numbers, is_own, Call, Halves, halves_of, Running, AtPort, DrivesApart}
 use Rattle.pmd_driver.specs.Life.{Lives}

@@ -1,4 +1,4 @@
--- A driver call that polls in vain, whether for one packet or for several: it finds none that is complete.
+-- A driver call that polls in vain, whether for one packet or for several: the call finds no packet that is complete.
 use Rattle.std.specs.Prelude.{ℕ, ◌≡◌, List, [], ◌∷◌, ◌++◌}
 use Rattle.driver_laws.specs.StartPrelude.{call_in, calls_of, Call, Entry, Receive, delivered}
 use Rattle.pmd_driver.specs.PmdRx.Plays as receiving
@@ -13,7 +13,8 @@ pub record EndsAt (pass : ℕ) (h : List Entry) (calls : List Call) : Type 0 whe
   pub all : before ++ entry ∷ following ≡ h
   pub made : calls_of pass before ++ call_in entry ∷ [] ≡ calls
 
--- If the pass has made some calls, and perhaps more after them, there is an entry of this kind.
+-- If the pass has made some calls, and perhaps more after them, the history has such an entry for the last of these
+-- calls.
 abbrev pub CallsEnd : Type 0
 CallsEnd =
     (pass : ℕ) (h : List Entry) (calls more : List Call) (c : Call) →
@@ -31,8 +32,8 @@ NoneIsAllBefore =
     (x : Life) (new : List Call) (v : Receive) (looked : LooksInVain x new v) →
     x.k.receive.handed ≡ delivered x.w.queue x.origin looked.look.before
 
--- What it had handed out is also everything delivered before the call's own first event, even if harmless calls come
--- before that event.
+-- What the driver had handed out is also everything delivered before the call's own first event, even if harmless calls
+-- come before that event.
 abbrev pub NoneIsAllAtFirst : Type 0
 NoneIsAllAtFirst =
     (x : Life) (new : List Call) (v : Receive) (looked : LooksInVain x new v) (before more : List Entry) →

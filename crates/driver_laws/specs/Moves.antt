@@ -20,7 +20,7 @@ pub record IsMet (queue : ℕ) (s : State) : Type 0 where
   pub small : queue < 128
   pub sound : IsSound s
 
--- If an enable request is in effect for a side, its ring is empty.
+-- If an enable request is in effect for a side, the side's ring is empty.
 abbrev pub MayGoOn : Side → Type 0
 MayGoOn x = x.wanted ≡ true → is_empty x.ring ≡ true
 
@@ -33,8 +33,8 @@ WriteStands dir =
     MayGoOn (side_with dir row word (sides dir)) → NamesRow s port number row queue →
     Stand queue (λ d. side_with d row word (sides d)) rings (after s (event.Write port number word))
 
--- A side after a register is read that returns bit 25 as `on`: the side is enabled if this is its enable word and bit
--- 25 is set.
+-- A side after a read of a register that returns bit 25 as `on`. If the register is the side's enable word and bit 25
+-- is set, the side is enabled.
 abbrev pub side_seen : Dir → RowId → Bool → Side → Side
 side_seen Rx Rxdctl on x = record x { on = x.on || on }
 side_seen Tx Txdctl on x = record x { on = x.on || on }

@@ -19,24 +19,25 @@ pub record AreOn (q : AtPort) (size frame : ℕ) (old : List Call) (a : Numbers)
   pub transmit : IsTransmitReady q size frame ready_made ready_arena both_made both_arena t
   pub switched : IsSwitched q both_made new true 1000
 
--- `P` holds wherever both sides were enabled in this way, over a history that leaves the queue alone, if port and queue
--- name it just before the driver's first access.
+-- Over a history that leaves the queue alone, `P` holds wherever both sides were enabled in this way. The premise: Just
+-- before the driver's first access, port and queue name the queue, and the device's frame limit is the driver's packet
+-- limit.
 abbrev pub WhereOn : (Watched → State → List Entry → List Call → Receive → Sender → Type 0) → Type 0
 WhereOn P =
     (w : Watched) (origin : State) (h : List Entry) (q : AtPort) (size frame : ℕ) (old : List Call) (a : Numbers)
     (new : List Call) (v : Receive) (t : Sender) (up : AreOn q size frame old a new v t) → IsAlong w origin h →
     BeforeLast w origin h up.receive.quiet.0 (HasGround w.queue q frame) → P w origin h new v t
 
--- Wherever the pass has made these calls, device and driver agree on both sides: nothing is posted or sent yet.
+-- Wherever the pass has made these calls, the device and the driver agree on both sides: nothing is posted or sent yet.
 abbrev pub SwitchedSidesAgree : Type 0
 SwitchedSidesAgree =
     WhereOn (λ w origin h new v t. AtCalls w origin h new (λ s. Agree w.queue s [] v × Agrees s w.queue [] t))
 
--- Both sides are on there, with nothing received or sent since they were enabled.
+-- At that point, both sides are on, with nothing received or sent since they were enabled.
 abbrev pub SwitchedSidesGoOn : Type 0
 SwitchedSidesGoOn = WhereOn (λ w origin h new v t. AtEntries w h new (WentOn w.queue origin))
 
--- At that place, no part of a frame that waits for the queue is written yet.
+-- At that point, no part of a frame that waits for the queue is written yet.
 abbrev pub SwitchedSidesBeginNone : Type 0
 SwitchedSidesBeginNone =
     WhereOn (λ w origin h new v t. AtCalls w origin h new (λ s. partial_on w.queue s.waiting ≡ 0))

@@ -1,5 +1,5 @@
--- Where a driver's blocks are: those that are out with its halves are lent to the device, and no other block that it
--- tries to lend is.
+-- Where a driver's blocks are. The blocks that are out with the driver's halves are lent to the device, and no other
+-- block that the driver tries to lend is lent.
 use Rattle.std.specs.Prelude.{[], if◌then◌else◌, ◌&&◌, ◌+◌, ◌++◌, ◌≡◌, Bool, IsTrue, List, ℕ, false, not}
 use Rattle.driver_laws.specs.{Before.is_asked, Healthy.lent_by, StartPrelude.Call, StartPrelude.calls_of}
 use Rattle.driver_laws.specs.StartPrelude.{Down, Entry, Halted, HasAll, Memory, Numbers, Rings, State, Up, arena_of}
@@ -33,21 +33,21 @@ pub record IsReportedAlone (x : Reported) : Type 0 where
   pub fresh : BeforeLast x.w x.origin x.h x.reported.started.2.receive.quiet.0 (NoneLent (asked_of x.w x.a x.h))
   pub others : OthersLendNone x.w.pass (asked_of x.w x.a x.h) x.h
 
--- Each of these blocks that is lent to the device is out.
+-- Each block of the arena that the pass tries to lend is out if it is lent to the device.
 abbrev pub LentIsOut : Type 0
 LentIsOut =
     (x : Reported) → IsReportedAlone x → (number : ℕ) → IsTrue (asked_of x.w x.a x.h number) →
     IsTrue (has_block (memory_after x.origin x.h) number) → IsTrue (is_out (now x).driver.rings number)
 
--- An arena was handed to a driver while these of its blocks were out of it, each once: in hand, or lent by others. Each
--- of them, and each that was free in the arena, is now free in it, out, or in hand. No other block is.
+-- When an arena was handed to a driver, these of its blocks were out of it, each once: in hand, or lent by others. Each
+-- of these blocks, and each that was free in the arena, is now free in it, out, or in hand. No other block is.
 pub record Balances (a : Numbers) (outside : List ℕ) (h : Halted) (hand : List ℕ) : Type 0 where
   pub once : AreOut a outside
   pub all : KeepsEach a outside h.arena (all_out h ++ hand)
 
--- This holds when the driver starts, with the blocks in hand that were out of the arena. It holds after each call, as
--- the call's clause `blocks` says: what was passed to the call is no longer in hand; what the call hands out, or leaves
--- in a list that was passed to it, is. The order of the blocks in hand doesn't matter.
+-- The blocks balance when the driver starts, with the blocks in hand that were out of the arena. They balance after
+-- each call, as the call's clause `blocks` says. What was passed to the call is no longer in hand; what the call hands
+-- out, or leaves in a list that was passed to it, is in hand. The order of the blocks in hand doesn't matter.
 pub record BooksGoOn : Type 0 where
   pub start :
       (a : Numbers) (outside : List ℕ) (h : Halted) → AreOut a outside → HasAll a h []
@@ -60,14 +60,15 @@ pub record BooksGoOn : Type 0 where
       → ((number : ℕ) → times_in_hand hand number ≡ times_in_hand other number) → Balances a outside h hand
       → Balances a outside h other
 
--- 1 if a block is lent that these calls don't try to lend, because others had it in hand and lent it; otherwise 0.
+-- 1 if a block is lent that these calls don't try to lend, because others had the block in hand and lent it; otherwise
+-- 0.
 abbrev pub lent_elsewhere : List Call → Memory → ℕ → ℕ
 lent_elsewhere calls m number = if has_block m number && not (is_asked calls number) then 1 else 0
 
--- So each block that was free in the arena handed to the driver, or out of it then, is in one place: free in it, in
--- hand, or lent to the device. No other block of the arena is in any of these places. Blocks of packets that the driver
--- holds, complete or not, count as in hand too, as do the blocks of parts that wait to be lent. Of the blocks that were
--- out of the arena, or that the driver handed out, some may be lent elsewhere.
+-- It follows that each block that was free in the arena handed to the driver, or that was out of the arena then, is in
+-- one place: free in the arena, in hand, or lent to the device. No other block of the arena is in any of these places.
+-- Blocks of packets that the driver holds, complete or not, count as in hand too, as do the blocks of parts that wait
+-- to be lent. Of the blocks that were out of the arena, or that the driver handed out, some may be lent elsewhere.
 abbrev pub EachInOnePlace : Type 0
 EachInOnePlace =
     (x : Reported) → IsReportedAlone x → (outside hand elsewhere : List ℕ) →

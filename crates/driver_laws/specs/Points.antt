@@ -58,7 +58,7 @@ AllMay [] p = ⊤
 AllMay (a ∷ rest) p = May a p × AllMay rest (after_access a p)
 
 -- Over a history that leaves the queue alone, let the sides be in a known state where the pass has made some calls. If
--- the pass then makes accesses that keep them at rest, they are in the state to which these accesses lead.
+-- the pass then makes accesses that keep the sides at rest, the sides are in the state to which these accesses lead.
 abbrev pub AccessesLead : Type 0
 AccessesLead =
     (w : Watched) (q : AtPort) (frame : ℕ) (origin : State) (h : List Entry) (known : Sides → Bool) (F : Sides → Sides)

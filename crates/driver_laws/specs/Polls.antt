@@ -11,7 +11,7 @@ same_port Pf Pf = true
 same_port (Vf v) (Vf u) = v == u
 same_port p other = false
 
--- A port, and the numbers of a queue's RXDCTL and TXDCTL at it.
+-- A port, and the numbers that a queue's RXDCTL and TXDCTL have at that port.
 pub record Enables : Type 0 where
   pub port : Port
   pub receive : ℕ

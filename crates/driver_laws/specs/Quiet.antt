@@ -9,16 +9,16 @@ use Rattle.pmd_driver.specs.NicDevice.declared.event.Reply.TheVariants as reply
 use Rattle.ring_laws.specs.Sides as sides
 use Rattle.ring_laws.specs.Off as transmit
 
--- No enable request is in effect for the receive side; for `IsOff`, it is off too.
+-- No enable request is in effect for the receive side. For `IsOff`, the side is off too.
 abbrev pub IsUnwanted : ℕ → State → Type 0
 IsUnwanted queue s = sides.IsUnwanted (side_of Rx queue s)
 
 abbrev pub IsOff : ℕ → State → Type 0
 IsOff queue s = sides.IsOff (side_of Rx queue s)
 
--- After the enable word is written with bit 25 clear, no enable request is in effect for the receive side, whether it
--- is enabled or disabled. This stays true over every event that leaves the queue alone. A read that then returns bit 25
--- as 0 finds it disabled.
+-- After the enable word is written with bit 25 clear, no enable request is in effect for the receive side, whether the
+-- side is enabled or disabled. This stays true over every event that leaves the queue alone. If a later read returns
+-- bit 25 as 0, the side is disabled.
 pub record ReceiveGuardIsOff : Type 0 where
   pub written :
       (queue : ℕ) (s : State) (port : Port) (number word : ℕ) → IsMet queue s

@@ -17,9 +17,9 @@ pub record Both (P Q : Side → Type 0) (queue : ℕ) (q : AtPort) (frame : ℕ)
 abbrev pub IsQuiet : ℕ → AtPort → ℕ → State → Type 0
 IsQuiet queue q frame s = Both IsOff IsOff queue q frame s
 
--- Both sides are off with no enable request pending, wherever the pass has made the accesses that see them off. Just
--- before the first of these accesses, the driver's port and queue name this queue, and the device's frame limit is the
--- driver's packet limit.
+-- Wherever the pass has made the accesses that see both sides off, both sides are off with no enable request pending.
+-- The premise: Just before the first of these accesses, the driver's port and queue name this queue, and the device's
+-- frame limit is the driver's packet limit.
 abbrev pub QuietingLeads : Type 0
 QuietingLeads =
     (w : Watched) (q : AtPort) (frame : ℕ) (origin : State) (h : List Entry) (old new : List Call) →

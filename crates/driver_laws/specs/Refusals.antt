@@ -29,9 +29,9 @@ pub record IsFitting (size frame : ℕ) : Type 0 where
   pub long : 1518 ≤ frame
   pub short : frame ≤ 9728
 
--- A start is refused for these sizes whatever else is wrong. Next, it is refused for too few free blocks: it needs one
--- for each slot except one, and one for each 128 descriptors of both rings. Last, it is refused for a queue that its
--- port can't name.
+-- A start is refused for these sizes whatever else is wrong. Next, the start is refused for too few free blocks: it
+-- needs one for each slot except one, and one for each 128 descriptors of both rings. Last, the start is refused for a
+-- queue that its port can't name.
 pub record StartTells (a : Numbers) (q : AtPort) (size frame : ℕ) : Type 0 where
   pub ring : IsBadRing size → start_gate a q size frame ≡ Some BadSize
   pub frames : IsBadFrame frame → start_gate a q size frame ≡ Some BadSize
@@ -56,8 +56,8 @@ pub record IsGoodLength (v : Sender) (p : Packet) : Type 0 where
   pub held : p.len ≤ 2048 * length p.bufs
 
 -- A packet is refused for its length whatever else is wrong. Next, it is refused for a block that can't be returned to
--- the arena, or that another ring of the driver has. Last, the ring is full for it if the outstanding descriptors and
--- its own would take more than all but one of the ring's slots.
+-- the arena, or that another ring of the driver has. Last, the ring is full for the packet if the outstanding
+-- descriptors and the packet's own would together leave no slot of the ring free.
 pub record PacketMeets (v : Sender) (a : Numbers) (p : Packet) (r : Result TxAnswer TxFault) : Type 0 where
   pub size : IsBadLength v p → IsAnswer (gate_of v a false p) p r →
       r ≡ Err (record { fault = BadSize; packet = Some p })

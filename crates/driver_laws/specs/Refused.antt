@@ -9,8 +9,8 @@ use Rattle.pmd_driver.specs.Life.{NeverLived}
 use Rattle.ring_laws.specs.Delivered as receive
 use Rattle.ring_laws.specs.Laws as transmit
 
--- A driver's start was refused over a legal history of a sound device that leaves the queue alone. The history goes up
--- to some place during the start and the stop of a driver that it returned, or up to their end.
+-- A driver's start was refused over a legal history of a sound device that leaves the queue alone. The history ends at
+-- some point during the start or during the stop of a driver that the start returned, or at the end of both.
 pub record Refused : Type 0 where
   pub course : Course
   pub open course use *
@@ -40,9 +40,9 @@ pub record Refused : Type 0 where
 abbrev pub RefusedSendsNothing : Type 0
 RefusedSendsNothing = (x : Refused) → sent_in x.w.queue (leads_to x.origin x.before) (x.first ∷ x.following) ≡ []
 
--- So the packets returned as handed out are a prefix of those delivered from there on, counted since the receive side
--- was last enabled. The frames sent from there on, counted since the transmit side was last enabled, are a prefix of
--- those returned as accepted. Both lists are empty.
+-- So the packets returned as handed out are a prefix of those delivered since that event, counted since the receive
+-- side was last enabled. The frames sent since that event, counted since the transmit side was last enabled, are a
+-- prefix of those returned as accepted. Both lists of returned packets are empty.
 abbrev pub LeftOfRefusedIsPrefix : Type 0
 LeftOfRefusedIsPrefix =
     (x : Refused) →

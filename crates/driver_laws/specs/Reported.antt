@@ -10,7 +10,7 @@ use Rattle.driver_laws.specs.Course.{Course, IsAllSent, IsHandedInOrder, IsSentI
 use Rattle.pmd_driver.specs.{Driver.Driver, Life.KeepsHalves, Life.RunsOn, Started.HasStarted}
 use Rattle.pmd_driver.specs.PmdRx.Plays as receiving
 
--- After a call to the driver, or to its way to the device, has returned: the driver, and the calls of its pass so far.
+-- The driver, and the calls of its pass so far, after a call to the driver or to its `Nic` has returned.
 pub record Moment : Type 0 where
   pub made : List Call
   pub driver : Driver
@@ -37,7 +37,8 @@ abbrev pub last : Moment → List Moment → Moment
 last m [] = m
 last m (n ∷ later) = last n later
 
--- A `start` brought the driver up, as its clause `started` says. The other moments follow the moment when it returned.
+-- A `start` brought the driver up, as its clause `started` says. The other moments follow the moment when the start
+-- returned.
 pub record IsReported (q : AtPort) (size frame : ℕ) (old : List Call) (a : Numbers) (m : Moment) (later : List Moment) :
     Type 0 where
   pub started : HasStarted q size frame old a m.made m.driver
@@ -53,7 +54,7 @@ pub record Reported : Type 0 where
   pub reported : IsReported q size frame old a m later
   pub begins : BeginsWell w origin h q size frame old a m.made reported.started.0 reported.started.2
 
--- Its last moment.
+-- The last moment of this driver.
 abbrev pub now : Reported → Moment
 now x = last x.m x.later
 
@@ -99,8 +100,8 @@ NoneIsAllBefore =
     (x : Reported) (n : Moment) (looked : IsReportedToLook x n) →
     handed_of (now x).driver.rings ≡ delivered x.w.queue x.origin looked.look.before
 
--- What it had handed out is also everything delivered before the call's own first event, even if harmless calls come
--- before that event.
+-- What the driver had handed out is also everything delivered before the call's own first event, even if harmless calls
+-- come before that event.
 abbrev pub NoneIsAllAtFirst : Type 0
 NoneIsAllAtFirst =
     (x : Reported) (n : Moment) (looked : IsReportedToLook x n) (before more : List Entry) →

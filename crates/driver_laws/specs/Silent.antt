@@ -7,15 +7,15 @@ use Rattle.driver_laws.specs.Prelude.{EndsOnceOff, IsSilent}
 use Rattle.pmd_driver.specs.Life.{IsStopped}
 use Rattle.pmd_driver.specs.declared.start.Rest.TheVariants as rest
 
--- After a life, when the calls of its stop have switched both sides of the queue off, nothing more is delivered or sent
--- on it.
+-- After a life, when the calls of the driver's stop have switched both sides of the queue off, nothing more is
+-- delivered or sent on the queue.
 abbrev pub SilentOnceOff : Type 0
 SilentOnceOff =
     (x : Life) (new : List Call) (done rest : List Entry) → IsStopping x new → (y : EndsOnceOff x.q x.made new) →
     done ++ rest ≡ x.h → calls_of x.w.pass done ≡ y.off → IsSilent x.w x.origin x.h done
 
--- A driver's stop had switched both sides off when these calls were made: it succeeded, or it failed only after these
--- calls.
+-- When these calls were made, the driver's stop had switched both sides off: the stop succeeded, or it failed only
+-- after these calls.
 abbrev pub SwitchesOff : (q : AtPort) (old : List Call) (h : Halted) (new : List Call) (left : Rest)
     (late : Option PmdFault) → IsStopped q old h new left late → List Call → Type 0
 SwitchesOff q old h new (rest.Home home) None (mid, switched, comes) off = off ≡ mid
@@ -25,7 +25,8 @@ SwitchesOff q old h new (rest.Running p) (Some f) (after, is, inl unclosed) off 
 SwitchesOff q old h new (rest.Running p) (Some f) (after, is, inr (inl unswitched)) off = ⊥
 SwitchesOff q old h new (rest.Running p) (Some f) (after, is, inr (inr (mid, switched, during))) off = off ≡ mid
 
--- For a driver that lived, the queue stays silent from there on, up to any place during its stop and up to its end.
+-- For a driver that lived, the queue stays silent from that point on, up to any point during the driver's stop and up
+-- to the end of the stop.
 abbrev pub SilentOverStop : Type 0
 SilentOverStop =
     (x : Ended) (off : List Call) (done rest : List Entry) → IsOver x →

@@ -6,8 +6,9 @@ use Rattle.driver_laws.specs.StartPrelude.{Block, Blocks, Dir, Event, Memory, Si
 use Rattle.driver_laws.specs.StartPrelude.{frame_limit, is_empty, mode_in, pieces, sent_by, side_of, zero_block}
 use Rattle.std.specs.FinMap as map
 
--- A side equals this one, except for whether it is on; nothing is staged. It is on if this one is on, and only if an
--- enable request is in effect for this one. If one is in effect, its ring is empty, so the device does nothing on it.
+-- The side `x` equals `side`, except for whether it is on; nothing is staged in `x`. If `side` is on, so is `x`; and
+-- `x` is on only if an enable request is in effect for `side`. If one is in effect, the ring of `side` is empty, so the
+-- device does nothing on it.
 pub record Stands (x side : Side) : Type 0 where
   pub same : x ≡ record side { on = x.on; staged = [] }
   pub seen : IsTrue side.on → IsTrue x.on

@@ -11,8 +11,8 @@ pub record BeginsWell (w : Watched) (origin : State) (h : List Entry) (q : AtPor
     (a : Numbers) (new : List Call) (r : Running) (up : AreUp q size frame old a new r) : Type 0 where
   pub ground : BeforeLast w origin h up.receive.quiet.0 (HasGround w.queue q frame)
 
--- Wherever the pass has made the calls by which both sides came up, device and driver agree on both: nothing is posted
--- or sent yet.
+-- Wherever the pass has made the calls by which both sides came up, the device and the driver agree on both sides:
+-- nothing is posted or sent yet.
 abbrev pub StartAgrees : Type 0
 StartAgrees =
     (w : Watched) (origin : State) (h : List Entry) (q : AtPort) (size frame : ℕ) (old : List Call) (a : Numbers)
@@ -20,7 +20,7 @@ StartAgrees =
     BeginsWell w origin h q size frame old a new r up →
     AtCalls w origin h up.on.mid (λ s. Agree w.queue s [] up.empty × Agrees s w.queue [] r.transmit)
 
--- Both sides are on there, with nothing received or sent since they were enabled.
+-- At that point, both sides are on, with nothing received or sent since they were enabled.
 abbrev pub StartGoesOn : Type 0
 StartGoesOn =
     (w : Watched) (origin : State) (h : List Entry) (q : AtPort) (size frame : ℕ) (old : List Call) (a : Numbers)

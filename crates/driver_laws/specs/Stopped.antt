@@ -5,13 +5,13 @@ use Rattle.driver_laws.specs.{Course.IsHandedInOrder, Course.IsSentInOrder, Life
 use Rattle.driver_laws.specs.{Prelude.TakesOnceOff}
 use Rattle.pmd_driver.specs.{Stopping.StopFails, Stopping.Stops, declared.home.Home.Home}
 
--- After a life, the pass made calls of a stop and no others: none writes the queue's enable words with bit 25 set.
+-- After a life, the pass made only calls of a stop. None of them writes the queue's enable words with bit 25 set.
 pub record IsStopping (x : Life) (new : List Call) : Type 0 where
   pub ends : Ends x.q x.made new
   pub calls : calls_of x.w.pass x.h ≡ new
 
--- What the driver handed out is a prefix of what was delivered on its queue since the receive side was last enabled,
--- over the whole history.
+-- Over the whole history, what the driver handed out is a prefix of what was delivered on its queue since the receive
+-- side was last enabled.
 abbrev pub HandedIsPrefix : Type 0
 HandedIsPrefix =
     (x : Life) (new : List Call) → IsStopping x new → IsHandedInOrder x.course x.k.receive.handed
@@ -35,8 +35,8 @@ FailedStopEnds =
     (f : PmdFault) (q : AtPort) (old : List Call) (h : Halted) (new : List Call) (left : Halted) →
     StopFails f q old h new left → Ends q old new
 
--- Blocks are taken back only after both sides were seen off: by a stop, by a failed stop, by a stop after another, and
--- if there are no calls at all.
+-- The calls of a stop, or of a failed stop, take blocks back only after both sides were seen off. This also holds
+-- together with earlier calls of this kind, and if there are no calls at all.
 
 abbrev pub StopTakesOnceOff : Type 0
 StopTakesOnceOff =

@@ -16,7 +16,8 @@ with_low ring word = record ring { base = ring.base / 2 ^ 32 * 2 ^ 32 + word }
 abbrev pub with_high : Ring → ℕ → Ring
 with_high ring word = record ring { base = word * 2 ^ 32 + ring.base % 2 ^ 32 }
 
--- A side after a value is written to one of its registers; a write to any other register leaves it unchanged.
+-- A side after a value is written to one of the side's registers. A write to any other register leaves the side
+-- unchanged.
 abbrev pub side_with : Dir → RowId → ℕ → Side → Side
 side_with Rx Rdbal word x = record x { ring = with_low x.ring word }
 side_with Rx Rdbah word x = record x { ring = with_high x.ring word }
@@ -34,7 +35,7 @@ side_with Tx Tdwbal word x = record x { writeback = None }
 side_with Tx Txdctl word x = record x { wanted = has_bit 25 word }
 side_with dir other word x = x
 
--- A 32-bit value of which every bit takes effect in this register of a side: a base and a length are multiples of 128,
+-- A 32-bit value, every bit of which takes effect in this register of a side. A base and a length are multiples of 128,
 -- a length has 20 bits, head and tail have 16. Bit 0 of TDWBAL is 0, so no head is written back.
 abbrev pub Fits : Dir → RowId → ℕ → Type 0
 Fits Rx Rdbal word = (word % 128 ≡ 0) × (word < 2 ^ 32)
@@ -76,8 +77,8 @@ pub record TakesWord (dir : Dir) (queue : ℕ) (row : RowId) (word : ℕ) (s t :
   pub other : LeavesSide (across dir) queue s t
   pub ground : KeepsGround s t
 
--- While a side of a sound device is off, a value that is written to one of its registers, by the register's number at a
--- port, takes effect.
+-- While a side of a sound device is off, a value takes effect if it is written to one of the side's registers, by the
+-- register's number at a port.
 abbrev pub WordsAreTaken : Dir → Type 0
 WordsAreTaken dir =
     (queue : ℕ) (s : State) (port : Port) (number word : ℕ) (row : RowId) → queue < 128 → IsSound s →

@@ -1,5 +1,5 @@
-//! A driver that is started repeatedly, on one device and one arena. The data of each life, from a start to a stop, is
-//! freed when the life ends.
+//! A driver that is started repeatedly, on one device and one arena. The data of each life, which lasts from a start to
+//! a stop, is freed when the life ends.
 
 use nic_device::{Arena, Config, Device, Mode, Parts, Port};
 use pmd::{Direct, Home, Packet, Pmd, PmdFault, Setup, StartRefused, StopRefused, leave};
@@ -31,7 +31,7 @@ const FRAMES: u32 = 5;
 /// A 60-byte frame to the broadcast address.
 const FRAME: [u8; 60] = [0xFF; 60];
 
-/// Accepts frames to any address, all of which go to queue 0.
+/// Accepts frames to any address. All of them go to queue 0.
 const SETUP: Setup = Setup {
     mode: Mode::Off,
     mrqc: 0,
@@ -86,7 +86,8 @@ fn live(rt: &HostRuntime, kept: (Device, Arena)) -> Result<(Device, Arena), Fail
     }
 }
 
-/// Drives queue 0 from start to stop. All blocks are then back in the arena, and the packets' records are freed.
+/// Drives queue 0 from start to stop. After the stop, all blocks are back in the arena, and the packets' records are
+/// freed.
 fn drive(rt: &HostRuntime, nic: &mut Direct, arena: Arena) -> Result<Arena, Failure> {
     let alloc = rt.alloc();
     let mut pmd = match Pmd::start(alloc, nic, Port::Pf, 0, 8, SETUP.frame, arena) {
@@ -118,7 +119,7 @@ fn drive(rt: &HostRuntime, nic: &mut Direct, arena: Arena) -> Result<Arena, Fail
     }
 }
 
-/// Delivers frames one after another, and sends each back.
+/// Delivers frames one after another, and sends each frame back.
 fn echo(alloc: Global, nic: &mut Direct, pmd: &mut Pmd, packets: &mut VecDeque<Packet>) -> Done {
     for _frame in 0..FRAMES {
         let _arrived = pmd::arrive(alloc, nic, &FRAME)?;

@@ -28,7 +28,8 @@ const FRAME: &[u8] =
 \x00\x00\x40\x06\x00\x00\x42\x09\x95\xbb\xa1\x8e\x64\x50\x0a\xea\x06\xe6\x00\x00\
 \x00\x00\x00\x00\x00\x00\x50\x10\x00\x00\x00\x00\x00\x00\x00\x00\x00\x00\x00\x00";
 
-/// Accepts frames to any address. TCP over IPv4 is hashed with the key of the published vectors, and goes to queue 0.
+/// Accepts frames to any address. For TCP over IPv4, the hash is computed with the key of the published vectors; the
+/// frames go to queue 0.
 const SETUP: Setup = Setup {
     mode: Mode::Off,
     mrqc: 0x0001_0001,
@@ -90,7 +91,7 @@ fn drive(rt: &HostRuntime, nic: &mut Direct) -> Done {
     echoed
 }
 
-/// Delivers a frame, then polls: sends back what was received, and frees the blocks of sent packets.
+/// Delivers a frame, then polls. Each poll sends back what was received, and frees the blocks of sent packets.
 fn echo(rt: &HostRuntime, nic: &mut Direct, pmd: &mut Pmd, packets: &mut VecDeque<Packet>) -> Done {
     println!(rt; "started")?;
     let arrived = pmd::arrive(rt.alloc(), nic, FRAME)?;

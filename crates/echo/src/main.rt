@@ -1,5 +1,5 @@
-//! Three programs that send back what they receive, run one after the other: a driver of one queue, a driver that is
-//! started repeatedly, and two workers on threads. Each is in a separate file, for you to copy.
+//! Three programs that send back what they receive. They run one after the other: a driver of one queue, a driver that
+//! is started repeatedly, and two workers on threads. Each program is in a separate file, for you to copy.
 #![tactic(auto)]
 
 mod again;

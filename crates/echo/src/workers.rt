@@ -56,8 +56,8 @@ pub fn run<R: Print + Threads + Wait + Sync>(rt: &R, alloc: Global) -> Done {
     Ok(println!(rt; "the history left both queues alone")?)
 }
 
-/// Sets up the device through the third pass, runs a worker with each other pass, and delivers frames through the third
-/// pass while they run.
+/// Sets up the device through the third pass, and runs a worker with each other pass. While the workers run, delivers
+/// frames through the third pass.
 fn drive<R: Print + Threads + Wait + Sync>(
     rt: &R,
     alloc: Global,
@@ -91,7 +91,8 @@ fn drive<R: Print + Threads + Wait + Sync>(
     }
 }
 
-/// Accepts frames to any address. RSS of TCP over IPv4 distributes them: entry i of the table names queue i mod 2.
+/// Accepts frames to any address. RSS distributes the frames with TCP over IPv4 among the queues: entry i of the
+/// redirection table names queue i mod 2.
 fn setup() -> Setup {
     let mut reta = [0; 128];
     for entry in 0..128u8 {
@@ -151,7 +152,7 @@ fn jobs(alloc: Global, passes: Vec<Pass>) -> Result<Vec<Job>, Failure> {
     Ok(jobs)
 }
 
-/// Prints each worker's reports, disposes of its driver, and returns the passes.
+/// Prints how many packets each worker reported, disposes of the worker's driver, and returns the passes.
 fn tell<R: Print>(rt: &R, alloc: Global, ends: Vec<WorkerEnd>) -> Result<Vec<Pass>, Failure> {
     let mut ends = ends;
     let mut passes = Vec::new(alloc);
@@ -179,7 +180,8 @@ fn tell<R: Print>(rt: &R, alloc: Global, ends: Vec<WorkerEnd>) -> Result<Vec<Pas
     Ok(passes)
 }
 
-/// Disposes of a worker's driver or its arena. All blocks are back, unless the driver couldn't be stopped.
+/// Disposes of a worker's driver or of its arena. Unless the driver couldn't be stopped, all blocks are back in the
+/// arena.
 fn end(rest: Rest, fault: Option<WorkerFault>) -> Done {
     match rest {
         Rest::Home(
@@ -219,8 +221,8 @@ fn close(bench: Bench, passes: Vec<Pass>) -> Done {
     asked
 }
 
-/// Checks whether the laws apply to a worker's driver, given this history: its packets are then in order, and none is
-/// lost.
+/// Checks whether the laws apply to a worker's driver, given this history. If they apply, the driver's packets are in
+/// order, and none is lost.
 fn ask(closed: &Closed<0, 64>, number: u8) -> Done {
     let queue = u16::from(number);
     let watched = Watched {

@@ -1,4 +1,4 @@
--- Adding the bytes of one more report, and the line of one more queue.
+-- Lemmas about adding the bytes of one more report, and the line of one more queue.
 use Rattle.std.proofs.Common.{◌≡◌, ℕ, suc, ◌+◌, ◌<◌, List, [], ◌∷◌, ◌++◌, length, map, take, get_or, sym, ap, ◌∙◌, arith, append_assoc, append-nil}
 use Rattle.std.proofs.lemmas.List.{length-map, length-take-le, map-append, take_more}
 use Rattle.pmd.specs.declared.reports.Report.{Report}

@@ -21,11 +21,11 @@ module _ (worker queue : ℕ) (h g : List Entry) (alone : Bool) (same : queue �
   left_alone : IsTrue alone ↔ LeavesAlone (watched_of worker) h
   left_alone = subst (λ q. IsTrue alone ↔ LeavesAlone (watched worker q) h) same alone_says
 
-  -- The case of a queue that isn't left alone.
+  -- If a queue isn't left alone, the worker lacks its queue.
   pub lacks_queue : alone ≡ false → IsTrue alone ↔ HasItsQueue worker h
   lacks_queue other = ((λ is. absurd (both_ways alone other is)), λ x. left_alone.1 x.alone)
 
-  -- The case of a queue that is left alone: its driver must begin well.
+  -- If a queue is left alone, the worker has its queue exactly if its driver begins well.
   pub has_queue : alone ≡ true → (begins : Bool)
       → IsTrue begins ↔ BeginsWell (watched worker queue) 0 (given queue) g → IsTrue begins ↔ HasItsQueue worker h
   has_queue left begins begins_says =

@@ -14,7 +14,7 @@ use Rattle.pmd.specs.DeviceLock.History.{IsLegal}
 use Rattle.pmd.specs.declared.beginning.Given.{Given}
 use Rattle.pmd.specs.declared.reports.Report.{Report}
 
--- The number of bytes in the packets of reports.
+-- The number of bytes in the packets that these reports describe.
 abbrev pub byte_count : List Report → ℕ
 byte_count [] = 0
 byte_count (report ∷ reports) = report.len + byte_count reports
@@ -27,12 +27,12 @@ is_sent other = false
 abbrev pub sent_in : List Entry → ℕ
 sent_in history = count_by (λ (e : Entry). is_sent e.reply) history
 
--- The line of a queue, from the reports of its worker.
+-- A queue's line of the summary, made from the reports of the queue's worker.
 abbrev pub queue_line : ℕ → List Report → List ℕ
 queue_line queue reports = codes "queue " ++ (decimal queue ++ (codes " packets " ++ (decimal (length reports)
     ++ (codes " bytes " ++ (decimal (byte_count reports) ++ codes "\n")))))
 
--- The lines of queues, numbered starting at `queue`.
+-- The summary's lines for queues with consecutive numbers, starting at `queue`.
 abbrev pub queue_lines : ℕ → List (List Report) → List ℕ
 queue_lines queue [] = []
 queue_lines queue (reports ∷ rest) = queue_line queue reports ++ queue_lines (suc queue) rest
@@ -50,13 +50,13 @@ watched_of worker = record { vfs = 0; pass = worker; queue = worker }
 abbrev pub given_of : ℕ → Given
 given_of worker = record { port = Pf; queue = worker; frame = 1518 }
 
--- A history leaves a worker's queue alone, and its driver begins well there: the start is the first calls of the
--- worker's pass.
+-- A history leaves a worker's queue alone, and the worker's driver begins well in it: the start is the first calls of
+-- the worker's pass.
 pub record HasItsQueue (worker : ℕ) (history : List Entry) : Type 0 where
   pub alone : LeavesAlone (watched_of worker) history
   pub begins : BeginsWell (watched_of worker) 0 (given_of worker) history
 
--- This holds for every worker below `workers`.
+-- Every worker below `workers` has its queue in the history, in the sense of `HasItsQueue`.
 abbrev pub HaveTheirQueues : ℕ → List Entry → Type 0
 HaveTheirQueues workers history = (worker : ℕ) → worker < workers → HasItsQueue worker history
 

@@ -10,15 +10,15 @@ use std::alloc::Global;
 /// The results of all workers.
 #[derive(Drop)]
 pub(crate) struct Gathered {
-    /// The workers' passes to the device, to be closed.
+    /// The workers' passes to the device, which must still be closed.
     pub(crate) passes: Vec<Pass>,
-    /// Each worker's reports, in order.
+    /// Each worker's reports, in the order of the workers.
     pub(crate) reports: Vec<Vec<Report>>,
 }
 
 impl Gathered {
     /// Adds the result of one worker. Refused if the worker ended with a fault, or if some of its blocks aren't free
-    /// again.
+    /// after the run.
     fn take(&mut self, end: WorkerEnd) -> Result<(), Refused>
         ensures { OnOk result (vec_len self.new.reports ≡ vec_len self.old.reports + 1) }
     {

@@ -1,9 +1,9 @@
 //! The commands of `nicbench`, for any reader and writer.
 //!
-//! `bench_commands`, which reads the input and writes the answer, is re-exported. With `nicbench threads`, workers
-//! drive queues of one device, each on its own thread. `bench_threads` shares a device, sets it up, delivers frames
-//! while the workers receive and send them, closes the history, and prints a summary of each queue. The program's
-//! `main` depends on this crate.
+//! `bench_commands`, which reads the input and writes the output, is re-exported. With `nicbench threads`, workers
+//! drive queues of one device, each on a separate thread. `bench_threads` shares a device, sets it up, and delivers
+//! frames while the workers receive them and send them back. Then it closes the history, and prints a summary of each
+//! queue. The program's `main` depends on this crate.
 #![tactic(auto)]
 
 mod ending;

@@ -28,8 +28,8 @@ impl Refused {
     }
 }
 
-/// Combines two results. It is done if both are done; otherwise it is refused, for lack of memory if either was refused
-/// for that reason.
+/// Combines two results. The combined result is done if both are done. Otherwise it is refused, for lack of memory if
+/// either was refused for that reason.
 pub(crate) fn both(first: Result<(), Refused>, second: Result<(), Refused>) -> Result<(), Refused>
     ensures { result ≡ both_done first second }
 {

@@ -19,7 +19,7 @@ pub(crate) struct Summary {
     pub(crate) sent: usize,
 }
 
-/// Returns the number of bytes in the packets of reports.
+/// Returns the number of bytes in the packets that these reports describe.
 fn byte_count(reports: &[Report]) -> u128
     ensures { result ≡ byte_count reports.now }
 {
@@ -30,7 +30,7 @@ fn byte_count(reports: &[Report]) -> u128
     bytes
 }
 
-/// Whether an entry of a history transmitted a frame.
+/// Whether a frame was transmitted at this entry of a history.
 fn is_sent(entry: &Entry) -> bool
     ensures { result ≡ is_sent entry.now.reply }
 {
@@ -50,7 +50,7 @@ pub(crate) fn sent_in(history: &[Entry]) -> usize
     sent
 }
 
-/// Writes the line of a queue.
+/// Writes a queue's line of the summary.
 fn write_queue<W: Write>(
     output: &mut Output<W>,
     queue: usize,
@@ -65,7 +65,7 @@ fn write_queue<W: Write>(
     output.write(format_args!("queue {queue} packets {packets} bytes {bytes}\n"))
 }
 
-/// Writes the lines of the queues.
+/// Writes each queue's line of the summary.
 fn write_queues<W: Write>(output: &mut Output<W>, reports: &[Vec<Report>]) -> Result<(), Failure>
     ensures ok { OnOk result (Appends (W.contents output.old.writer) (W.contents output.new.writer)
         (queue_lines 0 (map (λ r. r.items) reports.now))) }

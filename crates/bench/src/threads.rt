@@ -1,4 +1,4 @@
-//! Runs the workers: from the options to an exit status.
+//! Runs the workers, from the options to the exit status.
 
 ghost use Rattle.std.specs.Prelude.{◌≡◌, ◌≢◌, ◌+◌, ◌≤◌, ◌<◌, ◌⊎◌, ◌↔◌, IsTrue, IfOk, true, vec_len};
 ghost use Rattle.bench.specs.Summary.{HasItsQueue, HaveTheirQueues, IsReported, Tells};
@@ -23,13 +23,13 @@ use std::thread::Threads;
 /// The device that the workers share.
 type Bench = Shared<0, 64>;
 
-/// The maximum number of entries in its history.
+/// The maximum number of entries in the device's history.
 const LIMIT: u32 = 1_000_000;
 
 /// The maximum number of workers.
 const MAX_WORKERS: u8 = 8;
 
-/// Sets the device up through a pass, using steps of queue 0.
+/// Sets the device up through a pass, with the steps of queue 0.
 fn set_up<R: Wait>(
     rt: &R,
     alloc: Global,
@@ -46,8 +46,8 @@ fn set_up<R: Wait>(
     }
 }
 
-/// Sets the device up through the last pass, and runs a worker with each other pass while frames arrive. Returns all
-/// passes.
+/// Sets the device up through the last pass, and runs a worker with each other pass while frames arrive. Returns all of
+/// the passes.
 #[tactic(auto, using(crate::proofs::Counting::ends_count))]
 fn drive<R: Threads + Wait + Sync>(
     rt: &R,
@@ -90,8 +90,8 @@ fn drive<R: Threads + Wait + Sync>(
     }
 }
 
-/// Whether a history leaves a worker's queue alone, and the worker's driver starts from a clean state there. Worker `k`
-/// has queue `k` and the pass with tag `k`, which made no call before the driver's start.
+/// Whether a history leaves a worker's queue alone, and the worker's driver starts from a clean state in this history.
+/// Worker `k` has queue `k` and the pass with tag `k`, which made no call before the driver's start.
 fn has_its_queue(closed: &Closed<0, 64>, worker: u8) -> bool
     ensures { IsTrue result ↔ HasItsQueue worker closed.now.history }
 {
@@ -168,22 +168,23 @@ fn run<R: Threads + Wait + Sync>(
 
 /// Runs workers on a shared device, one on each queue below `workers`, while this many frames arrive. The frames
 /// alternate between TCP over IPv4 and over IPv6, and RSS distributes them among the queues. Each worker sends back the
-/// packets that it receives. Then a summary is written: for each queue a line with the numbers of packets and bytes
-/// that its worker received; then the number of transmitted frames, then `history legal`. The device's history is
-/// legal. It also leaves each worker's queue alone (`left_alone`), and each worker's driver starts from a clean state
-/// (`begins_well`). The status is then 0.
+/// packets that it receives. Then a summary is written. For each queue, it has a line with the numbers of packets and
+/// bytes that the queue's worker received; then come the number of transmitted frames and the line `history legal`. The
+/// device's history is legal and leaves each worker's queue alone (`left_alone`), and each worker's driver starts from
+/// a clean state (`begins_well`). The status is then 0.
 ///
 /// The clauses state the format of the output, and that the printed number of transmitted frames is the number in such
-/// a history. The clauses don't state that the packets and bytes in a line are the ones that the worker received in
-/// this history, which frames arrive, or that a worker sends back the packets that it receives. By the clause `order`
-/// of `pmd::run_workers`, the outcome that it reports for a worker is in order over each such history: its packets are
-/// a prefix of those delivered on its queue, and the frames transmitted there are a prefix of those that its driver
-/// accepted.
+/// a history. The clauses state neither which frames arrive nor that a worker sends back the packets that it receives.
+/// Nor do they state that the packets and bytes in a line are the ones that the worker received in this history. By the
+/// clause `order` of `pmd::run_workers`, the outcome that it reports for a worker is in order over each such history.
+/// The worker's packets are a prefix of those delivered on its queue, and the frames transmitted there are a prefix of
+/// those that its driver accepted.
 ///
 /// The call waits for locks and for the threads. Nothing is written if something is refused, a worker ends with a
-/// fault, its queue isn't left alone, its driver doesn't start from a clean state, or some frames don't arrive. The
-/// status is then 2, or 4, which is meant for lack of memory and for missing frames. The contract doesn't specify which
-/// of the two is returned. `workers` must be 1 to 8; otherwise the status is 2. If a write fails, the status is 2.
+/// fault, its queue isn't left alone, its driver doesn't start from a clean state, or some frames don't arrive. In
+/// these cases, the status is 2 or 4; 4 is meant for lack of memory and for missing frames. The contract doesn't
+/// specify which of the two is returned. `workers` must be 1 to 8; otherwise the status is 2. If a write fails, the
+/// status is 2.
 pub fn bench_threads<R: Threads + Wait + Sync, W: Write>(
     rt: &R,
     alloc: Global,
@@ -192,8 +193,8 @@ pub fn bench_threads<R: Threads + Wait + Sync, W: Write>(
     frames: u8,
 ) -> u8
     ensures status { (result ≡ 0) ⊎ ((result ≡ 2) ⊎ (result ≡ 4)) }
-    // The pass of a queue's worker has the queue's number as its tag, and made no call before its driver's start. The
-    // driver begins well.
+    // The pass of each queue's worker has the queue's number as its tag, and made no call before its driver's start.
+    // The driver begins well.
     ensures reported { result ≡ 0 → Tells workers (W.contents output.old.writer) (W.contents output.new.writer) }
     ensures silent { result ≢ 0 → (output.new ≡ output.old) ⊎ (output.new.has_failed ≡ true) }
     ensures memory { result ≡ 4 → output.new ≡ output.old }

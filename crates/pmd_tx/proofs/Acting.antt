@@ -1,4 +1,4 @@
--- Lemmas: successive driver calls, each with a record of its effect.
+-- Lemmas about successive driver calls, each with a record of its effect.
 use Rattle.std.proofs.Common.{◌≡◌, ℕ, ◌+◌, ◌<◌, List, length, drop, true, false, if◌then◌else◌, Option, Some, None, Result, Ok, Err, IfSome, IfErr, refl, ap, ◌∙◌, subst, sym, add-zero, arith}
 use Rattle.std.proofs.lemmas.List.{length-drop}
 use Rattle.pmd_access.specs.NicDevice.DmaArena.Block.{Block}
@@ -25,13 +25,13 @@ use Rattle.pmd_tx.proofs.Freeing.{frees_both, frees_from, frees_none, frees_one,
 use Rattle.pmd_tx.proofs.Passing.{accepted_after, accepted_then, kept_after, none_both}
 use Rattle.pmd_tx.proofs.Playing.{asks_at, faults_at, plays_adds, plays_both, plays_none, plays_some}
 
--- A property of the fault in a result holds of the result's error.
+-- If the fault in a result has a property, the result's error has it too.
 pub failed_by : {A : Type 0} (P : PmdFault → Type 0) (r : Result A TxFault) → IfSome (failed_in r) P
     → IfErr r (λ failed. P failed.fault)
 failed_by P (Ok x) by = tt
 failed_by P (Err f) by = by
 
--- Calls that follow others.
+-- Lemmas about calls that follow other calls.
 
 pub acts_none : (blocks : List ℕ) (old : List Call) (v : Sender) → Acts blocks None old v old v
 acts_none blocks old v = record { plays = plays_none blocks old v; late = tt; faults = tt }
@@ -56,7 +56,7 @@ continues_none {old} {v} = record {
   layout = refl;
 }
 
--- Builds the record from the clauses of a public call.
+-- Builds the record `Continues` from the clauses of a public call.
 pub continues_of : {f : Option PmdFault} {old new : List Call} {v w : Sender}
     → ((blocks : List ℕ) → PlaysWith blocks old v new w) → IfSome f (λ i. IsLate i)
     → ((blocks : List ℕ) → IfSome f (λ i. FaultsBy i blocks old v new)) → IsNoneAccepted v w → w.layout ≡ v.layout
@@ -88,7 +88,7 @@ continues_by x acts is accepted outstanding layout = record {
   layout = ap (λ (y : Sender). y.layout) is ∙ layout;
 }
 
--- One move of the driver: its reply is healthy or wrong, or it was refused.
+-- Lemmas about one move of the driver: the reply to the move is healthy or wrong, or the move was refused.
 module _ (old new : List Call) (v : Sender) (m : Move) (e : Event Block) (mine : is_elsewhere m ≡ false)
     (own : IsOwn v m e) (free : (blocks : List ℕ) → AcceptsIn blocks m)
   where
@@ -133,7 +133,7 @@ module _ (old new : List Call) (v : Sender) (m : Move) (e : Event Block) (mine :
         → Continues (Some (fault.Call f)) old v new w
     continues_refused f some is = continues_by v (acts_refused f some is) is refl refl refl
 
--- Segments are reaped.
+-- Lemmas about reaping segments.
 
 pub reaped_none : {f : Option PmdFault} {old new : List Call} {v w : Sender} {a : Numbers} → Continues f old v new w
     → w.posted ≡ length w.outstanding → AreOut a (blocks_of v.outstanding) → HasReaped f old v a new w a 0 0
@@ -189,7 +189,7 @@ module _ {f h : Option PmdFault} {l m n : List Call} {v w x : Sender} {a b d : N
         subst (λ (k : ℕ). HasReaped h l v a n x d k j) (add-zero i)
         (subst (λ (k : ℕ). HasReaped h l v a n x d (i + 0) k) (add-zero j) (reaped_then q))
 
--- A packet is queued.
+-- Lemmas about queueing a packet.
 
 module _ {p : Packet} {l m n : List Call} {v w x : Sender} {a b : Numbers} where
   pub queues_then : {f : Option PmdFault} {r : Result TxAnswer TxFault} → Continues f l v m w → w.posted ≡ v.posted
@@ -210,7 +210,7 @@ module _ {p : Packet} {l m n : List Call} {v w x : Sender} {a b : Numbers} where
         layout = q.layout ∙ c.layout;
       }
 
-  -- The packet was accepted, then its remaining work was tried.
+  -- The packet was accepted, and then the driver tried to do the packet's remaining work.
   pub queues_taken : Acts (outgoing_of p).blocks None l v m w → w ≡ accepted_by v (outgoing_of p)
       → b ≡ with_all_free a (drop (parts_for p.len) (numbers_of p.bufs)) → Continues None m w n x
       → x.posted ≡ w.posted → x.poked ≡ length x.outstanding → Queues (Ok Taken) p l v a n x b

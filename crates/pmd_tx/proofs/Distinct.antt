@@ -1,4 +1,4 @@
--- Lemmas: lists of different blocks.
+-- Lemmas about lists of different blocks.
 use Rattle.std.proofs.Common.{◌≡◌, ℕ, zero, suc, ◌<◌, ◌==◌, ◌||◌, inl, inr, Bool, true, false, All, List, [], ◌∷◌, ◌++◌, length, take, get_or, refl, sym, arith}
 use Rattle.std.specs.List.{list_any}
 use Rattle.std.proofs.lemmas.Bool.{both_ways, cases_Bool, eqb-true, eq-eqb}
@@ -44,7 +44,7 @@ distinct-append (x ∷ xs) ys a b all = (
       (all k d below)).1),
 )
 
--- The number at an index differs from those before it.
+-- The number at an index differs from the numbers before that index.
 
 differs_at : (x : ℕ) (xs : List ℕ) (k : ℕ) → Absent x xs → k < length xs → (get_or xs k 0 == x) ≡ false
 differs_at x [] k none below = absurd (omega arith)

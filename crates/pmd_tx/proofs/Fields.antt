@@ -14,7 +14,7 @@ use Rattle.pmd_tx.specs.Shown.{AllHold, AreDistinct, Holds, IsRing, outstanding_
 use Rattle.pmd_tx.specs.declared.piece.Piece.{Piece}
 use Rattle.pmd_tx.proofs.Outstanding.{ends-drop, length-outstanding, outstanding-drop, outstanding-none, tells-drop}
 
--- The fields as contracts see them.
+-- The ring's fields as contracts see them.
 abbrev pub shown : Layout → List Piece → ℕ → ℕ → ℕ → ℕ → List Kept → Sender
 shown l ps lent poked posted done ks = record {
   layout = l;
@@ -70,7 +70,7 @@ module _ (l : Layout) (ps : List Piece) (waiting : List Block) (lent poked poste
         (subst (λ (x : List Segment). AllHold x waiting) split h.held) in
         (both.0, both.1)
 
-    -- Another block with the same number may replace it if it starts with the same bytes.
+    -- Another block with the same number may replace the first block in hand if it starts with the same bytes.
     pub held_again : (b d : Block) (bs : List Block) → waiting ≡ b ∷ bs → Holds (get_or outs lent no_segment) d
         → IsRing l ps (d ∷ bs) lent poked posted done ks
     held_again b d bs is holds =
@@ -98,7 +98,7 @@ module _ (l : Layout) (ps : List Piece) (waiting : List Block) (lent poked poste
           apart = h.apart;
         }
 
-    -- One more segment is lent.
+    -- The invariant still holds after one more segment is lent.
     pub lent_ring : (b : Block) (bs : List Block) → waiting ≡ b ∷ bs → IsRing l ps bs (lent + 1) poked posted done ks
     lent_ring b bs is = record {
       some = h.some;
@@ -122,7 +122,7 @@ module _ (l : Layout) (ps : List Piece) (waiting : List Block) (lent poked poste
       apart = h.apart;
     }
 
-    -- The oldest segment is removed.
+    -- The invariant still holds after the oldest segment is removed.
     pub dropped_ring : (m : Layout) (qs : List Piece) (a b c d : ℕ) → m.size ≡ l.size → m.ring ≡ l.ring
         → m.limit ≡ l.limit → m.next ≡ next_of l.size l.next → qs ≡ drop 1 ps → 0 < done → a + 1 ≡ lent
         → b + 1 ≡ poked → c + 1 ≡ posted → d + 1 ≡ done → IsRing m qs waiting a b c d ks
@@ -157,7 +157,7 @@ module _ (l : Layout) (ps : List Piece) (waiting : List Block) (lent poked poste
           apart = rw are (places-rest ps h.apart);
         }
 
--- Nothing is outstanding at first.
+-- The invariant holds for a new ring, with nothing outstanding.
 pub fresh_ring : (l : Layout) → 0 < l.size → l.size ≤ 1024 → l.next ≡ 0 → l.ring + blocks_for l.size ≤ 65536
     → 60 ≤ l.limit → l.limit ≤ 10240 → IsRing l [] [] 0 0 0 0 []
 fresh_ring l some few next ring least limit = record {

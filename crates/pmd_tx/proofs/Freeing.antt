@@ -1,4 +1,4 @@
--- Lemmas: blocks return to the driver's arena.
+-- Lemmas about blocks that return to the driver's arena.
 use Rattle.std.proofs.Common.{◌≡◌, ℕ, ◌+◌, ◌<◌, ◌≤◌, true, false, if◌then◌else◌, List, [], ◌∷◌, ◌++◌, length, take, drop, get_or, refl, sym, ap, ◌∙◌, subst, arith}
 use Rattle.std.proofs.lemmas.List.{length-drop, drop-drop, drop-take, take-take, drop-map, take-append-drop}
 use Rattle.std.proofs.Math.Seq.{take-add}
@@ -57,7 +57,7 @@ frees_both u v w a b d m n i j f g =
           );
     }
 
--- The block of the oldest segment.
+-- Lemmas about the block of the oldest segment.
 
 first_block : (n : ℕ) (xs : List Segment) → 0 < length xs → n ≡ (get_or xs 0 no_segment).block
     → blocks_of xs ≡ n ∷ blocks_of (drop 1 xs)
@@ -87,16 +87,16 @@ module _ (a : Numbers) (v : Sender) (n : ℕ) (some : 0 < length v.outstanding) 
     oldest_first : AreOut a (n ∷ others)
     oldest_first = subst (AreOut a) (first_block n v.outstanding some first) out
 
-    -- The arena owns it, and it isn't free.
+    -- The arena owns this block, and the block isn't free.
     pub oldest_out : (is_own a n ≡ true) × (is_free a n ≡ false)
     oldest_out = let here = out_first a others n oldest_first in (here.0, here.1)
 
-    -- After it is freed, the other blocks stay out.
+    -- After this block is freed, the other blocks stay out.
     pub out_rest : (b : Numbers) (w : Sender) → w ≡ reaped v → b ≡ with_free a n true
         → AreOut b (blocks_of w.outstanding)
     out_rest b w is gave = rw (is, gave) (out_given a others n oldest_first)
 
--- Only the outstanding segments matter.
+-- Which blocks are freed depends only on the outstanding segments.
 pub frees_from : (v w x : Sender) (a b : Numbers) (n i : ℕ) → w.outstanding ≡ v.outstanding → Frees w x a b n i
     → Frees v x a b n i
 frees_from v w x a b n i same f = record {

@@ -1,4 +1,4 @@
--- Lemmas: lending the first block of a packet, given the calls made.
+-- Lemmas about lending the first block of a packet, given the calls made.
 use Rattle.std.proofs.Common.{◌≡◌, ℕ, zero, suc, ◌-◌, ◌<◌, false, All, List, [], ◌∷◌, length, take, get_or, None, Some, Result, Ok, Err, OnOk, OnErr, IfErr, refl, sym, ap, ◌∙◌, subst, arith}
 use Rattle.std.proofs.lemmas.List.{take_all}
 use Rattle.pmd_access.specs.NicDevice.DmaArena.Block.{Block, IsBlock}

@@ -1,4 +1,4 @@
--- Lemmas: the parts of the newest packet.
+-- Lemmas about the parts of the newest packet.
 use Rattle.std.proofs.Common.{◌≡◌, ℕ, zero, suc, ◌+◌, ◌-◌, ◌*◌, ◌<◌, ◌≤◌, List, [], ◌∷◌, ◌++◌, length, take, drop, get_or, refl, sym, ap, ◌∙◌, arith}
 use Rattle.std.proofs.lemmas.List.{length-append, length-drop, drop-drop, get_or-drop, get_or-append-add, take_all, append-nil}
 use Rattle.pmd_access.specs.Packet.{Kept}

@@ -1,4 +1,4 @@
--- Lemmas: the numbers of Bufs, in order.
+-- Lemmas about the numbers of Bufs, in order.
 use Rattle.std.proofs.Common.{◌≡◌, ◌∙◌, ◌==◌, ◌&&◌, not, Bool, true, false, ℕ, zero, suc, ◌+◌, ◌<◌, List, [], ◌∷◌, length, drop, get_or, refl, sym, ap, arith}
 use Rattle.std.proofs.lemmas.List.{drop_more}
 use Rattle.pmd_access.specs.NicDevice.DmaArena.Block.{Block}
@@ -23,7 +23,7 @@ numbers-left bs k b below at =
     drop_more (numbers_of bs) k 0 (omega (arith, below, count-numbers bs))
     ∙ ap (λ (n : ℕ). n ∷ drop (k + 1) (numbers_of bs)) (number-at bs k b 0 below at)
 
--- Whether blocks are out, from the first and the rest.
+-- Whether blocks are out follows from the first block and the rest.
 
 joined : (own free again rest : Bool)
     → (own && not free && not again && rest) ≡ ((own && not free && not again) && rest)

@@ -1,4 +1,4 @@
--- Lemmas: the outstanding segments, from the driver's pieces and the accepted packets.
+-- Lemmas about the outstanding segments, which are determined by the driver's pieces and the accepted packets.
 use Rattle.std.proofs.Common.{◌≡◌, ℕ, zero, suc, ◌+◌, ◌-◌, ◌*◌, ◌<◌, ◌≤◌, ◌==◌, ◌||◌, Bool, true, false, List, [], ◌∷◌, ◌++◌, length, drop, get_or, if◌then◌else◌, refl, sym, ap, ◌∙◌, subst, arith, append_assoc}
 use Rattle.std.specs.List.{list_any}
 use Rattle.std.proofs.lemmas.List.{append-nil, length-append, length-drop, length-take-le, drop-drop, drop-append-le}
@@ -8,7 +8,7 @@ use Rattle.pmd_tx.specs.Sending.{Part, Segment, no_segment, blocks_of, first_end
 use Rattle.pmd_tx.specs.Shown.{AllTell, Tells, all_parts, latest, outstanding_of}
 use Rattle.pmd_tx.specs.declared.piece.Piece.{Piece}
 
--- Pieces and the parts that they agree with.
+-- Lemmas about pieces and the parts that they agree with.
 
 pub tell-length : (ps : List Piece) (qs : List Part) → AllTell ps qs → length ps ≡ length qs
 tell-length [] [] all = refl
@@ -36,7 +36,7 @@ tell-drop [] (q ∷ qs) all = absurd all
 tell-drop (p ∷ ps) [] all = absurd all
 tell-drop (p ∷ ps) (q ∷ qs) all = all.1
 
--- Segments from their blocks and parts.
+-- Lemmas about segments made from blocks and parts.
 
 pub length-places : (ps : List Piece) → length (places_of ps) ≡ length ps
 length-places [] = refl
@@ -89,7 +89,7 @@ paired-drop [] (q ∷ qs) same = absurd (omega arith)
 paired-drop (b ∷ bs) [] same = absurd (omega arith)
 paired-drop (b ∷ bs) (q ∷ qs) same = refl
 
--- The latest parts.
+-- Lemmas about the latest parts.
 
 all_parts-push : (ks : List Kept) (k : Kept) → all_parts (ks ++ k ∷ []) ≡ all_parts ks ++ parts_of k.bytes
 all_parts-push [] k = append-nil (parts_of k.bytes)
@@ -144,7 +144,7 @@ module _ (ps : List Piece) (ks : List Kept) (tells : AllTell ps (latest (length 
         rw (latest-drop (length (drop 1 ps)) fewer, places-drop ps)
         (paired-drop (places_of ps) (latest (length ps) ks) places-count)
 
-  -- One more packet.
+  -- Lemmas about accepting one more packet.
   module _ (xs : List Piece) (k : Kept) (more : AllTell xs (parts_of k.bytes)) where
     latest-push : latest (length (ps ++ xs)) (ks ++ k ∷ []) ≡ latest (length ps) ks ++ parts_of k.bytes
     latest-push =
@@ -172,7 +172,7 @@ pub outstanding-none : (ks : List Kept) → outstanding_of [] ks ≡ []
 unfolding outstanding_of
 outstanding-none ks = refl
 
--- The first segment that ends a packet.
+-- Lemmas about the first segment that ends a packet.
 
 first-paired : (ps : List Piece) (qs : List Part) → AllTell ps qs → first_end (paired (places_of ps) qs) ≡ first_last ps
 first-paired [] [] all = refl
@@ -208,7 +208,7 @@ ends-append [] x xs ends = ends
 ends-append (p ∷ []) x xs ends = ends
 ends-append (p ∷ q ∷ ps) x xs ends = ends-append (q ∷ ps) x xs ends
 
--- The pieces of a packet.
+-- Lemmas about the pieces of a packet.
 
 pub places-pieces : (whole : ℕ) (bs : List ℕ) (len : ℕ) → places_of (pieces_in whole bs len) ≡ bs
 places-pieces whole [] len = refl

@@ -1,4 +1,4 @@
--- Lemmas: each move of a sending driver, given the calls made.
+-- Lemmas about each move of a sending driver, given the calls made.
 use Rattle.std.proofs.Common.{◌≡◌, ℕ, ◌+◌, ◌<◌, Bool, true, false, List, [], length, if◌then◌else◌, Some, None, refl, ap, ◌∙◌, subst, inl, inr}
 use Rattle.pmd_access.specs.NicDevice.DmaArena.Block.{Block}
 use Rattle.pmd_access.specs.NicDevice.declared.event.Event.TheVariants as event
@@ -15,7 +15,7 @@ use Rattle.pmd_tx.proofs.Acting.{acts_done, acts_refused, acts_sick, continues_d
 use Rattle.pmd_tx.proofs.Playing.{plays_none}
 
 module _ (old new : List Call) (v : Sender) where
-  -- Lending the block of the next segment.
+  -- Lemmas about lending the block of the next segment.
 
   module _ (b : Block) (own : IsOwn v Lends (event.Lend b)) where
     pub lend_done : {w : Sender} → IsLent old new b None → w ≡ lent_more v → Continues None old v new w
@@ -32,7 +32,7 @@ module _ (old new : List Call) (v : Sender) where
     lend_refused f some is =
         continues_refused old new v Lends (event.Lend b) refl own (λ blocks. tt) f some is
 
-  -- Writing a descriptor.
+  -- Lemmas about writing a descriptor.
 
   module _ (a : ℕ) (bytes : List ℕ) (own : IsOwn v Asks (event.Poke16 a bytes)) where
     pub ask_done : {w : Sender} → IsPoked old new a bytes true → w ≡ asked v → Continues None old v new w
@@ -50,7 +50,7 @@ module _ (old new : List Call) (v : Sender) where
     ask_refused f some =
         continues_refused old new v Asks (event.Poke16 a bytes) refl own (λ blocks. tt) f some refl
 
-  -- Advancing the tail.
+  -- Lemmas about advancing the tail.
 
   module _ (word : ℕ) (all : v.poked ≡ length v.outstanding) (some : v.posted < v.poked)
       (is : word ≡ slot_at v.layout v.poked)
@@ -75,7 +75,7 @@ module _ (old new : List Call) (v : Sender) where
           continues_refused old new v Advances (event.Write v.layout.port v.layout.tail word) refl tail_own
           (λ blocks. tt) f more refl
 
-  -- Looking at the end of the oldest packet.
+  -- Lemmas about reading the descriptor that ends the oldest packet.
 
   module _ (a end : ℕ) (is_end : end ≡ first_end v.outstanding) (posted : end < v.posted)
       (at : a ≡ descriptor_at v.layout end)
@@ -114,7 +114,7 @@ module _ (old new : List Call) (v : Sender) where
       look_refused f some =
           continues_refused old new v Looks (event.Peek16 a) refl look_own (λ blocks. tt) f some refl
 
-  -- Taking the block of the oldest segment.
+  -- Lemmas about taking the block of the oldest segment.
 
   module _ (n : ℕ) (own : IsOwn v Reaps (event.Take n)) where
     pub take_done : {w : Sender} (b : Block) → IsTaken old new n (Some b) → w ≡ reaped v → (blocks : List ℕ)

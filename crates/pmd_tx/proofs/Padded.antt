@@ -1,4 +1,4 @@
--- Lemmas: what padding does to a packet's bytes.
+-- Lemmas about what padding does to a packet's bytes.
 use Rattle.std.proofs.Common.{◌≡◌, ℕ, zero, suc, ◌+◌, ◌-◌, ◌*◌, ◌<◌, ◌≤◌, nat_lt, All, List, [], ◌∷◌, ◌++◌, length, take, drop, replicate, Option, refl, sym, ap, ◌∙◌, subst, arith, inl, inr}
 use Rattle.std.proofs.lemmas.Bool.{cases_Bool}
 use Rattle.std.proofs.lemmas.Bool.Decides.{nat_tests}
@@ -73,7 +73,7 @@ count-first : (bs : List Block) (at : ℕ) (bytes : List ℕ) → length (with_f
 count-first [] at bytes = refl
 count-first (b ∷ bs) at bytes = refl
 
--- A nonempty packet in whole blocks that have room for it.
+-- Lemmas about a nonempty packet in whole blocks that have room for it.
 module _ (p : Packet) (whole : All (λ (b : Block). IsBlock b) p.bufs) (some : 0 < p.len)
     (held : p.len ≤ 2048 * length p.bufs)
   where
@@ -83,7 +83,7 @@ module _ (p : Packet) (whole : All (λ (b : Block). IsBlock b) p.bufs) (some : 0
     bytes-long : length (take p.len (bytes_of p.bufs)) ≡ p.len
     bytes-long = length-take-le p.len (bytes_of p.bufs) (omega (arith, length-blocks p.bufs whole, held))
 
-    -- The first block of a packet that is padded.
+    -- Lemmas about the first block of a packet that is padded.
     module _ (short : p.len < 60) (b : Block) (bs : List Block) (is : p.bufs ≡ b ∷ bs) where
       size : length b.bytes ≡ 2048
       size =
@@ -178,7 +178,7 @@ module _ (p : Packet) (whole : All (λ (b : Block). IsBlock b) p.bufs) (some : 0
           })
     ]
 
-    -- The same Bufs contain none of its bytes.
+    -- The same Bufs contain none of the packet's bytes before and after padding.
     pub parts_padded : parts_for (padded_packet p).len ≡ parts_for p.len
     parts_padded = elim (cases_Bool (nat_lt p.len 60)) [
       | inl is ↦

@@ -1,4 +1,4 @@
--- Lemmas: the check of a packet and its consequences.
+-- Lemmas about the check of a packet and its consequences.
 use Rattle.std.proofs.Common.{◌≡◌, ◌≢◌, ℕ, zero, suc, ◌+◌, ◌≤◌, ◌==◌, inl, inr, Bool, true, false, All, List, [], ◌∷◌, ◌++◌, take, drop, Option, Some, None, Result, Ok, IfSome, IfNone, not, ◌&&◌, if◌then◌else◌, refl, sym, ap, ◌∙◌, subst, arith}
 use Rattle.std.proofs.lemmas.Bool.{both_ways, cases_Bool, cases_eq, eq-eqb}
 use Rattle.std.proofs.lemmas.Bool.Decides.{nat_tests}
@@ -88,7 +88,7 @@ none_kept v (n ∷ ns) none zero d below = (neither (keeps v n) (list_any (λ k.
 none_kept v (n ∷ ns) none (suc k) d below =
     none_kept v ns (neither (keeps v n) (list_any (λ i. keeps v i) ns) none).1 k d (omega arith)
 
--- The packet passed the check.
+-- Lemmas about a packet that passed the check.
 module _ (v : Sender) (a : Numbers) (elsewhere : Bool) (p : Packet) (is : Open ≡ gate_of v a elsewhere p) where
   tests : (is_bad_size v p ≡ false) × ((goes_home v a p && not elsewhere) ≡ true) × (is_full v p ≡ false)
   tests = opened (is_bad_size v p) (goes_home v a p && not elsewhere) (is_full v p) is
@@ -130,7 +130,7 @@ gone_open Open p x answer none = refl
 pub taken_open : (g : Gate) (p : Packet) → IsAnswer g p (Ok Taken) → Open ≡ g
 taken_open g p answer = gone_open g p (Ok Taken) answer refl
 
--- The answer after the check is passed.
+-- If the packet passed the check, the result of trying to send it follows from the check.
 pub tried_answer : (g : Gate) (p : Packet) (x : Result TxAnswer TxFault) → Open ≡ g → IsTried x → IsAnswer g p x
 tried_answer g p x is tried = subst (λ (y : Gate). IsAnswer y p x) is tried
 
@@ -187,7 +187,7 @@ pub back_itself : (f : PmdFault) (p : Packet) → IsBack f p p
 back_itself DeviceFault p = refl
 back_itself other p = refl
 
--- The blocks that contain none of its bytes are out too.
+-- The blocks that contain none of the packet's bytes are out too.
 pub out_drop : (a : Numbers) (n : ℕ) (ns ms : List ℕ) → AreOut a ns → ms ≡ drop n ns → AreOut a ms
 out_drop a n ns ms out is =
     rw is

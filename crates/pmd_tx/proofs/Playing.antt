@@ -1,4 +1,4 @@
--- Lemmas: how a call extends the driver's calls.
+-- Lemmas about how a call extends the driver's calls.
 use Rattle.std.proofs.Common.{◌≡◌, ℕ, suc, false, List, [], ◌∷◌, ◌++◌, length, map, refl, sym, ap, ◌∙◌, subst, append_assoc}
 use Rattle.std.proofs.lemmas.List.{append-nil}
 use Rattle.pmd_access.specs.NicDevice.DmaArena.Block.{Block}
@@ -41,7 +41,7 @@ accepts-last : (blocks : List ℕ) (before : List Call) (m : Move) → AcceptsIn
 accepts-last blocks [] m accepts = (accepts, tt)
 accepts-last blocks (n ∷ before) m accepts = (tt, accepts-last blocks before m accepts)
 
--- An own event after calls that aren't own.
+-- The driver's own event follows calls that aren't its own.
 pub plays_adds : (blocks : List ℕ) (old new : List Call) (v : Sender) (m : Move) → is_elsewhere m ≡ false
     → (e : Event Block) (r : Reply Block) → IsOwn v m e → AcceptsIn blocks m → Adds old new e r
     → PlaysWith blocks old v new (moved v m r)
@@ -70,11 +70,11 @@ plays_some blocks old new v (before, is, steps) = record {
   accepts = accepts-elsewhere blocks before;
 }
 
--- No call was made.
+-- If no call was made, the driver's state is unchanged.
 pub plays_none : (blocks : List ℕ) (old : List Call) (v : Sender) → PlaysWith blocks old v old v
 plays_none blocks old v = plays_some blocks old old v ([], sym (append-nil old), tt)
 
--- Two sequences of calls follow each other.
+-- Lemmas about two sequences of calls, one after the other.
 
 own-both : (v : Sender) (m : List Move) (s : List Call) (n : List Move) (t : List Call) → AllOwn v m s
     → AllOwn (played_by v m s) n t → AllOwn v (m ++ n) (s ++ t)
@@ -119,7 +119,7 @@ plays_both blocks a b d v w x p q = record {
   accepts = accepts-both blocks p.plays.0 q.plays.0 p.accepts q.accepts;
 }
 
--- A reply that a healthy queue never sends.
+-- A call whose reply a healthy queue never sends is a fault of the queue.
 pub faults_at : (blocks : List ℕ) (old new : List Call) (v : Sender) (m : Move) (e : Event Block) (r : Reply Block)
     → IsOwn v m e → AcceptsIn blocks m → Adds old new e r → is_healthy m r ≡ false → Faults blocks old v new
 faults_at blocks old new v m e r own accepts adds sick = record {
@@ -135,7 +135,7 @@ faults_at blocks old new v m e r own accepts adds sick = record {
   sick = sick;
 }
 
--- A wrong reply after other calls.
+-- A wrong reply that comes after other calls is a fault after all these calls.
 pub faults_after : (blocks : List ℕ) (a b d : List Call) (v w : Sender) → PlaysWith blocks a v b w → Faults blocks b w d
     → Faults blocks a v d
 faults_after blocks a b d v w plays f = record {
@@ -151,7 +151,7 @@ faults_after blocks a b d v w plays f = record {
   sick = f.sick;
 }
 
--- A refused call.
+-- A refused call asks for a move that the driver may make next.
 pub asks_at : (blocks : List ℕ) (old new : List Call) (v : Sender) (m : Move) (e : Event Block) → IsOwn v m e
     → is_elsewhere m ≡ false → AcceptsIn blocks m → AddsSome old new → AsksNext blocks old v new
 asks_at blocks old new v m e own mine accepts some = record {

@@ -59,7 +59,7 @@ all-hold whole (suc (suc n)) (b ∷ bs) others len count some full fits are =
     take-whole : (k : ℕ) (xs : List ℕ) → length xs ≤ k → take k xs ≡ xs
     take-whole k xs low = take_all k xs low
 
--- A property shared by all pieces of a packet.
+-- Lemmas about properties that all pieces of a packet share.
 
 length-pieces : (whole : ℕ) (bs : List ℕ) (len : ℕ) → length (pieces_in whole bs len) ≡ length bs
 length-pieces whole [] len = refl
@@ -123,7 +123,7 @@ numbers-take (suc n) [] = refl
 numbers-take zero (b ∷ bs) = refl
 numbers-take (suc n) (b ∷ bs) = ap (λ (l : List ℕ). b.number ∷ l) (numbers-take n bs)
 
--- The packet in its blocks; the first `parts_for` are needed.
+-- Lemmas about a packet in its blocks. Only the first `parts_for` blocks are needed.
 module _ (p : Packet) (whole : All (λ (b : Block). IsBlock b) p.bufs) (held : p.len ≤ 2048 * length p.bufs)
     (long : 60 ≤ p.len)
   where
@@ -178,7 +178,7 @@ module _ (p : Packet) (whole : All (λ (b : Block). IsBlock b) p.bufs) (held : p
         (whole k d (omega (arith, length-firsts, enough)))) in
         rw (length-kept, ← numbers-take n p.bufs) (rw (take-append-drop n p.bufs) at at)
 
--- The packet joins the outstanding ones.
+-- Lemmas about an accepted packet, which joins the outstanding packets.
 module _ (l : Layout) (ps : List Piece) (waiting : List Block) (lent poked posted done : ℕ) (ks : List Kept)
     (h : IsRing l ps waiting lent poked posted done ks) (v : Sender)
     (is : shown l ps lent poked posted done ks ≡ v) (p : Packet) (given : MayStart v p)
@@ -218,7 +218,7 @@ module _ (l : Layout) (ps : List Piece) (waiting : List Block) (lent poked poste
         outstanding-push ps ks h.tells new k tells
         ∙ ap (λ (bs : List ℕ). outstanding_of ps ks ++ paired bs (parts_of k.bytes)) (places-pieces p.len ns p.len)
 
-    -- The ring keeps none of its blocks.
+    -- The ring keeps none of the packet's blocks.
     kept_none : (n : ℕ) → keeps (shown l ps lent poked posted done ks) n ≡ false
         → (is_ring_block l.ring l.size n ≡ false) × Absent n (places_of ps)
     kept_none n none =
@@ -233,7 +233,7 @@ module _ (l : Layout) (ps : List Piece) (waiting : List Block) (lent poked poste
         All-take (λ (n : ℕ). keeps (shown l ps lent poked posted done ks) n ≡ false) (parts_for p.len)
         (numbers_of p.bufs) may.loose.away
 
-    -- Its blocks that aren't lent yet are in hand.
+    -- The packet's blocks that aren't lent yet are in hand.
     rest_held : drop (lent + 1) (outstanding_of ps ks ++ segments_of (sent_as p)) ≡ drop 1 (segments_of (sent_as p))
     rest_held =
         sym (drop-drop 1 lent (outstanding_of ps ks ++ segments_of (sent_as p)))
@@ -281,7 +281,7 @@ module _ (l : Layout) (ps : List Piece) (waiting : List Block) (lent poked poste
     pub started_shown : shown l (ps ++ new) (lent + 1) poked posted done (ks ++ k ∷ []) ≡ accepted_by v (sent_as p)
     started_shown = rw more refl ∙ ap (λ (x : Sender). accepted_by x (sent_as p)) is
 
--- Splits a packet's blocks into the first and the rest.
+-- Lemmas about splitting a packet's blocks into the first and the rest.
 
 pub firsts-split : (count : ℕ) (bs others : List Block) (first : Block) → bs ≡ first ∷ others → 0 < count
     → take count bs ≡ first ∷ take (count - 1) others

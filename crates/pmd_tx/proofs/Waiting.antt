@@ -1,4 +1,4 @@
--- Lemmas: the block of the next segment, which is in hand.
+-- Lemmas about the block of the next segment, which is in hand.
 use Rattle.std.proofs.Common.{◌≡◌, ℕ, ◌+◌, ◌-◌, ◌<◌, ◌≤◌, ◌==◌, false, List, ◌∷◌, length, take, drop, get_or, refl, sym, ap, ◌∙◌, subst, arith}
 use Rattle.std.specs.List.{list_any}
 use Rattle.std.proofs.lemmas.List.{take-map, take_at, length-take}
@@ -71,7 +71,7 @@ module _ (l : Layout) (ps : List Piece) (waiting : List Block) (lent poked poste
           },
         )
 
-    -- The block's bytes, taken from the newest packet.
+    -- The block's bytes are a part of the newest packet.
     pub next_left : length ps - lent ≤ newest_parts ks
     next_left = omega (arith, h.newest)
 

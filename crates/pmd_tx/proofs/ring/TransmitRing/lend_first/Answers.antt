@@ -6,7 +6,7 @@ use Rattle.pmd_tx.specs.Sending.{parts_for}
 use Rattle.pmd_tx.proofs.Starting.{started_ring, started_shown, firsts-split, numbers-split}
 use Rattle.pmd_tx.proofs.ring.TransmitRing.lend_first.Goals as goal
 
--- The blocks of a packet's parts, from the first block and those that wait.
+-- The blocks of a packet's parts are the first block and the waiting blocks.
 parts_are : (n count : ℕ) (bs others waiting : List Block) (first : Block) (b : ℕ) → 0 < n → bs ≡ first ∷ others
     → count ≡ n → waiting ≡ take (count - 1) others → b ≡ first.number
     → (waiting ≡ drop 1 (take n bs)) × (b ∷ numbers_of waiting ≡ take n (numbers_of bs))

@@ -1,4 +1,4 @@
--- A driver whose author makes any other calls alongside it, over the retagged history.
+-- Lemmas about a driver whose author makes any other calls alongside it, over the retagged history.
 use Rattle.driver_laws.proofs.Faultless.{FindsDuring, filling_never, found, made, made_is, never_at_fault, none_during}
 use Rattle.driver_laws.proofs.Prelude.{AllFollow, AtPort, BeforeLast, BeginsApart, Beside, Bool, Call, DrivesRings}
 use Rattle.driver_laws.proofs.Prelude.{Entry, FaultsEarly, FaultsFilling, Follows, GoesOn, HasGround, IsAlong, IsFresh}
@@ -89,7 +89,7 @@ own_again {q = q} {old = old} {m = m} {later = later} {ahead = ahead} {own = own
 pub retagged_along : {w : Watched} {origin : State} {h g : List Entry} → IsRetagged w origin h g → IsAlong w origin g
 retagged_along {origin = origin} {h = h} {g = g} x = grind (arith, common_steps, events_same, legal_same)
 
--- A start before which none of its blocks is lent; it never finds the device at fault.
+-- Lemmas about a start just before which none of its blocks is lent. Such a start never finds the device at fault.
 
 abbrev apart : BeginsBeside → BeginsApart
 apart x = record {
@@ -120,7 +120,7 @@ module _ (x : Beside) where
   abbrev again_reported : IsReportedAgain x.q x.size x.frame x.old x.a x.m x.later x.ahead x.own x.reported
   again_reported = own_again x.reported
 
-  -- What held just before its first access still holds.
+  -- What held just before the driver's first access still holds.
   pub at_access : (P : State → Type 0) → BeforeLast x.w x.origin x.g (x.ahead ++ x.reported.first) P
       → BeforeLast x.w x.origin x.g again_reported.reported.started.2.receive.quiet.0 P
   at_access P = subst (λ (l : List Call). BeforeLast x.w x.origin x.g l P) (sym again_reported.access)
@@ -168,7 +168,7 @@ module _ (x : Beside) where
   called_after n y added is =
       ap (λ (l : List Call). x.own ++ l) (append_cancel_left _ y.since added (sym y.made ∙ is))
 
-  -- No other pass lends its blocks.
+  -- No other pass lends the driver's blocks.
 
   pub alone : IsAloneBeside x → IsReportedAlone reported
   alone y = record {

@@ -1,5 +1,6 @@
--- Sequences of calls of one kind, with device steps between them: the calls of a driver's accesses, successful or
--- failed, the calls that lend its blocks, and the calls of its stop. Also the blocks that a pass lends with them.
+-- Lemmas about sequences of calls of one kind, with device steps between them. The kinds are the calls of a driver's
+-- accesses, successful or failed, the calls that lend its blocks, and the calls of its stop. Other lemmas are about the
+-- blocks that a pass lends with these calls.
 use Rattle.driver_laws.proofs.Ground.{IsDriven, words_are_writes, writes_driven}
 use Rattle.driver_laws.proofs.StartPrelude.{AllAre, AreMadeOf, AtEntries, Ends, IsAlong, IsEnable, IsEnding}
 use Rattle.driver_laws.proofs.StartPrelude.{IsOtherwise}
@@ -32,7 +33,7 @@ each_such P Q such [] are = tt
 each_such P Q such (c ∷ cs) are = (such c.event are.0, each_such P Q such cs are.1)
 
 module _ (P : Event Block → Type 0) where
-  -- Calls in two parts.
+  -- Lemmas about calls in two parts.
 
   each_both : (cs ds : List Call) → Each (λ c. P c.event) cs → Each (λ c. P c.event) ds
       → Each (λ c. P c.event) (cs ++ ds)
@@ -209,7 +210,7 @@ pub record Has (c : Call) (calls : List Call) : Type 0 where
 pub has_more : (c : Call) (calls new : List Call) → (more : List Call) × (new ≡ calls ++ more) → Has c calls → Has c new
 has_more c calls new (more, is) has = grind (arith, common_steps)
 
--- The block that it lends is one of those that the pass lends.
+-- The block that the call lends is one of those that the pass lends.
 pub record IsLentBy (pass ring : ℕ) (h : List Entry) : Type 0 where
   pub low : ring < 65536
   pub mine : lent_by pass h ring ≡ true
@@ -224,7 +225,7 @@ lent_along {w = w} {h = h} number calls along has done rest all is =
     let there : IsLentBy w.pass number (x.entry ∷ (x.following ++ rest)) = grind (arith, common_steps, x, is) in
     search (rules, lent_after)
 
--- If a ring was prepared, calls were made, and one of them lent each of its blocks.
+-- If a ring was prepared, calls were made that lent each of its blocks.
 
 run_has : (many first k : ℕ) (old new : List Call) → LendsEach old new (range_with_len first many) → k < many
     → Has (lending (first + k)) new
@@ -278,7 +279,7 @@ run_in (suc many) first zero rings below = grind (arith, common_steps, stays_in,
 run_in (suc many) first (suc k) rings below =
     grind (arith, common_steps, run_in many (first + 1) k (and_one first rings) (omega (arith, below)))
 
--- Each block of a ring is one of these.
+-- Each block of a ring is one of the blocks `rings`.
 pub ring_in : (ring size : ℕ) (rings : Blocks)
     → EachRingBlock ring size (λ n. and_all (ring_blocks ring size) rings n ≡ true)
 ring_in ring size rings k below = run_in (blocks_for size) ring k rings below

@@ -1,4 +1,4 @@
--- No driver call finds the device at fault after the place where both sides of the driver's queue are on, and so over
+-- No driver call finds the device at fault after the point where both sides of the driver's queue are on, and so over
 -- its whole life. Nor does a burst meet the device at fault, whatever the burst returns. What a call reports also holds
 -- after other calls: the calls that it added come after the driver's. The same holds for a start.
 use Rattle.driver_laws.proofs.Laying.{LaysTo, among, past_first, preparing_lays, ready_after, then_some}
@@ -85,7 +85,7 @@ found_asked own asks {h = h} f within =
       sick = f.sick;
     }
 
--- Lemmas from the place where both sides are on, if nobody else lends any of these blocks.
+-- Lemmas about the history after the point where both sides are on, if nobody else lends any of these blocks.
 module _ {c : Course} (x : On c) (own : Blocks)
     (fresh : BeforeLast c.w c.origin c.h x.up.receive.quiet.0 (IsFresh c.w.queue c.frame own))
     (others : OthersLendNone c.w.pass own c.h) where
@@ -153,7 +153,7 @@ burst_finds None given left result old mid new r there s drives finds x is =
     (upto, later, both, found_on drives.apart mine)
 burst_finds (Some f) given left result old mid new r there s drives finds x is = grind (arith, common_steps)
 
--- After a driver's life, no call added a fault.
+-- Lemmas about a call after a driver's life: it doesn't find the device at fault.
 module _ (x : Reported)
     (fresh :
     BeforeLast x.w x.origin x.h x.reported.started.2.receive.quiet.0 (IsFresh x.w.queue x.frame (asked_of x.w x.a x.h)))
@@ -187,8 +187,8 @@ pub burst_during : (r s : Running) (old new : List Call) → SendsAtFault old r 
 burst_during r s old new (vacant, given, left, result, x, is) =
     burst_finds x.failed given left result old x.made new r x.there s x.drives x.finds x.sends is
 
--- No start finds the device at fault while it fills its receive ring, nor before. If it fails before both sides are on,
--- none of the blocks that are free then is lent.
+-- No start finds the device at fault while it fills its receive ring, nor before that. If the start fails before both
+-- sides are on, none of the blocks that are free then is lent.
 
 module _ (x : BeginsApart) where
   open x use {w, origin, h, q, size, frame, old, a, new}
@@ -225,8 +225,8 @@ module _ (x : BeginsApart) where
       (λ before c steps apart done rest e all own is. (x.begins before c steps apart done rest e all own is).0) early
       fresh p.front p.back p.both p.fronts
 
-  -- Preparing the receive ring never fails: if no block is lent, it could as well have had an arena without free
-  -- blocks.
+  -- Preparing the receive ring never fails. If no block is lent, an arena without free blocks would give the same
+  -- result.
   receive_never : (b : Numbers) (out : List ℕ) → ReceiveFails DeviceFault q size old a new b out → ⊥
   receive_never b out (inl (stops, same, empty)) =
       let none : Numbers = record a { free = [] } in

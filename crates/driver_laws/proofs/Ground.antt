@@ -1,6 +1,6 @@
--- The values that a driver writes to a queue's registers: while a side is off, each of them takes effect as a whole.
--- Also what a driver relies on in addition to its sides: port and queue name its queue, and frames are no longer than
--- its packets.
+-- Lemmas about the values that a driver writes to a queue's registers: while a side is off, each of these values takes
+-- effect as a whole. Other lemmas are about what a driver relies on in addition to its sides. Port and queue name its
+-- queue, and frames are no longer than its packets.
 use Rattle.driver_laws.proofs.StartPrelude.{AllAre, Done, Fits, HasGround, IsKept, IsPlain, NamesRow, Outcome, Tdwbah}
 use Rattle.driver_laws.proofs.StartPrelude.{WritesNoSetting, across, asks_pool_reset, asks_reset, gives, is_receive}
 use Rattle.driver_laws.proofs.StartPrelude.{is_setting, is_transmit, left_did, named_written, owner_of, plain-write}
@@ -56,7 +56,7 @@ pub driven : (dir : Dir) (row : RowId) (word : ℕ) → Fits dir row word
     ≡ gives Done (record s { registers = after_write s.registers (place row queue) 0xFFFFFFFF word }))
 driven dir row word fits = grind (arith, common_steps)
 
--- The enable register of each side is one of them.
+-- A driver uses the enable register of each side.
 pub side_driven : (side : Dir) → is_driven (enable_row side) ≡ true
 side_driven side = grind (arith, common_steps)
 
@@ -84,7 +84,7 @@ merged-even old new even =
     and_mod new 0xFFFFFFFD 1 ∙ ap (λ n. bit_and n 1) even ∙ and_zero_l 1 in
     or_mod (bit_and old 0x2) (bit_and new 0xFFFFFFFD) 1 ∙ (λ k. bit_or (kept k) (taken k)) ∙ or_zero_l 0
 
--- A register of the queue is written.
+-- Lemmas about a write to a register of the queue.
 
 module _ (queue : ℕ) (s : State) (port : Port) (n word : ℕ) (row : RowId) (names : NamesRow s port n row queue) where
   pub ground : is_setting row ≡ false → KeepsGround s (after s (event.Write port n word))
@@ -213,7 +213,7 @@ words_taken dir queue s port n word row small sound off fits names =
       ground = ground queue s port n word row names plain;
     }
 
--- What naming a queue implies.
+-- Lemmas about what naming a queue implies.
 pub some_where : {A : Type 0} (b : Bool) (o : Option A) (x : A) → (if b then o else None) ≡ Some x
     → (b ≡ true) × (o ≡ Some x)
 some_where b o x e = search rules

@@ -45,8 +45,8 @@ drive_same v e r = grind (arith, common_steps, either_way)
 pub most_after : (h : Halves) (d : Doer) (n : Call) → (after_call h d n).receive.layout.most ≡ h.receive.layout.most
 most_after h d n = grind (arith, common_steps, drive_same)
 
--- Nothing is written of a waiting frame if no piece was received since the side was enabled: none is received while it
--- is off.
+-- If no piece was received since the side was enabled, no part of a waiting frame is written: no piece is received
+-- while the side is off.
 
 silent : (queue : ℕ) (s : State) → is_on s.registers Rx queue ≡ false → Deed Rx queue s event.RxStep
     → pieces queue s event.RxStep ≡ []
@@ -56,7 +56,7 @@ off_silent : (queue : ℕ) (s : State) (e : Event Block) → IsSound s → is_on
     → pieces queue s e ≡ []
 off_silent queue s e sound off = search (rules, silent, receiving_did)
 
--- Nothing is written of a waiting frame, as an invariant over a history.
+-- Lemmas about an invariant over a history: no part of a waiting frame is written.
 
 abbrev Unbegun : ℕ → State → Option (List Piece) → Type 0
 Unbegun queue s so_far = so_far ≡ Some [] → partial_on queue s.waiting ≡ 0
@@ -84,7 +84,7 @@ unbegun_on queue s so_far (e ∷ es) sound events before is =
     (option_map (λ (qs : List Piece). qs ++ pieces queue s e.event) so_far) (Unbegun queue t)
     (λ goes is. went_on queue s e.event sound goes) (λ empty. stayed queue s e.event sound so_far before)) is
 
--- If no piece was received since the side was enabled, nothing is written of a waiting frame.
+-- If no piece was received since the side was enabled, no part of a waiting frame is written.
 pub unbegun_since : (queue : ℕ) (s : State) (es : List Entry) → IsSound s → AreEvents es
     → pieces_since queue s None es ≡ Some [] → partial_on queue (leads_to s es).waiting ≡ 0
 unbegun_since queue s es sound events is = unbegun_on queue s None es sound events (λ e. cc) is
@@ -131,7 +131,7 @@ module _ {w : Watched} {mine : Blocks} {s : State} {out : List Piece} {sent : Li
   known_after (Sends Elsewhere) mine apart = move_known Elsewhere mine (search rules)
   known_after (Sends move) mine apart = move_known move mine tt
 
--- Entries before the place where the device agrees with both halves.
+-- Lemmas about the entries before the point where the device agrees with both halves.
 
 -- The waiting frames stay short over one event.
 pub frames_stay_short : (queue most : ℕ) (s : State) (e : Event Block) → AreShort queue most s → WritesNoSetting s e

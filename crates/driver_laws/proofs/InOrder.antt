@@ -1,4 +1,4 @@
--- What the driver handed out and what it sent, over a history that leaves its queue alone.
+-- Lemmas about what the driver handed out and what it sent, over a history that leaves its queue alone.
 use Rattle.driver_laws.proofs.StartPrelude.{AreLent, BothAgree, IsDriven, doer_of, doers_after, events_after}
 use Rattle.driver_laws.proofs.StartPrelude.{leads-append}
 use Rattle.driver_laws.proofs.StartPrelude.{legal_past, not_again, packets_of, sent_is_counted, since-append}
@@ -32,7 +32,7 @@ lends_mine : (pass : ℕ) (mine : Blocks) (own : ℕ) (e : Event Block) (r : Rep
     → LendsOneOf mine e r
 lends_mine pass mine own e r same made all = grind (arith, common_steps)
 
--- The next call, and those after it.
+-- Lemmas about the next call, and the calls after that.
 
 pub record Next (h : Halves) (doers : List Doer) (e : Entry) (b : Bool) (following : List Call) : Type 0 where
   pub own : OwnCall h (doer_of b doers) (call_in e)
@@ -44,7 +44,7 @@ next_call : (h : Halves) (doers : List Doer) (e : Entry) (b : Bool) (following :
     → AllOwn h doers (with_call b e following) → Next h doers e b following
 next_call h doers e b following own = grind (arith, common_steps)
 
--- Where a history leads from a place where the device and both halves agree.
+-- Lemmas about where a history leads from a point where the device and both halves agree.
 
 -- The device agrees with both halves, which have lent these blocks; a side that was up still is.
 pub record Led (w : Watched) (mine : Blocks) (s : State) (out : List Piece) (sent : List (List ℕ)) (es : List Entry)
@@ -58,8 +58,9 @@ pub record Led (w : Watched) (mine : Blocks) (s : State) (out : List Piece) (sen
   pub counted : IsUp w.queue s → (so_far : List (List ℕ))
       → sent_since w.queue s so_far es ≡ so_far ++ sent_in w.queue s es
 
--- Entries of a history after a place where the halves meet the device. It is legal, and leaves the queue and these
--- blocks alone except for the halves, which make their calls in the doers' order. The pass lends only these blocks.
+-- Entries of a history after a point where the halves meet the device. The history is legal. It leaves the queue and
+-- these blocks alone except for the halves, which make their calls in the doers' order. The pass lends only these
+-- blocks.
 pub record Runs (w : Watched) (mine : Blocks) (s : State) (h : Halves) (doers : List Doer) (es : List Entry) : Type 0
   where
     pub legal : IsLegal s es

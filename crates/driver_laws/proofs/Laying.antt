@@ -1,5 +1,5 @@
--- The calls of a start, successful or failed, and those alongside them, one after the other: how far they lay out an
--- empty transmit ring, and which blocks they lend.
+-- How far the calls of a start, successful or failed, and the calls alongside them lay out an empty transmit ring, and
+-- which blocks they lend.
 use Rattle.driver_laws.proofs.{Reached.steps_are, CallKinds.switched_are, CallKinds.unswitched_are}
 use Rattle.driver_laws.specs.{Laid.MayLay, Laid.laid_by, StartPrelude.SwitchFails, StartPrelude.both_asked}
 use Rattle.driver_laws.specs.{TimedOut.AllAre}

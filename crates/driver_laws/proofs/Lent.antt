@@ -59,7 +59,7 @@ module _ (q : AtPort) (size : ℕ) (lent : Blocks) where
   lent_is pass [] more are n is = cc
   lent_is pass (e ∷ es) more are n is = grind (arith, common_steps, calls_own, calls_other, lent_is pass es more)
 
--- What others lend in a part of a history.
+-- Lemmas about what other passes lend in a part of a history.
 
 module _ (pass : ℕ) (own : Blocks) where
   -- No other pass tries to lend these blocks in the first part of a history.
@@ -78,8 +78,8 @@ module _ (pass : ℕ) (own : Blocks) where
   begun_at [] e own = or_left _ _ own
   begun_at (f ∷ front) e own = or_right _ _ (begun_at front e own)
 
-  -- No other pass tries to lend them after an entry of the pass; the same holds for the history that starts at that
-  -- entry.
+  -- No other pass tries to lend these blocks after an entry of the pass. The same holds for the history that starts at
+  -- that entry.
 
   pub others_after : (front back : List Entry) → OthersLendNone pass own (front ++ back) → has_begun pass front ≡ true
       → OnlyPassLends pass own back
@@ -163,7 +163,7 @@ module _ {c : Course} (x : On c) (own : Blocks) where
   abbrev quiet_at : List Call
   quiet_at = up.receive.quiet.0
 
-  -- The lent blocks are the rings'.
+  -- Only the rings' blocks are lent.
 
   lays : LaysTo q c.size (halves_lent_by (first x)) Off quiet_at mid Empty
   lays =
@@ -176,7 +176,7 @@ module _ {c : Course} (x : On c) (own : Blocks) where
       lent_at w origin h q c.size old quiet_at along own _ up.receive.quiet.1 fresh others Off Empty mid lays.calls []
       lays.made (rw append-nil lays.steps)
 
-  -- The waiting frames.
+  -- The waiting frames fit the blocks of a packet.
 
   abbrev Short : State → Type 0
   Short s = HasGround w.queue q frame s × All (FitsBlocks w.queue (most_blocks frame)) s.waiting

@@ -60,7 +60,7 @@ last_harmless (d ∷ calls) c harmless is = (harmless.0, last_harmless calls c h
 pub calls_add_harmless : CallsAddHarmless
 calls_add_harmless old new e reply (before, made, steps) is = grind (arith, common_steps, last_harmless, steps_harmless)
 
--- The calls of a driving driver.
+-- The driver's calls lead its halves on.
 
 pub others_harmless : (doers : List Doer) (calls : List Call) → OthersStep doers calls → OthersHarmless doers calls
 others_harmless [] calls steps = steps_harmless calls steps
@@ -71,7 +71,7 @@ unfoldable pub drives_lead : DrivesLead
 drives_lead old new h k (doers, since, made, own, is, steps) =
     (doers, since, made, own, is, others_harmless doers since steps)
 
--- Harmless calls by themselves.
+-- Harmless calls by themselves lead the halves on.
 
 pub marked : (calls : List Call) → AreHarmless calls → OthersHarmless (doers_other calls) calls
 marked [] harmless = tt
@@ -81,7 +81,7 @@ unfoldable pub harmless_lead : HarmlessLead
 harmless_lead old new h (more, made, harmless) =
     (doers_other more, more, made, others_own h more, others_played h more, marked more harmless)
 
--- One list of harmless calls after another.
+-- Lemmas about two lists of calls in sequence, in which the calls of neither half are harmless.
 
 pub harmless_both : (ds es : List Doer) (ms ns : List Call) → length ds ≡ length ms → OthersHarmless ds ms
     → OthersHarmless es ns → OthersHarmless (ds ++ es) (ms ++ ns)
@@ -153,7 +153,7 @@ harmless_apart own old new h (more, made, harmless) = record {
   apart = others_apart own h more harmless;
 }
 
--- Leading calls after leading calls lead the halves on.
+-- If two sequences of calls each lead the halves on, the first followed by the second leads the halves on.
 pub apart_leads_on : (own : Blocks) (old mid new : List Call) (h j k : Halves) → LeadsApart own old h mid j
     → LeadsApart own mid j new k → LeadsApart own old h new k
 unfolding leads_on

@@ -1,6 +1,6 @@
--- The register values of both rings are written while no enable request is in effect for either side. Both sides are
--- then requested to be enabled and polled until they are. When both rings came up and both sides were enabled this way,
--- the device and the driver agree on both.
+-- The register values of both rings are written while no enable request is in effect for either side. Then the driver
+-- requests that both sides be enabled, and polls them until they are. When both rings came up and both sides were
+-- enabled this way, the device and the driver agree on both sides.
 use Rattle.pmd_driver.specs.PmdAccess.Frames.{most_blocks}
 use Rattle.pmd_driver.specs.{Running.Running, Started.AreUp}
 use Rattle.ring_laws.proofs.{Kept.first_place, Leaving.start_agrees as fresh_agrees}
@@ -148,7 +148,7 @@ module _ {w : Watched} {origin : State} {h : List Entry} {q : AtPort} {size fram
     abbrev Known : Sides → Type 0
     Known p = IsTrue (are_off p)
 
-    -- Some calls were made there.
+    -- At this point, the pass has made some calls.
 
     mid_some : up.receive.mid ≢ []
     mid_some =
@@ -221,7 +221,7 @@ module _ {w : Watched} {origin : State} {h : List Entry} {q : AtPort} {size fram
           unused,
         )
 
-    -- The sides are fresh there, so device and driver agree.
+    -- At this point, the sides are fresh, so the device and the driver agree.
     pub agrees_at : AtCalls w origin h new (λ s. Agree w.queue s [] v × Agrees s w.queue [] t)
     agrees_at done rest all calls =
         let s = leads_to origin done in
@@ -240,7 +240,7 @@ module _ {w : Watched} {origin : State} {h : List Entry} {q : AtPort} {size fram
               up.framed x.ground.limit (λ k below. zeros _ (ring_in other size _ k below)) (x.stand.side Tx)),
         )
 
-    -- Nothing was received or sent on them since they were enabled.
+    -- Nothing was received or sent on the sides since they were enabled.
     pub goes_on_at : AtEntries w h new (WentOn w.queue origin)
     goes_on_at done rest all calls =
         let (p, x, unused) = up_at done rest all calls in

@@ -1,6 +1,6 @@
--- The halves when both sides of a queue are on: each has lent only its ring's blocks. What a driver lends after that.
--- What it handed out and sent after both sides were enabled, and so in its life, even if the history continues: the
--- beginning of a life is a life too.
+-- The halves when both sides of a queue are on: each half has lent only its ring's blocks. The lemmas state what a
+-- driver lends after that point, and what it handed out and sent, and so what holds for its life. They also hold if the
+-- history continues, because the beginning of a life is a life too.
 use Rattle.pmd_driver.proofs.DeviceLock.Histories.{events_before, events_after, legal_before}
 use Rattle.ring_laws.proofs.Alone.{beginning_alone, histories_sound, rest_alone}
 use Rattle.driver_laws.proofs.InOrder.{Led, counted_where_up, handed_is_prefix, none_is_all, none_is_all_taken}
@@ -83,7 +83,7 @@ module _ {q : AtPort} {size frame : ℕ} {old : List Call} {a : Numbers} {ready_
       → MayLend (is_own a) (record { receive = v; transmit = t }) Receives n
   may n free = grind (arith, both_own, is_own-of_free, ring_gone)
 
--- A driver lends this way after that.
+-- After that point, a driver lends in this way.
 module _ {q : AtPort} {size frame : ℕ} {old : List Call} {a : Numbers} {new : List Call} {r : Running}
     (x : Lives q size frame old a new r) where
   pub fresh_own : OwnsSame a x.fresh.arena
@@ -99,7 +99,7 @@ module _ {q : AtPort} {size frame : ℕ} {old : List Call} {a : Numbers} {new : 
       (subst (λ (own : Blocks). DrivesApart own x.made (halves_of x.fresh) new (halves_of r))
       (λ i n. fresh_own n i) x.drives.apart)
 
--- Both sides of a driver's queue were enabled over a history that leaves it alone.
+-- Both sides of a driver's queue were enabled over a history that leaves the queue alone.
 pub record On (c : Course) : Type 0 where
   pub mid : List Call
   pub v : Receive
@@ -183,7 +183,7 @@ module _ {c : Course} (x : Ran c) where
     abbrev start : State
     start = leads_to origin in_parts.front
 
-    -- Device and driver agree there, and both sides are up.
+    -- At this point, the device and the driver agree, and both sides are up.
     pub ends : Led w (lent_by w.pass h) start [] [] in_parts.back k
     ends =
         let is = led w origin in_parts.front in_parts.back (first x.there) goes.0 (driven in_parts) in
@@ -243,7 +243,7 @@ module _ (x : Life) where
   abbrev pub ran : Ran x.course
   ran = record { there = begun; new = x.made; k = k; goes = whole }
 
--- The beginning of a history.
+-- Lemmas about the beginning of a history.
 
 module _ (w : Watched) (origin : State) {h : List Entry} (before rest : List Entry) (all : before ++ rest ≡ h) where
   pub along_before : IsAlong w origin h → IsAlong w origin before
@@ -255,7 +255,7 @@ module _ (w : Watched) (origin : State) {h : List Entry} (before rest : List Ent
       → BeforeLast w origin before calls P
   last_before calls P at done more e both own is = grind (arith, common_steps)
 
--- The rest after a part of a history.
+-- The rest of a history after a part of it is legal and leaves the queue alone, too.
 pub along_after : (w : Watched) (origin : State) (front h : List Entry) → IsAlong w origin (front ++ h)
     → IsAlong w (leads_to origin front) h
 along_after w origin front h x =

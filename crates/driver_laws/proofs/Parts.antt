@@ -1,4 +1,5 @@
--- A history described by the calls that a pass made: in parts, around one of these calls, and retagged.
+-- Lemmas about a history that is described by the calls that a pass made: in parts, around one of these calls, and
+-- retagged.
 use Rattle.driver_laws.proofs.StartPrelude.{calls_other, calls_own, gathered}
 use Rattle.driver_laws.specs.StartPrelude.{AreEvents, Call, Entry, IsEvent, IsLegal, Piece, State, after, call_in}
 use Rattle.driver_laws.specs.StartPrelude.{calls_of}

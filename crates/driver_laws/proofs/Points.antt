@@ -1,5 +1,5 @@
--- Two sides stay at rest over every event that leaves the queue alone, and over a driver's accesses. Also their state
--- after a sequence of accesses, over a history.
+-- Two sides stay at rest over every event that leaves the queue alone, and over a driver's accesses. Other lemmas are
+-- about the state of the sides after a sequence of accesses, over a history.
 use Rattle.driver_laws.proofs.Ground.{driven, each_side, ground_names, ground_same, plain_keeps, side_driven}
 use Rattle.driver_laws.proofs.StartPrelude.{AtEntries, IsAlong, IsIdle, IsMet, IsPlain, IsZero, Point, Sides, Stands}
 use Rattle.driver_laws.proofs.StartPrelude.{across}
@@ -43,7 +43,7 @@ standing_sides_are_left w mine rings s e sides left covers stand =
     let begun = begun_stays w.queue s left.sound stand.begun e (on Rx).1 in
     assumption (λ (dir : Dir). (on dir).0, begun, zero, (on Rx).1, (on Tx).1)
 
--- A value is written to a register of one of them.
+-- Lemmas about a write of a value to a register of one of the sides.
 
 pub write_stands : (dir : Dir) → WriteStands dir
 write_stands dir queue s sides rings port n word row met stand unwanted fits goes names =
@@ -164,7 +164,7 @@ module _ {w : Watched} {origin : State} {h : List Entry} (q : AtPort) (frame : �
       let there : Standing z (leads_to origin (done ++ e ∷ [])) = rw reached_next (search (rules, ground_same)) in
       (p, known, there, idle done e kept.received kept.sent n)
 
-  -- An added call leads on.
+  -- An added call leads from the first state to the second.
   added_at : (F G : Sides → Sides) (old new : List Call) → AddsCall (Goes F G) old new → At old F → At new G
   added_at F G old new a (at, some) =
       let next = added_leads along (SomePoint F) (SomePoint G) (some_kept G) old new a.call.event a.call.reply

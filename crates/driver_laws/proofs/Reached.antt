@@ -1,5 +1,5 @@
--- A history that leaves a queue alone, entry by entry and call by call of its pass; the calls that a driver's accesses
--- add, and what they lead to over it.
+-- Lemmas about a history that leaves a queue alone, entry by entry and by the calls of its pass. They also cover the
+-- calls that a driver's accesses add, and where these calls lead over the history.
 use Rattle.pmd_driver.specs.DeviceLock.{Alone.EntryLeavesAlone, History.AreEvents, History.IsLegal}
 use Rattle.driver_laws.proofs.Parts.{around, begun, calls_joined, ends_some, more_some, own_some, parts}
 use Rattle.driver_laws.proofs.StartPrelude.{AllAre, AreMadeOf, AtCalls, AtEntries, BeforeLast, BeforeNext, IsAlong}
@@ -49,7 +49,7 @@ Before w h calls P =
     (done rest : List Entry) (e : Entry) → done ++ e ∷ rest ≡ h → e.pass ≡ w.pass
     → calls_of w.pass done ++ call_in e ∷ [] ≡ calls → P done
 
--- The same for a property of the state alone.
+-- The same lemma for a property of the state alone.
 
 pub state_kept : (w : Watched) (origin : State) (mine : Blocks) (P : State → Type 0) → IsKept w mine P
     → KeptOver w origin mine (λ done. P (leads_to origin done))

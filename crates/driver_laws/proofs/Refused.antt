@@ -1,6 +1,6 @@
--- The calls of a start lay out an empty transmit ring, one after the other, and those alongside them lay out no more of
--- it. The same is true of the calls of a refused start, as far as it got, until what it left was stopped. Therefore it
--- sends nothing.
+-- The calls of a start lay out an empty transmit ring, one after the other, and the calls alongside them lay out no
+-- more of the ring. The same is true of the calls of a refused start, as far as it got, until what the start left was
+-- stopped. Therefore nothing is sent on the queue.
 use Rattle.driver_laws.proofs.{Healthy.drive_same, Laid.laid_queue_is_silent, CallKinds.each_such}
 use Rattle.driver_laws.specs.StartPrelude.{drive}
 use Rattle.driver_laws.specs.{Laid.Lays, Laid.LaysOn, StartPrelude.Rdt, StartPrelude.StartRefused}
@@ -81,7 +81,7 @@ module _ (q : AtPort) (size : ℕ) where
       (since, is, all_stay Empty (at_start q.port tail ring size most) marks since own others (refl, named)))
 
   -- The calls of a driver with a refused start lay out an empty transmit ring this far, until the driver was stopped.
-  -- So it sent nothing on its queue.
+  -- So the driver sent nothing on its queue.
 
   -- A start that was refused during its events.
   starting_lays : {frame : ℕ} {old : List Call} {a : Numbers} {new : List Call} {e : StartRefused}
@@ -137,7 +137,7 @@ none_first : (xs ys : List (List ℕ)) → xs ++ ys ≡ [] → ys ≡ []
 none_first [] ys is = is
 none_first (x ∷ xs) ys is = cc
 
--- Lemmas up to some place during the start and the stop of what it left.
+-- Lemmas about a history that ends at some point during the start or during the stop of what the start left.
 module _ (c : Course) {e : StartRefused} {new : List Call} {left : Rest}
     (never : NeverLived c.q c.size c.frame c.old c.a e new left) (along : IsAlong c.w c.origin c.h)
     (before following : List Entry) (first : Entry) (split : before ++ first ∷ following ≡ c.h)

@@ -1,7 +1,7 @@
--- A driver call of which the last event is a poll that finds no packet complete, or the oldest outstanding one not
--- done, even if the history continues. What a call reports also holds after other calls: the calls that it added come
--- after a life. A driver's life as its calls report it is a life: it continues over calls as reported, with harmless
--- ones in between.
+-- Lemmas about a driver call whose last event is a poll that finds no packet complete, or the oldest outstanding packet
+-- not done, even if the history continues. What a call reports also holds after other calls: the calls that it added
+-- come after a life. A driver's life as its calls report it is a life. It continues over calls as reported, with
+-- harmless calls in between.
 use Rattle.driver_laws.proofs.Order.{Ran, all_apart, begun, counted, driven, fresh_own, in_parts, last as last_there}
 use Rattle.driver_laws.proofs.Prelude.{AllFollow, AllOwn, AtPort, Block, Blocks, Call, Doer, Drives, Drove, Entry}
 use Rattle.driver_laws.proofs.Prelude.{Event, FindsNone, Follows, Halves, IsReported, Leads, LeadsApart, Life, List, Lives}
@@ -21,7 +21,7 @@ use Rattle.{ring_laws.proofs.Packets.length-segments}
 use Rattle.{driver_laws.specs.Harmless.AddsHarmless, driver_laws.specs.StartPrelude.after_call}
 use Rattle.{driver_laws.specs.StartPrelude.parts_for, ring_laws.specs.Laws.FindsWaiting}
 
--- A later place of a life's history, to which its calls led its halves.
+-- A later point of a life's history, to which the life's calls led the halves.
 module _ (x : Life) (late rest : List Entry) (split : late ++ rest ≡ x.h) {then : Halves}
     (goes : Leads x.started (halves_of x.r) (calls_of x.w.pass late) then) where
   open x use {w, origin, k}
@@ -29,7 +29,7 @@ module _ (x : Life) (late rest : List Entry) (split : late ++ rest ≡ x.h) {the
   abbrev later : Life
   later = life_before x late rest split (calls_of w.pass late) then goes
 
-  -- An earlier place, after which its halves didn't change.
+  -- An earlier point, after which the halves didn't change.
   module _ (early more : List Entry) (all : early ++ more ≡ late) (is : AddsHarmless x.made (calls_of w.pass early))
     where
       abbrev sooner : Life
@@ -44,7 +44,7 @@ module _ (x : Life) (late rest : List Entry) (split : late ++ rest ≡ x.h) {the
       joined : p.front ++ (p.back ++ more) ≡ late
       joined = sym (append_assoc p.front p.back more) ∙ ap (λ (es : List Entry). es ++ more) p.both ∙ all
 
-      -- Both begin where the sides were enabled.
+      -- Both parts begin where the sides were enabled.
       abbrev p_late : Parts w.pass late x.is.up.on.mid (whole later).1
       p_late = record {
         front = p.front;
@@ -54,8 +54,8 @@ module _ (x : Life) (late rest : List Entry) (split : late ++ rest ≡ x.h) {the
         backs = search (rules, append_cancel_left, calls_joined, joined);
       }
 
-      -- If a poll at the later place finds none, and nothing was handed out since the earlier one, everything delivered
-      -- before that was handed out.
+      -- If a poll at the later point finds none, and nothing was handed out since the earlier point, everything
+      -- delivered before the earlier point was handed out.
       none_sooner : FindsNone (leads_to origin late) then.receive → then.receive.handed ≡ k.receive.handed
           → k.receive.handed ≡ delivered w.queue origin early
       none_sooner finds same =
@@ -65,7 +65,7 @@ module _ (x : Life) (late rest : List Entry) (split : late ++ rest ≡ x.h) {the
           (grind (arith, there, joined)) (cc (here, there)) in
           cc (here, p.both, all)
 
-      -- If a poll at the later place finds a packet waiting, not everything was sent before the earlier one.
+      -- If a poll at the later point finds a packet waiting, not everything was sent before the earlier point.
       waiting_sooner : FindsWaiting (leads_to origin late) then.transmit
           → bytes_of then.transmit.accepted ≢ sent_since w.queue origin [] early
       waiting_sooner finds same =
@@ -93,7 +93,7 @@ module _ (x : Life) (old : List Call) {mid new now : List Call} (e : Event Block
       same_from_push _ till _ (call_of e reply)
       (at.made ∙ following (added old e reply drives adds) (added_is old e reply drives adds) ∙ simp (append_assoc))
 
-  -- The life continues up to it.
+  -- The life continues up to this entry.
   goes_up : Leads x.started (halves_of x.r) (calls_of x.w.pass at.before) then
   goes_up =
       let mine : List Call = x.made ++ drives.1 in
@@ -101,12 +101,12 @@ module _ (x : Life) (old : List Call) {mid new now : List Call} (e : Event Block
       (leads_on _ mine till _ _ then (leads_on _ _ mine _ _ then x.is.since (drives_lead _ _ _ _ (search rules)))
       (harmless_lead mine till then (search (rules, steps_harmless))))
 
-  -- The device replies to it.
+  -- The device sends this reply to the entry's event.
   answered : reply_to (leads_to x.origin at.before) e ≡ reply
   answered =
       grind (arith, common_steps, ends, legal_past x.origin at.before (at.entry ∷ at.following))
 
--- A poll in vain, and one that finds a packet waiting.
+-- Lemmas about a poll in vain, and about a poll that finds a packet waiting.
 
 module _ (x : Life) {old new now : List Call} (at : EndsAt x.w.pass x.h now)
     (following : (since : List Call) → new ≡ old ++ since → now ≡ x.made ++ since) where
@@ -140,7 +140,8 @@ module _ (x : Life) {old new now : List Call} (at : EndsAt x.w.pass x.h now)
       all is
       (search (rules, answered)) (ap bytes_of y.accepted ∙ sent)
 
--- A driver runs. By the numbers of an arena, which it keeps, its halves were led to this state after some calls.
+-- A running driver keeps the numbers of an arena. After some calls, its halves were led to this state and lent only
+-- blocks with these numbers.
 pub record RunsOn (a : Numbers) (old : List Call) (h : Halves) (n : Moment) : Type 0 where
   pub rings : Running
   pub up : n.driver.rings ≡ Up rings
@@ -189,7 +190,7 @@ played_room size h (d ∷ doers) (n ∷ calls) own x =
 
 module _ {q : AtPort} {size frame : ℕ} {old : List Call} {a : Numbers} {m : Moment} {later : List Moment}
     (x : IsReported q size frame old a m later) where
-  -- The driver lived, by what its start returned.
+  -- What its start returned shows that the driver lived.
   abbrev lives : Lives q size frame old a m.made x.started.0
   lives = record { made = m.made; fresh = x.started.0; up = x.started.2; drives = rings_still m.made x.started.0 }
 
@@ -198,7 +199,7 @@ module _ {q : AtPort} {size frame : ℕ} {old : List Call} {a : Numbers} {m : Mo
       all_follow m later
       (search (rules, ap (λ (p : Driver). p.rings) x.started.1, fresh_own lives, harmless_apart, append-nil)) x.since
 
-  -- The halves were led on from the place where both sides of the queue were on.
+  -- The halves were led on from the point where both sides of the queue were on.
   pub led : LeadsApart (is_own a) x.started.2.on.mid (first_of q size frame old a m.made x.started.0 lives)
       (last m later).made (halves_of runs.rings)
   led =

@@ -1,5 +1,6 @@
--- The blocks that the halves have lent: each is lent, none by both, and the pass lends all of them. An event of one
--- half leaves all blocks but its own, and the other side, unchanged; so do device steps.
+-- Lemmas about the blocks that the halves have lent. Each of these blocks is lent, no block is lent by both halves, and
+-- the pass lends all of them. An event of one half leaves all blocks but its own, and the other side, unchanged; so do
+-- device steps.
 use Rattle.driver_laws.proofs.StartPrelude.{Done, IsOwn, Spares, Wrote, lent_cases, memory_blocks, memory_rest}
 use Rattle.driver_laws.proofs.StartPrelude.{mine-moved}
 use Rattle.driver_laws.proofs.StartPrelude.{mine_driven, plain-write, reach, settings_stand, stays_within, step_of}

@@ -1,4 +1,4 @@
--- What the setup of the whole device writes.
+-- Lemmas about what the setup of the whole device writes.
 use Rattle.std.proofs.Common.{refl, arith}
 use Rattle.std.proofs.lemmas.Bool.{le-ltb, lt-ltb}
 use Rattle.pmd_driver.specs.NicDevice.RegTable.Runs.{runs}

@@ -1,5 +1,5 @@
--- What a driver's calls report concerns only the calls that were added: it holds after any others. The same is true of
--- what drove its halves, and of a start.
+-- What a driver's calls report concerns only the calls that were added, so it holds after any other calls. The same is
+-- true of what drove the driver's halves, and of a start.
 use Rattle.driver_laws.proofs.Prelude.{Access, Adds, AreMade, AreOn, AreUp, AtPort, Block, Bool, Call, DeviceFault, Dir}
 use Rattle.driver_laws.proofs.Prelude.{DrivesRings, Event, FaultsEarly, IsMade, IsPrepared, IsReceiveReady, IsStrayRead}
 use Rattle.driver_laws.proofs.Prelude.{IsSwitched, IsTransmitReady, LendsEach, List, Numbers, PlaysFrom, PollsEnd}
@@ -24,7 +24,7 @@ pub mapped : {R S : List Call → List Call → Type 0} {old new : List Call} �
     → ((a b : List Call) → R a b → S a b) → Shifts S old new
 mapped x f = given x.since x.made (λ front. f front (front ++ x.since) (x.following front))
 
--- Two such sequences of calls, one after the other.
+-- Two such sequences of calls, one after the other, form such a sequence.
 pub joined : {R S T : List Call → List Call → Type 0} {old mid new : List Call} → Shifts R old mid → Shifts S mid new
     → ((a b c : List Call) → R a b → S b c → T a c) → Shifts T old new
 joined {T = T} {old = old} x y join = grind (arith, common_steps)
@@ -45,7 +45,7 @@ pub shifted : {R : List Call → List Call → Type 0} {old new : List Call} →
     → (since front : List Call) → new ≡ old ++ since → R front (front ++ since)
 shifted x since front made = search (rules, append_cancel_left)
 
--- A call, and calls as each half reports them.
+-- Lemmas about a call, and about calls as each half reports them.
 
 adds : (e : Event Block) (reply : Reply Block) → Shift (λ o n. Adds o n e reply)
 adds e reply old new (before, made, steps) = grind (arith, common_steps)
@@ -63,7 +63,7 @@ rings r s old new x =
       owns = x.owns;
     })
 
--- Register accesses, and those that stop.
+-- Lemmas about register accesses, and about accesses that stop.
 
 module _ (q : AtPort) where
   pub access : (a : Access) → Shift (λ o n. IsMade q o n a)
@@ -97,7 +97,7 @@ module _ (q : AtPort) where
       joined (accesses (receive_polled on first) old mid made) (polls_end Tx on _ mid new ends)
       (λ o m n x y. inr (inr (first, m, few, x, y)))
 
--- Rings that are prepared, and filled.
+-- Lemmas about rings that are prepared, and filled.
 
 lends : (ns : List ℕ) → Shift (λ o n. LendsEach o n ns)
 lends [] = none
@@ -143,7 +143,7 @@ module _ (q : AtPort) where
   receive_fails size a b out old new (inr x) =
       mapped (then (accesses q both_quiet) (preparing Rx size a b out) old new x) (λ o n y. inr y)
 
--- A start, with the place after its first access.
+-- Lemmas about a start, with the point after its first access.
 
 module _ (q : AtPort) (size frame : ℕ) (a : Numbers) where
   pub up_after : (r : Running) (old new : List Call) (x : AreUp q size frame old a new r)

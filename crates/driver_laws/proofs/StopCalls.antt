@@ -26,7 +26,7 @@ module _ (P : Event Block → Type 0) where
   first_made old now new since rest x some all =
       (since, some, made_first old new since rest x (all ∙ ap (λ (l : List Call). l ++ rest) some))
 
--- Both sides were seen off, followed by calls of a stop.
+-- Both sides were seen off, and then came calls of a stop.
 abbrev pub once_of : (q : AtPort) (old new mid off : List Call) → Asks q old mid → IsSwitched q mid off false 1000
     → Ends q off new → EndsOnceOff q old new
 once_of q old new mid off asks on ends = record { mid = mid; off = off; asks = asks; switched = on; ends = ends }
@@ -49,7 +49,7 @@ module _ (q : AtPort) (old now new since rest : List Call) (some : now ≡ old +
       (first_made (IsEnding q) x.off now new b.0 rest x.ends (sym b.1) all)))
       (one_begins now rest x.off x.ends.0 (sym all ∙ x.ends.1))
 
--- What comes after a switch-off.
+-- Lemmas about the calls after a switch-off.
 
 module _ (q : AtPort) (old : List Call) (h : Halted) (new : List Call) where
   pub home_ends : (home : Home) → ComesHome old h new home → Ends q old new

@@ -1,6 +1,6 @@
--- What a driver handed out and sent stays in order during its stop and after. After its life, neither side is enabled
--- again. Device and driver still agree while the driver requests that its sides be off. When both are off, nothing more
--- happens on the queue. The same is true of the records that a stopped driver left.
+-- What a driver handed out and sent stays in order during its stop and after it. After the driver's life, neither side
+-- is enabled again. The device and the driver still agree while the driver requests that its sides be off. When both
+-- are off, nothing more happens on the queue. The same is true of the records that a stopped driver left.
 use Rattle.driver_laws.proofs.Reached.{LeadsOver, all_lead, free_left, reached, reached_next}
 use Rattle.ring_laws.proofs.DeviceLaws.{KeptSettings.settings_stand, Standing.stays_within}
 use Rattle.ring_laws.proofs.{Foreign.no_registers, Steady.deed_settles}
@@ -162,7 +162,7 @@ module _ (w : Watched) (origin : State) (q : AtPort) (frame : ℕ) where
 more_lent : (pass : ℕ) (g h : List Entry) (k : Halves) → AreLent (lent_by pass g) k → AreLent (lent_by pass (g ++ h)) k
 more_lent pass g h k x = grind (arith, common_steps, each_map, lent_before)
 
--- A life made some calls.
+-- At least one call was made in a life.
 made_some : (x : Life) → x.made ≢ []
 made_some x none = more_some x.is.up.on.mid (whole x).1 (some_on (begun x)) (sym (whole x).2 ∙ none)
 

@@ -1,6 +1,6 @@
--- The sides of a queue while its driver stops or starts: a side that is on, or for which no enable request is in
--- effect, doesn't become enabled. The driver requests that both be off and sees them off, and they stay off. Then
--- nothing is received or sent, over events that leave the queue alone and calls of a stop.
+-- Lemmas about the sides of a queue while its driver stops or starts. A side that is on, or for which no enable request
+-- is in effect, doesn't become enabled. The driver requests that both sides be off and sees them off, and they stay
+-- off. After that, nothing is received or sent, over events that leave the queue alone and calls of a stop.
 use Rattle.driver_laws.proofs.Ground.{each_side, ground_kept, ground_names, plain_keeps, side_driven}
 use Rattle.driver_laws.proofs.StartPrelude.{HasGround, IsAlong, IsEnding, IsKept, IsMet, IsOff, IsPlain, IsQuiet, Leads}
 use Rattle.driver_laws.proofs.StartPrelude.{asked, left_deed, memory_rest, no_block, none_begun_while_off, not_again}
@@ -94,7 +94,7 @@ pub ending_quiet : (queue : ℕ) (q : AtPort) (frame : ℕ) (s : State) (e : Eve
 ending_quiet queue q frame s e met made ends b =
     search (rules, plain_keeps, ending_plain, ending_keeps IsOff shutting.2)
 
--- Accesses in two parts.
+-- Lemmas about accesses in two parts.
 both_parts : (q : AtPort) (xs ys : List Access) (old new : List Call) → AllAre MayAsk (xs ++ ys)
     → AreMade q old new (xs ++ ys)
     → (mid : List Call) × AreMade q old mid xs × AreMade q mid new ys × AllAre MayAsk xs × AllAre MayAsk ys

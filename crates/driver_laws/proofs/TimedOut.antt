@@ -1,5 +1,5 @@
--- A refused start. One that times out polled 1,000 times, and its polls are among its pass's calls. On a queue with
--- both sides off, none finds the device at fault except while it fills its receive ring.
+-- Lemmas about a refused start. A start that times out polled 1,000 times, and its polls are among its pass's calls. On
+-- a queue with both sides off, no start finds the device at fault except while it fills its receive ring.
 use Rattle.driver_laws.proofs.Ground.{IsDriven, IsWrite, ground_kept, named_registers_reply, off_sides_are_seen_off}
 use Rattle.driver_laws.proofs.Ground.{plain_keeps, reads_driven, side_driven, words_are_writes, writes_driven}
 use Rattle.driver_laws.proofs.StartPrelude.{AllAre, AreMadeOf, BeforeNext, HasGround, IsAlong, IsEnable, IsEnding}
@@ -49,7 +49,7 @@ enable_reads : (side : Dir) (seen : Bool) → IsOfEnable (Sees (enable_row side)
 enable_reads side seen = grind (arith, common_steps)
 
 module _ (q : AtPort) (size frame : ℕ) where
-  -- How a start times out.
+  -- Lemmas about how a start times out.
   switching_times_out : (old mid new : List Call) → AreMadeOf (IsPlain q) old mid
       → SwitchFails StartTimeout q mid new true 1000 → TimesOut q old new
   switching_times_out old mid new before (inl stops) = absurd stops.6
@@ -105,7 +105,7 @@ unfolding rows
 numbers_apart port queue n m a b e = grind (arith, common_steps)
 
 module _ (w : Enables) where
-  -- Device steps aren't among them.
+  -- Device steps aren't among the misses.
   step_plain : (x : Asked) (e : Event Block) (r : Reply Block) → is_step e ≡ true
       → (is_missed w x e r ≡ false) × (asked_after w x e ≡ x)
   step_plain x e r is = grind (arith, common_steps)
@@ -220,7 +220,7 @@ module _ {w : Watched} {origin : State} {h : List Entry} (q : AtPort) (frame : �
       (made_next along Off (IsEnding q) (quiet_kept w (lent_by w.pass h) q frame)
       (ending_quiet w.queue q frame) calls old mid same each at)
 
-  -- A ring is prepared.
+  -- Lemmas about preparing a ring.
   preparing_never_fails : (side : Dir) (size : ℕ) (old : List Call) (a : Numbers) (new : List Call) (b : Numbers)
       (out : List ℕ) → PreparingFails DeviceFault q side size old a new b out → Next Ground old
       → NoneIsLent w origin h new b → Never w origin h new

@@ -12,7 +12,7 @@ pub record AreLent (mine : Blocks) (h : Halves) : Type 0 where
   pub receive : Each h.receive (λ b. IsTrue (mine b))
   pub transmit : (number : ℕ) → IsTrue (has_lent h.transmit number) → IsTrue (mine number)
 
--- The device agrees with each half, counting the pieces received and the frames sent since some earlier place.
+-- The device agrees with each half, counting the pieces received and the frames sent since some earlier point.
 pub record BothAgree (queue : ℕ) (s : State) (out : List Piece) (sent : List (List ℕ)) (h : Halves) : Type 0 where
   pub receive : Agree queue s out h.receive
   pub transmit : Agrees s queue sent h.transmit

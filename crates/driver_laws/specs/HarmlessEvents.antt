@@ -1,4 +1,4 @@
--- Which events alongside a driver's own are harmless, by register addresses and bits of the values written.
+-- Which events alongside a driver's own events are harmless, by register addresses and bits of the values written.
 use Rattle.std.specs.Prelude.{ℕ, ◌≡◌, Bool, true, false, List}
 use Rattle.pmd_driver.specs.NicDevice.DmaRing.declared.dir.Dir.{Dir}
 use Rattle.pmd_driver.specs.NicDevice.IntrUnit.declared.group.Group.{Group}

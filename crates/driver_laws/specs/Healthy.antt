@@ -22,8 +22,9 @@ abbrev pub lent_by : Halves → Blocks
 lent_by h = either (received.has_lent h.receive) (sending.has_lent h.transmit)
 
 -- A history that drives the halves and shares these numbers with no other pass: no other pass tries to lend a block
--- with one of them. At the end of its first entries, the frames that wait for the queue fit the blocks that the driver
--- takes for a packet. Of the numbers, only those that the halves have lent are lent.
+-- with one of these numbers. At the end of the history's first entries, the frames that wait for the queue fit the
+-- blocks that the driver takes for a packet. Of the blocks with these numbers, only those that the halves have lent are
+-- lent.
 pub record IsUnshared (w : Watched) (origin : State) (start rest : List Entry) (h : Halves) (doers : List Doer)
     (own : Blocks) : Type 0 where
   pub driven : IsDriven w origin start rest h doers
@@ -31,8 +32,8 @@ pub record IsUnshared (w : Watched) (origin : State) (start rest : List Entry) (
   pub known : OnlyLent own (lent_by h) (leads_to origin start).memory
   pub others : OnlyPassLends w.pass own rest
 
--- Suppose that the halves lend only blocks with these numbers, and neither lends a block that the other has lent, as
--- the clause `drives` of a driver's calls says. Then each call of either half gets a healthy reply.
+-- Suppose that the halves lend only blocks with these numbers, and neither lends a block that the other half has lent,
+-- as the clause `drives` of a driver's calls says. Then each call made by either half gets a healthy reply.
 abbrev pub OwnRepliesAreHealthy : Type 0
 OwnRepliesAreHealthy =
     (w : Watched) (origin : State) (start rest : List Entry) (h : Halves) (doers : List Doer) (own : Blocks) →

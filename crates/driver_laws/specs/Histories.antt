@@ -31,9 +31,9 @@ OthersLeaveAlone w mine s doers (e ∷ es) =
     → LeavesRegisters w (mode_in s.registers) e.event × LeavesBlocks mine e.event)
     × OthersLeaveAlone w mine (after s e.event) (doers_after (e.pass == w.pass) doers) es
 
--- A history that leaves the queue alone, with the driver's pass. At the end of its first entries, the queue's receive
--- side has been enabled and is up, nothing is written yet, and the device agrees with both halves. Among the remaining
--- entries, those of the pass belong to the halves or leave the queue alone.
+-- A history that leaves the queue alone, in two parts. At the end of the first entries, the queue's receive side has
+-- been enabled and is up, nothing is written yet, and the device agrees with both halves. Among the remaining entries,
+-- those of the driver's pass belong to the halves or leave the queue alone.
 pub record IsDriven (w : Watched) (origin : State) (start rest : List Entry) (h : Halves) (doers : List Doer) :
     Type 0 where
   pub along : IsAlong w origin (start ++ rest)
@@ -72,8 +72,8 @@ NoneIsAll =
     (played_by h doers (calls_of w.pass rest)).receive.handed
     ≡ delivered w.queue origin (start ++ rest)
 
--- If the next poll finds its slot not done and no packet is complete, everything delivered before an earlier place of
--- the history was returned by then, provided that nothing has been returned since that place.
+-- Suppose that the next poll finds its slot not done and no packet is complete, and that nothing has been returned
+-- since an earlier point of the history. Then everything delivered before that point was returned by then.
 abbrev pub NoneIsAllBefore : Type 0
 NoneIsAllBefore =
     (w : Watched) (origin : State) (start before rest : List Entry) (h : Halves) (early doers : List Doer) →

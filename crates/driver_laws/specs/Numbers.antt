@@ -1,10 +1,10 @@
--- Which queue of the device is named by a port and a queue's number at that port.
+-- Which queue of the device a port and a queue number at that port name.
 use Rattle.std.specs.Prelude.{◌+◌, ◌≡◌, None, Option, Some, if◌then◌else◌, nat_lt, true, ℕ}
 use Rattle.pmd_driver.specs.NicDevice.{VfMap.Pools.queues_of, VfMap.declared.mode.Mode.Mode}
 use Rattle.driver_laws.specs.StartPrelude.{AtPort, IsNumberOf, Pf, Port, RowId, State, Vf, is_driven, mode_in}
 use Rattle.driver_laws.specs.Words.{NamesRow}
 
--- A pool's queue by its number, counted from the pool's first.
+-- The pool's queue with this number, counted from the pool's first queue.
 abbrev pub queue_in : Option (ℕ × ℕ) → ℕ → Option ℕ
 queue_in None number = None
 queue_in (Some queues) number = if nat_lt number queues.1 then Some (queues.0 + number) else None

@@ -16,7 +16,7 @@ pub record Sides : Type 0 where
   pub side : Dir → Side
   pub rings : Blocks
 
--- The sides and blocks are in this state, and the blocks are among `mine`.
+-- The sides and the blocks are in this state, and the blocks are among `mine`.
 pub record Point (queue : ℕ) (mine : Blocks) (q : AtPort) (frame : ℕ) (p : Sides) (s : State) : Type 0 where
   pub stand : Stand queue p.side p.rings s
   pub ground : HasGround queue q frame s

@@ -30,12 +30,12 @@ table s = take 32 (drop 17 (settings_of s))
 abbrev pub back : Setup → List Setting
 back s = drop 49 (settings_of s)
 
--- The words of `front`: for GCR_EXT and VT_CTL, then the four that enable all pools, then for MRQC.
+-- The values of `front`: for GCR_EXT and VT_CTL, then the four values that enable all pools, then for MRQC.
 abbrev pub front_words : ℕ → ℕ → ℕ → List ℕ
 front_words mode pools mrqc =
     mode ∷ pools ∷ 0xFFFFFFFF ∷ 0xFFFFFFFF ∷ 0xFFFFFFFF ∷ 0xFFFFFFFF ∷ mrqc ∷ []
 
--- The words of these bytes at the given indexes.
+-- The 32-bit values that these bytes form at the given indexes.
 abbrev pub first_words : List ℕ → List ℕ → List ℕ
 first_words bytes indexes = map (word_in bytes) indexes
 

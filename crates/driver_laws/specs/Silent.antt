@@ -1,4 +1,4 @@
--- A driver's queue that was switched off after the driver's life, and what then happens on it.
+-- A driver's queue that was switched off after the driver's life, and what happens on the queue after that.
 use Rattle.std.proofs.Common.{inl, inr}
 use Rattle.std.specs.Prelude.{◌++◌, ◌≡◌, List, None, Option, Some}
 use Rattle.driver_laws.specs.StartPrelude.{AtPort, Call, Entry, Halted, PmdFault, Rest, Up, calls_of, halted_of}

@@ -1,4 +1,4 @@
--- The sides of a queue that carried nothing since they were enabled.
+-- The sides of a queue on which nothing was received or sent since they were enabled.
 use Rattle.std.specs.Prelude.{[], ◌≡◌, IsTrue, List, None, Some, ℕ}
 use Rattle.ring_laws.specs.TransmitUp.{IsUp}
 use Rattle.driver_laws.specs.StartPrelude.{Entry, Rx, State, Tx, is_on, leads_to, pieces_since, sent_since}

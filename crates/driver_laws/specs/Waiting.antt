@@ -5,7 +5,7 @@ use Rattle.driver_laws.specs.Histories.{IsDriven}
 use Rattle.driver_laws.specs.StartPrelude.{Doer, Entry, Halves, State, Watched, bytes_of, calls_of, leads_to, played_by}
 use Rattle.driver_laws.specs.StartPrelude.{sent_in}
 
--- If the next poll finds the oldest outstanding packet not done, what was sent up to any earlier place isn't everything
+-- If the next poll finds the oldest outstanding packet not done, what was sent up to any earlier point isn't everything
 -- that the driver accepted.
 abbrev pub WaitingIsNotAll : Type 0
 WaitingIsNotAll =

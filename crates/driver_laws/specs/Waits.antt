@@ -19,8 +19,8 @@ WaitingIsNotAllBefore =
     before ++ more ≡ looked.look.before → AddsHarmless x.made (calls_of x.w.pass before) →
     bytes_of x.k.transmit.accepted ≢ sent_since x.w.queue x.origin [] before
 
--- In terms of what a driver's calls report: a call to `reap` returned and wasn't idle, as `waits` in its clause
--- `reaped` says.
+-- What a driver's calls report about this: a call to `reap` returned and wasn't idle, as `waits` in its clause `reaped`
+-- says.
 abbrev pub Waits : Moment → Moment → Type 0
 Waits m n =
     WhereUp m.driver.rings n.driver.rings (λ r s. LooksLast m.made r.transmit n.made s.transmit)

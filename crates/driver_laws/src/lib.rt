@@ -163,8 +163,8 @@ pub fn waiting_look_leaves_some_unsent()
     ensures reported { WaitingIsNotAllAsReported }
 {}
 
-/// Packets and frames are in order over a history as in `life_in_order`. Here this follows only from what the calls of
-/// a `pmd_driver::Pmd` return. A `start` returned the driver. Calls to `rx`, `tx`, `reap`, `rx_burst`, `tx_burst`,
+/// Packets and frames are in order over a history as in `life_in_order`. This law derives that only from what the calls
+/// of a `pmd_driver::Pmd` return. A `start` returned the driver. Calls to `rx`, `tx`, `reap`, `rx_burst`, `tx_burst`,
 /// `packet` and `release` followed, in any order and with any results. Between these calls, there may be harmless calls
 /// through the same pass, for example arrivals of frames. The packets that the driver handed out are a prefix of those
 /// delivered. Suppose that `rx` returns none, or that `rx_burst` returns 0 although packets were requested. Then the

@@ -47,7 +47,7 @@ pub fn named_queue_has_the_numbers()
     ensures { NamedQueueHasTheNumbers }
 {}
 
-/// The setup of the whole device, in numbers. The law states which addresses the setup writes, in which order, and with
+/// This law states in numbers what the setup of the whole device writes: which addresses, in which order, and with
 /// which values. It does so for each mode, for frames of up to 1,518 bytes and for longer frames. Each 32-bit value
 /// written for the key or for the redirection table consists of four bytes of the key or of the table, lowest first.
 pub fn set_up_is_written()

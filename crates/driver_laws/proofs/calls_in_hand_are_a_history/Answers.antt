@@ -16,7 +16,7 @@ history : (s : State) (queue : ℕ) (before h : List Entry) (calls : List Call) 
 history s queue before h calls device small was led made alone =
     grind (arith, common_steps, events-append, legal-append, calls_joined, leads-append)
 
--- The calls of a device in hand are all of pass 0.
+-- The calls to a device in hand all belong to pass 0.
 
 all_are : (calls : List Call) → calls_of 0 (entries_in calls) ≡ calls
 all_are [] = refl
@@ -31,7 +31,7 @@ each_own [] (y ∷ b) e after is = cc
 each_own (c ∷ calls) [] e after is = grind (arith, common_steps)
 each_own (c ∷ calls) (y ∷ b) e after is = each_own calls b e after (cc)
 
--- What others made before has no entry of the pass.
+-- The entries made by others before have none of the pass.
 
 not_first : (x : Entry) (before : List Entry) → calls_of 0 (x ∷ before) ≡ [] → (x.pass == 0) ≡ false
 not_first x before none = grind (arith, common_steps)
@@ -43,7 +43,7 @@ own_past (x ∷ before) calls [] e after none is begun = cc
 own_past (x ∷ before) calls (y ∷ b) e after none is begun =
     grind (arith, common_steps, not_first, calls_other, own_past before calls b e after)
 
--- The calls of a pass to a shared device, up to a place in the history that closed.
+-- Lemmas about the calls of a pass to a shared device, up to a point in the closed history.
 
 closed_before : (vfs fifo tag queue : ℕ) (h : List Entry) (ps : List PassValue) (calls : List Call) → queue < 128
     → IsClosed vfs fifo h ps → LeavesAlone (at_lock vfs tag queue) h → (u : UpTo tag h calls)

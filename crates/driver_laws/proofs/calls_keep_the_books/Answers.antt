@@ -1,4 +1,4 @@
--- Which of an arena's blocks a driver has, over its calls.
+-- Lemmas about which blocks of an arena a driver has, over its calls.
 use Rattle.driver_laws.proofs.Prelude.{[], ap, append-nil, append_assoc, arith, halted_of, sym, times-append}
 use Rattle.driver_laws.proofs.Prelude.{times_in_hand, List, ℕ, ◌++◌}
 use Rattle.pmd_driver.proofs.Whole.{keeps_beside, keeps_counted, keeps_then}

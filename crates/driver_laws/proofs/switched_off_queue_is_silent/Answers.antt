@@ -1,4 +1,4 @@
--- What a driver's stop states about the place where it had switched its queue off, and the silence that follows from
+-- What a driver's stop states about the point where it had switched its queue off, and the silence that follows from
 -- this.
 use Rattle.driver_laws.proofs.Prelude.{AtPort, Call, Ends, Halted, IsAsking, IsSwitched, List, PmdFault, Rest, Up}
 use Rattle.driver_laws.proofs.Prelude.{calls_of, closed, common_steps, false, halted_of, inr, none_made, refl, subst}

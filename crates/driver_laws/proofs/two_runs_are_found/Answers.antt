@@ -13,7 +13,7 @@ all_free a first count free =
     true_from_ne_false (are_free a first count) (λ taken.
     let (k, below, is) = one_taken a first count (is_free a first) refl taken in both_ways _ is (free k below))
 
--- A search that gets past a run finds one, and it finds none after that run.
+-- A search that gets past a run finds a run, and finds none after that run.
 by_run : (a : Numbers) (count number left n : ℕ) → number ≤ n → n < number + left → are_free a n count ≡ true
     → (m : ℕ) × (run_from a count number left ≡ Some m) × (m ≤ n)
 unfolding run_from

@@ -1,4 +1,4 @@
--- Register accesses, dispatched on the kind of the row.
+-- Register accesses. The kind of a register's row determines their effect.
 use Rattle.std.specs.Prelude.{ℕ, length, bit_and, if◌then◌else◌}
 use Rattle.eeprom_image.specs.Image.{doublings}
 use Rattle.register_file.specs.RegTable.Rows.{row_of}
@@ -27,18 +27,18 @@ word_read s p = read_word (row_of p.row).kind s.registers (around s) p
 abbrev pub state_read : State → Place → State
 state_read s p = record s { registers = after_read (row_of p.row).kind s.registers p }
 
--- A read of what a number refers to.
+-- The result of a read, given what the register's number refers to.
 abbrev pub named_read : State → Named → Outcome
 named_read s (Nothing seen) = gives (Stray seen) s
 named_read s (Register p view) = gives (Word (bit_and (word_read s p) view)) (state_read s p)
 
--- The state after a write to a place. A write that requests a reset has no other effect.
+-- The state after a write to a place. A write that requests a device reset has no other effect.
 abbrev pub state_written : State → Place → ℕ → ℕ → State
 state_written s p view word =
     if asks_reset (row_of p.row).kind word then reset s
     else written_below_reset s p view word
 
--- A write to what a number refers to.
+-- The result of a write, given what the register's number refers to.
 abbrev pub named_written : State → Named → ℕ → Outcome
 named_written s (Nothing seen) word = gives (Stray 0) s
 named_written s (Register p view) word = gives Done (state_written s p view word)

@@ -1,4 +1,4 @@
--- The possible replies to an event, and their length in a note.
+-- The possible replies to an event, and how many bytes their notes copy.
 use Rattle.std.specs.Prelude.{ℕ, ◌==◌, Bool, true, false, length}
 use Rattle.rx_ring.specs.DmaArena.Block.{Block}
 use Rattle.nic_device.specs.Link.{next_out_of}
@@ -9,7 +9,7 @@ use Rattle.nic_device.specs.declared.event.Event.TheVariants as event
 use Rattle.nic_device.specs.declared.event.Reply.{Reply}
 use Rattle.nic_device.specs.declared.event.Reply.TheVariants as reply
 
--- Whether the reply to a register access can be this one.
+-- Whether a register access can have this reply.
 abbrev pub may_read : Reply Block → Bool
 may_read (reply.Word word) = true
 may_read (reply.Stray word) = true
@@ -20,13 +20,13 @@ may_write reply.Done = true
 may_write (reply.Stray word) = true
 may_write other = false
 
--- Whether the reply to lending a block can be this one: it succeeds, or a block with its number is returned.
+-- Whether lending a block can have this reply: the call succeeds, or a block with the same number is returned.
 abbrev pub may_lend : ℕ → Reply Block → Bool
 may_lend number reply.Done = true
 may_lend number (reply.Twice block) = block.number == number
 may_lend number other = false
 
--- Whether the reply to taking a block can be this one: a returned block has the requested number.
+-- Whether taking a block can have this reply. A returned block must have the requested number.
 abbrev pub may_take : ℕ → Reply Block → Bool
 may_take number (reply.Buf block) = block.number == number
 may_take number reply.NotLent = true
@@ -56,7 +56,7 @@ may_receive (reply.Wrote queue slot end desc at len) = true
 may_receive (reply.Fault queue fault) = true
 may_receive other = false
 
--- Whether the reply to a transmit step can be this one: a queue in the reply is the step's queue.
+-- Whether a transmit step can have this reply. A queue in the reply must be the step's queue.
 abbrev pub may_transmit : ℕ → Reply Block → Bool
 may_transmit own reply.NoQueue = true
 may_transmit own reply.Idle = true
@@ -92,7 +92,7 @@ may_collect reply.Idle = true
 may_collect (reply.Frame queue bytes) = true
 may_collect other = false
 
--- Whether the reply to an event can be this one, whatever the state.
+-- Whether an event can have this reply in any state.
 abbrev pub may_answer : Event Block → Reply Block → Bool
 may_answer (event.Read port address) r = may_read r
 may_answer (event.Write port address word) r = may_write r
@@ -109,7 +109,7 @@ may_answer event.EepromStep r = may_answer_eeprom r
 may_answer (event.Link up) r = may_link r
 may_answer event.Collect r = may_collect r
 
--- How many bytes of a reply its note copies: the bytes of a block or of a frame.
+-- How many bytes the note of a reply copies: the stored bytes of a block, or the bytes of a frame.
 abbrev pub note_length : Reply Block → ℕ
 note_length (reply.Buf block) = kept_len block.bytes
 note_length (reply.Twice block) = kept_len block.bytes

@@ -1,4 +1,4 @@
--- A frame arrives from the link.
+-- Frames that arrive from the link.
 use Rattle.std.specs.Prelude.{ℕ, nat_lt, List, [], ◌∷◌, ◌++◌, length, Result, Ok, Err, if◌then◌else◌}
 use Rattle.register_file.specs.RegTable.declared.rows.RowId.{RowId}
 use Rattle.register_file.specs.RegTable.declared.rows.RowId.TheVariants.{Mpc, Gprc, Ruc, Roc}
@@ -23,24 +23,24 @@ let_in frame t = record { frame = frame; queue = t.queue; hash = t.hash; rss = t
 abbrev pub with_count : State → RowId → State
 with_count s counter = record s { registers = counted s.registers counter 0 }
 
--- The state after a frame is missed: it is counted, and its cause is raised.
+-- The state after a frame is missed: the frame is counted, and the receive-miss cause is raised.
 abbrev pub missed : State → State
 missed s = record s { registers = device_raised (counted s.registers Mpc 0) missed_cause }
 
--- A frame is appended to the receive list and counted as received; if the list is full, it is counted as missed.
+-- A frame is appended to the receive list and counted as received. If the list is full, the frame is counted as missed.
 abbrev pub joined : State → List ℕ → Target → Outcome
 joined s frame t =
     if nat_lt (length s.waiting) s.fifo
     then gives Done (record (with_count s Gprc) { waiting = s.waiting ++ let_in frame t ∷ [] })
     else gives (Dropped Full) (missed s)
 
--- Why a frame that goes to no queue is dropped.
+-- The drop reason for a frame that goes to no queue.
 abbrev pub why_unwanted : Unwanted → Why
 why_unwanted unwanted.Filter = Filter
 why_unwanted unwanted.NoPool = NoPool
 why_unwanted unwanted.PoolOff = PoolOff
 
--- A frame after its destination, pool and queue were checked.
+-- The result for a frame after its destination, pool and queue were checked.
 abbrev pub sorted_in : State → List ℕ → Result Target Unwanted → Outcome
 sorted_in s frame (Ok t) = joined s frame t
 sorted_in s frame (Err why) = gives (Dropped (why_unwanted why)) s

@@ -4,7 +4,7 @@ use Rattle.std.specs.FinMap as map
 use Rattle.rx_ring.specs.DmaArena.Memory.{Memory, has_block}
 use Rattle.rx_ring.specs.DmaArena.Numbers.{Numbers, is_own, is_free}
 
--- The memory that these blocks are copies of.
+-- The memory from which these blocks were copied.
 abbrev pub memory_of : List (ℕ × List ℕ) → Memory
 memory_of copies = map.from_entries copies
 
@@ -18,7 +18,7 @@ AreRising (copy ∷ copies) =
 abbrev pub AreFree : Numbers → Memory → Type 0
 AreFree a m = (number : ℕ) → has_block m number ≡ true → is_free a number ≡ true
 
--- No block of the memory is free in the arena, but each belongs to it.
+-- Each block of the memory belongs to the arena but isn't free there.
 abbrev pub AreAway : Numbers → Memory → Type 0
 AreAway a m = (number : ℕ) → has_block m number ≡ true → (is_own a number ≡ true) × (is_free a number ≡ false)
 
@@ -26,17 +26,17 @@ AreAway a m = (number : ℕ) → has_block m number ≡ true → (is_own a numbe
 abbrev pub AreAmong : Memory → Memory → Type 0
 AreAmong all some = (number : ℕ) → has_block some number ≡ true → has_block all number ≡ true
 
--- No block of the memory has this number or a higher one.
+-- Each block of the memory has a number below `end`.
 abbrev pub AreBelow : Memory → ℕ → Type 0
 AreBelow m end = (number : ℕ) → has_block m number ≡ true → number < end
 
--- The lowest block of the memory that isn't free in the arena.
+-- `block` is the lowest block of the memory that isn't free in the arena.
 pub record IsLowestTaken (a : Numbers) (m : Memory) (block : ℕ) : Type 0 where
   pub lent : has_block m block ≡ true
   pub taken : is_free a block ≡ false
   pub lowest : (number : ℕ) → number < block → has_block m number ≡ true → is_free a number ≡ true
 
--- The number of that block; `None` if every block of the memory is free.
+-- The result is the number of that block, or `None` if every block of the memory is free.
 abbrev pub TellsTaken : Numbers → Memory → Option ℕ → Type 0
 TellsTaken a m None = AreFree a m
 TellsTaken a m (Some block) = IsLowestTaken a m block

@@ -29,7 +29,7 @@ pub record PeeksTell (s : State) (a n : ℕ) (bytes : List ℕ) : Type 0 where
   pub state : state_after s (peeks a n) ≡ s
   pub reported : reported_bytes (replies_of s (peeks a n)) ≡ bytes
 
--- n consecutive pokes of these bytes all succeed and lead to this state.
+-- n consecutive pokes of these bytes all succeed and leave this state.
 pub record PokesLead (s : State) (a n : ℕ) (bytes : List ℕ) (t : State) : Type 0 where
   pub state : state_after s (pokes a bytes n) ≡ t
   pub made : replies_of s (pokes a bytes n) ≡ replicate n reply.Done

@@ -20,7 +20,7 @@ is_stepped_over Ctrl = true
 is_stepped_over Eerd = true
 is_stepped_over other = false
 
--- The state after a triple that writes a word to this place. It is unchanged if there is no place or the triple is
+-- The state after a triple writes a word to this place. The state is unchanged if there is no place or the triple is
 -- skipped.
 abbrev pub triple_written : State → Option Place → ℕ → ℕ → State
 triple_written s None view word = s
@@ -33,11 +33,12 @@ with_triple s triple = triple_written s (place_among runs triple.0) (view_among 
 abbrev pub with_triples : State → List (ℕ × ℕ) → State
 with_triples s triples = fold with_triple s triples
 
--- A reset: it clears the state, then performs the image's triples.
+-- A device reset: it clears the state, then performs the image's triples.
 abbrev pub reset : State → State
 reset s = with_triples (cleared s) (triples_of s.image)
 
--- The answer to an EERD request: the image's word at the index, or 0xFFFF outside the image. Idle without a request.
+-- The reply to an EERD request: EERD receives the image's word at the index, or 0xFFFF outside the image. Without a
+-- request, the step is idle.
 abbrev pub word_answered : State → Option ℕ → Outcome
 word_answered s None = gives Idle s
 word_answered s (Some index) =

@@ -65,7 +65,7 @@ nowhere = record {
   link = false;
 }
 
--- A part of the registers, and nothing else.
+-- Only these parts of the registers.
 abbrev pub in_registers : Footprint → Reach
 in_registers f = record nowhere { registers = f }
 
@@ -73,7 +73,7 @@ in_registers f = record nowhere { registers = f }
 abbrev pub the_block : ℕ → Reach
 the_block number = record nowhere { blocks = λ other. other == number; lent = λ other. other == number }
 
--- A read of a register, or of nothing.
+-- What a read may change, given what its number refers to.
 abbrev pub read_reach : Named → Reach
 read_reach (Nothing seen) = nowhere
 read_reach (Register p view) = in_registers (of_read p)
@@ -82,7 +82,7 @@ read_reach (Register p view) = in_registers (of_read p)
 abbrev pub reset_reach : Reach
 reset_reach = record nowhere { registers = everything; staged = λ queue. true; waiting = true }
 
--- A pool reset changes only the parts of the pool that the reset covers, with the staged bytes of its queues, and the
+-- A pool reset changes only the pool's registers that the reset covers, the staged bytes of the pool's queues, and the
 -- receive list. Lent memory, transmitted frames and the link are unchanged.
 abbrev pub pool_reach : Mode → ℕ → Reach
 pool_reach mode v = record nowhere {
@@ -91,12 +91,12 @@ pool_reach mode v = record nowhere {
   waiting = true;
 }
 
--- A write that doesn't request a device reset.
+-- What a write may change if it doesn't request a device reset.
 abbrev pub below_reset_reach : Mode → Place → ℕ → Reach
 below_reset_reach mode p word =
     if asks_pool_reset (row_of p.row).kind word then pool_reach mode p.index else in_registers (of_write p)
 
--- A write of a word to a register, or to nothing, given how the queues are divided into pools.
+-- What a write may change, given what its number refers to and how the queues are divided into pools.
 abbrev pub write_reach : Mode → Named → ℕ → Reach
 write_reach mode (Nothing seen) word = nowhere
 write_reach mode (Register p view) word =
@@ -106,7 +106,7 @@ write_reach mode (Register p view) word =
 abbrev pub has_some_of : ℕ → ℕ → ℕ → Bool
 has_some_of number address len = nat_lt (2048 * number) (address + len) && nat_lt address (2048 * number + 2048)
 
--- The blocks with the descriptor and the bytes that a reply reports as received.
+-- Whether a block overlaps the descriptor or the bytes that a `Wrote` reply reports.
 abbrev pub received_into : Reply Block → ℕ → Bool
 received_into (Wrote queue slot end desc at len) number = has_some_of number desc 16 || has_some_of number at len
 received_into other number = false
@@ -137,8 +137,8 @@ function_counts =
 abbrev pub counts_and_causes : Footprint
 counts_and_causes = either (either counters function_counts) any_pending
 
--- A receive step: the receive side of the queue that the oldest frame is for, the counters and the causes, the blocks
--- that the frame's bytes go to, and the receive list. Without a frame, nothing changes.
+-- What a receive step may change: the receive side of the oldest frame's queue, the counters and the causes, the blocks
+-- that the step writes to, and the receive list. Without a frame, nothing changes.
 abbrev pub receive_reach : List Waiting → Reply Block → Reach
 receive_reach [] reply = nowhere
 receive_reach (w ∷ others) reply = record nowhere {
@@ -147,19 +147,19 @@ receive_reach (w ∷ others) reply = record nowhere {
   waiting = true;
 }
 
--- The address that a reply reports as written back.
+-- The write-back address that a reply reports.
 abbrev pub reported_address : Reply Block → Option ℕ
 reported_address (Advanced queue slot back) = back
 reported_address (Sent queue len back) = back
 reported_address other = None
 
--- The blocks that overlap a write-back of this many bytes, if there is one.
+-- Whether a block overlaps a write-back of this many bytes. False if nothing is written back.
 abbrev pub back_into : Option ℕ → ℕ → ℕ → Bool
 back_into (Some back) len number = has_some_of number back len
 back_into None len number = false
 
--- A transmit step: its transmit side with the staged bytes, the counters and the causes, the blocks that it writes back
--- to, and the transmitted frames.
+-- What a transmit step may change: the queue's transmit side and staged bytes, the counters and the causes, the blocks
+-- that the step writes back to, and the transmitted frames.
 abbrev pub transmit_reach : State → ℕ → Reply Block → Reach
 transmit_reach s queue reply = record nowhere {
   registers = either (of_side Tx queue) counts_and_causes;
@@ -168,7 +168,7 @@ transmit_reach s queue reply = record nowhere {
   out = true;
 }
 
--- An enable step: the side, with its staged bytes or with the receive list.
+-- What an enable step may change: a transmit side and its staged bytes, or a receive side and the receive list.
 abbrev pub switch_reach : Dir → ℕ → Reach
 switch_reach Rx queue = record nowhere { registers = of_side Rx queue; waiting = true }
 switch_reach Tx queue = record nowhere { registers = of_side Tx queue; staged = λ other. other == queue }

@@ -44,7 +44,8 @@ function_in vfs (Some pool) = if nat_lt pool vfs then Some pool else None
 unfoldable pub function_of_queue : Registers → (vfs queue : ℕ) → Option ℕ
 function_of_queue r vfs queue = function_in vfs (pool_of (mode_in r) queue)
 
--- The group that a queue raises in: its virtual function's group, or the physical function's group if there is none.
+-- The interrupt group in which a queue raises its causes: its virtual function's group, or the physical function's
+-- group if the queue belongs to no virtual function.
 abbrev pub group_of : Option ℕ → Group
 group_of None = Pf
 group_of (Some v) = Vf v
@@ -52,7 +53,7 @@ group_of (Some v) = Vf v
 abbrev pub group_of_queue : Registers → (vfs queue : ℕ) → Group
 group_of_queue r vfs queue = group_of (function_of_queue r vfs queue)
 
--- The registers after one more frame of a virtual function, if there is one, is counted in a row.
+-- The registers after a frame is counted in a row of per-function counters, if the frame belongs to a virtual function.
 abbrev pub function_counted : Registers → Option ℕ → RowId → Registers
 function_counted r None row = r
 function_counted r (Some v) row = counted_wrapping r row v
@@ -61,8 +62,8 @@ function_counted r (Some v) row = counted_wrapping r row v
 unfoldable pub raised_by : Registers → (vfs : ℕ) → Dir → ℕ → Registers
 raised_by r vfs dir queue = queue_raised r (group_of_queue r vfs queue) dir queue
 
--- Whether a group exists. The physical function's group always does. A virtual function's group does if the device has
--- the function and the mode has a pool for it.
+-- Whether an interrupt group exists. The physical function's group always exists. A virtual function's group exists if
+-- the device has the function and the mode has a pool for the function.
 abbrev pub has_group : State → Group → Bool
 has_group s Pf = true
 has_group s (Vf v) = nat_lt v s.vfs && is_some (queues_of (mode_in s.registers) v)
@@ -71,7 +72,7 @@ abbrev pub message_reply : Group → Option ℕ → Reply Block
 message_reply g None = Idle
 message_reply g (Some vector) = Message g vector
 
--- One message of a group.
+-- An interrupt step for an existing group: the group's next due message is sent.
 abbrev pub messaged : State → Group → Outcome
 messaged s g =
     if is_stopped s.registers then gives Idle s

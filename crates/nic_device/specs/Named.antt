@@ -14,12 +14,13 @@ use Rattle.nic_device.specs.declared.event.Port.TheVariants.{Pf, Vf}
 use Rattle.nic_device.specs.declared.named.Named.{Named}
 use Rattle.nic_device.specs.declared.named.Named.TheVariants.{Nothing, Register}
 
--- An address refers to a place through a view, or to nothing, which reads as 0.
+-- An address refers to a place, of which it shows the bits of `view`, or to nothing, which reads as 0.
 abbrev pub at_place : Option Place → (view : ℕ) → Named
 at_place None view = Nothing 0
 at_place (Some p) view = Register p view
 
--- An offset refers to a register with all its bits, or to nothing. A hole reads as 0, an absent function as all ones.
+-- An offset refers to a register and shows all its bits, or it refers to nothing. A hole reads as 0, an absent function
+-- as all ones.
 abbrev pub at_location : Located → Named
 at_location located_as.Absent = Nothing 0xFFFFFFFF
 at_location located_as.Hole = Nothing 0
@@ -30,7 +31,7 @@ abbrev pub named : State → Port → ℕ → Named
 named s Pf address = at_place (place_among runs address) (view_among runs address)
 named s (Vf v) offset = at_location (located (mode_in s.registers) s.vfs v offset)
 
--- A register that a number refers to has an index within its row.
+-- If a number refers to a register, the register's index is within its row.
 abbrev pub IsInRange : Named → Type 0
 IsInRange (Nothing seen) = ⊤
 IsInRange (Register p view) = p.index < (row_of p.row).count

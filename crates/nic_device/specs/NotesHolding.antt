@@ -1,9 +1,9 @@
--- What a note stores of a block.
+-- What a note stores about a block.
 use Rattle.std.specs.Prelude.{ℕ, List}
 use Rattle.nic_device.specs.declared.notes_holding.Parts.{Parts}
 use Rattle.nic_device.specs.declared.notes_holding.Parts.TheVariants.{Own, Common}
 
--- The block's number, the number of its zero bytes after the stored ones, and the stored bytes.
+-- The block's number, the number of zero bytes after the stored bytes, and the stored bytes.
 pub record Held : Type 0 where
   pub number : ℕ
   pub zeros : ℕ

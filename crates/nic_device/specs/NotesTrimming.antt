@@ -1,7 +1,7 @@
 -- Bytes without the trailing zeros.
 use Rattle.std.specs.Prelude.{ℕ, zero, suc, List, [], ◌∷◌}
 
--- How many bytes are kept of a byte and the bytes after it, given how many of the bytes after it are kept.
+-- How many bytes are kept of a sequence that begins with this byte, given how many of the bytes after it are kept.
 abbrev pub kept_with : ℕ → ℕ → ℕ
 kept_with (suc kept) byte = suc (suc kept)
 kept_with zero zero = 0

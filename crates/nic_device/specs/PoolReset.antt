@@ -10,22 +10,22 @@ use Rattle.register_file.specs.PoolReset.{pool_reset}
 use Rattle.register_file.specs.Pools.{mode_in}
 use Rattle.nic_device.specs.State.{State, Waiting}
 
--- What remains staged after this many queues, starting with queue `first`, drop their staged bytes.
+-- The staged bytes of all queues after `count` queues, starting with queue `first`, drop theirs.
 abbrev pub unstaged : List (List ℕ) → (first count : ℕ) → List (List ℕ)
 unstaged staged first zero = staged
 unstaged staged first (suc count) = slice_set (unstaged staged first count) (first + count) []
 
--- What remains staged after a pool's queues drop their staged bytes.
+-- The staged bytes of all queues after a pool's queues drop theirs.
 abbrev pub pool_unstaged : List (List ℕ) → Option (ℕ × ℕ) → List (List ℕ)
 pool_unstaged staged None = staged
 pool_unstaged staged (Some queues) = unstaged staged queues.0 queues.1
 
--- The frames of the receive list for queues outside a pool, in order.
+-- The frames in the receive list for queues outside a pool, in order.
 abbrev pub others_waiting : Mode → ℕ → List Waiting → List Waiting
 others_waiting mode v waiting = filter (λ w. not (has_queue mode v w.queue)) waiting
 
--- A pool reset: its registers, the frames of the receive list for its queues, and their staged bytes. The frames of
--- other pools, lent memory, transmitted frames and the link are unchanged.
+-- A pool reset resets the pool's registers, and drops the frames in the receive list for the pool's queues and the
+-- queues' staged bytes. Frames for other pools, lent memory, transmitted frames and the link are unchanged.
 abbrev pub with_pool_reset : State → ℕ → State
 with_pool_reset s v =
     let mode = mode_in s.registers in
@@ -35,7 +35,7 @@ with_pool_reset s v =
       staged = pool_unstaged s.staged (queues_of mode v);
     }
 
--- The state after a write to a place that doesn't request a device reset. It may request a pool reset.
+-- The state after a write to a place. The write must not request a device reset but may request a pool reset.
 abbrev pub written_below_reset : State → Place → ℕ → ℕ → State
 written_below_reset s p view word =
     if asks_pool_reset (row_of p.row).kind word then with_pool_reset s p.index

@@ -43,8 +43,9 @@ packet_of w =
 abbrev pub rest_of : Waiting → Rest
 rest_of w = record { bytes = drop w.offset w.frame; first = reported_of (packet_of w) }
 
--- The registers after a queue's frame is dropped because there is no slot (`slotless_counted`), and after a frame is
--- completely written (`frame_counted`), which counts for the queue and for its virtual function.
+-- The registers after a frame is dropped because its queue has no free slot (`slotless_counted`), and after a frame is
+-- completely written (`frame_counted`). A completely written frame is counted for its queue and for the queue's virtual
+-- function.
 abbrev pub slotless_counted : Registers → ℕ → Registers
 slotless_counted r queue = counted r Qprdc (counter_of r Rx queue)
 
@@ -52,15 +53,15 @@ abbrev pub frame_counted : Registers → (vfs queue : ℕ) → Registers
 frame_counted r vfs queue =
     function_counted (counted r Qprc (counter_of r Rx queue)) (function_of_queue r vfs queue) Vfgprc
 
--- The registers after a piece of a frame is written: the head moves; at its end, the frame is counted and raises its
--- queue's receive cause.
+-- The registers after a piece of a frame is written: the head moves. If the piece ends the frame, the frame is counted
+-- and raises its queue's receive cause.
 abbrev pub piece_done : Registers → (vfs : ℕ) → ℕ → Filled → Registers
 piece_done r vfs queue f =
     if f.end then raised_by (frame_counted (with_head r Rx queue f.head) vfs queue) vfs Rx queue
     else with_head r Rx queue f.head
 
--- The queue has no free descriptor. A frame of which nothing is written is dropped if drop enable is set; any other
--- stays.
+-- The frame's queue has no free descriptor. If drop enable is set and none of the frame is written yet, the frame is
+-- dropped. Otherwise it stays.
 abbrev pub without_slot : State → Waiting → List Waiting → Outcome
 without_slot s w others =
     if drops s.registers w.queue && w.offset == 0
@@ -84,7 +85,7 @@ slot_done s w others (Ok f) memory =
 slot_done s w others (Err fault) memory =
     gives (Fault w.queue fault) (record s { registers = side_failed s.registers Rx w.queue; waiting = others })
 
--- The slot at the head of a queue is filled with the rest of a frame.
+-- The slot at the head of a queue is filled from the unwritten rest of a frame.
 abbrev pub slot_filled : State → Waiting → List Waiting → ReceiveQueue → Outcome
 slot_filled s w others q =
     slot_done s w others (fill_of s.memory q.ring q.control (rest_of w)).answer

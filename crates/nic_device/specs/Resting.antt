@@ -1,4 +1,4 @@
--- Devices whose steps on a queue do nothing.
+-- Queues whose device steps do nothing.
 use Rattle.std.specs.Prelude.{◌≡◌, ℕ, ◌&&◌, Bool, true, false, nat_lt, List, [], ◌∷◌}
 use Rattle.std.specs.Bool.{beq}
 use Rattle.register_file.specs.Registers.{is_wanted}
@@ -24,18 +24,18 @@ none_waits (w ∷ others) = false
 abbrev pub is_settled : State → Dir → ℕ → Bool
 is_settled s dir queue = beq (is_wanted s.registers dir queue) (is_on s.registers dir queue)
 
--- Both sides of a queue below 128 are in the state that their enable bits request, it currently can't send, and the
--- receive list is empty.
+-- Both sides of a queue below 128 are in the state that their enable bits request, the queue currently can't send, and
+-- the receive list is empty.
 abbrev pub is_at_rest : State → ℕ → Bool
 is_at_rest s queue =
     nat_lt queue 128 && (is_settled s Rx queue && (is_settled s Tx queue
     && (is_silent s queue (transmit_queue_of s.registers queue) && none_waits s.waiting)))
 
--- The event is answered with `Idle` and changes nothing.
+-- The event's reply is `Idle`, and the event changes nothing.
 abbrev pub IsIdle : State → Event Block → Type 0
 IsIdle s e = step_of s e ≡ gives Idle s
 
--- The device steps of a queue are idle.
+-- The enable steps, the transmit step and the receive step that serve a queue are idle.
 pub record Rests (s : State) (queue : ℕ) : Type 0 where
   pub receive_side : IsIdle s (event.QueueStep Rx queue)
   pub transmit_side : IsIdle s (event.QueueStep Tx queue)

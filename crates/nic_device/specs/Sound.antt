@@ -26,13 +26,13 @@ pub record AreBlocks (m : Memory) : Type 0 where
   pub whole : IsWhole m
   pub bytes : (number : ℕ) (block : List ℕ) → map.get m number ≡ Some block → AreBytes block
 
--- The number of an RSS type.
+-- This is the number of an RSS type.
 abbrev pub IsTypeNumber : ℕ → Type 0
 IsTypeNumber number = (type : RssType) × (code_of type ≡ number)
 
--- A frame in the receive list. It is at least 60 bytes long and at most as long as the maximum frame limit, and some
--- bytes remain to be written. Its queue is below 128, its RSS type exists, and its hash is a 32-bit word, 0 if the type
--- is 0.
+-- A frame in the receive list. The frame is at least 60 bytes long and at most as long as the maximum frame limit, and
+-- some of its bytes remain to be written. Its queue is below 128, its RSS type exists, and its hash is a 32-bit word, 0
+-- if the type is 0.
 pub record IsWaiting (w : Waiting) : Type 0 where
   pub bytes : AreBytes w.frame
   pub least : 60 ≤ length w.frame
@@ -57,12 +57,12 @@ AreWaiting (w ∷ others) = IsWaiting w × All IsUnbegun others
 abbrev pub IsBegunWhileOn : Registers → Waiting → Type 0
 IsBegunWhileOn r w = 0 < w.offset → IsTrue (is_on r Rx w.queue)
 
--- The staged bytes of a queue: at most the maximum frame limit.
+-- The staged bytes of a queue, at most as many as the maximum frame limit.
 pub record IsStaged (staged : List ℕ) : Type 0 where
   pub bytes : AreBytes staged
   pub short : length staged ≤ 65535
 
--- Each of the 128 queues has its staged bytes.
+-- The list contains the staged bytes of each of the 128 queues.
 pub record AreStaged (staged : List (List ℕ)) : Type 0 where
   pub queues : length staged ≡ 128
   pub each : All IsStaged staged
@@ -78,10 +78,10 @@ pub record IsOut (sent : ℕ × List ℕ) : Type 0 where
   pub short : length sent.1 ≤ 65535
 
 -- Every event preserves the following. The registers are sound and the lent blocks whole. Only the first frame of the
--- receive list may be partly written, on an enabled receive side, and the list isn't longer than its capacity. Each
--- queue stages at most a frame, and nothing while its transmit side is disabled. Each transmitted frame is from a queue
--- below 128 and no longer than the maximum frame limit. The image is valid, there are at most 63 virtual functions, and
--- the capacity of the list is 1 to 4,096.
+-- receive list may be partly written, on an enabled receive side, and the list contains no more frames than its
+-- capacity. Each queue stages at most as many bytes as the maximum frame limit, and none while its transmit side is
+-- disabled. Each transmitted frame is from a queue below 128 and no longer than the maximum frame limit. The image is
+-- valid, there are at most 63 virtual functions, and the capacity of the list is 1 to 4,096.
 pub record IsSound (s : State) : Type 0 where
   pub registers : AreSound s.registers
   pub blocks : AreBlocks s.memory
@@ -101,7 +101,7 @@ pub record IsLendable (block : Block) : Type 0 where
   pub whole : IsBlock block
   pub bytes : AreBytes block.bytes
 
--- A port of the physical function or of a virtual one.
+-- The port of the physical function or of a virtual function.
 abbrev pub IsPort : Port → Type 0
 IsPort Pf = ⊤
 IsPort (Vf v) = v < 2 ^ 8

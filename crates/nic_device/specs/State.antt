@@ -1,4 +1,4 @@
--- What a device is between two events.
+-- The state of a device between two events.
 use Rattle.std.specs.Prelude.{ℕ, Bool, true, List, [], replicate, refl}
 use Rattle.std.specs.Coded.{Coded, code_by, coded×, coded_ℕ, coded_bool, coded_list}
 use Rattle.std.specs.FinMap as map
@@ -82,7 +82,7 @@ new_state vfs fifo = record {
   fifo = fifo;
 }
 
--- What a reset clears before it writes registers from the image: the registers, the enable requests, the receive list
--- and the staged bytes. Lent memory, transmitted frames, the link and the image are unchanged.
+-- What a device reset clears before it writes registers from the image: the registers, the enable requests, the receive
+-- list and the staged bytes. Lent memory, transmitted frames, the link and the image are unchanged.
 abbrev pub cleared : State → State
 cleared s = record s { registers = reset_registers; waiting = []; staged = none_staged }

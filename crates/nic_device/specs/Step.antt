@@ -1,4 +1,4 @@
--- A single event.
+-- The effect of a single event.
 use Rattle.std.specs.Prelude.{ℕ, ◌≡◌, ◌≢◌, Bool, true, false, Option, Some, None, is_some}
 use Rattle.rx_ring.specs.DmaArena.Block.{Block}
 use Rattle.nic_device.specs.State.{State}

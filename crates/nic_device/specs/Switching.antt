@@ -10,13 +10,13 @@ use Rattle.nic_device.specs.State.{State, Waiting}
 use Rattle.nic_device.specs.Outcome.{Outcome, gives}
 use Rattle.nic_device.specs.declared.event.Reply.TheVariants.{Done, Idle, NoQueue}
 
--- The receive list without its first frame if that frame is partly written on this queue. Only the first frame can be
--- partly written.
+-- The receive list. If its first frame is for this queue and partly written, that frame is removed. Only the first
+-- frame can be partly written.
 abbrev pub without_part : ℕ → List Waiting → List Waiting
 without_part queue [] = []
 without_part queue (w ∷ others) = if w.queue == queue && not (w.offset == 0) then others else w ∷ others
 
--- A side that is disabled loses its staged bytes, or the frame that it has partly written.
+-- A transmit side that is disabled loses its staged bytes; a receive side loses the frame that it has partly written.
 abbrev pub emptied : State → Dir → ℕ → State
 emptied s Rx queue = record s { waiting = without_part queue s.waiting }
 emptied s Tx queue = record s { staged = slice_set s.staged queue [] }
@@ -27,7 +27,7 @@ side_switched s dir queue =
     if is_wanted s.registers dir queue then record s { registers = switched s.registers dir queue }
     else record (emptied s dir queue) { registers = switched s.registers dir queue }
 
--- One enable step of a side of a queue. The queue must be below 128.
+-- One enable step for a side of a queue. The queue must be below 128.
 abbrev pub queue_switched : State → Dir → ℕ → Outcome
 queue_switched s dir queue =
     if nat_lt queue 128

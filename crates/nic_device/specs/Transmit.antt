@@ -27,7 +27,7 @@ use Rattle.nic_device.specs.declared.event.Reply.TheVariants.{Idle, NoQueue, Adv
 abbrev pub staged_by : State → ℕ → List ℕ
 staged_by s queue = slice_index_or s.staged queue []
 
--- How a queue sends: its frame limit, whether it pads, and whether it writes the head back.
+-- How a queue sends: its frame limit, whether it pads frames, and whether it writes back the head.
 abbrev pub sending_of : Registers → TransmitQueue → Sending
 sending_of r q = record { limit = frame_limit r; pad = pads r; writeback = q.writeback }
 
@@ -36,7 +36,7 @@ abbrev pub fetched_reply : ℕ → Fetched → Option (List ℕ) → Reply Block
 fetched_reply queue f (Some frame) = Sent queue (length frame) f.back
 fetched_reply queue f None = Advanced queue f.slot f.back
 
--- The transmitted frames, with the frame that a slot may have completed.
+-- The transmitted frames, including the frame that the slot completed, if any.
 abbrev pub with_frame : List (ℕ × List ℕ) → ℕ → Option (List ℕ) → List (ℕ × List ℕ)
 with_frame out queue (Some frame) = out ++ (queue, frame) ∷ []
 with_frame out queue None = out
@@ -48,7 +48,8 @@ slot_counted r vfs queue f (Some frame) =
     (function_of_queue r vfs queue) Vfgptc
 slot_counted r vfs queue f None = with_head r Tx queue f.head
 
--- In addition, a slot that requests a report raises its queue's transmit cause.
+-- The registers after a slot is fetched and reported: a slot that requests a report also raises its queue's transmit
+-- cause.
 abbrev pub slot_reported : Registers → (vfs : ℕ) → ℕ → Fetched → Registers
 slot_reported r vfs queue f =
     if f.rs then raised_by (slot_counted r vfs queue f f.frame) vfs Tx queue else slot_counted r vfs queue f f.frame

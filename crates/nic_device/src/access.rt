@@ -31,7 +31,8 @@ impl Engine {
         }
     }
 
-    /// Returns what a read would return, without its side effects. Returns `None` if there is no register.
+    /// Returns what a read of a register would return, without the read's side effects. Returns `None` if no register
+    /// has this number.
     pub(crate) fn peek(&self, port: Port, number: u32) -> Option<u32>
         ensures { result ≡ reported_word (register_read self.now port number).reply }
     {
@@ -56,7 +57,7 @@ impl Engine {
         }
     }
 
-    /// Writes a register's place through an address that shows the bits of `view`. A write that requests a reset has no
+    /// Writes a place through an address that shows the bits of `view`. A write that requests a device reset has no
     /// other effect.
     #[inline(always)]
     fn write_place(&mut self, place: Place, view: u32, word: u32)
@@ -95,7 +96,8 @@ impl Engine {
         }
     }
 
-    /// Returns the device state that a place reports. Only EEC needs the EEPROM's size, which takes a loop to find.
+    /// Returns the device state that a place reports. The EEPROM's size takes a loop to compute, and only EEC reports
+    /// it.
     #[inline(always)]
     fn around_for(&self, place: Place) -> Surroundings
         ensures { read_word (row_of place.row).kind self.now.registers result place ≡ word_read self.now place }

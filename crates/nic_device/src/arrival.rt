@@ -15,7 +15,8 @@ use rx_ring::Octets;
 const SHORTEST_FRAME: usize = 60;
 
 impl Engine {
-    /// Receives a frame from the link. Counts it, then drops it or appends it to the receive list.
+    /// Receives a frame from the link: drops the frame or appends it to the receive list. Counts a frame that is
+    /// accepted, too short, too long, or missed because the list is full.
     #[inline(never)]
     pub(crate) fn arrive(&mut self, frame: Octets) -> Result<Reply, OutOfMemory<Event>>
         ensures reply { IfOk result (λ reply. reply ≡ (arrived self.old frame).reply) }
@@ -45,7 +46,7 @@ impl Engine {
         }
     }
 
-    /// Appends a frame to the receive list, or counts it as missed if the list is full.
+    /// Appends a frame to the receive list. If the list is full, drops the frame and counts it as missed.
     fn join(&mut self, frame: Octets, target: Target) -> Result<Reply, OutOfMemory<Event>>
         requires { target.queue < 128 }
         ensures reply { IfOk result (λ reply. reply ≡ (joined self.old frame target).reply) }

@@ -11,11 +11,11 @@ use crate::event::Event;
 use rx_ring::{BLOCK_BYTES, BlockBox};
 
 impl Device {
-    /// Fills the slice with bytes of packet memory, starting at a bus address. The range may span blocks. Returns
-    /// `false` and leaves the slice unchanged if and only if one of the bytes isn't in a lent block.
+    /// Reads packet memory into the slice, starting at a bus address. The range may span blocks. Returns `false` and
+    /// leaves the slice unchanged if and only if some byte of the range isn't in a lent block.
     ///
-    /// Suppose that it returns `true` for an address that is a multiple of 16 and a slice whose length is 16 n bytes.
-    /// Then n consecutive `Peek16` events return the same bytes and change nothing.
+    /// Suppose that the call returns `true`, the address is a multiple of 16, and the slice is 16 n bytes long. Then n
+    /// consecutive `Peek16` events for the same range return the same bytes and change nothing.
     pub fn dma_read(&self, bus: u64, bytes: &mut [u8]) -> bool
         ensures lent { result ≡ is_lent self.now.memory bus (length bytes.old) }
         ensures read { result ≡ true → bytes.new ≡ read_at self.now.memory bus (length bytes.old) }
@@ -27,10 +27,10 @@ impl Device {
     }
 
     /// Writes the bytes of the slice to packet memory, starting at a bus address. The range may span blocks. Returns
-    /// `false` and changes nothing if and only if one of the bytes wouldn't be in a lent block.
+    /// `false` and changes nothing if and only if some byte of the range isn't in a lent block.
     ///
-    /// Suppose that it returns `true` for an address that is a multiple of 16 and a slice whose length is 16 n bytes.
-    /// Then n consecutive `Poke16` events have the same result, and each is answered `Done`.
+    /// Suppose that the call returns `true`, the address is a multiple of 16, and the slice is 16 n bytes long. Then n
+    /// consecutive `Poke16` events that write the same bytes leave the same state, and each replies `Done`.
     pub fn dma_write(&mut self, bus: u64, bytes: &[u8]) -> bool
         ensures lent { result ≡ is_lent self.old.memory bus (length bytes.now) }
         ensures written { result ≡ true → self.new ≡
@@ -42,11 +42,11 @@ impl Device {
         self.engine.write_range(bus, bytes)
     }
 
-    /// Exchanges the memory of a lent block for new memory. From then on, the block contains the bytes of the new
-    /// memory. The former memory is returned with the bytes that the block contained. Nothing is copied, but no clause
-    /// states this.
+    /// Replaces the memory of a lent block with new memory. Afterwards, the block contains the new memory's bytes.
+    /// Returns the old memory with the bytes that the block contained. The call copies nothing, but no clause states
+    /// this.
     ///
-    /// To the device, this is a write of the new memory's 2,048 bytes to the block. Fails if and only if the block
+    /// The device sees this as a write of the new memory's 2,048 bytes to the block. Fails if and only if the block
     /// isn't lent; the error then contains the new memory.
     pub fn exchange(&mut self, block: u32, memory: BlockBox) -> Result<BlockBox, BlockBox>
         ensures ok { IsOk result ↔ IsTrue (has_block self.old.memory block) }
@@ -61,14 +61,14 @@ impl Device {
     {
         let all: &[u8] = &*memory;
         prove!(all.len() == BLOCK_BYTES);
-        // Every element of lent memory must stay below 256; all elements of the new memory are.
+        // Every element of lent memory must be below 256, and every element of the new memory is.
         Event::are_bytes(all);
         self.engine.exchange(block, memory)
     }
 }
 
 impl Engine {
-    /// Fills the slice with the bytes starting at a bus address, if all of them are lent.
+    /// Reads the bytes starting at a bus address into the slice, if all of them are in lent blocks.
     fn read_range(&self, bus: u64, bytes: &mut [u8]) -> bool
         ensures lent { result ≡ is_lent self.now.memory bus (length bytes.old) }
         ensures read { result ≡ true → bytes.new ≡ read_at self.now.memory bus (length bytes.old) }
@@ -81,7 +81,7 @@ impl Engine {
         true
     }
 
-    /// Exchanges the memory of a block, if it is lent.
+    /// Replaces the memory of a block, if the block is lent.
     fn exchange(&mut self, block: u32, memory: BlockBox) -> Result<BlockBox, BlockBox>
         ensures ok { IsOk result ↔ IsTrue (has_block self.old.memory block) }
         ensures put { OnOk result (self.new ≡
@@ -93,7 +93,7 @@ impl Engine {
         self.memory.exchange(block, memory)
     }
 
-    /// Writes the bytes of the slice, starting at a bus address, if all bytes of this range are lent.
+    /// Writes the bytes of the slice, starting at a bus address, if all bytes of the range are in lent blocks.
     fn write_range(&mut self, bus: u64, bytes: &[u8]) -> bool
         ensures lent { result ≡ is_lent self.old.memory bus (length bytes.now) }
         ensures written { result ≡ true → self.new ≡

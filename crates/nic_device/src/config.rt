@@ -21,7 +21,7 @@ pub enum NewFault {
     TooManyVfs,
     /// The receive list would have room for no frames, or for more than `MAX_FIFO`.
     Fifo,
-    /// There is no memory for the registers.
+    /// There isn't enough memory for the device.
     OutOfMemory,
 }
 

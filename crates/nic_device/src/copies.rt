@@ -11,7 +11,7 @@ use std::alloc::{AllocError, Global};
 use std::collections::VecDeque;
 use std::marker::Model;
 
-/// Copies of blocks by number, lowest first. Contracts view them as the memory that they copy.
+/// Copies of blocks with their numbers, in ascending order. Contracts view these copies as the memory that was copied.
 #[derive(Drop)]
 pub(crate) struct Blocks {
     copies: Vec<(u32, Octets)>,
@@ -33,7 +33,7 @@ impl Model for Blocks {
 }
 
 impl Blocks {
-    /// Returns copies of all lent blocks. Each has a number below `end`.
+    /// Returns copies of all lent blocks. Each lent block must have a number below `end`.
     pub(crate) fn copied(alloc: Global, memory: &LentMemory, end: u32) -> Result<Blocks, AllocError>
         requires whole { IsWhole memory.now }
         requires below { AreBelow memory.now end }
@@ -52,7 +52,8 @@ impl Blocks {
         })
     }
 
-    /// Returns the lowest of the block numbers that isn't free in the arena, or `None` if all are free.
+    /// Returns the lowest number of a copied block that isn't free in the arena, or `None` if all copied blocks are
+    /// free there.
     pub(crate) fn lowest_taken(&self, arena: &Arena) -> Option<u32>
         ensures { TellsTaken arena.now self.now result }
     {
@@ -69,14 +70,15 @@ impl Blocks {
         lowest
     }
 
-    /// Whether each of these blocks is lent.
+    /// Whether every copied block is lent now.
     pub(crate) fn are_lent(&self, memory: &LentMemory) -> bool
         ensures { IsTrue result ↔ AreAmong memory.now self.now }
     {
         all_lent(&self.copies, memory)
     }
 
-    /// Restores the copied bytes of lent blocks, and returns lent blocks with other numbers to the arena.
+    /// Writes the copied bytes back to the copied blocks, which must be lent. Returns all other lent blocks to the
+    /// arena.
     pub(crate) fn put_back(&self, memory: &mut LentMemory, arena: &mut Arena)
         requires lent { AreAmong memory.old self.now }
         requires whole { IsWhole self.now }
@@ -88,8 +90,8 @@ impl Blocks {
         put_all_back(&self.copies, memory, arena);
     }
 
-    /// Takes the blocks with these numbers out of the arena, where all must be free, and lends them with the copied
-    /// bytes. If memory runs out, the arena is unchanged.
+    /// Takes the copied blocks out of the arena, where all of them must be free, and lends them with the copied bytes.
+    /// If memory runs out, the arena is unchanged.
     pub(crate) fn lent(&self, alloc: Global, arena: &mut Arena) -> Result<LentMemory, AllocError>
         requires free { AreFree arena.old self.now }
         requires whole { IsWhole self.now }
@@ -133,7 +135,7 @@ fn copy_of(alloc: Global, memory: &LentMemory, number: u32) -> Result<Option<Oct
     Ok(Some(Octets::of(copy)))
 }
 
-/// Whether each of the copied blocks is lent.
+/// Whether every copied block is lent.
 fn all_lent(copies: &[(u32, Octets)], memory: &LentMemory) -> bool
     requires { AreRising copies.now }
     ensures { IsTrue result ↔ AreAmong memory.now (memory_of copies.now) }
@@ -148,8 +150,8 @@ fn all_lent(copies: &[(u32, Octets)], memory: &LentMemory) -> bool
     true
 }
 
-/// Restores the bytes of lent blocks from their copies, and returns lent blocks without a copy to the arena, highest
-/// first.
+/// Writes the copied bytes back to their lent blocks, and returns lent blocks without a copy to the arena. Begins with
+/// the highest block number.
 fn put_all_back(copies: &[(u32, Octets)], memory: &mut LentMemory, arena: &mut Arena)
     requires rising { AreRising copies.now }
     requires lent { AreAmong memory.old (memory_of copies.now) }
@@ -194,7 +196,7 @@ fn return_block(memory: &mut LentMemory, arena: &mut Arena, number: u32)
     }
 }
 
-/// Lends a block of the arena for each of the copies, highest first.
+/// Lends a block from the arena for each copy, highest number first.
 fn lend_all(
     copies: &[(u32, Octets)],
     arena: &mut Arena,
@@ -216,7 +218,7 @@ fn lend_all(
     Ok(())
 }
 
-/// Lends a block that is free in the arena, with these bytes.
+/// Takes a free block out of the arena and lends it with these bytes.
 fn lend_copy(
     arena: &mut Arena,
     memory: &mut LentMemory,

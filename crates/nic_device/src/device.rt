@@ -15,10 +15,10 @@ use rx_ring::{BLOCK_BYTES, LentMemory, Octets};
 use std::alloc::Global;
 use std::marker::Model;
 
-/// An Intel 82599 with its lent packet memory. It can't be dropped, because it holds that memory; `dismantle` ends it
-/// and returns the memory.
+/// An Intel 82599 with the packet memory lent to it. A device can't be dropped, because it holds that memory;
+/// `dismantle` ends the device and returns the memory.
 ///
-/// Between two events it is sound; see `stays_sound`.
+/// Between two events a device is sound; see `stays_sound`.
 pub struct Device {
     pub(crate) engine: Engine,
 }
@@ -38,7 +38,7 @@ impl Model for Device {
 
 /// What remains of a device after it is dismantled.
 pub struct Parts {
-    /// The blocks that were lent to it.
+    /// The blocks that were lent to the device.
     pub memory: LentMemory,
     /// The transmitted frames that weren't collected, oldest first, each with its transmit queue, 0 to 127.
     pub frames: Vec<(u8, Octets)>,
@@ -70,8 +70,9 @@ impl Device {
     }
 
     /// Installs an EEPROM image and returns the old one. EEC shows the new image's size immediately, and the next
-    /// EEPROM step reads its words; an answer already in EERD stays. While the image is installed, each reset performs
-    /// the register writes that it contains, except writes to CTRL, to EERD, or to an address without a register.
+    /// EEPROM step reads from the new image. A word that is already in EERD stays there. While the image is installed,
+    /// each device reset performs the register writes in the image, except writes to CTRL, to EERD, or to an address
+    /// without a register.
     pub fn install(&mut self, image: Image) -> Image
         ensures former { result ≡ self.old.image }
         ensures installed { self.new ≡ record self.old { image = image } }
@@ -82,7 +83,7 @@ impl Device {
 
     /// Runs one event. If memory runs out, the event is returned in the error and the device is unchanged. Only these
     /// events can run out of memory: `Lend` of a block whose number isn't lent, `Arrive` of a frame that would be
-    /// accepted, and `TxStep` of a queue below 128 that isn't idle.
+    /// accepted, and a `TxStep` that isn't idle, for a queue below 128.
     #[inline(always)]
     pub fn step(&mut self, event: Event) -> Result<Reply, OutOfMemory<Event>>
         ensures reply { IfOk result (λ reply. reply ≡ (step_of self.old event).reply) }
@@ -90,29 +91,29 @@ impl Device {
         ensures back { IfErr result (λ refused. refused.0 ≡ event) }
         ensures unchanged { OnErr result (self.new ≡ self.old) }
         ensures memory { OnErr result (TakesMemory self.old event) }
-        // The reply is a possible one for the event.
+        // The reply is one that this event can have.
         ensures fits { IfOk result (λ reply. may_answer event reply ≡ true) }
     {
         event.is_of_a_driver();
         self.engine.step(event)
     }
 
-    /// States that the device is sound between two calls, whatever happened before. It does nothing.
+    /// States that the device is sound between two calls, whatever happened before. The call does nothing.
     ///
     /// A device is sound if its registers, frames and staged bytes are sound, each lent block is whole, the EEPROM
     /// image is valid, and the configuration is in range. Frames and staged bytes are sound if the following holds.
     /// Each frame in the receive list is 60 to 65,535 bytes long, isn't completely written yet, and is for a queue
-    /// below 128. It has the number of an RSS type and a 32-bit hash, which is 0 if the type is 0. Only the oldest
-    /// frame may be partly written, and only while the receive side of its queue is enabled. The list isn't longer than
-    /// its capacity. Each of the 128 queues stages at most 65,535 bytes, and none while its transmit side is disabled.
-    /// Each transmitted frame is from a queue below 128 and at most 65,535 bytes long.
+    /// below 128. It has a valid RSS type number and a 32-bit hash, which is 0 if the type is 0. Only the oldest frame
+    /// may be partly written, and only while the receive side of its queue is enabled. The list contains no more frames
+    /// than its capacity. Each of the 128 queues stages at most 65,535 bytes, and none while its transmit side is
+    /// disabled. Each transmitted frame is from a queue below 128 and at most 65,535 bytes long.
     ///
-    /// Registers are sound if each place of the table exists, and the following holds. A word has only bits of its
-    /// row's reset value and bits that can become 1 there. The bits that can become 1 are the mask's bits if the
-    /// register is written, also bit 25 in an enable register, all bits in a counter and in EERD, bits 2 to 7 in
-    /// PVFMAILBOX, and none in PFMAILBOX or in a register that only acts or is calculated. A bit is reported only while
-    /// its cause and its mask are 1. Each PVFMAILBOX has at most one of bits 2 and 3 set, and at most one of bits 6 and
-    /// 7.
+    /// Registers are sound if each place in the register table exists, and the following holds. A register contains
+    /// only bits of its row's reset value and bits that can become 1 in the register. If the register is written, the
+    /// bits that can become 1 are the mask's bits. In an enable register, bit 25 can also become 1. All bits can become
+    /// 1 in a counter and in EERD, and bits 2 to 7 in PVFMAILBOX. No bit can become 1 in PFMAILBOX or in a register
+    /// that only acts or is calculated. A cause is reported only while its cause bit and its mask bit are 1. Each
+    /// PVFMAILBOX has at most one of bits 2 and 3 set, and at most one of bits 6 and 7.
     pub fn stays_sound(&self)
         ensures { IsSound self.now }
     {
@@ -120,8 +121,8 @@ impl Device {
     }
 
     #[tactic(auto, unfolding(crate::specs::Step::step_of))]
-    /// Returns what a read of an address of the physical function would return, without the read's side effects.
-    /// Returns `None` if there is no register.
+    /// Returns what the physical function would read at an address, without the read's side effects. Returns `None` if
+    /// no register is there.
     pub fn peek_register(&self, address: u32) -> Option<u32>
         ensures { result ≡ reported_word (step_of self.now (Event.Read Port.Pf address)).reply }
     {
@@ -129,9 +130,8 @@ impl Device {
     }
 
     #[tactic(auto, unfolding(crate::specs::Step::step_of))]
-    /// Returns what a read of an offset of virtual function v would return, without the read's side effects. Returns
-    /// `None` if there is no register: at a hole, or if the device doesn't have the function or the function has no
-    /// pool.
+    /// Returns what virtual function v would read at an offset, without the read's side effects. Returns `None` if no
+    /// register is there: at a hole, if the device doesn't have the function, or if the function has no pool.
     pub fn peek_vf(&self, v: u8, offset: u32) -> Option<u32>
         ensures { result ≡ reported_word (step_of self.now (Event.Read (Port.Vf v) offset)).reply }
     {
@@ -149,12 +149,12 @@ impl Device {
         }
     }
 
-    /// Returns an upper bound on the bytes that the note of an event's reply needs, so that you can make room before
-    /// the event. The bound is 2,048 for `Lend` and `Take`, whatever their reply. For `Collect` it is the length of the
-    /// oldest transmitted frame, or 0 if there is none. For any other event it is 0.
+    /// Returns an upper bound on the bytes that the note of an event's reply needs, so you can reserve room before you
+    /// run the event. The bound is 2,048 for `Lend` and `Take`, whatever their reply. For `Collect` it is the length of
+    /// the oldest transmitted frame, or 0 if there is none. For any other event it is 0.
     pub fn note_room(&self, event: &Event) -> usize
         ensures room { result ≡ note_room self.now event.now }
-        // The note of the reply needs no more.
+        // The reply's note needs at most this many bytes.
         ensures enough { note_length (step_of self.now event.now).reply ≤ result }
     {
         event.is_of_a_driver();
@@ -162,7 +162,7 @@ impl Device {
         self.room_of(event)
     }
 
-    /// Computes `note_room`: a whole block for an event that moves one, the next frame's length for `Collect`,
+    /// Computes `note_room`: the size of a block for `Lend` and `Take`, the next frame's length for `Collect`,
     /// otherwise 0.
     fn room_of(&self, event: &Event) -> usize
         ensures { result ≡ note_room self.now event.now }

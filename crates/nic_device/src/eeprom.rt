@@ -1,4 +1,4 @@
-//! The EEPROM: its image, and the register writes from it that a reset performs.
+//! The EEPROM image, the EEPROM step, and the register writes from the image that a reset performs.
 
 ghost use Rattle.std.specs.Prelude.{◌≡◌, take};
 ghost use Rattle.eeprom_image.specs.Triples.{triples_of};
@@ -19,7 +19,7 @@ impl Engine {
         mem::replace(&mut self.image, image)
     }
 
-    /// Runs an EEPROM step: puts the word that EERD requests into EERD and sets its done bit.
+    /// Runs an EEPROM step: puts the word that EERD requests into EERD and sets EERD's done bit.
     #[inline(never)]
     pub(crate) fn read_eeprom(&mut self) -> Reply
         ensures reply { result ≡ (eeprom_stepped self.old).reply }
@@ -47,8 +47,7 @@ impl Engine {
         }
     }
 
-    /// Performs one of these writes at its address. Writes to CTRL, to EERD and to addresses without a register are
-    /// skipped.
+    /// Performs one register write from the image. Skips a write to CTRL, to EERD or to an address without a register.
     fn apply_triple(&mut self, address: u32, word: u32)
         ensures { self.new ≡ with_triple self.old (address, word) }
     {
@@ -61,7 +60,7 @@ impl Engine {
     }
 }
 
-/// Whether writes to this register are skipped.
+/// Whether the image's writes to this register are skipped.
 fn is_stepped_over(row: RowId) -> bool
     ensures { result ≡ is_stepped_over row }
 {

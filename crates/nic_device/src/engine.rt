@@ -13,8 +13,8 @@ use std::collections::VecDeque;
 use std::marker::Model;
 use tx_ring::Staged;
 
-/// The parts of a device, and how it runs each event; `Device` keeps it sound. It can't be dropped while packet memory
-/// is lent to it; it is finally dismantled.
+/// The parts of a device, and the code that runs its events. `Device` keeps an engine sound. An engine can't be dropped
+/// while packet memory is lent to it; in the end it is dismantled.
 pub(crate) struct Engine {
     pub(crate) registers: Box<RegisterFile>,
     pub(crate) memory: LentMemory,

@@ -7,7 +7,7 @@ use register_file::Group;
 use rx_ring::{Buf, Dir, Octets, RingFault};
 use std::marker::Model;
 
-/// The PCI function that a register access comes through.
+/// The PCI function through which a driver accesses a register.
 #[derive(Clone, Copy, PartialEq, Eq, Debug)]
 pub enum Port {
     /// The physical function. A register's number is its byte offset in the register table.
@@ -20,7 +20,7 @@ pub enum Port {
 impl Port {
     ghost use Rattle.nic_device.specs.Sound.{IsPort};
 
-    /// States that each port is one that a driver can use. It does nothing.
+    /// States that this port is one that a driver can use. The call does nothing.
     fn is_of_a_driver(&self)
         ensures { IsPort self.now }
     {
@@ -33,10 +33,10 @@ impl Port {
     }
 }
 
-/// What happens to the device: an access by the driver, or a step of the device itself. Registers are 32-bit words at
-/// byte offsets into the register space. A bus address is the address of a byte of packet memory. While CTRL bit 2
-/// disables bus mastering, the device's own steps reply `Idle`, or `NoQueue` or `NoGroup` for a number that doesn't
-/// exist.
+/// Something that happens at the device: an access by the driver, or a step of the device itself. Registers are 32-bit
+/// words at byte offsets into the register space. A bus address refers to one byte of packet memory. While CTRL bit 2
+/// disables bus mastering, the device's own steps reply `Idle`, or `NoQueue` or `NoGroup` for a queue or group that
+/// doesn't exist.
 ///
 /// `B` is the type of a packet buffer: the buffer itself, which can't be dropped, or, in a note, a copy of its
 /// contents.
@@ -48,9 +48,9 @@ pub enum Event<B = Buf> {
     /// if there is no register.
     Write(Port, u32, u32),
     /// Lends a block of packet memory to the device, under the block's number. The reply is `Done`, or `Twice` with the
-    /// block.
+    /// block if a block with this number is already lent.
     Lend(B),
-    /// Takes back the lent block with this number. The reply is `Buf`, or `NotLent`.
+    /// Takes back the lent block with this number. The reply is `Buf`, or `NotLent` if no such block is lent.
     Take(u32),
     /// A driver reads 16 bytes of lent memory at a bus address. The reply is `Bytes`, `Misaligned` if the address isn't
     /// a multiple of 16, or `NotLent`.
@@ -58,12 +58,12 @@ pub enum Event<B = Buf> {
     /// A driver writes 16 bytes of lent memory at a bus address. The reply is `Done`, `Misaligned` if the address isn't
     /// a multiple of 16, or `NotLent`.
     Poke16(u32, [u8; 16]),
-    /// A frame, without its frame check sequence, arrives from the link. The reply is `Done` if it joins the receive
-    /// list, otherwise `Dropped`.
+    /// A frame, without its frame check sequence, arrives from the link. The reply is `Done` if the frame joins the
+    /// receive list, otherwise `Dropped`.
     Arrive(Octets),
     /// A receive step: the device writes one piece of the oldest frame in the receive list, using one descriptor of the
-    /// frame's queue. The reply is `Wrote`, `Dropped` or `Fault`. It is `Idle` if there is no frame, or if there is no
-    /// free descriptor and the queue doesn't drop the frame for this reason.
+    /// frame's queue. The reply is `Wrote`, `Dropped` or `Fault`. The reply is `Idle` if the list is empty, or if the
+    /// queue has no free descriptor and doesn't drop the frame for this reason.
     RxStep,
     /// A transmit step of a queue, 0 to 127: the device fetches one descriptor. The reply is `Advanced`, `Sent`,
     /// `Fault`, `Idle` if the queue can't send, or `NoQueue`.
@@ -71,13 +71,14 @@ pub enum Event<B = Buf> {
     /// An interrupt step: the device sends the next due MSI-X message of an interrupt group. The reply is `Message`,
     /// `Idle` if none is due, or `NoGroup`.
     IntStep(Group),
-    /// An enable step: a side of a queue, 0 to 127, is enabled or disabled as requested by its enable bit in RXDCTL or
-    /// TXDCTL. The reply is `Done`, `Idle` if the side is already in that state, or `NoQueue`.
+    /// An enable step: the device enables or disables one side of a queue, 0 to 127, as the side's enable bit in RXDCTL
+    /// or TXDCTL requests. The reply is `Done`, `Idle` if the side is already in that state, or `NoQueue`.
     QueueStep(Dir, u16),
-    /// An EEPROM step: the word that EERD requests becomes ready in EERD. The reply is `Done`, or `Idle` if none is
-    /// requested.
+    /// An EEPROM step: the device puts the word that EERD requests into EERD. The reply is `Done`, or `Idle` if no word
+    /// is requested.
     EepromStep,
-    /// The link goes up (`true`) or down (`false`). The reply is `Done`, or `Idle` if the link already is.
+    /// The link goes up (`true`) or down (`false`). The reply is `Done`, or `Idle` if the link is already in that
+    /// state.
     Link(bool),
     /// Collects the oldest transmitted frame. The reply is `Frame`, or `Idle` if there is none.
     Collect,
@@ -86,8 +87,8 @@ pub enum Event<B = Buf> {
 impl Event {
     ghost use Rattle.nic_device.specs.Sound.{AreBytes, IsEvent};
 
-    /// States that each event is one that a driver can cause: its numbers, words and bytes are in the ranges of their
-    /// types, and a block that it lends is whole. It does nothing.
+    /// States that this event is one that a driver can cause: its numbers, words and bytes are in the ranges of their
+    /// types, and a block that it lends is whole. The call does nothing.
     pub fn is_of_a_driver(&self)
         ensures { IsEvent self.now }
     {
@@ -142,7 +143,7 @@ impl Event {
         }
     }
 
-    /// States that each byte is below 256. It does nothing.
+    /// States that each byte is below 256. The call does nothing.
     pub(crate) fn are_bytes(bytes: &[u8])
         ensures { AreBytes bytes.now }
     {
@@ -165,9 +166,9 @@ pub enum Why {
     Long,
     /// No filter accepts the frame's destination address.
     Filter,
-    /// No pool is selected for the frame, or its pool has no queues.
+    /// No pool is selected for the frame, or the selected pool has no queues.
     NoPool,
-    /// The frame's pool has reception disabled: its VFRE bit is 0.
+    /// Reception is disabled for the frame's pool: the pool's VFRE bit is 0.
     PoolOff,
     /// The receive list is full. MPC counts the frame.
     Full,
@@ -184,13 +185,13 @@ pub enum Reply<B = Buf> {
     Word(u32),
     /// No register is at the accessed address. A read returns this value.
     Stray(u32),
-    /// The event is complete, and there is nothing more to report.
+    /// The event is complete and has nothing more to report.
     Done,
     /// The 16 bytes that `Peek16` read.
     Bytes([u8; 16]),
     /// The block that was taken back, with its current bytes.
     Buf(B),
-    /// A block with this number is already lent. The block to be lent is returned unchanged.
+    /// A block with this number is already lent. The block that was to be lent is returned unchanged.
     Twice(B),
     /// The access needs a block that isn't lent. Nothing changed.
     NotLent,
@@ -216,7 +217,7 @@ pub enum Reply<B = Buf> {
         desc: u64,
         /// The bus address of the first byte written for this piece.
         at: u64,
-        /// The number of frame bytes written there.
+        /// The number of frame bytes written for this piece.
         len: usize,
     },
     /// A transmit step fetched one descriptor and moved the queue's head. No frame was sent.
@@ -225,7 +226,7 @@ pub enum Reply<B = Buf> {
         queue: u16,
         /// The index of the fetched descriptor in the queue's ring.
         slot: u16,
-        /// The bus address of the write-back, of the descriptor or of the head. `None` if nothing was written back.
+        /// The bus address of the descriptor or head write-back. `None` if nothing was written back.
         back: Option<u64>,
     },
     /// A transmit step fetched the last descriptor of a frame and sent the frame.
@@ -234,7 +235,7 @@ pub enum Reply<B = Buf> {
         queue: u16,
         /// The frame's length in bytes, padding included.
         len: usize,
-        /// The bus address of the write-back, of the descriptor or of the head. `None` if nothing was written back.
+        /// The bus address of the descriptor or head write-back. `None` if nothing was written back.
         back: Option<u64>,
     },
     /// A descriptor couldn't be processed. Its side of the queue is disabled and must be enabled again.
@@ -261,7 +262,8 @@ pub enum Reply<B = Buf> {
 }
 
 /// A droppable copy of a packet buffer's contents. In contracts, a note and its buffer are the same value, a number and
-/// bytes, so an event equals its note. It stores the bytes without the trailing zeros, and the number of those zeros.
+/// bytes, so an event equals its note. A note stores the bytes without the trailing zeros, and the number of those
+/// zeros.
 #[derive(Debug, Drop)]
 pub struct Note {
     holding: Holding,
@@ -283,7 +285,7 @@ impl Model for Note {
 }
 
 impl Note {
-    /// Creates a note with these contents. The last stored byte isn't 0.
+    /// Creates a note with these contents. The last stored byte must not be 0.
     pub(crate) fn new(holding: Holding) -> Note
         requires { kept_len holding.kept ≡ length holding.kept }
         ensures { result
@@ -313,7 +315,7 @@ impl Note {
         u32::from(self.holding.zeros())
     }
 
-    /// Whether both are notes of equal blocks, by number and bytes.
+    /// Whether this note and `other` are notes of blocks with equal numbers and equal bytes.
     pub fn same(&self, other: &Note) -> bool
         ensures { IsTrue result ↔ (self.now ≡ other.now) }
     {
@@ -328,7 +330,7 @@ impl PartialEq for Note {
     ghost use Rattle.std.proofs.Common.{rules};
     ghost use lib.Pointwise.{pointwise};
 
-    // Two notes are equal if their blocks are, by number and bytes.
+    // Two notes are equal if their blocks have equal numbers and equal bytes.
     ghost eq = { eq_of_both (on (λ b. b.number) ◌==◌) (on (λ b. b.bytes) (pointwise ◌==◌)) };
 
     ghost laws = { Prim.search (comparing, rules) };
@@ -338,10 +340,10 @@ impl PartialEq for Note {
     }
 }
 
-/// A copy of an event that a program can keep and drop: it has a note in place of a packet buffer.
+/// A copy of an event that a program can keep and drop. It contains a note instead of a packet buffer.
 pub type EventNote = Event<Note>;
 
-/// A copy of a reply that a program can keep and drop: it has a note in place of a packet buffer.
+/// A copy of a reply that a program can keep and drop. It contains a note instead of a packet buffer.
 pub type ReplyNote = Reply<Note>;
 
 /// An event that didn't run because memory ran out. It is returned unchanged.

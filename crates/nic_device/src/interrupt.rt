@@ -49,7 +49,7 @@ fn group_of_queue(registers: &RegisterFile, vfs: u8, queue: u16) -> Group
     }
 }
 
-/// Counts a frame of a virtual function, if there is one, in this row of per-function counters.
+/// Counts a frame in a row of per-function counters, if the frame belongs to a virtual function.
 pub(crate) fn count_function(registers: &mut RegisterFile, function: Option<u8>, row: RowId)
     requires small { IfSome function (λ v. v < 64) }
     requires rows { (row_of row).count ≡ 64 }
@@ -62,7 +62,7 @@ pub(crate) fn count_function(registers: &mut RegisterFile, function: Option<u8>,
 }
 
 #[tactic(auto, unfolding(crate::specs::Interrupt::raised_by))]
-/// Raises the cause of a side of a queue.
+/// Raises the interrupt cause for one side of a queue.
 #[inline(always)]
 pub(crate) fn raise_by(registers: &mut RegisterFile, vfs: u8, dir: Dir, queue: u16)
     requires { queue < 128 }
@@ -100,8 +100,8 @@ impl Engine {
         }
     }
 
-    /// Whether a group exists. The physical function's group always does. A virtual function's group does if the device
-    /// has the function and the mode has a pool for it.
+    /// Whether an interrupt group exists. The physical function's group always exists. A virtual function's group
+    /// exists if the device has the function and the mode has a pool for the function.
     fn has_group(&self, group: Group) -> bool
         ensures { result ≡ has_group self.now group }
     {

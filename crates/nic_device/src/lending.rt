@@ -7,7 +7,7 @@ use crate::engine::Engine;
 use crate::event::{Event, OutOfMemory, Reply};
 use rx_ring::{Buf, LendRefused};
 
-/// The size in bytes of a `Peek16` or `Poke16`, and the alignment of their addresses.
+/// The number of bytes that a `Peek16` or `Poke16` moves. Their addresses must be multiples of this number.
 const PEEK_BYTES: u32 = 16;
 
 impl Engine {

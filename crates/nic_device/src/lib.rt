@@ -3,13 +3,13 @@
 //! Contracts view a `Device` as a `State`. A `State` consists of the registers, the memory lent to the device, the
 //! frames in the receive list, the bytes staged by the transmit queues, the transmitted frames not yet collected,
 //! whether the link is up, and the EEPROM image. `Device::install` replaces the image. `Device::step` runs one `Event`
-//! and returns a `Reply`, both according to the definition `step_of`; `Device::run` runs a list of events.
-//! `Device::peek_register`, `Device::peek_vf` and `Device::next_out` look at the device without side effects. Between
+//! and returns a `Reply`, as the definition `step_of` specifies. `Device::run` runs a list of events.
+//! `Device::peek_register`, `Device::peek_vf` and `Device::next_out` inspect the device without side effects. Between
 //! two events a device is sound; see `Device::stays_sound`.
 //!
-//! `Engine` holds the parts and runs the events. The definitions are in `specs/`, one file per family of events, and
-//! the code is in files of the same names. The script machine, the debugger, the lock and the driver depend on this
-//! crate.
+//! `Engine` holds the device's parts and runs the events. The definitions are in `specs/`, one file per family of
+//! events. The code is in files with the same names. The script machine, the debugger, the lock and the driver depend
+//! on this crate.
 //!
 //! Source: Intel 82599 datasheet, sections on the receive and transmit functions, on interrupts, on virtualization and
 //! on the device registers.

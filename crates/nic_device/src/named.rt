@@ -10,7 +10,7 @@ use crate::engine::Engine;
 use crate::event::Port;
 use register_file::{Located, Place, locate, resolve};
 
-/// What a read at a hole returns, and below it what a read of a nonexistent virtual function returns.
+/// What a read returns at a hole (`HOLE`) and through a nonexistent virtual function (`ABSENT`).
 const HOLE: u32 = 0;
 
 const ABSENT: u32 = 0xFFFF_FFFF;
@@ -20,7 +20,7 @@ const ABSENT: u32 = 0xFFFF_FFFF;
 pub enum Named {
     /// No register. A read returns this value.
     Nothing(u32),
-    /// The place of a register, and a mask of the bits that its address shows.
+    /// The place of a register, and a mask of the bits that the address shows.
     Register(Place, u32),
 }
 
@@ -50,7 +50,7 @@ fn at_address(address: u32) -> Named
     }
 }
 
-/// Returns what an offset of a virtual function refers to, given the result of the map.
+/// Returns what an offset of a virtual function refers to, given where the map locates the offset.
 #[inline(always)]
 fn at_location(located: Located) -> Named
     requires { IsLocatedInRange located }

@@ -27,7 +27,8 @@ impl Note {
         Note::with_kept(buf, kept_in(buf), room)
     }
 
-    /// Returns the note of a block that stores `kept` of its bytes. The vector must be empty and have room for them.
+    /// Returns a block's note, which stores the block's first `kept` bytes. The vector must be empty and have room for
+    /// these bytes.
     pub(crate) fn with_kept(buf: &Buf, kept: usize, room: Vec<u8>) -> Note
         requires kept { kept ≡ kept_len buf.now.bytes }
         requires empty { room.items ≡ [] }
@@ -38,7 +39,7 @@ impl Note {
         Note::with_own(buf, kept, fitted(&bytes[..kept], room))
     }
 
-    /// Returns the note of a block that owns these stored bytes: the block's first `kept` bytes.
+    /// Returns a block's note, which owns these bytes: the block's first `kept` bytes.
     pub(crate) fn with_own(buf: &Buf, kept: usize, bytes: Octets) -> Note
         requires kept { kept ≡ kept_len buf.now.bytes }
         requires bytes { bytes ≡ take kept buf.now.bytes }
@@ -48,7 +49,7 @@ impl Note {
         Note::new(Holding::own(buf.block() as u16, bytes, zeros))
     }
 
-    /// Returns the note of a block that stores these bytes, which other notes may share.
+    /// Returns a block's note, which stores these bytes. Other notes may share the bytes.
     pub(crate) fn with_common(buf: &Buf, kept: usize, bytes: Arc<Octets>) -> Note
         requires kept { kept ≡ kept_len buf.now.bytes }
         requires bytes { bytes.value ≡ take kept buf.now.bytes }
@@ -112,7 +113,7 @@ impl Event {
 }
 
 impl Event<Note> {
-    /// Whether both are notes of equal events.
+    /// Whether this note and `other` are notes of equal events.
     pub fn same(&self, other: &EventNote) -> bool
         ensures { IsTrue result ↔ (self.now ≡ other.now) }
     {
@@ -122,7 +123,7 @@ impl Event<Note> {
 
 impl Reply {
     /// Returns how many bytes the note of the reply copies: a block's bytes without the trailing zeros, or a frame's
-    /// bytes. 0 for other replies.
+    /// bytes. Returns 0 for other replies.
     pub fn note_length(&self) -> usize
         ensures { result ≡ note_length self.now }
     {
@@ -142,8 +143,8 @@ impl Reply {
         Ok(self.note_in(room))
     }
 
-    /// Returns the note of a reply. The copied bytes go into the vector, which must be empty and have room for them. It
-    /// allocates nothing, but no clause states this.
+    /// Returns the note of a reply. The copied bytes go into the vector, which must be empty and have room for them.
+    /// The call allocates nothing, but no clause states this.
     pub fn note_in(&self, room: Vec<u8>) -> ReplyNote
         requires empty { room.items ≡ [] }
         requires room { note_length self.now ≤ vec_capacity room }
@@ -211,8 +212,8 @@ impl Reply {
         }
     }
 
-    /// Turns a reply without a block into its note. If it contains a block, the block is returned in the error. It
-    /// copies nothing, but no clause states this.
+    /// Turns a reply without a block into its note. If the reply contains a block, returns the block as the error. The
+    /// call copies nothing, but no clause states this.
     pub fn into_note(self) -> Result<ReplyNote, Buf>
         ensures note { IfOk result (λ note. note ≡ self) }
         ensures block { result_err result ≡ handed_block self }
@@ -261,7 +262,7 @@ impl Reply {
 }
 
 impl Reply<Note> {
-    /// Whether both are notes of equal replies.
+    /// Whether this note and `other` are notes of equal replies.
     pub fn same(&self, other: &ReplyNote) -> bool
         ensures { IsTrue result ↔ (self.now ≡ other.now) }
     {

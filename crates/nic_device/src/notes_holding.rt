@@ -7,8 +7,8 @@ use std::alloc::Global;
 use std::marker::Model;
 use std::sync::Arc;
 
-/// The block's number, the number of zero bytes after the stored ones, and the stored bytes. Each variant holds the two
-/// numbers so that they take no extra space.
+/// The block's number, the number of zero bytes after the stored bytes, and the stored bytes. Each variant contains
+/// both numbers, because they then take no extra space.
 #[derive(Debug, Drop)]
 enum Parts {
     /// The bytes belong to this note alone.
@@ -61,7 +61,7 @@ impl Holding {
         }
     }
 
-    /// Returns how many zero bytes of the block follow the stored ones.
+    /// Returns how many zero bytes of the block follow the stored bytes.
     pub(crate) fn zeros(&self) -> u16
         ensures { result ≡ self.now.zeros }
     {
@@ -81,7 +81,7 @@ impl Holding {
         }
     }
 
-    /// Whether both have equal contents.
+    /// Whether `other` has equal contents.
     pub(crate) fn same(&self, other: &Holding) -> bool
         ensures { IsTrue result ↔ (self.now ≡ other.now) }
     {

@@ -1,4 +1,4 @@
-//! Notes of blocks that share their bytes.
+//! Notes of blocks. Notes with equal bytes can share one copy of the bytes.
 
 ghost use Rattle.std.specs.Prelude.{◌≡◌, IfOk, IfSome, IsTrue};
 
@@ -8,26 +8,26 @@ use rx_ring::{Buf, Octets};
 use std::alloc::{AllocError, Global};
 use std::sync::Arc;
 
-/// The number of blocks for which the last note's bytes are remembered. Blocks whose numbers are equal modulo this
-/// number share a place.
+/// The number of entries, each of which can remember the bytes of a block's last note. Blocks whose numbers are equal
+/// modulo this number share an entry.
 const PLACES: usize = 256;
 
-/// The bytes of the last notes of blocks. A driver that takes a block, lends it and takes it again usually finds it
-/// unchanged. In that case the notes share one copy of its bytes.
+/// Remembers the bytes of the last notes of blocks. When a driver takes a block, lends it and takes it again, the
+/// block's bytes usually haven't changed. In that case the notes share one copy of the bytes.
 #[derive(Debug, Drop)]
 pub struct Notes {
     last: Vec<Option<Arc<Octets>>>,
 }
 
 impl Notes {
-    /// Creates a store that remembers no bytes yet. It allocates nothing.
+    /// Creates a store that remembers no bytes yet. The call allocates nothing.
     pub fn new(alloc: Global) -> Notes {
         Notes {
             last: Vec::new(alloc),
         }
     }
 
-    /// Returns the note of a block. If the last note at the block's place has equal bytes and there is memory for
+    /// Returns the note of a block. If the last note in the block's entry has equal bytes and there is memory for
     /// sharing, the new note shares these bytes; no clause states this.
     ///
     /// Fails with `AllocError` if there isn't enough memory for a new copy of the bytes.
@@ -54,7 +54,7 @@ impl Notes {
         }
     }
 
-    /// Returns the bytes remembered at a place, if they are equal to these.
+    /// Returns the bytes that an entry remembers, if they equal these bytes.
     fn last_at(&self, place: usize, bytes: &[u8]) -> Option<Arc<Octets>>
         ensures { IfSome result (λ last. last.value ≡ bytes.now) }
     {
@@ -70,7 +70,7 @@ impl Notes {
         }
     }
 
-    /// Remembers these bytes at a place, if there is memory.
+    /// Remembers these bytes in an entry, if there is memory.
     fn keep(&mut self, alloc: Global, place: usize, common: &Arc<Octets>) {
         if self.last.len() < PLACES {
             self.last = places(alloc);
@@ -90,7 +90,7 @@ fn are_same(one: &[u8], other: &[u8]) -> bool
     one == other
 }
 
-/// Creates places at which nothing is remembered. Empty if there is no memory for them.
+/// Creates entries that remember nothing. Returns an empty list if there is no memory for the entries.
 fn places(alloc: Global) -> Vec<Option<Arc<Octets>>> {
     let mut places = Vec::new(alloc);
     if places.reserve(PLACES).is_ok() {

@@ -30,7 +30,8 @@ fn kept_before(bytes: &[u8], from: usize) -> usize
     end
 }
 
-/// Returns an index, at most `from`; all bytes at and after it are 0. It is found in whole groups of `TOGETHER` bytes.
+/// Returns an index, at most `from`, such that all bytes at and after the index are 0. The search goes back from `from`
+/// in whole groups of `TOGETHER` bytes.
 fn zeros_begin(bytes: &[u8], from: usize) -> usize
     requires within { from ≤ length bytes.now }
     requires zeros { (k : ℕ) → from ≤ k → slice_index bytes.now k ≡ 0 }

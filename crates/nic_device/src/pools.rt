@@ -10,8 +10,8 @@ use std::collections::VecDeque;
 use tx_ring::Staged;
 
 impl Engine {
-    /// Resets pool v, below 64: its registers, the frames in the receive list for its queues, and the queues' staged
-    /// bytes.
+    /// Resets pool v, below 64: resets the pool's registers, and drops the frames in the receive list for the pool's
+    /// queues and the queues' staged bytes.
     #[inline(never)]
     pub(crate) fn reset_pool(&mut self, v: u8)
         requires { v < 64 }

@@ -61,7 +61,7 @@ impl Engine {
     }
 }
 
-/// Whether a ring with its head and tail in range has no slot that the device owns.
+/// Whether a ring's head and tail are in range and the device owns none of its slots.
 pub(crate) fn is_empty(ring: &Ring) -> bool
     ensures { result ≡ is_empty ring.now }
 {
@@ -106,8 +106,8 @@ fn wrote(queue: u16, filled: &Filled) -> Reply
     }
 }
 
-/// After one more piece of a frame is written, puts the frame back at the front of the receive list, unless the frame
-/// has ended.
+/// Puts a frame back at the front of the receive list after a piece of the frame is written, unless the frame has
+/// ended.
 fn put_back(waiting: &mut VecDeque<Waiting>, first: Waiting, filled: &Filled)
     requires piece { first.offset + filled.now.len ≤ length first.frame }
     requires room { deque_len waiting.old < deque_capacity waiting.old }

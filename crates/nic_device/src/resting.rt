@@ -39,21 +39,21 @@ impl Engine {
             && self.none_waits()
     }
 
-    /// Whether a side of a queue is in the state that its enable bit requests. Its enable step is then idle.
+    /// Whether a side of a queue is in the state that its enable bit requests. If so, the side's enable step is idle.
     fn is_side_idle(&self, dir: Dir, queue: u16) -> bool
         ensures { IsTrue result → IsIdle self.now (Event.QueueStep dir queue) }
     {
         queue < QUEUES && self.is_settled(dir, queue)
     }
 
-    /// Whether a queue currently can't send. Its transmit step is then idle.
+    /// Whether a queue currently can't send. If so, the queue's transmit step is idle.
     fn is_sending_idle(&self, queue: u16) -> bool
         ensures { IsTrue result → IsIdle self.now (Event.TxStep queue) }
     {
         queue < QUEUES && self.is_silent(queue)
     }
 
-    /// Whether the receive list is empty. A receive step is then idle.
+    /// Whether the receive list is empty. If so, a receive step is idle.
     fn is_receiving_idle(&self) -> bool
         ensures { IsTrue result → IsIdle self.now Event.RxStep }
     {
@@ -79,9 +79,9 @@ impl Engine {
 }
 
 impl Device {
-    /// Whether a queue is at rest. It is at rest if it is below 128, both of its sides are in the state that their
-    /// enable bits request, it currently can't send, and the receive list is empty. An enable step of either side of
-    /// the queue, its transmit step and a receive step are then idle and change nothing.
+    /// Whether a queue is at rest. A queue is at rest if its number is below 128, both of its sides are in the state
+    /// that their enable bits request, it currently can't send, and the receive list is empty. In that case, an enable
+    /// step for either side of the queue, the queue's transmit step and a receive step are idle and change nothing.
     pub fn is_at_rest(&self, queue: u16) -> bool
         ensures reported { result ≡ is_at_rest self.now queue }
         ensures idle { IsTrue result → Rests self.now queue }
@@ -89,11 +89,11 @@ impl Device {
         let engine = &self.engine;
         engine.is_at_rest(queue)
     }
-    /// Returns the event's note, or `None`. It returns the note only if the event would be idle now, would change
-    /// nothing, and lends no block. It may return `None` even for such an event; no clause states when. In practice, it
-    /// returns the note for three kinds of events: the enable step of a side that already has its requested state, the
-    /// transmit step of a queue that can't send, and a receive step while the receive list is empty. It allocates
-    /// nothing.
+    /// Returns the event's note, or `None`. If the result is the note, the event would be idle now, would change
+    /// nothing, and lends no block. The result may be `None` even for such an event; no clause states when. In
+    /// practice, three kinds of events get a note: the enable step for a side that is already in its requested state,
+    /// the transmit step for a queue that can't send, and a receive step while the receive list is empty. The call
+    /// allocates nothing.
     pub fn idle_note(&self, event: &Event) -> Option<EventNote>
         ensures note { IfSome result (λ note. note ≡ event.now) }
         ensures idle { IfSome result (λ note. IsIdle self.now event.now) }

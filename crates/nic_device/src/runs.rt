@@ -12,14 +12,14 @@ use std::alloc::Global;
 pub struct RunStop {
     /// The replies to the events that ran, in order.
     pub replies: Vec<Reply>,
-    /// The events that didn't run, in order; there is at least one. If any event ran, the first of these needs memory
-    /// that wasn't available.
+    /// The events that didn't run, in order; the list contains at least one event. If any event ran, the first event in
+    /// this list needs memory that wasn't available.
     pub rest: Vec<Event>,
 }
 
 impl Device {
-    /// Runs the events in order and returns their replies. It stops before the first event for which there is no
-    /// memory. If there is no memory for the list of replies, it stops before the first event.
+    /// Runs the events in order and returns their replies. The run stops before the first event for which there is no
+    /// memory. If there is no memory for the list of replies, no event runs.
     pub fn run(&mut self, alloc: Global, mut events: Vec<Event>) -> Result<Vec<Reply>, RunStop>
         ensures replies { IfOk result (λ replies. replies.items ≡ replies_of self.old events.items) }
         ensures state { OnOk result (self.new ≡ state_after self.old events.items) }

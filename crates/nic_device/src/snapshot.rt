@@ -16,8 +16,8 @@ use std::marker::Model;
 use std::mem;
 
 /// The state of a device as plain data: its registers, the bytes of the blocks lent to it, the receive list, the staged
-/// bytes, the transmitted frames, the link, the image and the configuration. It is sound, like a device. It can be
-/// dropped: its blocks are copies and belong to no arena.
+/// bytes, the transmitted frames, the link, the image and the configuration. A snapshot is sound, like a device. It can
+/// be dropped, because its blocks are copies and belong to no arena.
 #[derive(Drop)]
 pub struct Snapshot {
     state: StateCopy,
@@ -40,9 +40,9 @@ impl Model for Snapshot {
 /// Why a device wasn't restored. The arena is unchanged.
 #[derive(Clone, Copy, PartialEq, Eq, Debug)]
 pub enum RestoreRefused {
-    /// This block was lent and isn't free in the arena. It is the lowest such block.
+    /// This block is lent in the snapshot's state but isn't free in the arena. It is the lowest such block.
     NotFree(u32),
-    /// There is no memory for the device.
+    /// There isn't enough memory for the device.
     OutOfMemory,
 }
 
@@ -55,8 +55,8 @@ impl Device {
         self.engine.snapshot(BLOCK_NUMBERS)
     }
 
-    /// Like `snapshot`, for a device whose lent blocks all belong to this arena and aren't free there. It looks only at
-    /// the arena's block numbers.
+    /// Like `snapshot`, for a device whose lent blocks all belong to this arena and aren't free there. The call checks
+    /// block numbers only up to the arena's highest block.
     pub fn snapshot_within(&self, arena: &Arena) -> Result<Snapshot, AllocError>
         requires { AreAway arena.now self.now.memory }
         ensures { IfOk result (λ snapshot. snapshot ≡ self.now) }
@@ -71,15 +71,15 @@ impl Device {
         snapshot.blocks.are_lent(&self.engine.memory)
     }
 
-    /// Returns the device to the snapshot's state. The blocks lent in that state must be lent already, and each lent
-    /// block must belong to the arena and not be free there. The snapshot's blocks get their bytes back; all other lent
-    /// blocks return to the arena. After `AllocError` nothing has changed.
+    /// Returns the device to the snapshot's state. The blocks lent in that state must also be lent now. Each block that
+    /// is lent now must belong to the arena and not be free there. The snapshot's blocks get the bytes back that they
+    /// contained in the snapshot; all other lent blocks return to the arena. After `AllocError` nothing has changed.
     pub fn go_back(&mut self, snapshot: &Snapshot, arena: &mut Arena) -> Result<(), AllocError>
         requires away { AreAway arena.old self.old.memory }
         requires lent { AreAmong self.old.memory snapshot.now.memory }
         ensures restored { OnOk result (self.new ≡ snapshot.now) }
-        // If the arena before the call was some arena A without the blocks then lent, it is now A without the
-        // snapshot's blocks.
+        // Suppose that the arena before the call was some arena A without the blocks lent at that time. Then the arena
+        // is now A without the snapshot's blocks.
         ensures left { OnOk result (StillLeft arena.old self.old.memory arena.new snapshot.now.memory) }
         ensures unchanged { OnErr result (self.new ≡ self.old) }
         ensures kept { OnErr result (arena.new ≡ arena.old) }

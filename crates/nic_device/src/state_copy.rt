@@ -52,7 +52,7 @@ impl Model for StateCopy {
 }
 
 impl Engine {
-    /// Returns a copy of everything but the packet memory.
+    /// Returns a copy of the device's state, without the packet memory.
     pub(crate) fn state_copy(&self) -> Result<StateCopy, AllocError>
         ensures { IfOk result (λ copy. copy ≡ record self.now { memory = map.empty }) }
     {

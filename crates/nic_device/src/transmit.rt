@@ -35,7 +35,7 @@ impl Engine {
         self.fetch_slot(queue)
     }
 
-    /// Whether a queue currently can't send. Its transmit step is then idle.
+    /// Whether a queue currently can't send. If so, the queue's transmit step is idle.
     pub(crate) fn is_silent(&self, queue: u16) -> bool
         requires { queue < 128 }
         ensures { result ≡ is_silent self.now queue (transmit_queue_of self.now.registers queue) }
@@ -60,7 +60,7 @@ impl Engine {
         }
     }
 
-    /// Fetches the descriptor at a queue's head. Room for the frame that it may complete is reserved first.
+    /// Fetches the descriptor at a queue's head. Room for the frame that the descriptor may complete is reserved first.
     fn fetch_slot(&mut self, queue: u16) -> Result<Reply, OutOfMemory<Event>>
         requires small { queue < 128 }
         requires loud { is_silent self.old queue (transmit_queue_of self.old.registers queue) ≡ false }
@@ -93,7 +93,7 @@ impl Engine {
 }
 
 #[tactic(auto, using(crate::proofs::Functions::few_pools), unfolding(crate::specs::Transmit::is_muted))]
-/// Whether a queue's pool has transmission disabled: pools are in use and its VFTE bit is 0.
+/// Whether transmission is disabled for a queue's pool: pools are in use and the pool's VFTE bit is 0.
 fn is_muted(registers: &RegisterFile, queue: u16) -> bool
     requires { queue < 128 }
     ensures { result ≡ is_muted registers.now queue }

@@ -13,8 +13,8 @@ use std::alloc::{AllocError, Global};
 use std::marker::Model;
 
 /// A frame in the receive list: its bytes, its receive queue, its RSS hash and type, how many of its bytes are written,
-/// and the first half of the descriptors written back for it. That half is kept so that the frame is classified only
-/// once.
+/// and the first half of the descriptors written back for it. The first half is stored here, so the frame is classified
+/// only once.
 #[derive(Drop)]
 pub(crate) struct Waiting {
     frame: Octets,
@@ -65,8 +65,8 @@ impl Waiting {
         }
     }
 
-    /// Returns a copy of the frame, with equally many bytes marked as written. Fails with `AllocError` if there isn't
-    /// enough memory for it.
+    /// Returns a copy of the frame, with as many bytes marked as written. Fails with `AllocError` if there isn't enough
+    /// memory for the copy.
     pub(crate) fn copy(&self, alloc: Global) -> Result<Waiting, AllocError>
         ensures { IfOk result (λ waiting. waiting ≡ self.now) }
     {
@@ -89,14 +89,14 @@ impl Waiting {
         self.queue
     }
 
-    /// Whether a piece of the frame is written.
+    /// Whether some bytes of the frame are already written.
     pub(crate) fn is_begun(&self) -> bool
         ensures { result ≡ not (self.now.offset == 0) }
     {
         self.offset != 0
     }
 
-    /// Returns the frame with the part that remains to be written.
+    /// Returns the part of the frame that remains to be written, as an `Item`.
     pub(crate) fn item(&self) -> Item<'_>
         ensures rest { rest_of result ≡ rest_of_waiting self.now }
         ensures offset { result.offset ≤ length result.frame.now }

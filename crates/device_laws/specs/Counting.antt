@@ -1,4 +1,4 @@
--- Which counters an event counts in, given its reply.
+-- Which counters an event increments, given its reply.
 use Rattle.std.specs.Prelude.{ℕ, ◌≡◌, ◌≢◌, Bool, false, ◌&&◌, ◌||◌, ⊤, IsFalse, List, [], ◌∷◌, if◌then◌else◌}
 use Rattle.nic_device.specs.declared.event.Event.TheVariants as event
 use Rattle.nic_device.specs.declared.event.Why.TheVariants.{Short, Long, Full, NoSlot}
@@ -20,8 +20,8 @@ counts_arrived Done p = is_place (place Gprc 0) p
 counts_arrived (Dropped why) p = counts_dropped why p
 counts_arrived other p = false
 
--- A receive step: QPRC counts a completely written frame, and QPRDC a frame dropped because there was no slot. Both use
--- the counter that RQSMR names for its queue.
+-- A receive step: QPRC counts a completely written frame, and QPRDC a frame dropped because its queue had no free slot.
+-- Both use the counter that RQSMR assigns to the frame's queue.
 abbrev pub counts_slotless : Registers → List Waiting → Place → Bool
 counts_slotless r [] p = false
 counts_slotless r (w ∷ others) p = is_place (place Qprdc (counter_of r Rx w.queue)) p
@@ -35,31 +35,32 @@ counts_received r ws (Wrote queue slot end desc at len) p = end && is_place (pla
 counts_received r ws (Dropped why) p = counts_unwritten r ws why p
 counts_received r ws other p = false
 
--- A transmit step: GPTC counts a transmitted frame, and so does QPTC, in the counter that TQSM names for its queue.
+-- A transmit step: GPTC counts a transmitted frame. QPTC also counts it, in the counter that TQSM assigns to the
+-- frame's queue.
 abbrev pub counts_sent : Registers → Reply Block → Place → Bool
 counts_sent r (Sent queue len back) p = is_place (place Gptc 0) p || is_place (place Qptc (counter_of r Tx queue)) p
 counts_sent r other p = false
 
--- Whether an event counts in the counter at a place.
+-- Whether an event increments the counter at a place.
 abbrev pub counts : State → Event Block → Reply Block → Place → Bool
 counts s (event.Arrive frame) reply p = counts_arrived reply p
 counts s event.RxStep reply p = counts_received s.registers s.waiting reply p
 counts s (event.TxStep queue) reply p = counts_sent s.registers reply p
 counts s other reply p = false
 
--- An event that neither reads the place nor requests a device reset.
+-- The event neither reads the counter at this place nor requests a device reset.
 abbrev pub KeepsCount : State → Place → Event Block → Type 0
 KeepsCount s p (event.Read port number) = (q : Place) (view : ℕ) → named s port number ≡ Register q view → q ≢ p
 KeepsCount s p (event.Write port number word) =
     (q : Place) (view : ℕ) → named s port number ≡ Register q view → IsFalse (asks_reset (row_of q.row).kind word)
 KeepsCount s p other = ⊤
 
--- A counter's next value: one more if the event counts in it, saturating at the largest word.
+-- A counter's next value: one more if the event increments it, saturating at the largest word.
 abbrev pub with_one : Bool → ℕ → ℕ
 with_one counted word = if counted then bumped word else word
 
--- An event that requests no reset adds one to each counter that it counts in, and leaves every other counter that it
--- doesn't read unchanged.
+-- An event that requests no device reset adds one to each counter that counts it. Every other counter that the event
+-- doesn't read is unchanged.
 abbrev pub EventsCount : Type 0
 EventsCount =
     (s : State) → IsSound s → (e : Event Block) (p : Place) → (row_of p.row).kind ≡ Rc → KeepsCount s p e →

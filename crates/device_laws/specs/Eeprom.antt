@@ -1,4 +1,4 @@
--- What the EEPROM image does at a reset, and how it is read.
+-- How a reset applies the EEPROM image, and how a driver reads the image.
 use Rattle.std.specs.Prelude.{ℕ, ◌≡◌, ◌≢◌, ◌⊎◌, ◌+◌, ◌*◌, ◌^◌, IsTrue, IsFalse, List, [], ◌∷◌, ◌++◌, length, Some, None}
 use Rattle.nic_device.specs.EepromImage.Bytes.{word_at}
 use Rattle.nic_device.specs.RegisterFile.Eeprom.{eeprom_asked}
@@ -7,21 +7,21 @@ use Rattle.device_laws.specs.Prelude.{Ctrl, Done, Eerd, Idle, IsSound, Names, Pl
 use Rattle.device_laws.specs.Prelude.{gives, is_stopped, reply_to, row_of, step_of, triples_of}
 use Rattle.device_laws.specs.Laws.{reply_to_read, after_write}
 
--- A device with another image.
+-- The device with this image instead of its own.
 abbrev pub with_image : State → List ℕ → State
 with_image s image = record s { image = image }
 
--- The second image has the register writes of the first, followed by this one.
+-- The second image contains the register writes of the first image, followed by this write.
 abbrev pub HasOneMore : List ℕ → List ℕ → ℕ → ℕ → Type 0
 HasOneMore image more offset value = triples_of more ≡ triples_of image ++ (offset, value) ∷ []
 
--- The address is neither CTRL's nor EERD's.
+-- The address refers to neither CTRL nor EERD.
 abbrev pub IsWritten : ℕ → Type 0
 IsWritten offset = (p : Place) → Names offset p → (p.row ≢ Ctrl) × (p.row ≢ Eerd)
 
--- Suppose that an image has one more write at its end, to neither CTRL nor EERD. Then a reset leads to the same state
--- as with the image without this write, followed by this write as by any other. So a write that follows one without
--- effect is also performed.
+-- Suppose that a write to neither CTRL nor EERD is appended to an image. Then a reset leaves the same state as a reset
+-- with the original image, followed by this write as an ordinary register write. So the image's writes are performed
+-- even after a write that has no effect.
 abbrev pub LastWriteIsMade : Type 0
 LastWriteIsMade =
     (s : State) (image : List ℕ) (offset value : ℕ) → HasOneMore s.image image offset value → IsWritten offset →
@@ -44,13 +44,13 @@ control_address = 0x10010
 abbrev pub read_address : ℕ
 read_address = 0x10014
 
--- EEC reports the size of the image: s if it has 64 * 2^s words.
+-- EEC reports the image's size as s if the image has 64 * 2^s words.
 abbrev pub ControlTellsSize : Type 0
 ControlTellsSize =
     (s : State) → IsSound s → (doubled : ℕ) → length s.image ≡ 64 * 2 ^ doubled →
     reply_to_read s control_address ≡ Word (0x300 + 0x800 * doubled)
 
--- After an EEPROM step EERD holds the requested word, its index and DONE. Outside the image the word is 0xFFFF.
+-- After an EEPROM step, EERD contains the requested word, its index and DONE. Outside the image the word is 0xFFFF.
 pub record GivesWord (s : State) (index : ℕ) : Type 0 where
   pub reply : reply_to s event.EepromStep ≡ Done
   pub word :

@@ -1,4 +1,4 @@
--- What the device promises a driver author, whatever happened before. `view` is a mask of the bits that an address
+-- What the device promises a driver author, whatever events came before. `view` is a mask of the bits that an address
 -- shows.
 use Rattle.std.specs.Prelude.{ℕ, ◌≡◌, ◌≢◌, ◌<◌, ◌==◌, Bool, ⊤, IsTrue, IsFalse, List, [], ◌∷◌, take, drop, bit_and, if◌then◌else◌}
 use Rattle.nic_device.specs.RegTable.declared.kind.Kind.TheVariants.{Rw, Rc}
@@ -15,7 +15,7 @@ use Rattle.device_laws.specs.Prelude.{Names, Pf, Place, Register, Reply, State, 
 use Rattle.device_laws.specs.Prelude.{bumped, frame_limit, gives, is_stopped, merged, named, new_state, read_at, row_of}
 use Rattle.device_laws.specs.Prelude.{runs, staged_by, triples_of, view_among, word_at}
 
--- After every event a bit is reported only while its cause and its mask are 1.
+-- After every event, an interrupt bit is reported only if its cause and its mask are 1.
 abbrev pub ReportedIsPending : Type 0
 ReportedIsPending =
     (s : State) → IsSound s → (e : Event Block) → IsEvent e → (g : Group) → index_of g < 64 →
@@ -23,7 +23,7 @@ ReportedIsPending =
 
 -- Plain registers.
 
--- The reply to a read of an address, and the state after a write to one.
+-- The physical function accesses an address: the reply to a read, and the state after a write.
 abbrev pub reply_to_read : State → ℕ → Reply Block
 reply_to_read s address = reply_to s (event.Read Pf address)
 
@@ -39,14 +39,14 @@ pub record IsPlain (address : ℕ) (p : Place) : Type 0 where
   pub named : Names address p
   pub plain : (row_of p.row).kind ≡ Rw
 
--- A register of a new device reads as its reset value.
+-- In a new device, a read of a plain register returns the bits of its reset value that the address shows.
 abbrev pub NewDeviceReadsResetValues : Type 0
 NewDeviceReadsResetValues =
     (vfs fifo address : ℕ) (p : Place) → IsPlain address p → reply_to_read (new_state vfs fifo) address
     ≡ Word (shown address (row_of p.row).reset)
 
--- A write shows at each address of its register: the written bits that the row's mask and the address let through, and
--- the former bits elsewhere.
+-- After a write, a read at any address of the register returns the written bits that the row's mask and the write's
+-- address let through, and the old bits elsewhere.
 abbrev pub WriteShowsAtEachAddress : Type 0
 WriteShowsAtEachAddress =
     (s : State) → IsSound s → (a b word : ℕ) (p : Place) → IsPlain a p → IsPlain b p →
@@ -63,7 +63,7 @@ WriteLeavesOtherRegisters =
 abbrev pub ReadChangesNothing : Type 0
 ReadChangesNothing = (s : State) (address : ℕ) (p : Place) → IsPlain address p → after s (event.Read Pf address) ≡ s
 
--- An access to an address without a register is answered with a stray 0 and changes nothing.
+-- An access to an address without a register gets the reply `Stray` with 0 and changes nothing.
 abbrev pub StrayAccessChangesNothing : Type 0
 StrayAccessChangesNothing =
     (s : State) (address word : ℕ) → ((p : Place) → ¬ Names address p) →
@@ -87,8 +87,8 @@ ReadCounterStartsAgain =
 abbrev pub good_frames : ℕ
 good_frames = 0x04074
 
--- An accepted frame is counted in GPRC: the next read returns one more than it would have, but at most the largest
--- word.
+-- An accepted frame is counted in GPRC: the next read returns one more than it would have returned without the frame,
+-- but at most the largest word.
 abbrev pub LetInFrameIsCounted : Type 0
 LetInFrameIsCounted =
     (s : State) → IsSound s → (frame : List ℕ) → reply_to s (event.Arrive frame) ≡ Done →
@@ -97,8 +97,8 @@ LetInFrameIsCounted =
 
 -- Resets and settings.
 
--- No frame is waiting and nothing is staged. Lent memory, transmitted frames, the link, the image and the configuration
--- are unchanged.
+-- The receive list is empty and nothing is staged. Lent memory, transmitted frames, the link, the image and the
+-- configuration are unchanged.
 pub record IsReset (old new : State) : Type 0 where
   pub waiting : new.waiting ≡ []
   pub staged : (queue : ℕ) → queue < 128 → staged_by new queue ≡ []
@@ -109,13 +109,13 @@ pub record IsReset (old new : State) : Type 0 where
   pub vfs : new.vfs ≡ old.vfs
   pub fifo : new.fifo ≡ old.fifo
 
--- A write that requests a reset resets the device and has no other effect.
+-- A write that requests a device reset resets the device and has no other effect.
 abbrev pub AskedResetResets : Type 0
 AskedResetResets =
     (s : State) (address word : ℕ) (p : Place) → Names address p → IsTrue (asks_reset (row_of p.row).kind word) →
     IsReset s (after_write s address word)
 
--- Each register has its reset value, no side of a queue has an enable request, and no bit is reported.
+-- Each register has its reset value, no side of a queue has an enable request, and no interrupt bit is reported.
 pub record HasResetValues (s : State) : Type 0 where
   pub words : (p : Place) → p.index < (row_of p.row).count → word_at s.registers.words p ≡ (row_of p.row).reset
   pub wanted : (dir : Dir) (queue : ℕ) → queue < 128 → IsFalse (is_wanted s.registers dir queue)
@@ -127,7 +127,7 @@ ResetGivesResetValues =
     (s : State) (address word : ℕ) (p : Place) → Names address p → IsTrue (asks_reset (row_of p.row).kind word) →
     triples_of s.image ≡ [] → HasResetValues (after_write s address word)
 
--- An event that writes none of the registers that set the frame limit and the mode, nor the register that requests a
+-- The place is neither a register that sets the frame limit or the pool mode, nor the register that requests a device
 -- reset.
 pub record IsOfNoSetting (p : Place) : Type 0 where
   pub control : p.row ≢ Ctrl
@@ -140,7 +140,7 @@ WritesNoSetting s (event.Write port number word) =
     (p : Place) (view : ℕ) → named s port number ≡ Register p view → IsOfNoSetting p
 WritesNoSetting s other = ⊤
 
--- The frame limit, and how queues are divided into pools, are unchanged.
+-- The frame limit and the division of queues into pools are unchanged.
 pub record KeepsSettings (old new : State) : Type 0 where
   pub limit : frame_limit new.registers ≡ frame_limit old.registers
   pub mode : mode_in new.registers ≡ mode_in old.registers
@@ -150,35 +150,36 @@ OtherEventsKeepSettings = (s : State) (e : Event Block) → WritesNoSetting s e 
 
 -- Delivery.
 
--- This many of the first frame's remaining bytes.
+-- The first `len` unwritten bytes of the first frame in the receive list.
 abbrev pub piece_of : List Waiting → ℕ → List ℕ
 piece_of [] len = []
 piece_of (w ∷ others) len = take len (drop w.offset w.frame)
 
--- The bytes of the first waiting frame that a reply reports as written on a queue.
+-- The bytes of the first frame in the receive list that a reply reports as written for a queue.
 abbrev pub piece_on : ℕ → List Waiting → Reply Block → List ℕ
 piece_on queue waiting (Wrote on slot end desc at len) = if on == queue then piece_of waiting len else []
 piece_on queue waiting other = []
 
--- The bytes that one event writes on a queue. Only a receive step writes any.
+-- The frame bytes that one event writes for a queue. Only a receive step writes any.
 abbrev pub wrote : ℕ → State → Event Block → List ℕ
 wrote queue s event.RxStep = piece_on queue s.waiting (reply_to s event.RxStep)
 wrote queue s other = []
 
--- After a piece is written, memory holds its bytes at the reported address, unless they overlap the descriptor.
+-- After a piece is written, memory contains its bytes at the reported address, unless the piece overlaps the
+-- descriptor.
 abbrev pub PieceIsReadBack : Type 0
 PieceIsReadBack =
     (s : State) → IsSound s → (queue slot : ℕ) (end : Bool) (desc at len : ℕ) →
     reply_to s event.RxStep ≡ Wrote queue slot end desc at len → AreApart at len desc 16 →
     read_at (after s event.RxStep).memory at len ≡ wrote queue s event.RxStep
 
--- Faults, and a device that takes no steps.
+-- Faults, and a device with disabled bus mastering, which takes no steps.
 
--- A fault changes no memory.
+-- An event whose reply is a fault changes no memory.
 abbrev pub FaultChangesNoMemory : Type 0
 FaultChangesNoMemory = (s : State) (e : Event Block) → IsTrue (is_fault (reply_to s e)) → (after s e).memory ≡ s.memory
 
--- While CTRL bit 2 is 1, every receive step, every step of a queue below 128 or of an existing group, and every EEPROM
+-- While CTRL bit 2 is 1, every receive step, every step for a queue below 128 or an existing group, and every EEPROM
 -- step is idle and changes nothing.
 pub record StopsAllSteps (s : State) : Type 0 where
   pub receive : step_of s event.RxStep ≡ gives Idle s

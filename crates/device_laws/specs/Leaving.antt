@@ -11,22 +11,22 @@ use Rattle.device_laws.specs.Prelude.{Avoids, Block, Dir, Event, Group, Place, P
 use Rattle.device_laws.specs.Prelude.{Waiting, Wrote, after, asks_pool_reset, asks_reset, interrupts_of, named}
 use Rattle.device_laws.specs.Prelude.{owner_of, receive_queue_of, reply_to, row_of, staged_by, transmit_queue_of}
 
--- The receive side of a queue is unchanged: its ring and control word, and whether it is enabled and has an enable
--- request.
+-- The receive side of a queue is unchanged: its ring, its control word, whether it is enabled, and whether it has an
+-- enable request.
 abbrev pub LeavesReceive : ℕ → State → State → Type 0
 LeavesReceive queue old new = receive_queue_of new.registers queue ≡ receive_queue_of old.registers queue
 
--- The transmit side of a queue is unchanged: its ring, where it writes its head, whether it is enabled and has an
+-- The transmit side of a queue is unchanged: its ring, its head write-back, whether it is enabled, whether it has an
 -- enable request, and its staged bytes.
 pub record LeavesTransmit (queue : ℕ) (old new : State) : Type 0 where
   pub side : transmit_queue_of new.registers queue ≡ transmit_queue_of old.registers queue
   pub staged : staged_by new queue ≡ staged_by old queue
 
--- The interrupts of a group are unchanged: its causes, masks, auto-clear, auto-mask and reported bits.
+-- The interrupt state of a group is unchanged: its causes, masks, auto-clear, auto-mask and reported bits.
 abbrev pub LeavesGroup : Group → State → State → Type 0
 LeavesGroup g old new = interrupts_of new.registers g ≡ interrupts_of old.registers g
 
--- The lent block with a number is unchanged; if there is none, there still is none.
+-- The lent block with this number is unchanged. If no such block was lent, none is lent now.
 abbrev pub LeavesBlock : ℕ → State → State → Type 0
 LeavesBlock number old new = map.get new.memory number ≡ map.get old.memory number
 
@@ -39,7 +39,7 @@ pub record LeavesQueues (old new : State) : Type 0 where
   pub receive : (queue : ℕ) → LeavesReceive queue old new
   pub transmit : (queue : ℕ) → LeavesTransmit queue old new
 
--- The waiting frames and the transmitted frames are unchanged.
+-- The receive list and the transmitted frames are unchanged.
 pub record LeavesFrames (old new : State) : Type 0 where
   pub waiting : new.waiting ≡ old.waiting
   pub out : new.out ≡ old.out
@@ -53,7 +53,7 @@ pub record LeavesOtherSides (dir : Dir) (queue : ℕ) (old new : State) : Type 0
 abbrev pub EventStaysWithinReach : Type 0
 EventStaysWithinReach = (s : State) (e : Event Block) → StaysWithin (reach_of s e) s (after s e)
 
--- So each side of a queue and each group outside the reach is unchanged.
+-- In particular, each side of a queue and each group outside the reach is unchanged.
 pub record LeavesMissed (r : Reach) (old new : State) : Type 0 where
   pub receive : (queue : ℕ) → Misses r.registers (of_side Rx queue) → LeavesReceive queue old new
   pub transmit :
@@ -63,8 +63,9 @@ pub record LeavesMissed (r : Reach) (old new : State) : Type 0 where
 abbrev pub EventLeavesMissed : Type 0
 EventLeavesMissed = (s : State) (e : Event Block) → LeavesMissed (reach_of s e) s (after s e)
 
--- Register accesses. A read changes no queue, and only the group that its place belongs to. A write that requests no
--- reset changes only the side of a queue that its place belongs to, and only the groups that it can reach.
+-- Register accesses. A read changes no queue, and only the group to which its place belongs. A write that requests
+-- neither a device reset nor a pool reset changes only the side of a queue to which its place belongs, and only the
+-- groups that it can reach.
 pub record ReadLeaves (s : State) (port : Port) (number : ℕ) : Type 0 where
   pub queues : LeavesQueues s (after s (event.Read port number))
   pub groups :
@@ -92,8 +93,8 @@ abbrev pub WriteLeavesMemory : Type 0
 WriteLeavesMemory =
     (s : State) (port : Port) (number word : ℕ) → LeavesMemory s (after s (event.Write port number word))
 
--- Memory calls change no queue, no group and no frame. Lending and taking change only their block, a peek changes no
--- block, and a poke changes only blocks that contain its bytes.
+-- Memory calls change no queue, no group and no frame. Lending or taking a block changes only that block, a peek
+-- changes no block, and a poke changes only blocks that contain its bytes.
 pub record LeavesAllButMemory (old new : State) : Type 0 where
   pub queues : LeavesQueues old new
   pub groups : (g : Group) → LeavesGroup g old new
@@ -125,13 +126,13 @@ pub record ArrivalLeaves (old new : State) : Type 0 where
 abbrev pub ArrivalLeavesTheRest : Type 0
 ArrivalLeavesTheRest = (s : State) (frame : List ℕ) → ArrivalLeaves s (after s (event.Arrive frame))
 
--- The oldest waiting frame waits for this queue.
+-- The oldest frame in the receive list is for this queue.
 abbrev pub IsFirstFor : ℕ → List Waiting → Type 0
 IsFirstFor queue [] = ⊥
 IsFirstFor queue (w ∷ others) = w.queue ≡ queue
 
--- Of the queues' sides, a receive step changes only the receive side that the first frame is for. It changes no
--- transmitted frame.
+-- The only side of a queue that a receive step changes is the receive side of the first frame's queue. The step changes
+-- no transmitted frame.
 pub record ReceivingLeaves (s new : State) : Type 0 where
   pub receive : (queue : ℕ) → ¬ IsFirstFor queue s.waiting → LeavesReceive queue s new
   pub transmit : (queue : ℕ) → LeavesTransmit queue s new
@@ -140,18 +141,19 @@ pub record ReceivingLeaves (s new : State) : Type 0 where
 abbrev pub ReceivingLeavesTheRest : Type 0
 ReceivingLeavesTheRest = (s : State) → ReceivingLeaves s (after s event.RxStep)
 
--- The bytes that a reply reports as received into memory are outside a block.
+-- The descriptor and the bytes that a `Wrote` reply reports are outside a block.
 abbrev pub ReceivesOutside : Reply Block → ℕ → Type 0
 ReceivesOutside (Wrote queue slot end desc at len) number = Avoids number desc 16 × Avoids number at len
 ReceivesOutside other number = ⊤
 
--- A receive step writes the descriptor and the bytes that it reports, so it leaves the other blocks unchanged.
+-- A receive step changes only the descriptor and the bytes that its reply reports, so all other blocks are unchanged.
 abbrev pub ReceivingLeavesOtherBlocks : Type 0
 ReceivingLeavesOtherBlocks =
     (s : State) (number : ℕ) → ReceivesOutside (reply_to s event.RxStep) number
     → LeavesBlock number s (after s event.RxStep)
 
--- A transmit step changes no side except its own queue's transmit side, and no waiting frame.
+-- The only side of a queue that a transmit step changes is its own queue's transmit side. It changes no frame in the
+-- receive list.
 pub record TransmittingLeaves (queue : ℕ) (old new : State) : Type 0 where
   pub sides : LeavesOtherSides Tx queue old new
   pub waiting : new.waiting ≡ old.waiting
@@ -159,8 +161,8 @@ pub record TransmittingLeaves (queue : ℕ) (old new : State) : Type 0 where
 abbrev pub TransmittingLeavesTheRest : Type 0
 TransmittingLeavesTheRest = (s : State) (queue : ℕ) → TransmittingLeaves queue s (after s (event.TxStep queue))
 
--- A transmit step writes back to the address that it reports, of the head or the descriptor, so it leaves the other
--- blocks unchanged.
+-- A transmit step writes only the head or descriptor write-back, to the address that its reply reports, so all other
+-- blocks are unchanged.
 abbrev pub TransmittingLeavesOtherBlocks : Type 0
 TransmittingLeavesOtherBlocks =
     (s : State) (queue number : ℕ) →
@@ -168,7 +170,7 @@ TransmittingLeavesOtherBlocks =
     → Avoids number back (report_length (transmit_queue_of s.registers queue).writeback)) →
     LeavesBlock number s (after s (event.TxStep queue))
 
--- An enable step changes no other side, no group, no memory and no transmitted frame.
+-- An enable step changes no other side of a queue, no group, no memory and no transmitted frame.
 pub record SwitchingLeaves (dir : Dir) (queue : ℕ) (old new : State) : Type 0 where
   pub sides : LeavesOtherSides dir queue old new
   pub groups : (g : Group) → LeavesGroup g old new
@@ -179,7 +181,7 @@ abbrev pub SwitchingLeavesTheRest : Type 0
 SwitchingLeavesTheRest = (s : State) (dir : Dir) (queue : ℕ)
     → SwitchingLeaves dir queue s (after s (event.QueueStep dir queue))
 
--- A message of a group changes no queue, no other group, no memory and no frame.
+-- An interrupt step for a group changes no queue, no other group, no memory and no frame.
 pub record LeavesAllButGroup (g : Group) (old new : State) : Type 0 where
   pub queues : LeavesQueues old new
   pub groups : (other : Group) → other ≢ g → LeavesGroup other old new
@@ -204,7 +206,7 @@ EepromStepLeavesTheRest = (s : State) → EepromLeaves s (after s event.EepromSt
 abbrev pub LinkLeavesTheRest : Type 0
 LinkLeavesTheRest = (s : State) (up : Bool) → LeavesAllButGroup group.Pf s (after s (event.Link up))
 
--- Collecting a frame changes no queue, no group, no memory and no waiting frame.
+-- Collecting a frame changes no queue, no group, no memory and no frame in the receive list.
 pub record CollectingLeaves (old new : State) : Type 0 where
   pub queues : LeavesQueues old new
   pub groups : (g : Group) → LeavesGroup g old new

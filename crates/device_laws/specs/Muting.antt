@@ -1,12 +1,12 @@
--- Queues whose pool may not transmit.
+-- Queues of pools that may not transmit.
 use Rattle.std.specs.Prelude.{ℕ, ◌≡◌, ◌<◌, IsTrue, IsFalse, Some}
 use Rattle.nic_device.specs.RegisterFile.Pools.{mode_in, sends_frames}
 use Rattle.nic_device.specs.RxFilter.Pools.{uses_pools}
 use Rattle.nic_device.specs.declared.event.Event.TheVariants as event
 use Rattle.device_laws.specs.Prelude.{Idle, State, gives, pool_of, step_of}
 
--- While frames are distributed among pools, a transmit step of a queue whose pool may not transmit is idle and changes
--- nothing.
+-- While frames are distributed among pools, a transmit step for a queue is idle and changes nothing if the queue's pool
+-- may not transmit.
 abbrev pub MutedQueueIsIdle : Type 0
 MutedQueueIsIdle =
     (s : State) → IsTrue (uses_pools s.registers) → (queue pool : ℕ) → queue < 128 →

@@ -1,4 +1,4 @@
--- What a receive step does with the first waiting frame, given the state before it.
+-- What a receive step does with the first frame in the receive list, given the state before the step.
 use Rattle.std.specs.Prelude.{◌≡◌, ◌≢◌, ◌⊎◌, IsTrue, IsFalse, List, [], ◌∷◌, Ok, Err, is_ok}
 use Rattle.nic_device.specs.RxRing.Fill.{Outcome, fill_of}
 use Rattle.nic_device.specs.RegisterLaws.Sides.{ReceiveQueue, receive_queue_of}
@@ -7,16 +7,16 @@ use Rattle.device_laws.specs.Prelude.{Block, Dropped, Fault, Filled, Idle, NoSlo
 use Rattle.device_laws.specs.Prelude.{Waiting, Why, Wrote, drops, gives, is_empty, is_stopped, reply_to, rest_of}
 use Rattle.device_laws.specs.Prelude.{step_of}
 
--- The receive side that a frame waits for, and the result of filling the slot at its head.
+-- The receive side of a frame's queue, and the result of filling the slot at that side's head.
 abbrev pub side_for : State → Waiting → ReceiveQueue
 side_for s w = receive_queue_of s.registers w.queue
 
 abbrev pub filling : State → Waiting → Outcome
 filling s w = fill_of s.memory (side_for s w).ring (side_for s w).control (rest_of w)
 
--- The first frame is dropped if its queue is disabled. If the device owns no slot, the frame is dropped if the queue
--- has drop enable set and no part of the frame is written; otherwise it keeps waiting. If the device owns a slot, the
--- slot is filled or has a fault.
+-- The first frame is dropped if its queue is disabled. Suppose that the queue is enabled. If the device owns no slot,
+-- the frame is dropped if the queue has drop enable set and no part of the frame is written; otherwise the frame stays
+-- in the list. If the device owns a slot, the slot is filled or has a fault.
 pub record ReceivesInOrder (s : State) (w : Waiting) (others : List Waiting) : Type 0 where
   pub off :
       IsFalse (side_for s w).on → step_of s event.RxStep ≡ gives (Dropped QueueOff) (record s { waiting = others })
@@ -41,7 +41,7 @@ ReceivingHasAnOrder =
     (s : State) → IsFalse (is_stopped s.registers) → (w : Waiting) (others : List Waiting) → s.waiting ≡ w ∷ others →
     ReceivesInOrder s w others
 
--- The first frame's queue is enabled, and the device owns no slot of it, or owns one.
+-- The first frame's queue is enabled. The device owns none of its slots (`IsSlotless`) or at least one (`HasSlot`).
 pub record IsSlotless (s : State) (w : Waiting) : Type 0 where
   pub on : IsTrue (side_for s w).on
   pub empty : IsTrue (is_empty (side_for s w).ring)
@@ -50,7 +50,7 @@ pub record HasSlot (s : State) (w : Waiting) : Type 0 where
   pub on : IsTrue (side_for s w).on
   pub some : IsFalse (is_empty (side_for s w).ring)
 
--- The case that a reply reports. No two of them occur at the same time.
+-- The case that a reply reports. No two cases occur at the same time.
 abbrev pub DroppedCase : State → Waiting → Why → Type 0
 DroppedCase s w QueueOff = IsFalse (side_for s w).on
 DroppedCase s w NoSlot = IsSlotless s w × IsTrue (drops s.registers w.queue) × (w.offset ≡ 0)

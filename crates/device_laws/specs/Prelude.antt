@@ -1,4 +1,4 @@
--- Re-exports the definitions of lower layers that several files here cite. Declares nothing.
+-- Re-exports definitions from lower layers that several files here cite. Declares nothing.
 pub use Rattle.nic_device.specs.Access.{around, named_read, named_written, state_read, state_written}
 pub use Rattle.nic_device.specs.DmaArena.Block.{Block}
 pub use Rattle.nic_device.specs.DmaArena.Memory.{AreApart, Avoids, Memory, read_at}

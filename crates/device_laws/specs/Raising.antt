@@ -9,7 +9,7 @@ use Rattle.nic_device.specs.declared.event.Event.TheVariants as event
 use Rattle.device_laws.specs.Prelude.{Advanced, Block, Dir, Done, Dropped, Event, Fault, Full, Group, IsSound, Reply}
 use Rattle.device_laws.specs.Prelude.{Rx, Sent, State, Tx, Why, Wrote, after, is_group, reply_to}
 
--- Causes of a group.
+-- Causes in one interrupt group.
 pub record Causes : Type 0 where
   pub group : Group
   pub bits : ℕ
@@ -18,13 +18,13 @@ pub record Causes : Type 0 where
 abbrev pub device_cause : ℕ → Causes
 device_cause bits = record { group = group.Pf; bits = bits }
 
--- What a side of a queue raises, in its queue's group, according to IVAR or PVTIVAR.
+-- The causes that a side of a queue raises in the queue's group, as IVAR or PVTIVAR assigns them.
 abbrev pub queue_cause : State → Dir → ℕ → Causes
 queue_cause s dir queue =
     let g = group_of_queue s.registers s.vfs queue in
     record { group = g; bits = queue_causes g (vector_entry s.registers g dir queue) }
 
--- A frame that arrives raises a cause if it finds the list full.
+-- A frame that arrives raises a cause if it finds the receive list full.
 abbrev pub raised_dropped : Why → Option Causes
 raised_dropped Full = Some (device_cause missed_cause)
 raised_dropped other = None
@@ -33,13 +33,13 @@ abbrev pub raised_arrived : Reply Block → Option Causes
 raised_arrived (Dropped why) = raised_dropped why
 raised_arrived other = None
 
--- A receive step raises its queue's receive cause if a frame ends.
+-- A receive step raises its queue's receive cause if the step completes a frame, and the fault cause after a fault.
 abbrev pub raised_received : State → Reply Block → Option Causes
 raised_received s (Wrote queue slot end desc at len) = if end then Some (queue_cause s Rx queue) else None
 raised_received s (Fault queue fault) = Some (device_cause fault_cause)
 raised_received s other = None
 
--- A transmit step raises its queue's transmit cause if it writes a report back.
+-- A transmit step raises its queue's transmit cause if it writes back a report, and the fault cause after a fault.
 abbrev pub raised_reported : State → ℕ → Option ℕ → Option Causes
 raised_reported s queue (Some back) = Some (queue_cause s Tx queue)
 raised_reported s queue None = None
@@ -63,20 +63,20 @@ raises s (event.TxStep queue) reply = raised_sent s reply
 raises s (event.Link up) reply = raised_linked reply
 raises s other reply = None
 
--- The interrupts of a group after causes are raised.
+-- The interrupt state of a group after causes are raised.
 abbrev pub after_causes : Option Causes → Group → Interrupts → Interrupts
 after_causes (Some c) g i = if is_group c.group g then raised i c.bits false else i
 after_causes None g i = i
 
--- An event that isn't a register access or a message.
+-- The event is neither a register access nor an interrupt step.
 abbrev pub IsOfTheDevice : Event Block → Type 0
 IsOfTheDevice (event.Read port number) = ⊥
 IsOfTheDevice (event.Write port number word) = ⊥
 IsOfTheDevice (event.IntStep g) = ⊥
 IsOfTheDevice other = ⊤
 
--- An event other than a register access or a message sets the causes that it raises in each group, and leaves the rest
--- of the group's interrupts unchanged.
+-- An event other than a register access or an interrupt step sets the causes that it raises in each group, and leaves
+-- the rest of the group's interrupt state unchanged.
 abbrev pub EventsRaise : Type 0
 EventsRaise =
     (s : State) → IsSound s → (e : Event Block) → IsOfTheDevice e → (g : Group) →

@@ -13,8 +13,8 @@ use Rattle.nic_device.specs.declared.event.Reply.TheVariants.{Wrote, Advanced, S
 abbrev pub moved_on : Ring → Ring
 moved_on ring = record ring { head = next_of (slots_of ring) ring.head }
 
--- A receive side used a slot for the first waiting frame. The slot was at its head, which moves; the rest of the side
--- is unchanged.
+-- A receive side used a slot for the first frame in the receive list. The slot was at the side's head, which moves to
+-- the next slot. The rest of the side is unchanged.
 pub record TookReceive (queue slot : ℕ) (old new : State) : Type 0 where
   pub first : IsFirstFor queue old.waiting
   pub at_head : slot ≡ (ring_of old.registers Rx queue).head
@@ -22,29 +22,31 @@ pub record TookReceive (queue slot : ℕ) (old new : State) : Type 0 where
       receive_queue_of new.registers queue
       ≡ record (receive_queue_of old.registers queue) { ring = moved_on (ring_of old.registers Rx queue) }
 
--- The receive side that the first waiting frame waits for had a fault. It is disabled, its enable request is withdrawn,
--- and the rest of the side is unchanged.
+-- The receive side of the first frame's queue had a fault. The side is disabled, its enable request is withdrawn, and
+-- the rest of the side is unchanged.
 pub record ShutReceive (queue : ℕ) (old new : State) : Type 0 where
   pub first : IsFirstFor queue old.waiting
   pub side :
       receive_queue_of new.registers queue
       ≡ record (receive_queue_of old.registers queue) { on = false; wanted = false }
 
--- What the reply to a receive step says.
+-- What the reply to a receive step says about the old and the new state.
 abbrev pub received_tells : Reply Block → State → State → Type 0
 received_tells (Wrote queue slot end desc at len) old new = TookReceive queue slot old new
 received_tells (Fault queue fault) old new = ShutReceive queue old new
 received_tells other old new = ⊤
 
--- Where a queue reports: at its head write-back address if TDWBAL bit 0 is 1, otherwise in the descriptor at its head.
+-- The address to which a queue reports: its head write-back address if TDWBAL bit 0 is 1, otherwise the address of the
+-- descriptor at its head.
 abbrev pub report_of : Registers → ℕ → ℕ
 report_of r queue =
     if has_bit 0 (word_of r Tdwbal queue)
     then word_of r Tdwbah queue * 2 ^ 32 + 4 * (word_of r Tdwbal queue / 4)
     else descriptor_address (ring_of r Tx queue) (ring_of r Tx queue).head
 
--- The transmit side of a step's own queue used the slot at its head, which moves. The rest of the side, except its
--- staged bytes, is unchanged. A report that the reply names is where the queue reports.
+-- The transmit side of the step's own queue used the slot at its head, which moves to the next slot. The rest of the
+-- side, except its staged bytes, is unchanged. A write-back address in the reply is the address to which the queue
+-- reports.
 pub record TookTransmit (own queue : ℕ) (back : Option ℕ) (old new : State) : Type 0 where
   pub named : queue ≡ own
   pub side :
@@ -52,7 +54,7 @@ pub record TookTransmit (own queue : ℕ) (back : Option ℕ) (old new : State) 
       ≡ record (transmit_queue_of old.registers own) { ring = moved_on (ring_of old.registers Tx own) }
   pub reported : (address : ℕ) → back ≡ Some address → address ≡ report_of old.registers own
 
--- The transmit side of a step's own queue was disabled. Its enable request is withdrawn, nothing is staged, and the
+-- The transmit side of the step's own queue was disabled. Its enable request is withdrawn, nothing is staged, and the
 -- rest of the side is unchanged.
 pub record ShutTransmit (own queue : ℕ) (old new : State) : Type 0 where
   pub named : queue ≡ own
@@ -61,7 +63,7 @@ pub record ShutTransmit (own queue : ℕ) (old new : State) : Type 0 where
       ≡ record (transmit_queue_of old.registers own) { on = false; wanted = false }
   pub staged : staged_by new own ≡ []
 
--- What the reply to a transmit step says.
+-- What the reply to a transmit step says about the old and the new state.
 abbrev pub sent_tells : ℕ → Reply Block → State → State → Type 0
 sent_tells own (Advanced queue slot back) old new =
     TookTransmit own queue back old new × (slot ≡ (ring_of old.registers Tx own).head)
@@ -83,7 +85,7 @@ pub record AddsFrame (queue len : ℕ) (old new : State) : Type 0 where
   pub long : length frame ≡ len
   pub out : new.out ≡ old.out ++ (queue, frame) ∷ []
 
--- The transmitted frames after a transmit step, and after the oldest was collected.
+-- The transmitted frames after a transmit step, and after the oldest frame was collected.
 abbrev pub out_sent : Reply Block → State → State → Type 0
 out_sent (Sent queue len back) old new = AddsFrame queue len old new
 out_sent other old new = new.out ≡ old.out
@@ -92,8 +94,8 @@ abbrev pub out_collected : Reply Block → State → State → Type 0
 out_collected (Frame queue bytes) old new = old.out ≡ (queue, bytes) ∷ new.out
 out_collected other old new = new.out ≡ old.out
 
--- The transmitted frames after an event. One is appended if and only if a transmit step reports it as sent, and one is
--- removed if and only if it is collected. No other event changes them.
+-- The transmitted frames after an event. A frame is appended if and only if a transmit step reports it as sent. A frame
+-- is removed if and only if it is collected. No other event changes the transmitted frames.
 abbrev pub out_after : Event Block → Reply Block → State → State → Type 0
 out_after (event.TxStep queue) reply old new = out_sent reply old new
 out_after event.Collect reply old new = out_collected reply old new
@@ -102,7 +104,7 @@ out_after other reply old new = new.out ≡ old.out
 abbrev pub EventsMoveFramesOut : Type 0
 EventsMoveFramesOut = (s : State) (e : Event Block) → out_after e (reply_to s e) s (after s e)
 
--- 16 bytes at an address that isn't a multiple of 16 are neither read nor written; nothing changes.
+-- At an address that isn't a multiple of 16, no bytes are read or written, and nothing changes.
 pub record RefusesMisaligned (s : State) (address : ℕ) : Type 0 where
   pub peek : step_of s (event.Peek16 address) ≡ gives Misaligned s
   pub poke : (bytes : List ℕ) → step_of s (event.Poke16 address bytes) ≡ gives Misaligned s

@@ -1,7 +1,7 @@
-//! Laws of the device, beyond the definitions that the contracts of `nic_device` cite.
+//! Laws of the device. They follow from the definitions that the contracts of `nic_device` cite.
 //!
-//! Each law is the contract of a function that does nothing. What the contract ensures is a property of `step_of`, the
-//! definition by which `nic_device::Device::step` runs each event.
+//! Each law is the contract of a function that does nothing. The contract ensures a property of `step_of`, which
+//! defines how `nic_device::Device::step` runs each event.
 #![tactic(auto)]
 
 ghost use Rattle.nic_device.specs.Kept.{NewDeviceIsSound, EventKeepsSound, OtherEventsKeepBlocks};
@@ -18,27 +18,28 @@ ghost use Rattle.device_laws.specs.Eeprom.{LastWriteIsMade, SteppedOverWriteIsNo
 ghost use Rattle.device_laws.specs.Order.{ReceivingHasAnOrder, EachReplyInItsCase, NothingWaitsIsIdle};
 ghost use Rattle.device_laws.specs.Leaving.{EventStaysWithinReach, EventLeavesMissed, ReadLeavesTheRest, WriteLeavesTheRest, WriteLeavesMemory, MemoryCallsLeaveTheRest, MemoryCallsLeaveOtherBlocks, ArrivalLeavesTheRest, ReceivingLeavesTheRest, ReceivingLeavesOtherBlocks, TransmittingLeavesTheRest, TransmittingLeavesOtherBlocks, SwitchingLeavesTheRest, MessageLeavesTheRest, EepromStepLeavesTheRest, LinkLeavesTheRest, CollectingLeavesTheRest};
 
-/// A new device is sound, and every event that a driver can cause keeps it sound.
+/// A new device is sound, and every event that a driver can cause keeps a sound device sound.
 pub fn devices_stay_sound()
     ensures new { NewDeviceIsSound }
     ensures event { EventKeepsSound }
 {}
 
-/// After every event that a driver can cause, a bit of a group is reported only while its cause and its mask are 1.
+/// After every event that a driver can cause, a bit of an interrupt group is reported only if its cause and its mask
+/// are 1.
 #[tactic(auto, using(crate::proofs::Kept::reported_pending))]
 pub fn reported_is_pending()
     ensures { ReportedIsPending }
 {}
 
-/// In a new device, a plain read/write register reads as its reset value, in the bits that the address shows.
+/// In a new device, a read of a plain read/write register returns the bits of its reset value that the address shows.
 #[tactic(auto, using(crate::proofs::Accesses::new_reads))]
 pub fn new_device_reads_reset_values()
     ensures { NewDeviceReadsResetValues }
 {}
 
-/// Reading a plain read/write register right after writing it returns the written bits that the mask and the written
-/// address let through, and the former bits elsewhere. Each access may use any address of the register, aliases
-/// included; the read returns only the bits that its own address shows.
+/// Reading a plain read/write register right after writing it returns the written bits that the mask and the write's
+/// address let through, and the old bits elsewhere. Each access may use any address of the register, including an
+/// alias. The read returns only the bits that its own address shows.
 #[tactic(auto, using(crate::proofs::Accesses::write_shows))]
 pub fn write_shows_at_each_address()
     ensures { WriteShowsAtEachAddress }
@@ -67,17 +68,18 @@ pub fn read_counter_starts_again()
     ensures { ReadCounterStartsAgain }
 {}
 
-/// An accepted frame is counted in GPRC: the next read returns one more than it would have, but at most 0xFFFFFFFF.
+/// An accepted frame is counted in GPRC: the next read returns one more than it would have returned without the frame,
+/// but at most 0xFFFFFFFF.
 #[tactic(auto, using(crate::proofs::Counted::let_in_is_counted))]
 pub fn let_in_frame_is_counted()
     ensures { LetInFrameIsCounted }
 {}
 
 /// MPC counts frames that find the receive list full, RUC frames that are too short, ROC frames that are too long, GPRC
-/// accepted frames, and GPTC transmitted frames. QPRC, QPRDC and QPTC count the frames of queues in the counters that
-/// RQSMR and TQSM assign: QPRC counts completely written frames, QPRDC frames dropped because no descriptor was free,
-/// and QPTC transmitted frames. All these counters saturate at 0xFFFFFFFF. Apart from counting, only a read of a
-/// counter or a reset changes it.
+/// accepted frames, and GPTC transmitted frames. QPRC, QPRDC and QPTC count the frames of each queue in the counter
+/// that RQSMR or TQSM assigns to the queue: QPRC counts completely written frames, QPRDC frames dropped because no
+/// descriptor was free, and QPTC transmitted frames. All these counters saturate at 0xFFFFFFFF. Apart from counting,
+/// only a read of the counter or a device reset changes a counter.
 #[tactic(auto, using(crate::proofs::Counts::events_count))]
 pub fn events_count()
     ensures { EventsCount }
@@ -92,9 +94,10 @@ pub fn events_count_for_functions()
 {}
 
 /// In the physical function's causes, a frame that finds the receive list full raises bit 17, a fault bit 18, and a
-/// link change bit 20. A completely written frame raises, in its queue's group, the cause that IVAR or PVTIVAR assigns
-/// to the receive queue. A report that is written back raises the cause of its transmit queue in the same way. None of
-/// these changes any other group. Any other event changes no group, unless it is a register access or a message.
+/// link change bit 20. A completely written frame raises a cause in its receive queue's group: the cause that IVAR or
+/// PVTIVAR assigns to the queue. In the same way, a report that is written back raises the cause of its transmit queue.
+/// None of these events changes any other group. Any other event changes no group, unless it is a register access or a
+/// message.
 #[tactic(auto, using(crate::proofs::Causes::events_raise))]
 pub fn events_raise()
     ensures { EventsRaise }
@@ -103,16 +106,16 @@ pub fn events_raise()
 /// Writing CTRL with a reset request empties the receive list, drops the staged bytes, and otherwise changes only
 /// registers: lent memory, the transmitted frames, the link, the image and the configuration are unchanged. If the
 /// image writes no register, each register then has its reset value, no side of a queue has an enable request, and no
-/// bit is reported. For an image that writes registers, see `reset_applies_the_image`.
+/// interrupt bit is reported. For an image that writes registers, see `reset_applies_the_image`.
 #[tactic(auto, using(crate::proofs::Resetting::asked_resets, crate::proofs::Resetting::reset_values))]
 pub fn asked_reset_resets()
     ensures rest { AskedResetResets }
     ensures values { ResetGivesResetValues }
 {}
 
-/// A reset performs the register writes of the EEPROM image one by one. If an image has one more write at its end, the
-/// reset leads to the same state as with the image without this write, followed by this write. A write to CTRL or EERD
-/// is skipped, and doesn't end the list.
+/// A device reset performs the register writes in the EEPROM image in order. Suppose that a write is appended to an
+/// image. Then a reset leaves the same state as a reset with the original image, followed by this write. A write to
+/// CTRL or EERD is skipped and doesn't end the list.
 #[tactic(auto, using(crate::proofs::Imaged::last_write, crate::proofs::Imaged::stepped_over))]
 pub fn reset_applies_the_image()
     ensures writes { LastWriteIsMade }
@@ -125,9 +128,9 @@ pub fn image_is_reported_by_its_size()
     ensures { ControlTellsSize }
 {}
 
-/// While CTRL bit 2 is 0, an EEPROM step provides the word that EERD requests: EERD then reads as the index, DONE set,
-/// START clear, and the image's word at that index, or 0xFFFF outside the image. If no word is requested, the step is
-/// idle and changes nothing. An EEPROM step never changes a queue, a group, memory or a frame.
+/// While CTRL bit 2 is 0, an EEPROM step provides the word that EERD requests: EERD then reads as the index, with DONE
+/// set and START clear, and the image's word at that index, or 0xFFFF outside the image. If no word is requested, the
+/// step is idle and changes nothing. An EEPROM step never changes a queue, an interrupt group, memory or a frame.
 pub fn eeprom_step_gives_the_word()
     ensures word { StepGivesWord }
     ensures idle { StepWithoutStartIsIdle }
@@ -142,9 +145,9 @@ pub fn other_events_keep_settings()
 {}
 
 /// No event changes anything outside its reach. The reach determines which registers, blocks, staged bytes and frames
-/// the event can change. It depends on the place, block, queue or group that the event names, the written value and the
-/// pool mode, the oldest frame in the receive list, and the reply. A side of a queue and a group outside the reach are
-/// unchanged.
+/// the event can change. The reach depends on the register, block, queue or group to which the event refers, the
+/// written value and the pool mode, the oldest frame in the receive list, and the reply. Each side of a queue and each
+/// interrupt group outside the reach is unchanged.
 pub fn event_stays_within_its_reach()
     ensures stays { EventStaysWithinReach }
     ensures missed { EventLeavesMissed }
@@ -155,106 +158,110 @@ pub fn other_events_keep_blocks()
     ensures { OtherEventsKeepBlocks }
 {}
 
-/// Reading a register changes no queue. A write that requests no reset of the device or of a pool changes only the side
-/// of a queue that its register belongs to. A read changes only the group that its register belongs to, and such a
-/// write only the groups that it can reach. Neither changes the receive list or the transmitted frames. No access
-/// changes memory.
+/// A register read changes no queue, and only the interrupt group to which its register belongs. A write that requests
+/// neither a device reset nor a pool reset changes only the side of a queue to which its register belongs, and only the
+/// interrupt groups that it can reach. Neither the read nor such a write changes the receive list or the transmitted
+/// frames. No register access changes memory.
 pub fn access_leaves_the_rest()
     ensures read { ReadLeavesTheRest }
     ensures write { WriteLeavesTheRest }
     ensures memory { WriteLeavesMemory }
 {}
 
-/// A memory call changes no queue, no group and no frame. It changes only the block that it lends or takes, or the
-/// blocks with the 16 bytes that it writes.
+/// A memory call changes no queue, no interrupt group and no frame. It changes only the block that it lends or takes,
+/// or the blocks that contain the 16 bytes that it writes.
 #[tactic(auto, using(crate::proofs::Standing::memory_rest, crate::proofs::Standing::memory_blocks))]
 pub fn memory_call_leaves_the_rest()
     ensures rest { MemoryCallsLeaveTheRest }
     ensures blocks { MemoryCallsLeaveOtherBlocks }
 {}
 
-/// An arriving frame changes no queue, no group of a virtual function, no memory and no transmitted frame.
+/// An arriving frame changes no queue, no virtual function's interrupt group, no memory and no transmitted frame.
 pub fn arrival_leaves_the_rest()
     ensures { ArrivalLeavesTheRest }
 {}
 
-/// Of the queues, a receive step changes only the receive side of the queue that the oldest frame is for. It changes no
-/// transmitted frame. Of the blocks, it changes only those with the descriptor and with the bytes that it reports.
+/// The only side of a queue that a receive step changes is the receive side of the oldest frame's queue. The step
+/// changes no transmitted frame. It changes only the blocks that contain the descriptor or the bytes that its reply
+/// reports.
 #[tactic(auto, using(crate::proofs::StandingQueues::receiving_rest, crate::proofs::StandingQueues::receiving_blocks))]
 pub fn receiving_leaves_the_rest()
     ensures rest { ReceivingLeavesTheRest }
     ensures blocks { ReceivingLeavesOtherBlocks }
 {}
 
-/// Of the queues, a transmit step changes only the transmit side of its own queue. It changes no frame in the receive
-/// list. Of the blocks, it changes only those to which it reports a write-back.
+/// The only side of a queue that a transmit step changes is its own queue's transmit side. The step changes no frame in
+/// the receive list. It changes only the blocks to which its reply reports a write-back.
 pub fn transmitting_leaves_the_rest()
     ensures rest { TransmittingLeavesTheRest }
     ensures blocks { TransmittingLeavesOtherBlocks }
 {}
 
-/// An enable step changes no other side, no group, no memory and no transmitted frame.
+/// An enable step changes no other side of a queue, no interrupt group, no memory and no transmitted frame.
 pub fn switching_leaves_the_rest()
     ensures { SwitchingLeavesTheRest }
 {}
 
-/// A message of an interrupt group changes no queue, no other group, no memory and no frame.
+/// An interrupt step for a group changes no queue, no other group, no memory and no frame.
 pub fn message_leaves_the_rest()
     ensures { MessageLeavesTheRest }
 {}
 
-/// A link change, including the cause that it raises, changes no queue, no group except the physical function's, no
-/// memory and no frame. Collecting a frame changes no queue, no group, no memory and no frame in the receive list.
+/// A link change, including the cause that it raises, changes no queue, no interrupt group except the physical
+/// function's, no memory and no frame. Collecting a frame changes no queue, no interrupt group, no memory and no frame
+/// in the receive list.
 pub fn link_leaves_the_rest()
     ensures link { LinkLeavesTheRest }
     ensures collect { CollectingLeavesTheRest }
 {}
 
-/// While CTRL bit 2 is 0, a receive step is idle if the receive list is empty. It drops the oldest frame if the frame's
-/// queue is disabled. Without a free descriptor, it drops the frame if drop enable is set and no part of the frame is
-/// written yet; otherwise the frame stays. With a free descriptor, the descriptor is filled or has a fault. Each reply
-/// occurs only in its own case.
+/// Suppose that CTRL bit 2 is 0. If the receive list is empty, a receive step is idle. If the oldest frame's queue is
+/// disabled, the step drops the frame. If the queue has no free descriptor, the step drops the frame if drop enable is
+/// set and no part of the frame is written yet; otherwise the frame stays. If the queue has a free descriptor, the
+/// descriptor is filled or has a fault. Each reply occurs only in its own case.
 pub fn receiving_has_an_order()
     ensures order { ReceivingHasAnOrder }
     ensures alone { EachReplyInItsCase }
     ensures nothing { NothingWaitsIsIdle }
 {}
 
-/// A filled slot was the one at the head of the queue that the oldest frame is for. That receive side is then unchanged
-/// except for its head, which is the next slot. A fault disables that side, withdraws its enable request, and leaves
-/// the rest of the side unchanged.
+/// A slot that a receive step fills is the slot at the head of the oldest frame's queue. The queue's receive side is
+/// then unchanged except for its head, which moves to the next slot. A fault disables this receive side, withdraws its
+/// enable request, and leaves the rest of the side unchanged.
 #[tactic(auto, using(crate::proofs::RepliesReceived::receiving_tells))]
 pub fn receiving_tells()
     ensures { ReceivingTells }
 {}
 
-/// A transmit step names its own queue. After it fetches a slot, that transmit side is unchanged except for its staged
-/// bytes and its head, which is the next slot. A report that the reply names is at the queue's head write-back address
-/// if TDWBAL bit 0 is 1, and otherwise at the descriptor. A fault disables the side, withdraws its enable request,
-/// drops its staged bytes, and leaves the rest of the side unchanged.
+/// A reply to a transmit step that contains a queue contains the step's own queue. After the step fetches a slot, the
+/// queue's transmit side is unchanged except for its staged bytes and its head, which moves to the next slot. If the
+/// reply contains a write-back address, this is the queue's head write-back address if TDWBAL bit 0 is 1, and otherwise
+/// the descriptor's address. A fault disables the side, withdraws its enable request, drops its staged bytes, and
+/// leaves the rest of the side unchanged.
 #[tactic(auto, using(crate::proofs::RepliesSent::transmitting_tells))]
 pub fn transmitting_tells()
     ensures { TransmittingTells }
 {}
 
-/// While VT_CTL bit 0 is 1, a transmit step of a queue below 128 is idle and changes nothing if the VFTE bit of the
-/// queue's pool is 0.
+/// Suppose that VT_CTL bit 0 is 1 and the VFTE bit of a queue's pool is 0. Then a transmit step for the queue, below
+/// 128, is idle and changes nothing.
 #[tactic(auto, using(crate::proofs::Muting::muted_idle))]
 pub fn muted_queue_is_idle()
     ensures { MutedQueueIsIdle }
 {}
 
 /// Suppose that CTRL bit 2 is 0, that the device has a group, and that a bit of this group is due: its cause and its
-/// mask are 1, it isn't reported, and it has a vector. Then an interrupt step of the group sends the vector of the
-/// lowest due bit and marks that bit as reported. It clears the bit's cause if EIAC has the bit, and its mask if GPIE
-/// bit 30 is 1 and EIAM has the bit. The group's other bits are unchanged.
+/// mask are 1, it isn't reported, and it has a vector. Then an interrupt step for the group sends the vector of the
+/// lowest due bit and marks that bit as reported. The step clears the bit's cause if the bit is 1 in EIAC, and the
+/// bit's mask if GPIE bit 30 is 1 and the bit is 1 in EIAM. The group's other bits are unchanged.
 #[tactic(auto, using(crate::proofs::Messages::due_reported))]
 pub fn due_bit_is_reported()
     ensures { DueBitIsReported }
 {}
 
 /// A frame is appended to the transmitted frames if and only if a transmit step reports it as sent, with its queue and
-/// length. The oldest is removed if and only if it is collected. No other event changes them.
+/// length. The oldest transmitted frame is removed if and only if it is collected. No other event changes the
+/// transmitted frames.
 #[tactic(auto, using(crate::proofs::RepliesOut::frames_out))]
 pub fn events_move_frames_out()
     ensures { EventsMoveFramesOut }
@@ -265,41 +272,41 @@ pub fn misaligned_changes_nothing()
     ensures { MisalignedChangesNothing }
 {}
 
-/// After a piece of a frame is written, memory holds its bytes at the reported address, provided that they share no
-/// byte with the descriptor.
+/// After a receive step writes a piece of a frame, memory contains the piece's bytes at the reported address, provided
+/// that the piece doesn't overlap the descriptor.
 pub fn piece_is_read_back()
     ensures { PieceIsReadBack }
 {}
 
-/// A fault changes no memory.
+/// An event whose reply is a fault changes no memory.
 #[tactic(auto, using(crate::proofs::Kept::fault_memory))]
 pub fn fault_changes_no_memory()
     ensures { FaultChangesNoMemory }
 {}
 
 /// While CTRL bit 2 is 1, each of these steps is idle and changes nothing: a receive step, an EEPROM step, a transmit
-/// or enable step of a queue below 128, and an interrupt step of an existing group.
+/// or enable step for a queue below 128, and an interrupt step for an existing group.
 pub fn stopped_device_is_idle()
     ensures { StoppedDeviceIsIdle }
 {}
 
 /// A virtual function's access acts as the physical function's access at the mapped address, with the same reply and
 /// the same state afterwards. A read at a hole returns 0. A read by a function that doesn't exist or has no pool
-/// returns all ones. A write in either case is stray. None of these changes anything.
+/// returns all ones. A write in either case gets the reply `Stray`. None of these accesses changes anything.
 pub fn vf_access_is_the_physical_functions()
     ensures access { AccessIsThePhysicalFunctions }
     ensures nothing { HolesAndAbsentFunctionsMeetNothing }
 {}
 
 /// A virtual function's access changes only what belongs to its pool, and the bits that signal the physical function:
-/// two bits of PFMBICR, and EICR bit 19. These belong to the pool: its registers, including its mailbox and the
-/// mailbox's memory; its enable requests, reported bits and staged bytes; and the frames in the receive list for its
-/// queues. The frames of other pools keep their order. Memory, transmitted frames, the link, the image and the
+/// two bits of PFMBICR, and EICR bit 19. The following belongs to the pool: its registers, including its mailbox and
+/// the mailbox's memory; its enable requests, reported bits and staged bytes; and the frames in the receive list for
+/// its queues. The frames of other pools keep their order. Memory, transmitted frames, the link, the image and the
 /// configuration are unchanged. The access changes staged bytes and frames, even of its own pool, only if it requests a
 /// pool reset with PVFCTRL bit 26.
 ///
 /// Suppose that two devices agree on what belongs to the pool, on the number of functions, on GCR_EXT, on CTRL bit 2
-/// and on the link. Then they reply to the access in the same way, and still agree afterwards.
+/// and on the link. Then both devices give the same reply to the access and still agree afterwards.
 pub fn vf_stays_in_its_pool()
     ensures changes { VfChangesItsPoolAlone }
     ensures keeps { VfKeepsFramesButByReset }
@@ -307,9 +314,9 @@ pub fn vf_stays_in_its_pool()
 {}
 
 /// Writing PVFCTRL with bit 26 set, through either port, resets what belongs to the pool: its registers, enable
-/// requests and reported bits have their reset values. Of the mailbox, only bits 2, 4 and 5 of PVFMAILBOX are reset.
-/// The pool's queues have no staged bytes, and the receive list keeps the frames for other queues, in order. All else
-/// is unchanged.
+/// requests and reported bits then have their reset values. In the mailbox, only bits 2, 4 and 5 of PVFMAILBOX are
+/// reset. The pool's queues then have no staged bytes, and the receive list contains only the frames for other queues,
+/// in order. Everything else is unchanged.
 pub fn asked_pool_reset_resets()
     ensures { AskedPoolResetResets }
 {}

@@ -1,4 +1,4 @@
--- What fetching the slot at the head returns, and the memory and staged bytes that it leaves.
+-- The result of fetching the slot at the head, and the memory and staged bytes after the call.
 use Rattle.std.specs.Prelude.{ℕ, ◌+◌, ◌≢◌, ◌≤◌, nat_lt, Bool, false, ◌==◌, not, if◌then◌else◌, IsTrue, IsFalse, List, [], ◌++◌, length, Option, Some, None, unwrap_or, Result, Ok, Err}
 use Rattle.dma_arena.specs.Memory.{Memory, is_lent, read_at}
 use Rattle.dma_ring.specs.declared.ring.Ring.{Ring}
@@ -13,13 +13,13 @@ use Rattle.tx_ring.specs.declared.fetched.Fetched.{Fetched}
 use Rattle.tx_ring.specs.Frame.{frame_of}
 use Rattle.tx_ring.specs.Report.{head_address, new_head, report_address, can_report, back_of, reported}
 
--- An answer, with the memory and the staged bytes that it leaves.
+-- The result of a fetch, with the memory and the staged bytes after the call.
 pub record Outcome : Type 0 where
   pub answer : Result Fetched RingFault
   pub memory : Memory
   pub staged : List ℕ
 
--- The device owns a slot, or the head or the tail is outside the ring.
+-- The device owns a slot of the ring, or the head or the tail is outside the ring.
 abbrev pub IsReady : Ring → Type 0
 IsReady r = IsFalse (is_outside r) → r.head ≢ r.tail
 
@@ -33,20 +33,20 @@ command_in descriptor = command_of (second_half descriptor)
 abbrev pub buffer_in : List ℕ → ℕ
 buffer_in descriptor = first_half descriptor
 
--- The types of descriptors.
+-- Whether a descriptor is a context descriptor (`is_context`) or a data descriptor (`is_data`).
 abbrev pub is_context : Command → Bool
 is_context c = c.kind == 2
 
 abbrev pub is_data : Command → Bool
 is_data c = c.kind == 3
 
--- The bytes that a data descriptor names.
+-- The bytes in a data descriptor's buffer.
 abbrev pub buffer_bytes : Memory → List ℕ → List ℕ
 buffer_bytes m descriptor = read_at m (buffer_in descriptor) (command_in descriptor).len
 
--- The tests, in order. Each has a fault, which is returned if the test fails.
+-- The tests, in order. Each test returns its own fault if it fails.
 
--- Third, the tests of a data descriptor, with this many bytes staged.
+-- Third, the tests of a data descriptor, given that `staged` bytes are staged.
 unfoldable pub data_fault_of : Memory → Ring → Tx → ℕ → List ℕ → Option RingFault
 data_fault_of m r tx staged descriptor =
     if (command_in descriptor).offload then Some Offload
@@ -71,14 +71,14 @@ fault_of m r tx staged =
     else if not (is_lent m (head_address r) 16) then Some (NotLent (head_address r))
     else descriptor_fault_of m r tx staged (descriptor_of m r)
 
--- A data descriptor that passes its tests, with this many bytes staged.
+-- A data descriptor passes its tests, given that `staged` bytes are staged.
 pub record CanSend (m : Memory) (r : Ring) (tx : Tx) (staged : ℕ) (descriptor : List ℕ) : Type 0 where
   pub no_offload : IsFalse (command_in descriptor).offload
   pub room : staged + (command_in descriptor).len ≤ tx.limit
   pub buffer : IsTrue (is_lent m (buffer_in descriptor) (command_in descriptor).len)
   pub report : IsTrue (can_report m r tx (command_in descriptor).report)
 
--- The outcomes.
+-- The results of a fetch.
 
 -- A fault changes nothing.
 abbrev pub fault_outcome : Memory → List ℕ → RingFault → Outcome
@@ -92,8 +92,8 @@ context_outcome m staged r = record {
   staged = staged;
 }
 
--- A data descriptor's bytes are staged. At the end of the packet they are sent as its frame. If RS is 1, the descriptor
--- is reported.
+-- A data descriptor's bytes are staged. At the end of the packet, all staged bytes are sent as the packet's frame. If
+-- RS is 1, the descriptor is reported.
 abbrev pub data_outcome : Memory → List ℕ → Ring → Tx → List ℕ → Outcome
 data_outcome m staged r tx descriptor = record {
   answer = Ok (record {
@@ -113,12 +113,13 @@ outcome_of m staged r tx None =
     if is_context (command_in (descriptor_of m r)) then context_outcome m staged r
     else data_outcome m staged r tx (descriptor_of m r)
 
--- Fetching the slot at the head: the first test that fails determines the fault; if none fails, the descriptor is
+-- Fetching the slot at the head. The first test that fails determines the fault. If no test fails, the descriptor is
 -- completed.
 unfoldable pub fetch_of : Memory → List ℕ → Ring → Tx → Outcome
 fetch_of m staged r tx = outcome_of m staged r tx (fault_of m r tx (length staged))
 
--- The bytes that the queue needs memory for: the bytes of the frame that is sent, or the staged bytes if none is.
+-- The bytes for which the queue needs memory: the bytes of the frame that is sent, or the staged bytes if no frame is
+-- sent.
 abbrev pub bytes_held : Outcome → List ℕ
 bytes_held o = held_in o.staged o.answer
   where

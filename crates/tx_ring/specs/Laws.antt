@@ -20,12 +20,12 @@ use Rattle.tx_ring.specs.Fetch.{Outcome, descriptor_of, command_in, buffer_in, b
 abbrev pub command_at : Memory → Ring → Command
 command_at m r = command_in (descriptor_of m r)
 
--- Head and tail are slots of the ring, and the descriptor at the head is lent.
+-- The head and the tail are slots of the ring, and the descriptor at the head is lent.
 pub record HasDescriptor (m : Memory) (r : Ring) : Type 0 where
   pub inside : IsFalse (is_outside r)
   pub lent : IsTrue (is_lent m (head_address r) 16)
 
--- The descriptor at the head is an advanced one of this type.
+-- The descriptor at the head has the advanced format and this type.
 pub record HasType (m : Memory) (r : Ring) (kind : ℕ) : Type 0 where
   pub descriptor : HasDescriptor m r
   pub extended : IsTrue (command_at m r).extended
@@ -37,7 +37,7 @@ HasContext m r = HasType m r 2
 abbrev pub HasData : Memory → Ring → Type 0
 HasData m r = HasType m r 3
 
--- The first test that fails determines the fault. If none fails, the descriptor is completed.
+-- The first test that fails determines the fault. If no test fails, the descriptor is completed.
 pub record TestsInOrder (m : Memory) (staged : List ℕ) (r : Ring) (tx : Tx) : Type 0 where
   pub outside : IsTrue (is_outside r) → fetch_of m staged r tx ≡ fault_outcome m staged Outside
   pub descriptor :
@@ -92,7 +92,7 @@ SlotLaw =
     (m : Memory) (staged : List ℕ) (r : Ring) (tx : Tx) (f : Fetched) → (fetch_of m staged r tx).answer ≡ Ok f
     → TakesSlot m staged r tx f
 
--- A turn of a queue: the memory, the ring and the registers when a slot is fetched.
+-- A queue's turn: the memory, the ring and the settings when a slot is fetched.
 pub record Turn : Type 0 where
   pub memory : Memory
   pub ring : Ring
@@ -101,12 +101,12 @@ pub record Turn : Type 0 where
 abbrev pub turn_of : Turn → List ℕ → Outcome
 turn_of t staged = fetch_of t.memory staged t.ring t.tx
 
--- The bytes that a turn adds to a packet: the bytes that a data descriptor names.
+-- The bytes that a turn adds to a packet: the bytes in a data descriptor's buffer, or none for a context descriptor.
 abbrev pub piece_of : Turn → List ℕ
 piece_of t =
     if is_context (command_at t.memory t.ring) then [] else buffer_bytes t.memory (descriptor_of t.memory t.ring)
 
--- The pieces of the turns, in order.
+-- The bytes that the turns add to a packet, in order.
 unfoldable pub pieces_of : List Turn → List ℕ
 pieces_of [] = []
 pieces_of (t ∷ ts) = piece_of t ++ pieces_of ts
@@ -116,7 +116,7 @@ unfoldable pub staged_after : List Turn → List ℕ → List ℕ
 staged_after [] staged = staged
 staged_after (t ∷ ts) staged = staged_after ts (turn_of t staged).staged
 
--- The turn is fetched, and no packet ends.
+-- The turn's slot is fetched, and no packet ends with it.
 abbrev pub GoesOn : Turn → List ℕ → Type 0
 GoesOn t staged = (f : Fetched) × ((turn_of t staged).answer ≡ Ok f) × (f.frame ≡ None)
 
@@ -124,8 +124,9 @@ unfoldable pub GoOn : List Turn → List ℕ → Type 0
 GoOn [] staged = ⊤
 GoOn (t ∷ ts) staged = GoesOn t staged × GoOn ts (turn_of t staged).staged
 
--- The frame that is sent at the end of a packet consists of the bytes of its data descriptors in order, padded with
--- zeros to 60 bytes if short frames are padded when the last descriptor is fetched. Afterwards, no bytes are staged.
+-- The frame that is sent at the end of a packet consists of the bytes of the packet's data descriptors, in order. It is
+-- padded with zeros to 60 bytes if short frames are padded when the last descriptor is fetched. Afterwards, no bytes
+-- are staged.
 abbrev pub PacketLaw : Type 0
 PacketLaw =
     (turns : List Turn) (last : Turn) (f : Fetched) (frame : List ℕ) → GoOn turns []
@@ -133,8 +134,8 @@ PacketLaw =
     → (frame ≡ frame_of last.tx.pad (pieces_of turns ++ piece_of last))
     × ((turn_of last (staged_after turns [])).staged ≡ [])
 
--- What a driver reads at the write-back address: the new head at the head write-back address, or, without such an
--- address, the descriptor with its done bit set.
+-- What a driver reads at the write-back address. If the queue has a head write-back address, the driver reads the new
+-- head there. Otherwise it reads the descriptor with its done bit set.
 pub record ShowsReport (old new : Memory) (r : Ring) (tx : Tx) (f : Fetched) : Type 0 where
   pub head : (a : ℕ) → tx.writeback ≡ Some a → (f.back ≡ Some a) × (read_at new a 4 ≡ to_le_bytes w32 f.head)
   pub descriptor :
@@ -164,14 +165,15 @@ WritesInsideReport =
     (m : Memory) (staged : List ℕ) (r : Ring) (tx : Tx) (f : Fetched) → (fetch_of m staged r tx).answer ≡ Ok f
     → ChangesOnlyReport m (fetch_of m staged r tx).memory tx f
 
--- Whether the slot is fetched or not, the same blocks stay lent and each keeps its length of 2,048 bytes.
+-- Whether or not the slot is fetched, the same blocks remain lent, and each whole block keeps its length of 2,048
+-- bytes.
 abbrev pub FetchKeepsBlocks : Type 0
 FetchKeepsBlocks =
     (m : Memory) (staged : List ℕ) (r : Ring) (tx : Tx)
     → SameLent (fetch_of m staged r tx).memory m × (IsWhole m → IsWhole (fetch_of m staged r tx).memory)
 
--- Where a slot is reported: nowhere if RS is 0; otherwise at the head write-back address, TDWBAH and TDWBAL, or,
--- without such an address, in the descriptor.
+-- Where a slot is reported. If RS is 0, the slot isn't reported. Otherwise the report goes to the head write-back
+-- address in TDWBAH and TDWBAL or, if the queue has none, into the descriptor.
 pub record ReportsAt (r : Ring) (tx : Tx) (f : Fetched) : Type 0 where
   pub none : IsFalse f.rs → f.back ≡ None
   pub head : (a : ℕ) → tx.writeback ≡ Some a → IsTrue f.rs → f.back ≡ Some a
@@ -182,8 +184,8 @@ ReportLaw =
     (m : Memory) (staged : List ℕ) (r : Ring) (tx : Tx) (f : Fetched) → (fetch_of m staged r tx).answer ≡ Ok f
     → ReportsAt r tx f
 
--- The ring's base is a multiple of 16, and the head write-back address is a multiple of 4. TDBAL keeps the base a
--- multiple of 128.
+-- The ring's base is a multiple of 16, and the head write-back address is a multiple of 4. TDBAL ensures that the base
+-- is a multiple of 128.
 pub record IsAligned (r : Ring) (tx : Tx) : Type 0 where
   pub base : r.base % 16 ≡ 0
   pub writeback : (a : ℕ) → tx.writeback ≡ Some a → a % 4 ≡ 0
@@ -195,7 +197,7 @@ ReportsInOneBlock =
     (m : Memory) (staged : List ℕ) (r : Ring) (tx : Tx) (f : Fetched) (at : ℕ) → IsAligned r tx
     → (fetch_of m staged r tx).answer ≡ Ok f → f.back ≡ Some at → LiesIn (at / 2048) at (report_length tx.writeback)
 
--- A done descriptor differs from its earlier value only in DD, if both of its halves are below 2^64.
+-- If both halves of a descriptor are below 2^64, the done descriptor differs from its earlier value only in DD.
 abbrev pub DoneChangesDoneAlone : Type 0
 DoneChangesDoneAlone =
     (descriptor : List ℕ) → first_half descriptor < 2 ^ 64 → second_half descriptor < 2 ^ 64

@@ -24,16 +24,16 @@ const DATA: u8 = 3;
 /// The minimum length of a frame in bytes if short frames are padded.
 const SHORTEST_FRAME: usize = 60;
 
-/// Fetches the slot at the head of a transmit ring. It stages the bytes that the descriptor names, returns the frame at
-/// the end of a packet, and writes back a report if the descriptor requests it. A context descriptor only advances the
-/// head. If the head and the tail are in the ring, the device must own at least one of its slots. The ring must have at
-/// most 65,536 slots.
+/// Fetches the slot at the head of a transmit ring. The call stages the bytes of the descriptor's buffer, returns the
+/// frame at the end of a packet, and writes back a report if the descriptor requests one. A context descriptor only
+/// advances the head. If the head and the tail are in the ring, the device must own at least one of the ring's slots.
+/// The ring must have at most 65,536 slots.
 ///
 /// Errors, in the order of the tests: `Outside` if the head or the tail isn't a slot; `NotLent` with the descriptor's
-/// address; `Legacy`; `UnknownType`. For a data descriptor, then: `Offload`; `TooLong` if the staged bytes plus the
-/// descriptor's bytes exceed the limit; `NotLent` with its buffer's address; `NotLent` with the address of the
-/// write-back. `OutOfMemory` is returned only after all tests, and only if more bytes must be stored than before. Each
-/// error leaves the memory and the staged bytes as they were.
+/// address; `Legacy`; `UnknownType`. Then, for a data descriptor: `Offload`; `TooLong` if the staged bytes plus the
+/// descriptor's bytes exceed the limit; `NotLent` with the buffer's address; `NotLent` with the address of the
+/// write-back. `OutOfMemory` is returned only if all tests succeed and more bytes must be stored than before. Each
+/// error leaves the memory and the staged bytes unchanged.
 ///
 /// Intel 82599 datasheet, section on advanced transmit descriptors.
 #[tactic(auto, unfolding(crate::specs::Fetch::fetch_of, crate::specs::Fetch::fault_of))]
@@ -80,7 +80,8 @@ pub fn fetch(
     Ok(send(alloc, memory, ring, tx, staged, &descriptor)?)
 }
 
-/// Returns the first test that a descriptor fails, with `staged` bytes staged.
+/// Returns the fault of the first test that a descriptor fails, given that `staged` bytes are staged. Returns `None` if
+/// no test fails.
 #[tactic(auto, unfolding(crate::specs::Fetch::descriptor_fault_of))]
 fn descriptor_fault(
     memory: &LentMemory,
@@ -102,7 +103,8 @@ fn descriptor_fault(
     }
 }
 
-/// Returns the first test that a data descriptor fails, with `staged` bytes staged.
+/// Returns the fault of the first test that a data descriptor fails, given that `staged` bytes are staged. Returns
+/// `None` if no test fails.
 #[tactic(auto, unfolding(crate::specs::Fetch::data_fault_of))]
 fn data_fault(
     memory: &LentMemory,
@@ -132,7 +134,7 @@ fn data_fault(
 }
 
 /// Executes a data descriptor that passed its tests: stages its bytes, returns the frame at the end of the packet, and
-/// writes back a report. Only the staging allocates, and it comes first.
+/// writes back a requested report. Only the staging allocates memory, and the staging is done first.
 fn send(
     alloc: Global,
     memory: &mut LentMemory,
@@ -171,8 +173,8 @@ fn send(
     })
 }
 
-/// Returns the number of zero bytes to add to `len` bytes of a packet; 0 unless the packet ends, is short, and is
-/// padded.
+/// Returns the number of zero bytes to add to `len` bytes of a packet. The number is 0 unless the packet ends here, is
+/// short, and is padded.
 fn padding(tx: &Tx, end: bool, len: usize) -> usize
     ensures { result ≡ (if end && tx.now.pad then 60 - len else 0) }
 {
@@ -198,7 +200,8 @@ fn is_report_lent(memory: &LentMemory, ring: &Ring, tx: &Tx) -> bool
     memory.is_lent(report_address(ring, tx), len)
 }
 
-/// Writes back that the slot at the head is done, if the descriptor requests it. Returns the address.
+/// Writes back that the slot at the head is done, if the descriptor requests a report. Returns the write-back address,
+/// or `None` if nothing is written back.
 fn report(
     memory: &mut LentMemory,
     ring: &Ring,

@@ -6,7 +6,7 @@ use std::alloc::{AllocError, Global};
 use std::marker::Model;
 use std::mem;
 
-/// The bytes of a packet that a queue has fetched so far. In contracts, they are a list.
+/// The bytes of a packet that a queue has fetched so far. Contracts view them as a list.
 #[derive(Debug, Drop)]
 pub struct Staged {
     bytes: Vec<u8>,
@@ -21,7 +21,7 @@ impl Model for Staged {
 }
 
 impl Staged {
-    /// Returns an empty value; every queue starts with it. It allocates nothing.
+    /// Returns an empty `Staged`, with which every queue starts. The call allocates nothing.
     pub fn new(alloc: Global) -> Staged
         ensures { result ≡ [] }
     {
@@ -30,7 +30,7 @@ impl Staged {
         }
     }
 
-    /// Returns a copy of the staged bytes, or `AllocError` if there isn't enough memory for it.
+    /// Returns a copy of the staged bytes, or `AllocError` if there isn't enough memory for the copy.
     pub fn copy(&self, alloc: Global) -> Result<Staged, AllocError>
         ensures { IfOk result (λ staged. staged ≡ self.now) }
     {
@@ -52,7 +52,7 @@ impl Staged {
         self.bytes.clear();
     }
 
-    /// Moves the bytes out and leaves none.
+    /// Moves all staged bytes out, and leaves no bytes staged.
     fn take(&mut self, alloc: Global) -> Octets
         ensures taken { result ≡ self.old }
         ensures left { self.new ≡ [] }
@@ -60,7 +60,7 @@ impl Staged {
         Octets::of(mem::replace(&mut self.bytes, Vec::new(alloc)))
     }
 
-    /// Moves the staged bytes out as a frame and leaves none, if `end` is set.
+    /// If `end` is set, moves all staged bytes out as a frame, and leaves no bytes staged.
     pub(crate) fn frame(&mut self, alloc: Global, end: bool) -> Option<Octets>
         ensures frame { result ≡ (if end then Some self.old else None) }
         ensures left { self.new ≡ (if end then [] else self.old) }

@@ -1,7 +1,7 @@
 /// A transmit queue's settings for sending, from the device's registers.
 #[derive(Clone, Copy, PartialEq, Eq, Debug)]
 pub struct Tx {
-    /// The longest frame in bytes, padding excluded.
+    /// The maximum length of a frame in bytes, without padding.
     pub limit: usize,
     /// Whether short frames are padded with zeros to 60 bytes: HLREG0.TXPADEN.
     pub pad: bool,

@@ -1,7 +1,7 @@
--- How a receive queue's control word, SRRCTL, describes its buffers.
+-- How SRRCTL, a receive queue's control register, describes the queue's buffers.
 use Rattle.std.specs.Prelude.{ℕ, ◌*◌, ◌/◌, ◌%◌, ◌^◌}
 
--- The descriptor type, in bits 27:25. Type 1 is the advanced one with one buffer.
+-- The descriptor type, in bits 27:25. Type 1 means advanced descriptors with one buffer.
 abbrev pub descriptor_type_of : ℕ → ℕ
 descriptor_type_of srrctl = srrctl / 2 ^ 25 % 2 ^ 3
 

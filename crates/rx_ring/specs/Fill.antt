@@ -1,4 +1,4 @@
--- What filling the slot at the head returns, and the memory that it leaves.
+-- The result of filling the slot at the head, and the memory after the call.
 use Rattle.std.specs.Prelude.{ℕ, ◌≢◌, min, ◌==◌, if◌then◌else◌, IsFalse, List, length, take, Result, Ok, Err}
 use Rattle.dma_arena.specs.Memory.{Memory, is_lent, read_at, write_at}
 use Rattle.dma_ring.specs.declared.ring.Ring.{Ring}
@@ -10,21 +10,21 @@ use Rattle.dma_ring.specs.Receive.{buffer_of, written_back}
 use Rattle.rx_ring.specs.declared.filled.Filled.{Filled}
 use Rattle.rx_ring.specs.Control.{descriptor_type_of, buffer_size_of}
 
--- The rest of a frame, and the first half to write back.
+-- The remaining bytes of a frame, and the first half to write back.
 pub record Rest : Type 0 where
   pub bytes : List ℕ
   pub first : ℕ
 
--- An answer, and the memory that it leaves.
+-- The result of a fill, and the memory after the call.
 pub record Outcome : Type 0 where
   pub answer : Result Filled RingFault
   pub memory : Memory
 
--- The device owns a slot, or the head or the tail is outside the ring.
+-- The device owns a slot of the ring, or the head or the tail is outside the ring.
 abbrev pub IsReady : Ring → Type 0
 IsReady r = IsFalse (is_outside r) → r.head ≢ r.tail
 
--- The address of the descriptor at the head (`head_address`), and of the buffer that it names (`buffer_address`).
+-- The address of the descriptor at the head (`head_address`), and of that descriptor's buffer (`buffer_address`).
 abbrev pub head_address : Ring → ℕ
 head_address r = descriptor_address r r.head
 
@@ -35,7 +35,7 @@ buffer_address m r = buffer_of (first_half (read_at m (head_address r) 16))
 abbrev pub piece_length : ℕ → Rest → ℕ
 piece_length size rest = min size (length rest.bytes)
 
--- The result of filling the slot at the head with `len` bytes in the buffer at an address.
+-- The result of filling the slot at the head after `len` bytes are written into the buffer at address `at`.
 abbrev pub filled_of : Ring → Rest → ℕ → ℕ → Filled
 filled_of r rest at len = record {
   slot = r.head;
@@ -51,7 +51,7 @@ abbrev pub memory_with : Memory → Rest → Filled → Memory
 memory_with m rest f =
     write_at (write_at m f.at (take f.len rest.bytes)) f.desc (of_halves rest.first (written_back f.len f.end))
 
--- A fault leaves the memory as it was.
+-- A fault leaves the memory unchanged.
 abbrev pub fault_outcome : Memory → RingFault → Outcome
 fault_outcome m fault = record { answer = Err fault; memory = m }
 
@@ -63,7 +63,8 @@ unfoldable pub fill_buffer_of : Memory → Ring → Rest → ℕ → ℕ → Out
 fill_buffer_of m r rest at len =
     if is_lent m at len then filled_outcome m rest (filled_of r rest at len) else fault_outcome m (NotLent at)
 
--- Second, the descriptor is tested. It names a buffer, which takes as much of the rest as fits.
+-- Second, the descriptor is tested. It contains the address of a buffer, which receives as many of the remaining bytes
+-- as fit.
 unfoldable pub fill_slot_of : Memory → Ring → Rest → ℕ → Outcome
 fill_slot_of m r rest size =
     if is_lent m (head_address r) 16

@@ -1,4 +1,4 @@
--- What a driver reads of a frame that is written by successive fills.
+-- What a driver reads after successive fills write a frame.
 use Rattle.std.specs.Prelude.{ℕ, ◌≡◌, ◌↔◌, ◌<◌, ◌^◌, Bool, if◌then◌else◌, IsTrue, List, [], ◌∷◌, ◌++◌, drop, All, Result, Ok, Err}
 use Rattle.dma_arena.specs.Memory.{Memory, read_at, IsWhole, AreApart}
 use Rattle.dma_ring.specs.declared.ring.Ring.{Ring}
@@ -9,7 +9,7 @@ use Rattle.rx_ring.specs.declared.filled.Filled.{Filled}
 use Rattle.rx_ring.specs.Control.{buffer_size_of}
 use Rattle.rx_ring.specs.Fill.{Rest, Outcome, head_address, buffer_address, fill_of}
 
--- A turn of a queue: the memory, the ring and SRRCTL when a slot is filled.
+-- A queue's turn: the memory, the ring and SRRCTL when a slot is filled.
 pub record Turn : Type 0 where
   pub memory : Memory
   pub ring : Ring
@@ -18,12 +18,12 @@ pub record Turn : Type 0 where
 abbrev pub turn_of : Turn → Rest → Outcome
 turn_of t rest = fill_of t.memory t.ring t.srrctl rest
 
--- The turn's blocks are whole, and its buffer shares no byte with its descriptor.
+-- The turn's blocks are whole, and its buffer doesn't overlap its descriptor.
 pub record IsSound (t : Turn) : Type 0 where
   pub whole : IsWhole t.memory
   pub apart : AreApart (buffer_address t.memory t.ring) (buffer_size_of t.srrctl) (head_address t.ring) 16
 
--- A piece of a frame: its bytes, what is reported about the packet, and whether the packet ends.
+-- A piece of a frame: its bytes, the descriptor's first half, which reports the packet, and whether the packet ends.
 pub record Piece : Type 0 where
   pub bytes : List ℕ
   pub first : ℕ
@@ -37,7 +37,7 @@ piece_at m f = record {
   end = ends_packet (second_half (read_at m f.desc 16));
 }
 
--- The rest of a frame after `len` bytes.
+-- The remaining bytes of a frame after `len` more bytes are written.
 abbrev pub rest_after : Rest → ℕ → Rest
 rest_after rest len = record rest { bytes = drop len rest.bytes }
 
@@ -46,7 +46,8 @@ abbrev pub pieces_from : Memory → (Filled → List Piece) → Result Filled Ri
 pieces_from m more (Ok f) = piece_at m f ∷ (if f.end then [] else more f)
 pieces_from m more (Err fault) = []
 
--- The pieces that a driver reads from the slots that the turns fill with a frame, each read right after its turn.
+-- The pieces that a driver reads when the turns fill slots with a frame. The driver reads each piece right after its
+-- turn.
 unfoldable pub pieces_of : Rest → List Turn → List Piece
 pieces_of rest [] = []
 pieces_of rest (t ∷ ts) =
@@ -57,7 +58,7 @@ unfoldable pub joined : List Piece → List ℕ
 joined [] = []
 joined (p ∷ ps) = p.bytes ++ joined ps
 
--- The piece reports the packet as every piece of the frame does. It has EOP if and only if it completes the frame, and
+-- The piece reports the frame's first half, as every piece does. It has EOP if and only if it completes the frame, and
 -- then no piece follows.
 pub record IsPieceOf (frame : Rest) (before : List Piece) (p : Piece) (after : List Piece) : Type 0 where
   pub reported : p.first ≡ frame.first
@@ -71,10 +72,10 @@ pub record MakeFrame (frame : Rest) (pieces : List Piece) : Type 0 where
       (before : List Piece) (p : Piece) (after : List Piece) → pieces ≡ before ++ p ∷ after
       → IsPieceOf frame before p after
 
--- The pieces that a driver reads, joined in order, are a prefix of the frame. This requires that at every fill each
--- lent block is whole and the buffer shares no byte with its descriptor. It also requires the first half to be below
+-- The pieces that a driver reads, joined in order, are a prefix of the frame. This requires that, at every fill, each
+-- lent block is whole and the buffer doesn't overlap its descriptor. It also requires that the first half is below
 -- 2^64. A piece has EOP if and only if it completes the frame, and then no piece follows. Each piece reports the same
--- packet.
+-- first half.
 abbrev pub PiecesMakeFrame : Type 0
 PiecesMakeFrame =
     (turns : List Turn) (frame : Rest) → All IsSound turns → frame.first < 2 ^ 64

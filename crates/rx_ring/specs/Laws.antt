@@ -12,7 +12,8 @@ use Rattle.rx_ring.specs.declared.filled.Filled.{Filled}
 use Rattle.rx_ring.specs.Control.{descriptor_type_of, buffer_size_of}
 use Rattle.rx_ring.specs.Fill.{Rest, head_address, buffer_address, piece_length, filled_of, memory_with, fault_outcome, filled_outcome, fill_of}
 
--- The registers describe a ring that contains head and tail, descriptors with one buffer, and a nonzero buffer size.
+-- The registers describe a ring that contains the head and the tail, descriptors with one buffer, and a nonzero buffer
+-- size.
 pub record IsSetUp (r : Ring) (srrctl : ℕ) : Type 0 where
   pub inside : IsFalse (is_outside r)
   pub one_buffer : descriptor_type_of srrctl ≡ 1
@@ -22,7 +23,7 @@ pub record IsSetUp (r : Ring) (srrctl : ℕ) : Type 0 where
 abbrev pub HasDescriptor : Memory → Ring → Type 0
 HasDescriptor m r = IsTrue (is_lent m (head_address r) 16)
 
--- The first test that fails determines the fault. If none fails, the slot is filled.
+-- The first test that fails determines the fault. If no test fails, the slot is filled.
 pub record TestsInOrder (m : Memory) (r : Ring) (srrctl : ℕ) (rest : Rest) : Type 0 where
   pub outside : IsTrue (is_outside r) → fill_of m r srrctl rest ≡ fault_outcome m Outside
   pub type : IsFalse (is_outside r) → descriptor_type_of srrctl ≢ 1 → fill_of m r srrctl rest ≡ fault_outcome m DescType
@@ -52,22 +53,23 @@ FaultWritesNothing =
     → (fill_of m r srrctl rest).answer ≡ Err fault
     → (fill_of m r srrctl rest).memory ≡ m
 
--- A slot that is set up, with its descriptor and its whole buffer lent: 2,048 bytes if SRRCTL selects 2 KB.
+-- The slot is set up, and its descriptor and its whole buffer are lent. The buffer is 2,048 bytes long if SRRCTL
+-- selects 2 KB.
 pub record IsHealthy (m : Memory) (r : Ring) (srrctl : ℕ) : Type 0 where
   pub set_up : IsSetUp r srrctl
   pub descriptor : HasDescriptor m r
   pub buffer : IsTrue (is_lent m (buffer_address m r) (buffer_size_of srrctl))
 
--- Whatever the frame, a slot is filled if the head and the tail are in the ring, its descriptors have one buffer, the
--- buffer size isn't 0, and the descriptor and the whole buffer are lent.
+-- For every frame, a slot is filled if the head and the tail are in the ring, the queue's descriptors have one buffer,
+-- the buffer size isn't 0, and the descriptor and the whole buffer are lent.
 abbrev pub HealthyIsFilled : Type 0
 HealthyIsFilled =
     (m : Memory) (r : Ring) (srrctl : ℕ) (rest : Rest) → IsHealthy m r srrctl
     → fill_of m r srrctl rest ≡ filled_outcome m rest
     (filled_of r rest (buffer_address m r) (piece_length (buffer_size_of srrctl) rest))
 
--- The filled slot is the one at the head, and the head advances to the next slot. The buffer takes as much of the rest
--- of the frame as it has room for. The frame ends there if and only if none of its bytes remain.
+-- The filled slot is the one at the head, and the head advances to the next slot. The buffer receives as many of the
+-- frame's remaining bytes as fit. The frame ends in this buffer if and only if no bytes of the frame remain afterwards.
 pub record TakesPiece (m : Memory) (r : Ring) (srrctl : ℕ) (rest : Rest) (f : Filled) : Type 0 where
   pub slot : f.slot ≡ r.head
   pub head : f.head ≡ next_of (slots_of r) r.head
@@ -87,8 +89,9 @@ PieceLaw =
     (m : Memory) (r : Ring) (srrctl : ℕ) (rest : Rest) (f : Filled) → (fill_of m r srrctl rest).answer ≡ Ok f
     → TakesPiece m r srrctl rest f
 
--- What a driver reads from a filled slot. Its descriptor is done, ends the packet if the frame ends, and contains the
--- number of bytes and the given first half. Its buffer contains the bytes, unless the descriptor overlaps them.
+-- What a driver reads from a filled slot. The slot's descriptor is done, has EOP set if and only if the frame ends, and
+-- contains the number of written bytes and the given first half. The slot's buffer contains the written bytes, unless
+-- the descriptor overlaps them.
 pub record ShowsPiece (m : Memory) (rest : Rest) (f : Filled) : Type 0 where
   pub done : IsTrue (is_done (second_half (read_at m f.desc 16)))
   pub end : ends_packet (second_half (read_at m f.desc 16)) ≡ f.end
@@ -113,14 +116,14 @@ WritesInsideSlot =
     (m : Memory) (r : Ring) (srrctl : ℕ) (rest : Rest) (f : Filled) → (fill_of m r srrctl rest).answer ≡ Ok f
     → ChangesOnlySlot m (fill_of m r srrctl rest).memory f
 
--- Whether the slot is filled or not, the same blocks stay lent and each keeps its length of 2,048 bytes.
+-- Whether or not the slot is filled, the same blocks remain lent, and each whole block keeps its length of 2,048 bytes.
 abbrev pub FillKeepsBlocks : Type 0
 FillKeepsBlocks =
     (m : Memory) (r : Ring) (srrctl : ℕ) (rest : Rest)
     → SameLent (fill_of m r srrctl rest).memory m × (IsWhole m → IsWhole (fill_of m r srrctl rest).memory)
 
--- The descriptor is within one block and the written bytes are within one block. Every other block is unchanged. If the
--- two blocks differ, each changes only by what was written to it.
+-- The descriptor is within one block and the written bytes are within one block. Every other block is unchanged. If
+-- these two blocks differ, one changes only in the descriptor and the other only in the written bytes.
 pub record FillsBlocks (old new : Memory) (rest : Rest) (f : Filled) (ring buffer : ℕ) : Type 0 where
   pub others : (number : ℕ) → number ≢ ring → number ≢ buffer → map.get new number ≡ map.get old number
   pub bytes :

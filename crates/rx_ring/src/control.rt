@@ -14,7 +14,7 @@ const TYPE_ONE: u32 = 0x0200_0000;
 /// The unit of the buffer size, in bytes.
 const KILOBYTE: usize = 1024;
 
-/// Returns the type of the queue's descriptors: bits 27:25.
+/// Returns the type of the queue's descriptors, from bits 27:25.
 pub(crate) fn descriptor_type(srrctl: u32) -> u32
     ensures { result ≡ descriptor_type_of srrctl }
 {

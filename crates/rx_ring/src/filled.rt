@@ -1,4 +1,4 @@
-/// What was written for one descriptor.
+/// The result of filling one descriptor's slot.
 #[derive(Clone, Copy, PartialEq, Eq, Debug)]
 pub struct Filled {
     /// The index of the descriptor in the ring.
@@ -9,7 +9,7 @@ pub struct Filled {
     pub desc: u64,
     /// The bus address of the first byte that was written into the buffer.
     pub at: u64,
-    /// The number of bytes written there, at most 31,744.
+    /// The number of frame bytes written into the buffer, at most 31,744.
     pub len: usize,
     /// The new head of the ring.
     pub head: u16,

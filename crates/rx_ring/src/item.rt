@@ -1,4 +1,4 @@
-/// What to write: the bytes of a frame, starting at an offset.
+/// The bytes to write: a frame's bytes, starting at an offset.
 #[derive(Clone, Copy, Debug)]
 pub struct Item<'a> {
     /// All bytes of the frame, without its frame check sequence.

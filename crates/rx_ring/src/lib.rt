@@ -1,10 +1,10 @@
 //! The receive rings of the Intel 82599: filling one descriptor.
 //!
-//! [`fill`] fills the slot at the head of a ring. It tests what the queue's registers, the descriptor and the lent
-//! memory allow. Then it writes the next bytes of a frame into the buffer that the descriptor names, and writes the
-//! descriptor back, all in one call. `specs/Fill.antt` defines what it returns and the memory that it leaves; `laws`
-//! states what a driver can rely on. The ring itself is in `dma_ring`, and the device depends on this crate. No call
-//! allocates.
+//! [`fill`] fills the slot at the head of a ring. First it tests the queue's registers, and whether the descriptor and
+//! the buffer's bytes are lent. Then it writes the next bytes of a frame into the descriptor's buffer and writes back
+//! the descriptor, all in one call. `specs/Fill.antt` defines the result of `fill` and the memory after the call;
+//! `laws` states what a driver can rely on. The ring itself is in `dma_ring`, and the device depends on this crate. No
+//! call allocates.
 //!
 //! Source: Intel 82599 datasheet, sections on receive descriptor rings and on advanced receive descriptors.
 #![tactic(auto)]

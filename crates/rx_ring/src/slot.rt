@@ -12,15 +12,15 @@ use crate::item::Item;
 use dma_arena::LentMemory;
 use dma_ring::{Ring, RingFault, buffer_address, done_word, first_half, of_halves};
 
-/// Fills the slot at the head of a receive ring. It writes the item's next bytes, as many as fit, to the buffer that
-/// the slot's descriptor names, and then writes the descriptor back. It allocates nothing. If the head and the tail are
-/// in the ring, the device must own at least one of its slots. The ring must have at most 65,536 slots, and the item's
-/// offset must be at most the length of its frame.
+/// Fills the slot at the head of a receive ring. The call writes the item's next bytes, as many as fit, to the buffer
+/// of the slot's descriptor, and then writes back the descriptor. It allocates nothing. If the head and the tail are in
+/// the ring, the device must own at least one of the ring's slots. The ring must have at most 65,536 slots, and the
+/// item's offset must be at most the length of its frame.
 ///
-/// `srrctl` is the word of the queue's SRRCTL. Errors, in the order of the tests: `Outside` if the head or the tail
-/// isn't a slot; `DescType` if the descriptor type isn't 1, the advanced one with one buffer; `NoBufferSize` if the
-/// buffer size is 0; `NotLent` with the descriptor's address; `NotLent` with the buffer's address, if a byte to be
-/// written isn't lent. An error leaves the memory as it was.
+/// `srrctl` is the value of the queue's SRRCTL. Errors, in the order of the tests: `Outside` if the head or the tail
+/// isn't a slot; `DescType` if the descriptor type isn't 1 (advanced, one buffer); `NoBufferSize` if the buffer size is
+/// 0; `NotLent` with the descriptor's address; `NotLent` with the buffer's address, if a byte to be written isn't lent.
+/// Each error leaves the memory unchanged.
 ///
 /// Intel 82599 datasheet, section on advanced receive descriptors.
 #[tactic(auto, unfolding(crate::specs::Fill::fill_of))]
@@ -33,7 +33,7 @@ pub fn fill(
     requires ready { IsReady ring.now }
     requires slots { slots_of ring.now ≤ 65536 }
     requires offset { item.now.offset ≤ length item.now.frame.now }
-    // All clauses hold for every SRRCTL value, every memory, and every remainder of a frame.
+    // All clauses hold for every SRRCTL value, every memory, and all remaining bytes of any frame.
     ensures answer { result ≡ (fill_of memory.old ring.now srrctl (rest_of item.now)).answer }
     ensures memory { memory.new ≡ (fill_of memory.old ring.now srrctl (rest_of item.now)).memory }
     ensures kept { OnErr result (memory.new ≡ memory.old) }
@@ -51,7 +51,8 @@ pub fn fill(
     fill_slot(memory, ring, item, size)
 }
 
-/// Fills the slot at the head from its descriptor, with buffers of `size` bytes.
+/// Fills the slot at the head, given the buffer size in bytes: tests the descriptor and reads the buffer's address from
+/// it.
 #[tactic(auto, unfolding(crate::specs::Fill::fill_slot_of))]
 fn fill_slot(
     memory: &mut LentMemory,
@@ -76,7 +77,7 @@ fn fill_slot(
     fill_buffer(memory, ring, item, at, len)
 }
 
-/// Writes `len` bytes into the buffer at an address, then writes the descriptor back.
+/// Writes the item's next `len` bytes into the buffer at bus address `at`, then writes back the descriptor.
 #[tactic(auto, unfolding(crate::specs::Fill::fill_buffer_of))]
 fn fill_buffer(
     memory: &mut LentMemory,

@@ -5,6 +5,6 @@ use Rattle.std.specs.Prelude.{ℕ, ◌+◌, ◌-◌, ◌/◌, ◌%◌, ◌^◌, 
 abbrev pub has_bit : ℕ → ℕ → Bool
 has_bit bit word = word / 2 ^ bit % 2 == 1
 
--- The number in bits `high` to `low` of the word.
+-- The value of bits `high` to `low` of the word.
 abbrev pub field : ℕ → ℕ → ℕ → ℕ
 field high low word = word / 2 ^ low % 2 ^ (high + 1 - low)

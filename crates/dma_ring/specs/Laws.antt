@@ -1,4 +1,4 @@
--- Laws of rings and descriptors. They number bits as the datasheet does, without the code's names.
+-- Laws of rings and descriptors. They refer to bits by the datasheet's numbers, not by the code's names.
 use Rattle.std.specs.Prelude.{ℕ, ◌≡◌, ◌≢◌, ◌+◌, ◌*◌, ◌%◌, ◌^◌, ◌<◌, ◌≤◌, ◌⊎◌, ◌==◌, Bool, false, not, ◌||◌, IsTrue, IsFalse, [], ◌∷◌, length}
 use Rattle.dma_ring.specs.Bits.{has_bit, field}
 use Rattle.dma_ring.specs.Descriptor.{first_half, second_half, of_halves}
@@ -11,21 +11,21 @@ use Rattle.dma_ring.specs.declared.transmit.Command.{Command}
 
 -- Slots.
 
--- Let a ring's head and tail be slots of the ring. If they are equal, the device owns no slot. Otherwise it owns the
--- slot at the head, and the slots that it still owns after the head has advanced.
+-- Suppose that a ring's head and tail are slots of the ring. If they are equal, the device owns no slot. Otherwise the
+-- device owns the slot at the head, and all slots that it still owns after the head advances.
 pub record AvailableSlotsFollowTheHead : Type 0 where
   pub empty : (r : Ring) → IsFalse (is_outside r) → r.head ≡ r.tail → available_slots r ≡ []
   pub more : (r : Ring) → IsFalse (is_outside r) → r.head ≢ r.tail →
       available_slots r ≡ r.head ∷ available_slots (record r { head = next_of (slots_of r) r.head })
 
--- Two slots of a ring shorter than 2^20 bytes share no byte, even if addresses wrap.
+-- Two slots of a ring shorter than 2^20 bytes don't overlap, even if addresses wrap.
 abbrev pub SlotsAreApart : Type 0
 SlotsAreApart =
     (r : Ring) (i j : ℕ) → r.length < 2 ^ 20 → i < slots_of r → j < slots_of r → i ≢ j
     → (descriptor_address r i + 16 ≤ descriptor_address r j) ⊎ (descriptor_address r j + 16 ≤ descriptor_address r i)
 
--- If slot 0 is at a multiple of 16, no slot crosses the end of a block. RDBAL and TDBAL keep slot 0 at a multiple of
--- 128.
+-- If slot 0 is at a multiple of 16, no slot crosses the end of a block. RDBAL and TDBAL ensure that slot 0 is at a
+-- multiple of 128.
 abbrev pub SlotsAreInBlocks : Type 0
 SlotsAreInBlocks =
     (r : Ring) (slot : ℕ) → r.base % 16 ≡ 0
@@ -48,7 +48,7 @@ pub record HasHalves (low high : ℕ) : Type 0 where
 abbrev pub HalvesComeBack : Type 0
 HalvesComeBack = (low high : ℕ) → HasHalves low high
 
--- A word reports what a packet is, each field in its own bits; the other bits are 0.
+-- The word reports each field of a packet in the field's own bits. The other bits are 0.
 pub record TellsPacket (word : ℕ) (packet : Packet) : Type 0 where
   pub fits : word < 2 ^ 64
   pub rss : field 3 0 word ≡ packet.rss
@@ -63,8 +63,8 @@ abbrev pub PacketIsReported : Type 0
 PacketIsReported = (packet : Packet) → packet.rss < 2 ^ 4 → packet.hash < 2 ^ 32 →
     TellsPacket (reported_of packet) packet
 
--- A word reports that the descriptor is done, whether the packet ends, and the number of bytes. Bits 31:2 and 63:48 are
--- 0.
+-- The word reports that the descriptor is done, whether the packet ends, and the number of bytes. Bits 31:2 and 63:48
+-- are 0.
 pub record TellsPiece (word bytes : ℕ) (ends : Bool) : Type 0 where
   pub fits : word < 2 ^ 64
   pub done : IsTrue (is_done word)

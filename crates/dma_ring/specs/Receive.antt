@@ -13,7 +13,8 @@ reported_of packet =
     packet.rss + (if packet.ipv4 then 2 ^ IPV4 else 0) + (if packet.ipv6 then 2 ^ IPV6 else 0)
     + (if packet.tcp then 2 ^ TCP else 0) + (if packet.udp then 2 ^ UDP else 0) + 2 ^ HASH * packet.hash
 
--- The second half that the device writes back: done, whether the packet ends, and the number of bytes.
+-- The second half that the device writes back. It reports that the descriptor is done, whether the packet ends, and the
+-- number of bytes.
 abbrev pub written_back : ℕ → Bool → ℕ
 written_back len end = (if end then 2 ^ DD + 2 ^ EOP else 2 ^ DD) + 2 ^ PKT_LEN * len
 

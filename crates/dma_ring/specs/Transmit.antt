@@ -4,7 +4,8 @@ use Rattle.dma_ring.specs.declared.transmit.TheConstants.{DTYP, EOP, RS, DEXT, V
 use Rattle.dma_ring.specs.declared.transmit.Command.{Command}
 use Rattle.dma_ring.specs.Bits.{has_bit}
 
--- The command: length, type, EOP, RS and DEXT. An offload is VLE, TSE or a nonzero POPTS.
+-- The command in a second half: the length, the type, EOP, RS and DEXT. An offload is requested if VLE or TSE is 1 or
+-- POPTS isn't 0.
 unfoldable pub command_of : ℕ → Command
 command_of second = record {
   len = second % 2 ^ 16;
@@ -15,6 +16,6 @@ command_of second = record {
   offload = has_bit VLE second || has_bit TSE second || not (second / 2 ^ POPTS % 2 ^ 6 == 0);
 }
 
--- The word with DD set.
+-- The second half with DD set.
 abbrev pub with_done : ℕ → ℕ
 with_done second = if has_bit DD second then second else second + 2 ^ DD

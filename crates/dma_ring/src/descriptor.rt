@@ -1,4 +1,4 @@
-//! A descriptor as two 64-bit words, the one at the lower address first, each little-endian.
+//! A descriptor as two little-endian 64-bit words. The first half is at the lower address.
 
 ghost use Rattle.std.specs.Prelude.{◌≡◌};
 ghost use Rattle.dma_ring.specs.Descriptor.{first_half, second_half, of_halves};
@@ -21,7 +21,7 @@ pub fn second_half(descriptor: &[u8; 16]) -> u64
     LittleEndian::read_u64(&descriptor[8..])
 }
 
-/// Returns the 16 bytes of a descriptor with these halves.
+/// Returns the 16 bytes of the descriptor that has these halves.
 #[tactic(auto, unfolding(crate::specs::Descriptor::of_halves))]
 pub fn of_halves(first: u64, second: u64) -> [u8; 16]
     ensures { result ≡ of_halves first second }

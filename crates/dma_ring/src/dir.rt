@@ -1,4 +1,4 @@
-/// A side of a queue: the direction of its frames.
+/// A side of a queue, identified by the direction of its frames.
 #[derive(Clone, Copy, PartialEq, Eq, Debug)]
 pub enum Dir {
     /// The receive side: frames from the link to memory.

@@ -1,4 +1,4 @@
-//! A driver's side of the descriptors: what it writes for the device, and how it reads what the device wrote back.
+//! How a driver uses descriptors: what it writes for the device, and how it reads what the device wrote back.
 //!
 //! Intel 82599 datasheet, sections on advanced receive descriptors and on advanced transmit data descriptors.
 
@@ -37,14 +37,14 @@ pub fn is_written_back(second: u64) -> bool
     second % 2 == 1
 }
 
-/// Whether the packet ends (EOP) in the buffer of a written-back descriptor with this second half.
+/// Whether the packet ends (EOP) in the descriptor's buffer, given the second half of a written-back descriptor.
 pub fn is_last(second: u64) -> bool
     ensures { result ≡ ends_packet second }
 {
     second / 2 % 2 == 1
 }
 
-/// Returns the number of bytes written to the buffer of a written-back descriptor with this second half.
+/// Returns the number of bytes written to the descriptor's buffer, given the second half of a written-back descriptor.
 pub fn reported_length(second: u64) -> u16
     ensures { result ≡ bytes_in second }
 {
@@ -60,7 +60,7 @@ pub fn reported_rss(first: u64) -> u8
     (first % 16) as u8
 }
 
-/// Returns the packet's RSS hash from the first half of a written-back descriptor; 0 if none is reported.
+/// Returns the packet's RSS hash from the first half of a written-back descriptor, or 0 if no hash is reported.
 pub fn reported_hash(first: u64) -> u32
     requires { first < 2 ^ 64 }
     ensures { result ≡ hash_in first }
@@ -68,8 +68,9 @@ pub fn reported_hash(first: u64) -> u32
     (first / 0x1_0000_0000) as u32
 }
 
-/// Returns the second half of a transmit data descriptor for `len` bytes of a packet of `payload` bytes, which must be
-/// below 2^18. With `last`, the packet ends with these bytes, and the device reports when the descriptor is done.
+/// Returns the second half of a transmit data descriptor for `len` bytes. They are part of a packet that is `payload`
+/// bytes long; `payload` must be below 2^18. If `last` is set, the packet ends with these bytes, and the device reports
+/// when the descriptor is done.
 pub fn data_descriptor_word(len: u16, last: bool, payload: u32) -> u64
     requires { payload < 2 ^ 18 }
     ensures { result ≡ data_word len last payload }

@@ -3,9 +3,9 @@
 pub enum RingFault {
     /// The head or the tail isn't a slot of the ring.
     Outside,
-    /// Memory that the access needs isn't lent. The value is the bus address of its first byte.
+    /// Memory that the access needs isn't lent. The value is the bus address of the access.
     NotLent(u64),
-    /// The receive queue's descriptor type in SRRCTL isn't 1, the advanced one with one buffer.
+    /// The receive queue's descriptor type in SRRCTL isn't 1 (advanced, one buffer).
     DescType,
     /// The receive queue's buffer size in SRRCTL is 0.
     NoBufferSize,

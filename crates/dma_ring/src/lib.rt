@@ -1,8 +1,9 @@
 //! The descriptor rings of the Intel 82599: what receive and transmit rings have in common.
 //!
-//! A ring is a list of slots in bus memory, 16 bytes each. The device owns the slots from the head up to the tail, tail
-//! excluded, and wraps around after the last. This crate defines the slots, their addresses, and the named fields of
-//! their descriptors; `rx_ring` fills descriptors and `tx_ring` fetches them. No call allocates.
+//! A ring is a list of slots in bus memory, 16 bytes each. The device owns the slots from the head up to, but not
+//! including, the tail. After the last slot, the ring continues at slot 0. This crate defines the slots, their
+//! addresses, and the named fields of their descriptors; `rx_ring` fills descriptors and `tx_ring` fetches them. No
+//! call allocates.
 //!
 //! Source: Intel 82599 datasheet, sections on receive and transmit descriptor rings and on advanced descriptors.
 #![tactic(auto)]

@@ -26,10 +26,10 @@ const DD: u32 = 0;
 /// The bit of the second half that is 1 if the packet ends in this buffer.
 const EOP: u32 = 1;
 
-/// The lowest bit, in the second half, of the number of bytes in this buffer.
+/// The lowest bit of the number of bytes in this buffer, in the second half.
 const PKT_LEN: u32 = 32;
 
-/// Returns the bus address of the buffer in a descriptor's first half. Bit 0 is ignored.
+/// Returns the buffer's bus address from a descriptor's first half. Bit 0 is ignored.
 pub fn buffer_address(first: u64) -> u64
     ensures { result ≡ buffer_of first }
 {
@@ -49,11 +49,11 @@ pub struct Packet {
     pub tcp: bool,
     /// Whether the packet is UDP.
     pub udp: bool,
-    /// The RSS hash; 0 if none is reported.
+    /// The RSS hash, or 0 if no hash is reported.
     pub hash: u32,
 }
 
-/// Returns the first half that the device writes back: what it reports about the packet.
+/// Returns the first half that the device writes back, which reports the packet's RSS type, protocols and hash.
 pub fn packet_word(packet: &Packet) -> u64
     ensures { result ≡ reported_of packet.now }
 {
@@ -65,8 +65,8 @@ pub fn packet_word(packet: &Packet) -> u64
         + (u64::from(packet.hash) << HASH)
 }
 
-/// Returns the second half that the device writes back: done, whether the packet ends, and the number of bytes in this
-/// buffer.
+/// Returns the second half that the device writes back. It reports that the descriptor is done, whether the packet
+/// ends, and the number of bytes in this buffer.
 pub fn done_word(len: u16, end: bool) -> u64
     ensures { result ≡ written_back len end }
 {

@@ -9,7 +9,7 @@ pub const DESCRIPTOR_BYTES: u32 = 16;
 pub struct Ring {
     /// The bus address of slot 0 (RDBAL and RDBAH, or TDBAL and TDBAH).
     pub base: u64,
-    /// The length in bytes (RDLEN or TDLEN). A remainder below 16 bytes isn't a slot.
+    /// The ring's length in bytes (RDLEN or TDLEN). A remainder shorter than 16 bytes isn't a slot.
     pub length: u32,
     /// The slot that the device processes next (RDH or TDH).
     pub head: u16,
@@ -32,8 +32,8 @@ impl Ring {
         u32::from(self.head) >= self.slots() || u32::from(self.tail) >= self.slots()
     }
 
-    /// Returns the number of slots that the device owns: from the head up to, but not including, the tail. It is 0 if
-    /// head and tail are equal. Both must be slots of the ring.
+    /// Returns the number of slots that the device owns: from the head up to, but not including, the tail. The number
+    /// is 0 if the head and the tail are equal. Both must be slots of the ring.
     pub fn available(&self) -> u32
         requires { IsFalse (is_outside self.now) }
         ensures { result ≡ length (available_slots self.now) }
@@ -47,7 +47,7 @@ impl Ring {
         }
     }
 
-    /// Returns the slot after this one; after the last slot, this is slot 0. The ring must have at most 65,536 slots.
+    /// Returns the slot that follows `slot`. Slot 0 follows the last slot. The ring must have at most 65,536 slots.
     pub fn next(&self, slot: u16) -> u16
         requires slot { slot < slots_of self.now }
         requires slots { slots_of self.now ≤ 65536 }

@@ -8,7 +8,7 @@ ghost use Rattle.dma_ring.specs.Transmit.{command_of, with_done};
 use crate::bits::has_bit;
 
 /// The lowest bit of the descriptor's type, DTYP. The number of bytes, DTALEN, is in bits 15:0. Two fields have no
-/// effect: IFCS, the frame check sequence, in bit 25; and PAYLEN, the payload length, in bits 63:46.
+/// effect: IFCS, which requests a frame check sequence, in bit 25; and PAYLEN, the payload length, in bits 63:46.
 const DTYP: u32 = 20;
 
 /// End of packet: the packet ends with this buffer.
@@ -29,7 +29,7 @@ const TSE: u32 = 31;
 /// The device is done with the descriptor.
 const DD: u32 = 32;
 
-/// The lowest bit of POPTS, the checksums to insert.
+/// The lowest bit of POPTS, which selects the checksums to insert.
 const POPTS: u32 = 40;
 
 /// What the second half of a transmit descriptor requests.
@@ -49,7 +49,7 @@ pub struct Command {
     pub offload: bool,
 }
 
-/// Decodes a descriptor's second half.
+/// Returns the command that a transmit descriptor's second half contains.
 #[tactic(auto, unfolding(crate::specs::Transmit::command_of))]
 pub fn command_in(second: u64) -> Command
     ensures { result ≡ command_of second }
@@ -64,7 +64,7 @@ pub fn command_in(second: u64) -> Command
     }
 }
 
-/// Returns the second half with the done bit set and every other bit unchanged.
+/// Returns this second half with the done bit set and every other bit unchanged.
 pub fn done(second: u64) -> u64
     ensures { result ≡ with_done second }
 {

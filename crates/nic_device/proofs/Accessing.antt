@@ -1,4 +1,4 @@
--- Register accesses leave the device sound and stay within their reach.
+-- Register accesses leave the device sound and change nothing outside their reach.
 use Rattle.std.proofs.Common.{ap, ◌≡◌, ℕ, cond, true, refl}
 use Rattle.std.proofs.lemmas.Bool.{cond_both}
 use Rattle.register_file.specs.RegTable.Rows.{row_of}
@@ -29,7 +29,7 @@ use Rattle.nic_device.specs.declared.named.Named.{Named}
 use Rattle.nic_device.specs.declared.named.Named.TheVariants.{Nothing, Register}
 use Rattle.nic_device.specs.declared.event.Reply.TheVariants.{Stray, Done}
 
--- A read and a write to a place, or of none.
+-- Reads and writes of a place, and accesses to a number without a register.
 
 pub read_leads : (s : State) (port : Port) (n : ℕ) (m : Named)
     → ((r : Outcome) → StaysWithin (read_reach m) s r.state → StaysWithin (read_reach (named s port n)) s r.state)

@@ -1,4 +1,4 @@
--- The reply to each event, and its length in a note.
+-- The reply to each event is a possible one, and its note fits into the reserved room.
 use Rattle.std.proofs.Common.{◌≡◌, ◌≤◌, ℕ, true, List, [], ◌∷◌, length, refl, sym, subst, arith, Option, Some, None, eq-eqb}
 use Rattle.std.specs.Prelude.{Result, Ok, Err, IfOk, option_map}
 use Rattle.std.specs.FinMap as map
@@ -37,7 +37,7 @@ use Rattle.nic_device.specs.declared.event.Reply.{Reply}
 zero_le : 0 ≤ 0
 zero_le = omega arith
 
--- A possible reply to an event, with a note that fits into its room.
+-- The reply is possible for the event, and its note fits into the reserved room.
 pub record Suits (s : State) (e : Event Block) (reply : Reply Block) : Type 0 where
   pub fits : may_answer e reply ≡ true
   pub room : note_length reply ≤ note_room s e
@@ -118,7 +118,7 @@ out_suits : (s t : State) (out : List (ℕ × List ℕ)) → t.out ≡ out
 out_suits s t [] is = record { fits = refl; room = omega arith }
 out_suits s t (frame ∷ others) is = record { fits = refl; room = rw is (omega arith) }
 
--- If the device is sound, the reply to each event is possible for it, and its note fits.
+-- If the device is sound, the reply to each event is possible for the event, and the reply's note fits.
 pub step_suits : (s : State) (e : Event Block) → IsSound s → IsEvent e → Suits s e (step_of s e).reply
 unfolding step_of
 step_suits s (event.Read port n) h is = read_suits s port n (named s port n)

@@ -1,4 +1,4 @@
--- Frames that arrive leave the device sound and stay within their reach.
+-- Frames that arrive leave the device sound and change nothing outside their reach.
 use Rattle.std.proofs.Common.{◌≡◌, ◌<◌, ◌≤◌, ℕ, true, false, List, [], ◌∷◌, ◌++◌, length, refl, arith, Ok}
 use Rattle.std.proofs.lemmas.List.Elements.{All-push}
 use Rattle.rx_filter.specs.Sorting.{sorted}
@@ -22,7 +22,7 @@ use Rattle.nic_device.specs.declared.event.Event.TheVariants as event
 use Rattle.nic_device.specs.declared.event.Reply.TheVariants.{Done, Dropped}
 use Rattle.nic_device.specs.declared.event.Why.TheVariants.{Short, Long, Full}
 
--- A frame joins the receive list.
+-- A device is still sound after a frame joins the receive list.
 joined_sound : (s : State) (frame : List ℕ) (t : Target) → sorted s.registers frame ≡ Ok t → length s.waiting < s.fifo
     → 60 ≤ length frame → length frame ≤ frame_limit s.registers → IsSound s → AreBytes frame
     → IsSound (record (with_count s Gprc) { waiting = s.waiting ++ let_in frame t ∷ [] })

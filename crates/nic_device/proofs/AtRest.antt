@@ -1,4 +1,4 @@
--- The steps of a queue at rest change nothing.
+-- Steps that serve a queue at rest change nothing.
 use Rattle.std.proofs.Common.{cond, ◌≡◌, ℕ, Bool, true, false, List, [], ◌∷◌, refl}
 use Rattle.std.specs.Prelude.{◌&&◌, nat_lt}
 use Rattle.std.proofs.lemmas.Bool.{false≢true, or_right}

@@ -1,4 +1,4 @@
--- Copies of lent blocks are in ascending order and represent the memory that they were taken from.
+-- Copies of lent blocks are in ascending order and represent the memory from which they were copied.
 use Rattle.std.proofs.Common.{◌≡◌, ◌≢◌, ℕ, zero, suc, ◌+◌, ◌-◌, ◌*◌, ◌/◌, ◌<◌, ◌≤◌, inl, inr, Bool, true, false, Option, Some, None, List, [], ◌∷◌, length, get_or, drop, refl, sym, ap, subst, ◌∙◌, arith}
 use Rattle.std.specs.Prelude.{is_some}
 use Rattle.std.specs.FinMap as map
@@ -151,7 +151,7 @@ unlent-head : (copy : ℕ × List ℕ) (copies : List (ℕ × List ℕ)) → Are
     → has_block (memory_of copies) copy.0 ≡ false
 unlent-head copy copies rising = unlent-by copy copies (has_block (memory_of copies) copy.0) rising refl
 
--- The copy that represents a block after the first k copies represents it among all of them.
+-- A copy that represents a block among the copies after the first k also represents this block among all copies.
 pub get-drop : (copies : List (ℕ × List ℕ)) (k n : ℕ) (bytes : List ℕ) → AreRising copies
     → map.get (memory_of (drop k copies)) n ≡ Some bytes → map.get (memory_of copies) n ≡ Some bytes
 get-drop copies zero n bytes rising got = got
@@ -160,7 +160,7 @@ get-drop (copy ∷ copies) (suc k) n bytes rising got =
     let there = get-drop copies k n bytes rising.1 got in
     get-insert_other (memory_of copies) copy.0 copy.1 n (apart copy copies n rising (ap is_some there)) ∙ there
 
--- The block of a copy.
+-- The block that a copy represents.
 pub get-at : (copies : List (ℕ × List ℕ)) (at : ℕ) (copy : ℕ × List ℕ) → AreRising copies
     → drop (at - 1) copies ≡ copy ∷ drop at copies → map.get (memory_of copies) copy.0 ≡ Some copy.1
 get-at copies at copy rising is =
@@ -168,7 +168,7 @@ get-at copies at copy rising is =
     (subst (λ (es : List (ℕ × List ℕ)). map.get (memory_of es) copy.0 ≡ Some copy.1) (sym is)
     (get-insert_same (memory_of (drop at copies)) copy.0 copy.1))
 
--- After the last copy there are none.
+-- After the last copy, no copies follow.
 pub memory-past : (copies : List (ℕ × List ℕ)) (k : ℕ) → length copies ≤ k → memory_of (drop k copies) ≡ map.empty
 memory-past [] zero past = refl
 memory-past [] (suc k) past = refl
@@ -229,14 +229,14 @@ lowest_more a m n bytes block free is = record {
   ];
 }
 
--- One more copy, with a free block.
+-- One more copy, whose block is free.
 pub tells_more : (a : Numbers) (copy : ℕ × List ℕ) (copies : List (ℕ × List ℕ)) (lowest : Option ℕ)
     → is_free a copy.0 ≡ true → TellsTaken a (memory_of copies) lowest
     → TellsTaken a (memory_of (copy ∷ copies)) lowest
 tells_more a copy copies None free all = free_more a (memory_of copies) copy.0 copy.1 free all
 tells_more a copy copies (Some block) free is = lowest_more a (memory_of copies) copy.0 copy.1 block free is
 
--- One more copy, with a block that isn't free: it is the lowest.
+-- One more copy, whose block isn't free. This block is then the lowest one that isn't free.
 pub tells_lower : (a : Numbers) (copy : ℕ × List ℕ) (copies : List (ℕ × List ℕ)) → AreRising (copy ∷ copies)
     → is_free a copy.0 ≡ false → TellsTaken a (memory_of (copy ∷ copies)) (Some copy.0)
 tells_lower a copy copies rising taken = record {

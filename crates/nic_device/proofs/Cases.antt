@@ -33,12 +33,12 @@ use Rattle.nic_device.specs.declared.event.Reply.TheVariants.{Done, Idle, NoQueu
 use Rattle.nic_device.specs.declared.event.Why.{Why}
 use Rattle.nic_device.specs.declared.event.Why.TheVariants.{LinkDown, Off, Short, Long, Full}
 
--- A property of both branches holds whichever way a test turns out.
+-- A property that both branches have holds whatever the result of the test.
 pub either_way : {A : Type 0} (P : A → Type 0) (b : Bool) (x y : A) → P x → P y → P (cond b x y)
 either_way P true x y p q = p
 either_way P false x y p q = q
 
--- Register writes, and what one may change.
+-- Register writes, and what a write may change.
 
 pub record Reaches (P : Reach → Type 0) (mode : Mode) : Type 0 where
   pub nothing : P nowhere

@@ -21,7 +21,7 @@ use Rattle.register_laws.proofs.Sound.{sound-counted, sound-causes_raised}
 use Rattle.register_laws.proofs.Within.{within-counted, within-causes_raised}
 use Rattle.nic_device.specs.Interrupt.{group_of_queue, raised_by}
 
--- A footprint is within a union with it, and within a wider one.
+-- A footprint is within each union that contains it, and within each wider footprint.
 
 pub covers-first : (f g : Footprint) → Covers (either f g) f
 covers-first f g = record {
@@ -37,7 +37,8 @@ covers-second f g = record {
   reported = λ h is. or_right (f.reported h) (g.reported h) is;
 }
 
--- Registers derived from others: only the footprint changed, and they are sound if the old ones are and `good` holds.
+-- Registers derived from others: they differ only within the footprint, and they are sound if the old registers are
+-- sound and `good` holds.
 pub record Comes (good : Type 0) (f : Footprint) (r new : Registers) : Type 0 where
   pub sound : good → AreSound r → AreSound new
   pub within : ChangesWithin f r new

@@ -32,7 +32,7 @@ use Rattle.nic_device.proofs.Cases.{either_way}
 use Rattle.nic_device.proofs.Keeping.{IsStaged-none}
 use Rattle.nic_device.specs.Sound.{AreBytes}
 
--- Memory keeps whole blocks after a write-back.
+-- Each block in memory is still whole after a write-back.
 report-small : (r : Ring) (o : Option ℕ) (descriptor : List ℕ) → AreBytes (report_bytes r o descriptor)
 report-small r (Some address) descriptor = to_le_bytes-small w32 (new_head r)
 report-small r None descriptor = of_halves-small (first_half descriptor) (with_done (second_half descriptor))

@@ -1,4 +1,4 @@
--- A slot with a fault.
+-- Fetching a slot with a fault.
 use Rattle.std.proofs.Common.{◌≡◌, ℕ, List, length, ap, Some}
 use Rattle.std.specs.Prelude.{Err}
 use Rattle.rx_ring.specs.DmaArena.Memory.{Memory}

@@ -20,7 +20,7 @@ pub hash-lt : (key input : List ℕ) → toeplitz_hash key input < 2 ^ 32
 unfolding toeplitz_hash
 hash-lt key input = fold_windows-lt key (set_bits input) 0 (omega arith)
 
--- The hash of nothing is 0.
+-- The hash of an empty input is 0.
 pub hash-none : (key : List ℕ) → toeplitz_hash key [] ≡ 0
 unfolding toeplitz_hash
 hash-none key = refl

@@ -1,4 +1,4 @@
--- A state with parts replaced stays sound and within its reach.
+-- A state is still sound after parts of it are replaced, and nothing outside the reach changes.
 use Rattle.std.proofs.Common.{◌≡◌, ◌<◌, ◌≤◌, ℕ, zero, suc, Bool, false, List, [], ◌∷◌, length, get_or, refl, ◌∙◌, subst, inl, inr, arith}
 use Rattle.std.specs.Prelude.{All, slice_set}
 use Rattle.std.proofs.lemmas.Bool.{cases_eq, cases_lt}
@@ -25,7 +25,7 @@ pub sound-changed : (s : State) (r : Registers) (ws : List Waiting) (staged : Li
     → IsSound (record s { registers = r; waiting = ws; staged = staged })
 sound-changed s r ws staged h sound waiting begun room short bare = assumption
 
--- Replaced registers in which each enabled side is still enabled.
+-- Registers are replaced, and each enabled side is still enabled.
 pub sound-registers : (s : State) (r : Registers) → IsSound s → AreSound r → KeepsOn s.registers r
     → IsSound (record s { registers = r })
 sound-registers s r h sound on =
@@ -79,13 +79,13 @@ AreStaged-set staged queue bytes h short = record {
   each = All-set IsStaged staged queue bytes short h.each;
 }
 
--- A queue whose bytes were dropped has none.
+-- A queue whose staged bytes were dropped has no staged bytes.
 pub dropped-none : (staged : List (List ℕ)) (i : ℕ) → get_or (slice_set staged i []) i [] ≡ []
 dropped-none [] i = refl
 dropped-none (x ∷ xs) zero = refl
 dropped-none (x ∷ xs) (suc i) = dropped-none xs i
 
--- Replacing a queue's staged bytes: its side is enabled, or there are none.
+-- Replacing a queue's staged bytes. The queue's transmit side is enabled, or the new bytes are empty.
 pub bare-set : (r : Registers) (staged : List (List ℕ)) (queue : ℕ) (bytes : List ℕ) → AreStagedWhileOn r staged
     → (is_on r Tx queue ≡ false → bytes ≡ []) → AreStagedWhileOn r (slice_set staged queue bytes)
 bare-set r staged queue bytes bare own other off =

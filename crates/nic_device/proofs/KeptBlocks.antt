@@ -1,4 +1,4 @@
--- Only lending and taking change which blocks are lent.
+-- Only lending and taking blocks changes which blocks are lent.
 use Rattle.std.proofs.Common.{◌≡◌, ℕ, false, List, [], ◌∷◌, refl}
 use Rattle.rx_ring.specs.DmaArena.Block.{Block}
 use Rattle.rx_ring.specs.DmaRing.declared.dir.Dir.{Dir}

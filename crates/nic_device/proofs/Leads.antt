@@ -1,4 +1,4 @@
--- An event's outcome is sound and changes nothing outside the event's reach.
+-- The state after an event is sound and unchanged outside the event's reach.
 use Rattle.std.proofs.Common.{◌≡◌, ℕ, refl}
 use Rattle.std.specs.FinMap as map
 use Rattle.std.specs.Prelude.{IsTrue, IsFalse}

@@ -30,7 +30,7 @@ has-remove m n k has is =
 pub has-empty : (n : ℕ) → has_block map.empty n ≡ false
 has-empty n = ap is_some (map.get-empty {X = List ℕ} nat_cmp n)
 
--- Nothing has left.
+-- At the start, no block has left the arena.
 pub left-start : (a : Numbers) → HaveLeft a a map.empty
 left-start a = record {
   first = refl;
@@ -39,7 +39,7 @@ left-start a = record {
   others = λ n none. refl;
 }
 
--- A block that wasn't lent and is free was free before.
+-- A block that isn't lent and is free now was free before.
 pub free_after : (before after : Numbers) (m : Memory) (n : ℕ) → HaveLeft before after m → has_block m n ≡ false
     → is_free before n ≡ true → is_free after n ≡ true
 free_after before after m n left none free = left.others n none ∙ free
@@ -140,7 +140,7 @@ len-less m n has =
     let less : map.len (map.remove m n) ≡ map.len m - 1 = map.len-remove nat_cmp_total m n ∙ rw has refl in
     omega arith
 
--- A block that is taken has its number.
+-- A block that is taken back has the requested number.
 taken-of : (m : Memory) (n : ℕ) (b : Block) (found : Option (List ℕ)) → map.get m n ≡ found
     → Some b ≡ block_at m n → (b.number ≡ n) × (has_block m n ≡ true)
 taken-of m n b None is e = (let no : Some b ≡ None = rw is at e in cc)
@@ -149,7 +149,7 @@ taken-of m n b (Some bytes) is e =
     let block : b ≡ (let block : Block = record { number = n; bytes = bytes } in block) = cc in
     (ap (λ (x : Block). x.number) block, ap is_some is)
 
--- It returns.
+-- The block returns to the arena.
 module _ (a given : Numbers) (m less : Memory) (n : ℕ) (b : Block) (taken : Some b ≡ block_at m n)
     (left : less ≡ map.remove m n) (back : given ≡ with_free a b.number true) where
   number-is : b.number ≡ n
@@ -190,7 +190,7 @@ put-back a taken given n b p q bytes free zero put same away back =
     ap (λ (x : Block). x.number) same ∙ ap (λ (x : Block). x.number) put ∙ ap (λ (x : Block). x.number) zero in
     rw (back, away, number) (given_back a n free)
 
--- A device without its memory, with memory of the same value lent to it.
+-- A device whose memory was replaced by lent memory of the same value.
 
 pub lent-again : (rest copy : State) (m lent : Memory) (engine : State) → engine ≡ record copy { memory = lent }
     → copy ≡ rest → lent ≡ m → engine ≡ record rest { memory = m }

@@ -1,4 +1,4 @@
--- A run so far, and one more event.
+-- The replies and the state of a run after one more event.
 use Rattle.std.proofs.Common.{◌≡◌, ℕ, ◌+◌, ◌<◌, List, [], ◌∷◌, ◌++◌, length, take, drop, get_or, refl, ap, sym, ◌∙◌, reverse}
 use Rattle.std.proofs.lemmas.List.{take_more, drop_more, reverse-append, reverse-reverse}
 use Rattle.rx_ring.specs.DmaArena.Block.{Block}
@@ -17,7 +17,7 @@ pub state-append : (s : State) (es : List (Event Block)) (e : Event Block)
 state-append s [] e = refl
 state-append s (x ∷ es) e = state-append (step_of s x).state es e
 
--- The replies, with the reply to one more event.
+-- The replies so far, followed by the reply to one more event.
 pub replies_more : (s : State) (es : List (Event Block)) (n : ℕ) (e : Event Block) → n < length es → get_or es n e ≡ e
     → replies_of s (take (n + 1) es) ≡ replies_of s (take n es) ++ (step_of (state_after s (take n es)) e).reply ∷ []
 replies_more s es n e h is = rw (take_more es n e h, is) (replies-append s (take n es) e)

@@ -1,4 +1,4 @@
--- Memory calls leave the device sound and stay within their reach.
+-- Memory calls leave the device sound and change nothing outside their reach.
 use Rattle.std.proofs.Common.{◌≡◌, ◌+◌, ◌*◌, inl, inr, ℕ, false, List, length, refl, ap}
 use Rattle.std.specs.Prelude.{is_some, nat_lt}
 use Rattle.std.proofs.lemmas.Bool.{cases_lt, eqb-false, lt-ltb, and_from, both_ways}
@@ -15,7 +15,7 @@ use Rattle.nic_device.proofs.Leads.{Leads, leads-still, leads-memory}
 use Rattle.nic_device.specs.declared.event.Event.TheVariants as event
 use Rattle.nic_device.specs.declared.event.Reply.TheVariants.{Done, NotLent, Misaligned, Bytes, Buf, Twice}
 
--- A block that contains none of the bytes is unaffected by them.
+-- A write doesn't affect a block that contains none of the written bytes.
 pub avoids-none : (number address len : ℕ) → has_some_of number address len ≡ false → Avoids number address len
 avoids-none number address len none =
     elim (cases_lt (2048 * number) (address + len)) as (λ _. Avoids number address len) [

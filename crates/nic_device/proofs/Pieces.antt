@@ -1,4 +1,4 @@
--- A piece of a frame.
+-- Each piece that is written lies within its frame.
 use Rattle.std.proofs.Common.{◌≡◌, ◌≤◌, ◌+◌, ℕ, length, arith, ap}
 use Rattle.std.specs.Prelude.{Ok}
 use Rattle.rx_ring.specs.DmaArena.Memory.{Memory}

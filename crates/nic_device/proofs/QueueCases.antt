@@ -27,7 +27,7 @@ abbrev pub filled_by : State → Waiting → rx.Outcome
 filled_by s w = rx.fill_of s.memory (receive_queue_of s.registers w.queue).ring
     (receive_queue_of s.registers w.queue).control (rest_of w)
 
--- A receive step has one of these outcomes.
+-- A receive step has one of these results.
 pub record Receives (P : Outcome → Type 0) (s : State) : Type 0 where
   pub idle : P (gives Idle s)
   pub dropped : (w : Waiting) (others : List Waiting) → s.waiting ≡ w ∷ others → (why : Why)

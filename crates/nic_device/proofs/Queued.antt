@@ -1,4 +1,4 @@
--- Waiting frames.
+-- Changes to the receive list leave its frames sound.
 use Rattle.std.proofs.Common.{◌≡◌, ◌<◌, ◌≤◌, ◌+◌, ℕ, true, false, List, [], ◌∷◌, ◌++◌, length, length-append, refl, ◌∙◌, arith, Ok}
 use Rattle.std.specs.Prelude.{◌&&◌, ◌==◌, not, All}
 use Rattle.std.proofs.lemmas.Bool.{cond_both}
@@ -41,7 +41,7 @@ pub AreWaiting-joined : (ws : List Waiting) (w : Waiting) → IsUnbegun w → Ar
 AreWaiting-joined [] w new h = (new.waits, All-nil IsUnbegun)
 AreWaiting-joined (v ∷ ws) w new h = (h.0, All-push IsUnbegun ws w h.1 new)
 
--- A frame with no byte written yet needs no enabled side.
+-- A frame with no byte written yet doesn't require that its receive side is enabled.
 pub begun-unbegun : (r : Registers) (ws : List Waiting) → All IsUnbegun ws → All (IsBegunWhileOn r) ws
 begun-unbegun r ws h =
     All-weaker IsUnbegun (IsBegunWhileOn r) (λ w is some. let none = is.none in absurd (omega arith)) ws h
@@ -73,7 +73,7 @@ AreWaiting-after_piece w others f inside h =
       h.1,
     ))
 
--- The side of its queue is enabled.
+-- The receive side of the first frame's queue is enabled.
 pub begun-after_piece : (r : Registers) (w : Waiting) (others : List Waiting) (f : Filled) → is_on r Rx w.queue ≡ true
     → AreWaiting (w ∷ others) → All (IsBegunWhileOn r) (after_piece w others f)
 begun-after_piece r w others f on h =
@@ -91,7 +91,7 @@ AreWaiting-without_part queue [] h = tt
 AreWaiting-without_part queue (w ∷ others) h =
     either_way AreWaiting (w.queue == queue && not (w.offset == 0)) others (w ∷ others) (AreWaiting-others w others h) h
 
--- A partly written frame for a queue other than the one being disabled.
+-- A partly written frame is for a queue other than the queue that is being disabled.
 pub begun-without_part : (r s : Registers) (queue : ℕ)
     → ((other : ℕ) → (queue ≡ other → ⊥) → is_on s Rx other ≡ is_on r Rx other) → (ws : List Waiting)
     → AreWaiting ws → All (IsBegunWhileOn r) ws → All (IsBegunWhileOn s) (without_part queue ws)

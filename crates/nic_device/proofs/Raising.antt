@@ -26,7 +26,7 @@ use Rattle.nic_device.proofs.Cases.{either_way}
 use Rattle.nic_device.proofs.SidesOn.{KeepsSides, of_move, on_stays, sides_kept, spares-counts, spares-move}
 use Rattle.nic_device.proofs.Coming.{covers-first, covers-second, Comes, IsCounter, then_within, raised, counted_in, raised_by_queue}
 
--- What a step changes for a side: the side, counters and causes.
+-- What a step that serves a side may change: the side, counters and causes.
 abbrev pub of_step : Dir → ℕ → Footprint
 of_step dir queue = either (of_side dir queue) counts_and_causes
 
@@ -173,7 +173,7 @@ sides-slot r vfs queue f =
     sides_kept (of_move Tx queue) r (slot_reported r vfs queue f) (spares-move Tx queue)
     (slot_in (of_move Tx queue) r vfs queue f (move_has Tx queue)).within
 
--- A frame that arrives is counted, and one that finds the list full raises its cause.
+-- A frame that arrives is counted. A frame that finds the receive list full raises the receive-miss cause.
 
 abbrev of_arrival : Footprint
 of_arrival = either counters (pending Pf)

@@ -1,4 +1,4 @@
--- Bus ranges as events: n consecutive peeks or pokes do what one read or write does.
+-- A range read or write on the bus has the same effect as n consecutive peeks or pokes.
 use Rattle.std.proofs.Common.{◌≡◌, ℕ, zero, suc, ◌+◌, ◌*◌, ◌%◌, ◌≤◌, true, List, [], ◌∷◌, ◌++◌, length, take, drop, refl, sym, ap, subst, Bool, false, ◌∙◌, arith, Result, Ok, Err, OnOk, OnErr, Some}
 use Rattle.std.specs.FinMap as map
 use Rattle.std.specs.Prelude.{IsOk}

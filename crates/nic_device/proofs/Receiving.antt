@@ -1,4 +1,4 @@
--- Receive steps leave the device sound and stay within their reach.
+-- Receive steps leave the device sound and change nothing outside their reach.
 use Rattle.std.proofs.Common.{◌≡◌, ◌≢◌, ◌<◌, ◌≤◌, ◌+◌, ◌^◌, ℕ, true, false, List, [], ◌∷◌, length, drop, length-drop, refl, sym, ◌∙◌, subst, inl, inr, arith, Ok}
 use Rattle.std.specs.Prelude.{⊤}
 use Rattle.std.proofs.lemmas.Bool.{both_ways, cases_Bool, or_parts}
@@ -42,7 +42,7 @@ use Rattle.nic_device.specs.declared.event.Why.TheVariants.{NoSlot, QueueOff}
 use Rattle.nic_device.specs.declared.event.Reply.{Reply}
 use Rattle.rx_ring.specs.DmaArena.Block.{Block}
 
--- Memory has whole blocks after a slot is filled.
+-- Each block in memory is still whole after a slot is filled.
 AreBlocks-fill : (m : Memory) (r : Ring) (srrctl : ℕ) (rest : Rest) → AreBlocks m → AreBytes rest.bytes
     → AreBlocks (fill_of m r srrctl rest).memory
 AreBlocks-fill m r srrctl rest h small =
@@ -53,7 +53,7 @@ AreBlocks-fill m r srrctl rest h small =
     (AreBlocks-write_at m f.at _ h (All-take (λ byte. byte < 256) f.len rest.bytes small))
     (of_halves-small rest.first (written_back f.len f.end)))
 
--- The first frame waits for its queue, and no other frame is partly written.
+-- The first frame is for its queue, and no other frame is partly written.
 waits_first : (s : State) (w : Waiting) (others : List Waiting) → s.waiting ≡ w ∷ others → IsSound s
     → AreWaiting (w ∷ others)
 waits_first s w others e h = subst AreWaiting e h.waiting
@@ -62,7 +62,7 @@ room_first : (s : State) (w : Waiting) (others : List Waiting) → s.waiting ≡
     → length (w ∷ others) ≤ s.fifo
 room_first s w others e h = subst (λ (ws : List Waiting). length ws ≤ s.fifo) e h.room
 
--- The reach of the first frame.
+-- The reach of a receive step for the first frame.
 of_first : (s t : State) (w : Waiting) (others : List Waiting) (reply : Reply Block) → s.waiting ≡ w ∷ others
     → StaysWithin (receive_reach (w ∷ others) reply) s t → StaysWithin (receive_reach s.waiting reply) s t
 of_first s t w others reply e stays = subst (λ ws. StaysWithin (receive_reach ws reply) s t) (sym e) stays
@@ -92,7 +92,7 @@ module _ (s : State) (w : Waiting) (others : List Waiting) (e : s.waiting ≡ w 
   abbrev memory : Memory
   memory = (filled_by s w).memory
 
-  -- If a frame doesn't end, some of it remains.
+  -- If the piece doesn't end the frame, some bytes of the frame remain.
   some_left : AreWaiting (w ∷ others) → f.end ≡ false → w.offset + f.len < length w.frame
   some_left first more =
       let fits = piece_fits _ _ _ (rest_of w) f is in

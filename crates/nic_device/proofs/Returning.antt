@@ -1,4 +1,4 @@
--- Lent blocks get the bytes of their copies back, and others return to their arena.
+-- Lent blocks get their copied bytes back, and lent blocks without a copy return to their arena.
 use Rattle.std.proofs.Common.{◌≡◌, ◌≢◌, ℕ, zero, suc, ◌+◌, ◌-◌, ◌*◌, ◌/◌, ◌<◌, ◌≤◌, ◌⊎◌, ◌↔◌, inl, inr, Bool, true, false, Option, Some, None, List, [], ◌∷◌, length, drop, refl, sym, ap, subst, ◌∙◌, arith}
 use Rattle.std.specs.Prelude.{is_some}
 use Rattle.std.specs.FinMap as map
@@ -40,7 +40,7 @@ among-more m copy copies lent among n has = elim (cases_eq n copy.0) as (λ _. h
   | inr ne ↦ among n (sym (has-insert_other (memory_of copies) copy.0 copy.1 n ne) ∙ has)
 ]
 
--- A block that isn't lent isn't among the lent ones.
+-- A block that isn't lent isn't among the lent blocks.
 
 pub missing-one : (m some : Memory) (n k : ℕ) (bytes : List ℕ) (lent : Bool) → map.get some n ≡ Some bytes → k ≡ n
     → lent ≡ is_lent m (k * 2048) 2048 → lent ≡ false → (false ≡ true) ↔ AreAmong m some
@@ -121,7 +121,8 @@ lies-below copy (c ∷ copies) rest (suc at) n rising is has =
           (sym (has-insert_other (memory_of copies) c.0 c.1 n ne) ∙ has)
     ]
 
--- The numbers at and above this one are visited: their blocks match the copies, and the others are unchanged.
+-- All numbers from this number up are visited: their blocks match the copies. The blocks below this number are
+-- unchanged.
 pub record IsReturned (copies : List (ℕ × List ℕ)) (a : Numbers) (m : Memory) (at number : ℕ) (b : Numbers)
     (n : Memory) : Type 0 where
   pub inside : at ≤ length copies

@@ -1,4 +1,4 @@
--- Transmit steps leave the device sound and stay within their reach.
+-- Transmit steps leave the device sound and change nothing outside their reach.
 use Rattle.std.proofs.Common.{◌≡◌, ◌<◌, ◌^◌, ℕ, Bool, true, false, not, ◌||◌, nat_lt, List, [], get_or, refl, ap, sym, ◌∙◌, subst, inl, inr, arith, Option, Some, None, Ok, Err}
 use Rattle.std.specs.Prelude.{◌==◌, slice_set}
 use Rattle.std.specs.FinMap as map
@@ -150,7 +150,7 @@ fetched_leads s queue f is few on =
       faults = λ reported. let no = no_fault queue f f.frame in cc;
     }
 
--- A queue with an enabled side, and one with a disabled side.
+-- A queue whose transmit side is enabled, and a queue whose transmit side is disabled.
 
 on_leads : (s : State) (queue : ℕ) → queue < 128 → is_on s.registers Tx queue ≡ true
     → Leads s (event.TxStep queue) (transmitted s queue)

@@ -97,7 +97,7 @@ spares-move Rx queue Tx other bit = refl
 spares-move Tx queue Rx other bit = refl
 spares-move Tx queue Tx other bit = refl
 
--- There is no side past the end.
+-- Queue numbers past the end have no side.
 
 module _ (r : Registers) (h : HasShape r) where
   past_off : (dir : Dir) (queue : ℕ) → 128 ≤ queue → is_on r dir queue ≡ false

@@ -1,4 +1,4 @@
--- Staged bytes are dropped queue by queue.
+-- Dropping the staged bytes of one queue after another.
 use Rattle.std.proofs.Common.{◌≡◌, ◌<◌, ℕ, zero, suc, List, [], ◌∷◌, ◌++◌, length, drop, refl, ap, arith}
 use Rattle.std.proofs.Math.ListN.{set}
 use Rattle.std.proofs.lemmas.List.{set-set}

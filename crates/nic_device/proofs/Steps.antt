@@ -1,4 +1,4 @@
--- The table of events: each keeps a device sound and changes nothing outside its reach.
+-- Each event keeps a device sound and changes nothing outside its reach.
 use Rattle.std.proofs.Common.{◌≡◌, ℕ, Bool, true, false, List, [], ◌∷◌, refl, sym, subst, arith, Option, Some, None}
 use Rattle.std.specs.Prelude.{⊤, All, Result, Ok, Err, OnOk, OnErr}
 use Rattle.std.proofs.lemmas.List.Elements.{All-nil, All-tail}
@@ -97,7 +97,7 @@ oldest_leads s (sent ∷ others) e =
 collect_leads : (s : State) → Leads s event.Collect (collected s)
 collect_leads s = oldest_leads s s.out refl
 
--- Each event keeps a device sound and stays within its reach.
+-- All events together: each keeps a device sound and changes nothing outside its reach.
 
 pub step_leads : (s : State) (e : Event Block) → Leads s e (step_of s e)
 unfolding step_of

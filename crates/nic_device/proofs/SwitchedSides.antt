@@ -1,4 +1,4 @@
--- Enable steps leave the device sound and stay within their reach.
+-- Enable steps leave the device sound and change nothing outside their reach.
 use Rattle.std.proofs.Common.{◌≡◌, ℕ, true, false, [], get_or, refl, sym, ◌∙◌, inl, inr}
 use Rattle.std.specs.Prelude.{⊤, ◌==◌, slice_set}
 use Rattle.std.proofs.lemmas.Bool.{cases_eq, cond_both, eqb-false, ne_eqb}

@@ -39,7 +39,7 @@ whole_with zero (suc b) bytes is =
     let less : suc (length bytes) - 1 ≡ length bytes - 0 = omega arith in
     ap (λ (m : ℕ). suc b ∷ replicate m 0) less ∙ ap (λ (l : List ℕ). suc b ∷ l) is
 
--- Only zero bytes follow the kept ones.
+-- Only zero bytes follow the kept bytes.
 pub kept-whole : (bytes : List ℕ)
     → take (kept_len bytes) bytes ++ replicate (length bytes - kept_len bytes) 0 ≡ bytes
 unfolding kept_len
@@ -56,7 +56,7 @@ with-last : (b : ℕ) → b ≢ 0 → kept_with 0 b ≡ 1
 with-last zero last = absurd (last refl)
 with-last (suc b) last = refl
 
--- The last nonzero byte is at m.
+-- If the last nonzero byte is at index m, the bytes up to this index are kept.
 pub kept-last : (bytes : List ℕ) (m : ℕ) → ((k : ℕ) → m < k → get_or bytes k 0 ≡ 0) → get_or bytes m 0 ≢ 0
     → kept_len bytes ≡ suc m
 unfolding kept_len
@@ -66,7 +66,7 @@ kept-last (b ∷ bytes) zero zeros last =
 kept-last (b ∷ bytes) (suc m) zeros last =
     ap (λ (k : ℕ). kept_with k b) (kept-last bytes m (λ k h. zeros (suc k) (omega arith)) last)
 
--- The kept bytes are all kept again.
+-- Trimming the kept bytes again keeps all of them.
 pub kept-take : (bytes : List ℕ) → kept_len (take (kept_len bytes) bytes) ≡ length (take (kept_len bytes) bytes)
 kept-take bytes =
     let kept = take (kept_len bytes) bytes in
@@ -78,7 +78,7 @@ module _ (kept : List ℕ) (zeros : ℕ) (trimmed : kept_len kept ≡ length kep
   after : kept_len (kept ++ replicate zeros 0) ≡ length kept
   after = kept-zeros_after kept zeros ∙ trimmed
 
-  -- Of kept bytes followed by zeros, the same bytes are kept.
+  -- Trimming kept bytes followed by zeros keeps the same bytes.
   pub kept_of_all : take (kept_len (kept ++ replicate zeros 0)) (kept ++ replicate zeros 0) ≡ kept
   kept_of_all =
       ap (λ (n : ℕ). take n (kept ++ replicate zeros 0)) after ∙ take_at kept (replicate zeros 0) (length kept) refl
@@ -102,7 +102,7 @@ pub block-same : (n m : ℕ) (kept other : List ℕ) (zeros others : ℕ) → n 
 block-same n m kept other zeros others number bytes after =
     ap (λ (i : ℕ). block i kept zeros) number ∙ ap (λ (l : List ℕ). block m l zeros) bytes ∙ ap (block m other) after
 
--- A block is kept in only one way.
+-- Two equal blocks are stored with the same number, kept bytes and number of zeros.
 pub same-block : (n m : ℕ) (kept other : List ℕ) (zeros others : ℕ)
     → kept_len kept ≡ length kept → kept_len other ≡ length other → block n kept zeros ≡ block m other others
     → (n ≡ m) × (kept ≡ other) × (zeros ≡ others)
@@ -138,7 +138,7 @@ held-same h g all =
     ∙ ap (λ (l : List ℕ). record { number = g.number; zeros = h.zeros; kept = l }) all.1
     ∙ ap (λ (z : ℕ). record { number = g.number; zeros = z; kept = g.kept }) all.2
 
--- What a note stores of a block: its number, its kept bytes, and the number of zeros that follow.
+-- What a note stores about a block: the block's number, its kept bytes, and the number of zeros that follow.
 module _ (buf : Block) (bytes : List ℕ) (kept n z : ℕ) (h : Held)
     (is : h ≡ record { number = n; zeros = z; kept = bytes })
     (all : kept ≡ kept_len buf.bytes) (front : bytes ≡ take kept buf.bytes) where

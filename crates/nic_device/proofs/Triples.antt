@@ -1,4 +1,5 @@
--- A reset, including the image's register writes, keeps the device sound and leaves the rest unchanged.
+-- A reset, including the image's register writes, keeps the device sound and changes only the registers, the receive
+-- list and the staged bytes.
 use Rattle.std.proofs.Common.{length, ap, sym, zero, suc, take, add-one, ◌+◌, ◌≡◌, ◌<◌, ℕ, [], ◌∷◌, List, arith, ◌∙◌, Option, Some, None}
 use Rattle.std.specs.List.{slice_get}
 use Rattle.std.proofs.lemmas.List.Elements.{All-nil}
@@ -18,7 +19,7 @@ use Rattle.nic_device.specs.State.{State, cleared, none_staged}
 use Rattle.nic_device.proofs.Cases.{either_way}
 use Rattle.nic_device.proofs.Keeping.{sound-changed, AreStaged-none, bare-none}
 
--- Everything but the registers, the waiting frames and the staged bytes is unchanged.
+-- Everything except the registers, the receive list and the staged bytes is unchanged.
 pub record LeavesRest (s t : State) : Type 0 where
   pub memory : t.memory ≡ s.memory
   pub out : t.out ≡ s.out

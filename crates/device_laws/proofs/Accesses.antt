@@ -1,4 +1,4 @@
--- Consecutive register accesses.
+-- What a register read returns right after another register access.
 use Rattle.std.proofs.Common.{cond, ◌≡◌, ◌≢◌, ℕ, refl, ap, sym, ◌∙◌, Some, None, Option}
 use Rattle.nic_device.specs.RegisterFile.Access.{read_word, after_read, written, stored, asks_reset, asks_pool_reset}
 use Rattle.nic_device.proofs.RegisterLaws.Puts.{word_at-put_other}

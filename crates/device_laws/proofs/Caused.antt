@@ -1,4 +1,4 @@
--- How raised causes change the interrupts of groups.
+-- How raised causes change the interrupt state of groups.
 use Rattle.std.proofs.Common.{cond, ◌≡◌, ◌<◌, ◌≤◌, ◌/◌, ℕ, true, false, refl, ap, sym, ◌∙◌, subst, inl, inr, arith, nat_lt, Option, Some, None}
 use Rattle.nic_device.specs.IntrUnit.Group.{queue_causes}
 use Rattle.nic_device.specs.IntrUnit.Interrupts.{raised}
@@ -56,7 +56,7 @@ pub queue_group_small : (r : Registers) (vfs queue : ℕ) → vfs ≤ 63 → ind
 unfolding function_of_queue
 queue_group_small r vfs queue few = group_small vfs (pool_of (mode_in r) queue) few
 
--- The changes that a step makes first don't affect which cause its queue raises.
+-- The changes that a step performs before it raises a cause don't affect which cause its queue raises.
 vector_kept : (g : Group) (dir : Dir) (queue at : ℕ) → LacksWord (of_step dir queue) (place (vector_row g) at)
 vector_kept group.Pf dir queue at bit = refl
 vector_kept (group.Vf v) dir queue at bit = refl
@@ -80,7 +80,7 @@ same_cause s t dir queue within =
     causes_by : Group → ℕ → Causes
     causes_by o entry = record { group = o; bits = queue_causes o entry }
 
--- A queue raises its cause after a step made part of its permitted changes.
+-- A queue raises its cause after a step has performed some of its permitted changes.
 pub queue_raises : (s : State) (t : Registers) (dir : Dir) (queue : ℕ) → HasShape t → s.vfs ≤ 63
     → ChangesWithin (of_step dir queue) s.registers t → (g : Group)
     → interrupts_of t g ≡ interrupts_of s.registers g

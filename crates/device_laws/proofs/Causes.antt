@@ -1,4 +1,4 @@
--- Each event raises exactly what its reply says.
+-- Each event raises exactly the causes that its reply implies.
 use Rattle.std.proofs.Common.{ℕ, List, length, refl, nat_lt, Result, Ok, Err}
 use Rattle.nic_device.specs.RxFilter.Sorting.{sorted}
 use Rattle.nic_device.specs.RxFilter.declared.unwanted.Unwanted.TheVariants as unwanted

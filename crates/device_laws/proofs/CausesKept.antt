@@ -1,4 +1,4 @@
--- Words outside every group leave the groups' interrupts unchanged.
+-- A change to a word outside every group leaves the groups' interrupt state unchanged.
 use Rattle.std.proofs.Common.{◌≡◌, ℕ, false, Option, Some, None, refl, ap}
 use Rattle.nic_device.specs.RegisterFile.declared.owner.Owner.TheVariants as owner
 use Rattle.nic_device.proofs.RegisterLaws.Footprints.{misses-narrower, misses-owner, covers-the_word}
@@ -8,7 +8,7 @@ use Rattle.device_laws.specs.Prelude.{function_counted, head_row, interrupts_of,
 use Rattle.device_laws.specs.Prelude.{owner_in, owner_of, place, row_of, shut, the_word, with_head, with_word}
 use Rattle.device_laws.proofs.Prelude.{HasShape-put, group_stands, within-shut}
 
--- A word of a register outside every group.
+-- The word of a register outside every group changes.
 pub word_kept : (r : Registers) (p : Place) (word : ℕ) (g : Group) → is_owner (owner_of p) (owner.Group g) ≡ false
     → interrupts_of (with_word r p.row p.index word) g ≡ interrupts_of r g
 word_kept r p word g other =

@@ -1,4 +1,4 @@
--- Which steps count: each counter's word after a step.
+-- Each counter's word after a step, given what the step counts.
 use Rattle.std.proofs.Common.{cond, ◌≡◌, ◌≢◌, ◌<◌, ◌^◌, ◌*◌, ◌/◌, ◌%◌, ℕ, Bool, true, false, ap, sym, ◌∙◌, inl, inr, arith, refl}
 use Rattle.std.specs.Prelude.{◌&&◌}
 use Rattle.nic_device.specs.RegTable.declared.kind.Kind.TheVariants as kind

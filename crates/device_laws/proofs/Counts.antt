@@ -1,4 +1,4 @@
--- Each event counts exactly in the counters that its reply implies.
+-- Each event increments exactly the counters that its reply implies.
 use Rattle.std.proofs.Common.{◌≡◌, ℕ, List, [], ◌∷◌, length, refl, arith, Ok, Err, nat_lt}
 use Rattle.std.specs.Prelude.{Result, ◌&&◌, ◌==◌}
 use Rattle.nic_device.specs.RegTable.declared.kind.Kind.TheVariants as kind
@@ -20,7 +20,7 @@ use Rattle.device_laws.proofs.CountsKept.{read_misses, write_misses, switch_miss
 use Rattle.device_laws.proofs.Standing.{stays_within}
 use Rattle.nic_device.specs.declared.event.Event.TheVariants as event
 
--- What an event's outcome counts.
+-- Which counters an event increments, given its reply and the state after it.
 abbrev Counts : State → Event Block → Outcome → Type 0
 Counts s e o =
     (p : Place) → (row_of p.row).kind ≡ kind.Rc

@@ -1,4 +1,4 @@
--- Pieces that are read back, and a device that takes no steps.
+-- Pieces that a driver reads back, and a device with disabled bus mastering.
 use Rattle.std.proofs.Common.{cond, ◌≡◌, ℕ, ◌<◌, ◌≤◌, ◌^◌, Bool, true, false, List, [], ◌∷◌, take, drop, refl, ap, sym, ◌∙◌, subst, nat_eq, arith}
 use Rattle.std.specs.Prelude.{⊤}
 use Rattle.nic_device.specs.DmaRing.Receive.{reported_of}
@@ -12,7 +12,7 @@ use Rattle.device_laws.proofs.Prelude.{eq-eqb, lt-ltb, received_cases}
 use Rattle.device_laws.specs.Laws.{piece_of, piece_on, PieceIsReadBack, StoppedDeviceIsIdle}
 use Rattle.nic_device.proofs.Hashes.{type-lt}
 
--- What descriptors report about a waiting frame fits into 64 bits.
+-- The word that descriptors report about a frame in the receive list fits into 64 bits.
 cond-le : (b : Bool) (n : ℕ) → cond b n 0 ≤ n
 cond-le true n = omega arith
 cond-le false n = omega arith
@@ -24,7 +24,7 @@ reported_of-lt p hash rss =
 pub reported-lt : (w : Waiting) → IsWaiting w → reported_of (packet_of w) < 2 ^ 64
 reported-lt w h = reported_of-lt (packet_of w) h.hash (type-lt w.rss h.rss)
 
--- Memory holds the piece that a reply reports.
+-- Memory contains the piece that a reply reports.
 abbrev HasPiece : List Waiting → Memory → Reply Block → Type 0
 HasPiece waiting m (Wrote queue slot end desc at len) = AreApart at len desc 16 → read_at m at len
     ≡ piece_on queue waiting (Wrote queue slot end desc at len)

@@ -1,4 +1,4 @@
--- What EEC and EERD read as.
+-- What reads of EEC and EERD return.
 use Rattle.std.proofs.Common.{cond, ◌/◌, ◌≡◌, ◌+◌, ◌*◌, ◌^◌, ◌<◌, ℕ, Bool, true, false, length, refl, ap, ◌∙◌, arith, Option, Some, None}
 use Rattle.std.proofs.Math.Nat.{mod-eq_of_lt, mod-lt}
 use Rattle.nic_device.specs.EepromImage.Bytes.{word_at as image_word}

@@ -1,4 +1,4 @@
--- The counters of virtual functions: each word after a part of a step.
+-- The words of the virtual functions' counters after each part of a step.
 use Rattle.std.proofs.Common.{◌≡◌, ◌≢◌, ◌+◌, ◌%◌, ◌^◌, ◌<◌, ◌≤◌, ℕ, false, List, Option, Some, None, refl, ap, sym, ◌∙◌, arith}
 use Rattle.std.specs.Prelude.{◌&&◌, IfSome, nat_lt}
 use Rattle.nic_device.specs.RegTable.declared.bank.Bank.TheVariants as bank

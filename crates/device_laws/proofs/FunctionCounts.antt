@@ -8,7 +8,7 @@ use Rattle.nic_device.specs.Footprint.{function_counts, is_function_count}
 use Rattle.device_laws.specs.Prelude.{Bank, Dir, Misses, Place, Registers, RowId, function_counted, is_owner, of_side}
 use Rattle.device_laws.specs.Prelude.{owner_in, place, row_of, word_at}
 
--- It leaves the other counters unchanged.
+-- Counting for virtual functions leaves all other counters unchanged.
 pub function_keeps : (r : Registers) (o : Option ℕ) (row : RowId) → (row_of row).kind ≡ Ro → (p : Place)
     → (row_of p.row).kind ≡ Rc → word_at (function_counted r o row).words p ≡ word_at r.words p
 function_keeps r None row ro p is = refl
@@ -17,7 +17,7 @@ function_keeps r (Some v) row ro p is =
     (λ e. let same : (row_of p.row).kind ≡ (row_of row).kind = ap (λ (q : Place). (row_of q.row).kind) e in
     let differ : Rc ≡ Ro = sym is ∙ same ∙ ro in cc)
 
--- It is in neither side of a queue.
+-- A virtual function's counter belongs to no side of a queue.
 side_bank : (b : Bank) (index : ℕ) (dir : Dir) (queue : ℕ) → is_owner (owner.Side dir queue) (owner_in b index) ≡ true
     → is_function_count b ≡ false
 side_bank bank.VfCounters index dir queue e = cc

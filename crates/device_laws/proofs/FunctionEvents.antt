@@ -1,4 +1,4 @@
--- Each event counts for virtual functions exactly in the counters that its reply implies.
+-- Each event increments exactly the virtual functions' counters that its reply implies.
 use Rattle.std.proofs.Common.{◌≡◌, ◌≢◌, ℕ, false, refl, ap, sym, ◌∙◌}
 use Rattle.std.specs.Prelude.{cond, ◌==◌, ◌&&◌, IsFalse}
 use Rattle.std.proofs.lemmas.Bool.{cond_both, or_parts}
@@ -20,7 +20,7 @@ use Rattle.device_laws.proofs.Missed.{neither}
 use Rattle.device_laws.proofs.Reaching.{IsAway, write_lacks}
 use Rattle.device_laws.proofs.Standing.{stays_within}
 
--- What an event's outcome counts for functions.
+-- Which virtual functions' counters an event increments, given its reply and the state after it.
 abbrev Counts : State → Event Block → Outcome → Type 0
 Counts s e o =
     (p : Place) → (row_of p.row).bank ≡ VfCounters

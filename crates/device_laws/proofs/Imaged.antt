@@ -1,4 +1,4 @@
--- A reset with one image, and with another that has one more register write.
+-- A reset with one image, compared with a reset with an image that contains one more register write.
 use Rattle.std.proofs.Common.{cond, ◌≡◌, ◌≢◌, ◌⊎◌, inl, inr, ℕ, Bool, true, false, List, [], ◌∷◌, refl, ap, sym, ◌∙◌, Option, Some, None}
 use Rattle.std.proofs.lemmas.List.Sums.{fold-append}
 use Rattle.nic_device.specs.Eeprom.{is_stepped_over, triple_written, with_triple, with_triples, reset}
@@ -48,7 +48,7 @@ one_more s image offset value more =
     ∙ ap (λ (u : State). with_triple u (offset, value)) (triples_imaged (cleared s) image ts)
     ∙ triple_imaged (reset s) image (place_among runs offset) (view_among runs offset) value
 
--- A write to a register other than CTRL and EERD is performed like any write.
+-- An image's write to a register other than CTRL and EERD is performed like an ordinary write.
 
 not_over : (row : RowId) → row ≢ Ctrl → row ≢ Eerd → is_stepped_over row ≡ false
 not_over Ctrl n m = absurd (n refl)

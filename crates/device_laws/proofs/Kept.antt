@@ -1,4 +1,4 @@
--- What every event preserves: reported bits are pending, and a fault leaves memory unchanged.
+-- After every event, reported bits are pending, and an event whose reply is a fault leaves memory unchanged.
 use Rattle.nic_device.proofs.Steps.{step_leads, keeps_sound}
 use Rattle.device_laws.specs.Laws.{ReportedIsPending, FaultChangesNoMemory}
 

@@ -1,4 +1,4 @@
--- The frame limit and the mode are unchanged.
+-- Events that write no setting leave the frame limit and the pool mode unchanged.
 use Rattle.std.proofs.Common.{◌≡◌, ℕ, refl, ap, subst}
 use Rattle.device_laws.specs.Prelude.{Block, Event, GcrExt, Hlreg0, Maxfrs, Place, Port, Register, State, mode_of}
 use Rattle.device_laws.specs.Prelude.{named}

@@ -1,4 +1,4 @@
--- A due bit is reported.
+-- An interrupt step reports a due bit.
 use Rattle.std.proofs.Common.{◌≡◌, ℕ, ◌<◌, Bool, true, false, cond, subst, Option, Some, None, refl, ap, sym, ◌∙◌, arith}
 use Rattle.std.specs.Prelude.{is_some, nat_lt}
 use Rattle.nic_device.specs.IntrUnit.Interrupts.{after_message, after_message_of, next_bit}
@@ -28,7 +28,7 @@ shown r g eiame (Some bit) h small =
     interrupts_of-with_interrupts r h (after_message_of (interrupts_of r g) eiame (Some bit)) small is.consistent
     is.causes is.enabled (intersection-lt _ _)
 
--- The registers have every existing group.
+-- The registers contain every existing group.
 group_small : (s : State) (g : Group) → IsSound s → has_group s g ≡ true → index_of g < 64
 group_small s Pf h there = omega arith
 group_small s (Vf v) h there =

@@ -40,7 +40,7 @@ misses-other_group g h n =
 pub pending-misses_side : (g : Group) (dir : Dir) (queue : ℕ) → Misses (pending g) (of_side dir queue)
 pending-misses_side g = pending_misses_sides (owner.Group g)
 
--- No register of a side holds causes or masks.
+-- No register that belongs to a side contains causes or masks.
 side_quiet : (row : RowId) (index : ℕ) (dir : Dir) (queue : ℕ)
     → is_owner (owner.Side dir queue) (owner_in (row_of row).bank index) ≡ true → is_pending (row_of row).kind ≡ false
 side_quiet row.Eicr index dir queue e = cc
@@ -64,7 +64,7 @@ counts-miss_side dir queue =
     (function_counts-miss_side dir queue))
     (any_pending-misses_side dir queue)
 
--- A block outside a range of bytes contains none of them.
+-- A block outside a range of bytes contains none of these bytes.
 pub has-none : (number address len : ℕ) → Avoids number address len → has_some_of number address len ≡ false
 has-none number address len (inl low) =
     ap (λ b. b && nat_lt address (2048 * number + 2048)) (le-ltb (2048 * number) (address + len) low)

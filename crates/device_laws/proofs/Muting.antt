@@ -1,4 +1,4 @@
--- A queue whose pool may not transmit.
+-- A transmit step is idle if the queue's pool may not transmit.
 use Rattle.std.proofs.Common.{◌≡◌, true, cond, not, ◌||◌, ap, ◌∙◌}
 use Rattle.std.proofs.lemmas.Bool.{and_from, or_left, or_right, lt-ltb}
 use Rattle.nic_device.specs.RegisterFile.Settings.{is_stopped, can_transmit}

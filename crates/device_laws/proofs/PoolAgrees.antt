@@ -1,4 +1,5 @@
--- Two states that agree on a pool reply to its virtual function in the same way, and still agree afterwards.
+-- If two states agree on a pool, its virtual function gets the same replies in both, and the states still agree
+-- afterwards.
 use Rattle.std.proofs.Common.{◌≡◌, ℕ, Bool, true, false, [], refl, ap, sym, ◌∙◌, subst}
 use Rattle.std.specs.Prelude.{cond}
 use Rattle.nic_device.specs.VfMap.declared.located.Located.TheVariants as located_as

@@ -19,7 +19,7 @@ use Rattle.device_laws.specs.Pool.{ChangesAlone, ChangesPoolAlone, VfChangesItsP
 use Rattle.device_laws.proofs.PoolParts.{others_again}
 use Rattle.device_laws.proofs.Settings.{no_reset}
 
--- What a virtual function reaches belongs to its pool or is shared.
+-- Each register that a virtual function reaches belongs to its pool or is shared.
 pub data IsReached (mode : Mode) (v : ℕ) (p : Place) : Type 0 where
   own : is_of_pool mode v p ≡ true → IsReached mode v p
   shared : is_shared p ≡ true → IsReached mode v p
@@ -32,7 +32,7 @@ reached mode vfs v o p e =
       | inr is ↦ shared is
     ]
 
--- It can't reach CTRL.
+-- A virtual function can't reach CTRL.
 pub no_control : (mode : Mode) (v : ℕ) (p : Place) → IsReached mode v p → p.row ≢ row.Ctrl
 no_control mode v p (own is) e =
     let none : is_of_pool mode v p ≡ false = ap (λ r. is_of_pool_by (row_of r).bank mode v p.index) e in cc
@@ -44,7 +44,7 @@ below_reset s mode v p view word is =
     cond-false (asks_reset (row_of p.row).kind word) (reset s) (written_below_reset s p view word)
     (no_reset p.row word (no_control mode v p is))
 
--- A reset that it requests is of its own pool.
+-- A pool reset that a virtual function requests resets only its own pool.
 
 pub only_control : (r : RowId) (word : ℕ) → asks_pool_reset (row_of r).kind word ≡ true → r ≡ row.Pvfctrl
 only_control row.Pvfctrl word e = refl

@@ -28,7 +28,7 @@ place_keeps s v p word is none =
     (λ asks. absurd (both_ways (asks_pool_reset (row_of p.row).kind word) (asks-none p word none) asks))
     (λ plain. record { staged = refl; waiting = refl }))
 
--- A write to what an offset refers to requests no reset.
+-- A write to the register at an offset requests no reset.
 abbrev AsksNone : Located → ℕ → Type 0
 AsksNone m word =
     (p : Place) (view : ℕ) → at_location m ≡ Register p view → (p.row ≢ row.Pvfctrl) ⊎ (word / 2 ^ 26 % 2 ≡ 0)

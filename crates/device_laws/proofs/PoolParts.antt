@@ -1,4 +1,4 @@
--- Lists of the frames waiting for a pool's queues, and of the frames waiting for other queues.
+-- The frames in the receive list for a pool's queues, and the frames in the list for other queues.
 use Rattle.std.proofs.Common.{◌≡◌, ℕ, Bool, List, [], ◌∷◌, refl, ap, sym, ◌∙◌, inl, inr}
 use Rattle.std.specs.Prelude.{filter, not}
 use Rattle.std.proofs.lemmas.Bool.{cases_Bool, cond-true, cond-false, not_from_true, not_from_false}

@@ -1,4 +1,5 @@
--- Two states that agree on a pool reply to its virtual function's read in the same way, and still agree afterwards.
+-- If two states agree on a pool, its virtual function's read gets the same reply in both, and the states still agree
+-- afterwards.
 use Rattle.std.proofs.Common.{◌≡◌, ◌≢◌, ℕ, true, false, refl, ap, sym, ◌∙◌, subst}
 use Rattle.std.specs.Prelude.{cond, bit_and}
 use Rattle.nic_device.specs.RegTable.declared.kind.Kind.TheVariants as kind
@@ -17,7 +18,7 @@ use Rattle.device_laws.proofs.Prelude.{shared-read, shared_rows, word_stands}
 use Rattle.device_laws.specs.Pool.{ChangesPoolAlone, AgreeOnPool, waiting_of}
 use Rattle.device_laws.proofs.PoolAlone.{IsReached, own, shared, reached}
 
--- They still agree after each has changed only the pool.
+-- Two states still agree after each of them changed only in the pool.
 
 pub record PartsAgree (mode : Mode) (v : ℕ) (a b : State) : Type 0 where
   pub registers : AgreeWithin (pool_agrees mode v) a.registers b.registers

@@ -1,4 +1,4 @@
--- A virtual function reaches what the physical function reaches at the mapped address.
+-- A virtual function reaches the same register that the physical function reaches at the mapped address.
 use Rattle.std.proofs.Common.{◌≡◌, ℕ, Some, ap, sym, ◌∙◌}
 use Rattle.nic_device.proofs.RegTable.FirstAddresses.{found_back}
 use Rattle.nic_device.proofs.RegTable.FirstViews.{first_view}

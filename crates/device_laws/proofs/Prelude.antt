@@ -1,4 +1,4 @@
--- Re-exports the lemmas of lower layers that several files here cite. Declares nothing.
+-- Re-exports lemmas from lower layers that several files here cite. Declares nothing.
 pub use Rattle.nic_device.proofs.Cases.{either_way, write_cases}
 pub use Rattle.nic_device.proofs.Coming.{counted_in, raised_by_queue}
 pub use Rattle.nic_device.proofs.Functions.{function_counted_in}

@@ -10,7 +10,7 @@ use Rattle.nic_device.proofs.RegTable.FirstAddresses.{same_number}
 use Rattle.device_laws.specs.Prelude.{Dir, Kind, Place, RowId, is_owner, owner_in, owner_of, place}
 use Rattle.device_laws.proofs.Prelude.{eqb-true, false_from_ne_true, is_place-other}
 
--- A place outside a mailbox: neither its word, the causes of either side, nor the word that reports resets.
+-- A place outside the rows that mailbox writes affect: PVFMAILBOX, PFMBICR, EICR, PVTEICR and CTRL_EXT.
 pub record IsAway (q : Place) : Type 0 where
   pub mailbox : q.row ≢ row.Pvfmailbox
   pub requests : q.row ≢ row.Pfmbicr
@@ -58,7 +58,7 @@ reaching_lacks k other p q e away = cc
 pub write_lacks : (p q : Place) → is_own (row_of p.row).kind ≡ false → IsAway q → LacksWord (of_write p) q
 write_lacks p q other away = reaching_lacks (row_of p.row).kind other p q refl away
 
--- Nor does it change any part of a side.
+-- Such a write changes no part of a side of a queue.
 no_wanted : (k : Kind) → is_own k ≡ false → (p : Place) (dir : Dir) (queue : ℕ)
     → (written_by k p).wanted dir queue ≡ false
 no_wanted kind.Vfmail other p dir queue = refl

@@ -17,7 +17,7 @@ use Rattle.device_laws.specs.Replies.{received_tells, ReceivingTells}
 use Rattle.device_laws.proofs.Missed.{counts-miss_side, pending-misses_side}
 use Rattle.nic_device.proofs.Raising.{comes-itself, have_counters, have_functions, have_causes}
 
--- Besides the head, a piece changes counters and causes.
+-- A written piece changes only the head, counters and causes.
 piece_rest : (r : Registers) (vfs queue : ℕ) (f : Filled)
     → ChangesWithin counts_and_causes (with_head r Rx queue f.head) (piece_done r vfs queue f)
 piece_rest r vfs queue f =

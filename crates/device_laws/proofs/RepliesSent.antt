@@ -19,7 +19,7 @@ use Rattle.device_laws.proofs.Missed.{counts-miss_side, pending-misses_side}
 use Rattle.nic_device.proofs.Raising.{comes-itself, have_counters, have_functions, have_causes}
 use Rattle.device_laws.proofs.Reporting.{reports_at}
 
--- Besides the head, a fetched slot changes counters and causes.
+-- A fetched slot changes only the head, counters and causes.
 slot_rest : (r : Registers) (vfs queue : ℕ) (f : Fetched) (o : Option (List ℕ))
     → Comes ⊤ counts_and_causes (with_head r Tx queue f.head) (slot_counted r vfs queue f o)
 slot_rest r vfs queue f (Some frame) =

@@ -15,7 +15,7 @@ use Rattle.device_laws.proofs.Prelude.{either_way, word_at-reset}
 use Rattle.device_laws.specs.Laws.{IsReset, AskedResetResets, HasResetValues, ResetGivesResetValues, after_write}
 use Rattle.device_laws.proofs.Accesses.{state-written}
 
--- No frame is waiting, and nothing is staged.
+-- The receive list is empty, and nothing is staged.
 record IsEmpty (s : State) : Type 0 where
   waiting : s.waiting ≡ []
   staged : s.staged ≡ none_staged

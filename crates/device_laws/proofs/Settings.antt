@@ -36,7 +36,7 @@ module _ (row : RowId) (is : IsSetting row) where
   abbrev here : Place
   here = place row 0
 
-  -- It holds neither causes nor masks.
+  -- The row contains neither causes nor masks.
   quiet : is_pending (row_of row).kind ≡ false
   quiet = alone_steady (row_of row).kind is.alone
 

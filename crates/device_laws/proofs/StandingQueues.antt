@@ -11,7 +11,7 @@ use Rattle.nic_device.specs.declared.event.Event.TheVariants as event
 
 -- Receive steps.
 
--- What is outside the reach of the oldest waiting frame.
+-- What a receive step for the oldest frame leaves unchanged.
 module _ (reply : Reply Block) where
   receive_misses : (ws : List Waiting) (queue : ℕ) → ¬ IsFirstFor queue ws
       → Misses (receive_reach ws reply).registers (of_side Rx queue)

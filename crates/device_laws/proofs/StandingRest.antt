@@ -1,4 +1,4 @@
--- What arriving frames, messages, the link and transmitted frames leave unchanged.
+-- What arriving frames, interrupt steps, EEPROM steps, link changes and collected frames leave unchanged.
 use Rattle.std.proofs.Common.{◌≡◌, false, refl}
 use Rattle.nic_device.specs.IntrUnit.declared.group.Group.TheVariants as group
 use Rattle.nic_device.specs.RegisterFile.declared.owner.Owner.TheVariants as owner

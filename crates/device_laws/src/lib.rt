@@ -216,9 +216,9 @@ pub fn link_leaves_the_rest()
 {}
 
 /// Suppose that CTRL bit 2 is 0. If the receive list is empty, a receive step is idle. If the oldest frame's queue is
-/// disabled, the step drops the frame. If the queue has no free descriptor, the step drops the frame if drop enable is
-/// set and no part of the frame is written yet; otherwise the frame stays. If the queue has a free descriptor, the
-/// descriptor is filled or has a fault. Each reply occurs only in its own case.
+/// disabled, the step drops the frame. If the queue is enabled but has no free descriptor, the step drops the frame if
+/// drop enable is set and no part of the frame is written yet; otherwise the frame stays. If the queue is enabled and
+/// has a free descriptor, the descriptor is filled or has a fault. Each reply occurs only in its own case.
 pub fn receiving_has_an_order()
     ensures order { ReceivingHasAnOrder }
     ensures alone { EachReplyInItsCase }

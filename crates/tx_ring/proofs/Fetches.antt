@@ -1,4 +1,4 @@
--- Lemmas: fetching a slot, by case.
+-- Lemmas about the possible results of fetching a slot.
 use Rattle.std.proofs.Common.{◌≡◌, ◌≢◌, ℕ, ◌+◌, ◌<◌, ◌⊎◌, true, length, List, refl, arith, Option, Some, None, Ok, Err, inl, inr}
 use Rattle.std.specs.Prelude.{not, nat_lt, IsTrue, IsFalse}
 use Rattle.std.proofs.lemmas.Bool.{cond_both, eqb-true, eq-eqb, ne_eqb}
@@ -62,7 +62,7 @@ can_send m r tx staged descriptor none other =
     type_cases (Passes m r tx staged descriptor) m r tx staged descriptor
     (λ fault is. absurd (cc)) (λ extended context is. absurd (other context)) (λ extended full sent is. sent) none
 
--- The outcome is a fault, a completed context descriptor, or a completed data descriptor.
+-- The result is a fault, a completed context descriptor, or a completed data descriptor.
 pub fetch_cases : (P : Outcome → Type 0) (m : Memory) (staged : List ℕ) (r : Ring) (tx : Tx)
     → ((fault : RingFault) → P (fault_outcome m staged fault))
     → (HasContext m r → P (context_outcome m staged r))

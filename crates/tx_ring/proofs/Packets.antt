@@ -1,4 +1,4 @@
--- Lemmas: a packet, from its first turn to its last.
+-- Lemmas about a packet that several turns fetch: its bytes are staged in order and become its frame.
 use Rattle.std.proofs.Common.{◌≡◌, ◌≢◌, ℕ, Bool, true, false, if◌then◌else◌, List, [], ◌∷◌, ◌++◌, refl, sym, ◌∙◌, arith, Some, None, Ok, append_assoc}
 use Rattle.std.proofs.lemmas.Bool.{eq-eqb, ne_eqb}
 use Rattle.std.proofs.lemmas.List.{append-nil}

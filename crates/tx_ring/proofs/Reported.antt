@@ -1,4 +1,4 @@
--- Lemmas: the memory after a report.
+-- Lemmas about the memory after a report is written back.
 use Rattle.std.proofs.Common.{◌≡◌, ℕ, Bool, true, false, Option, Some, None, List, length, refl, sym, ◌∙◌, Ok}
 use Rattle.std.specs.Prelude.{IsTrue}
 use Rattle.std.specs.Int.{w32, to_le_bytes}
@@ -20,7 +20,7 @@ unfolding of_halves
 length-report_bytes r (Some a) descriptor = refl
 length-report_bytes r None descriptor = refl
 
--- What is read from a report.
+-- What a driver reads from a report.
 
 read_at-reported : (m : Memory) (r : Ring) (tx : Tx) (descriptor : List ℕ) → IsWhole m
     → is_lent m (report_address r tx) (report_length tx.writeback) ≡ true

@@ -1,4 +1,4 @@
--- Lemmas: where a slot is reported, and how a done descriptor differs.
+-- Lemmas about where a slot is reported, and which bits of a done descriptor change.
 use Rattle.std.proofs.Common.{◌≡◌, ℕ, Bool, true, false, ◌/◌, ◌%◌, Option, Some, None, refl, sym, subst, ◌∙◌, arith, Ok}
 use Rattle.std.specs.Prelude.{unwrap_or}
 use Rattle.dma_arena.specs.Memory.{LiesIn}

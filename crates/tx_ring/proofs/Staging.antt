@@ -1,4 +1,4 @@
--- Lemmas: the bytes that a packet gains.
+-- Lemmas about the bytes that a fetched descriptor adds to a packet.
 use Rattle.std.proofs.Common.{◌≡◌, ℕ, ◌+◌, ◌-◌, Bool, true, false, ◌&&◌, if◌then◌else◌, List, [], ◌++◌, length, replicate, Some, None, refl, add-zero, ap}
 use Rattle.std.specs.Prelude.{unwrap_or}
 use Rattle.std.proofs.lemmas.List.{length-append, length-replicate, append-nil}

@@ -165,8 +165,7 @@ WritesInsideReport =
     (m : Memory) (staged : List ℕ) (r : Ring) (tx : Tx) (f : Fetched) → (fetch_of m staged r tx).answer ≡ Ok f
     → ChangesOnlyReport m (fetch_of m staged r tx).memory tx f
 
--- Whether or not the slot is fetched, the same blocks remain lent, and each whole block keeps its length of 2,048
--- bytes.
+-- Whether or not the slot is fetched, the same blocks remain lent, and each keeps its length of 2,048 bytes.
 abbrev pub FetchKeepsBlocks : Type 0
 FetchKeepsBlocks =
     (m : Memory) (staged : List ℕ) (r : Ring) (tx : Tx)

@@ -33,10 +33,10 @@ pub fn read_back()
     ensures { DriverReads }
 {}
 
-/// A slot is reported if and only if RS requests a report. The report goes to the head write-back address or, if the
-/// queue has none, into the slot's descriptor. If the ring's base is a multiple of 16 and the head write-back address
-/// is a multiple of 4, the bytes written back are within one block. If both halves of a descriptor are below 2^64, the
-/// done descriptor differs from its earlier value only in DD.
+/// A slot is reported if and only if a data descriptor requests a report (RS). The report goes to the head write-back
+/// address or, if the queue has none, into the slot's descriptor. If the ring's base is a multiple of 16 and the head
+/// write-back address is a multiple of 4, the bytes written back are within one block. If both halves of a descriptor
+/// are below 2^64, the done descriptor differs from its earlier value only in DD.
 pub fn reports()
     ensures address { ReportLaw }
     ensures block { ReportsInOneBlock }
@@ -44,7 +44,7 @@ pub fn reports()
 {}
 
 /// Fetching a slot changes only the bytes that are written back. Whether or not the slot is fetched, the same blocks
-/// remain lent, and each whole block keeps its length of 2,048 bytes.
+/// remain lent, and each keeps its length of 2,048 bytes.
 pub fn elsewhere()
     ensures bytes { WritesInsideReport }
     ensures blocks { FetchKeepsBlocks }

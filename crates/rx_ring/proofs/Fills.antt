@@ -1,4 +1,4 @@
--- Lemmas: a filled slot.
+-- Lemmas about the result of filling a slot.
 use Rattle.std.proofs.Common.{◌≡◌, ℕ, ◌^◌, ◌<◌, ◌≤◌, length, refl, sym, ap, subst, ◌∙◌, arith, Ok}
 use Rattle.std.specs.Prelude.{IsTrue, IsFalse}
 use Rattle.std.proofs.lemmas.Bool.{eqb-true, eq-eqb}

@@ -1,4 +1,4 @@
--- Lemmas: the pieces of a frame, from its first slot to its last.
+-- Lemmas about the pieces of a frame, from the frame's first slot to its last.
 use Rattle.std.proofs.Common.{◌≡◌, ◌≢◌, ℕ, zero, suc, ◌^◌, ◌<◌, ◌≤◌, inl, inr, Bool, true, false, if◌then◌else◌, List, [], ◌∷◌, ◌++◌, length, take, drop, refl, sym, ap, subst, ◌∙◌, arith, Result, Ok, Err, append_assoc}
 use Rattle.std.specs.Prelude.{◌↔◌, IsTrue}
 use Rattle.std.proofs.lemmas.List.{append-nil, append_cancel_left, take-append-drop, take_all, length-take-le}
@@ -21,11 +21,11 @@ no_pieces frame = record {
   each = λ before p after e. absurd (none_before before p after e);
 }
 
--- The piece that takes this many bytes of a frame.
+-- The piece that contains a frame's next `len` bytes.
 abbrev piece_of : Rest → ℕ → Bool → Piece
 piece_of frame len end = record { bytes = take len frame.bytes; first = frame.first; end = end }
 
--- The piece with EOP is the last.
+-- The piece with EOP is the last piece.
 last_piece : (frame : Rest) (len : ℕ) → len ≡ length frame.bytes
     → (before : List Piece) (p : Piece) (after : List Piece)
     → piece_of frame len true ∷ [] ≡ before ++ p ∷ after → IsPieceOf frame before p after

@@ -1,4 +1,4 @@
--- Lemmas: the tests of a slot, and its outcomes by case.
+-- Lemmas about the tests that a slot must pass, and about the possible results of filling it.
 use Rattle.std.proofs.Common.{◌∙◌, ◌≡◌, ℕ, ◌≤◌, true, refl, arith, Err}
 use Rattle.std.specs.Prelude.{◌==◌, IsTrue}
 use Rattle.std.proofs.lemmas.Bool.{cond_both, eqb-true, eqb-false, eq-eqb, ne_eqb}
@@ -20,7 +20,7 @@ piece_of srrctl rest = piece_length (buffer_size_of srrctl) rest
 abbrev pub head_filled : Memory → Ring → ℕ → Rest → Filled
 head_filled m r srrctl rest = filled_of r rest (buffer_address m r) (piece_of srrctl rest)
 
--- The outcome is a fault, or the slot at the head is filled.
+-- The result is a fault, or the slot at the head is filled.
 pub fill_cases : (P : Outcome → Type 0) (m : Memory) (r : Ring) (srrctl : ℕ) (rest : Rest)
     → ((fault : RingFault) → P (fault_outcome m fault))
     → (IsSetUp r srrctl → HasDescriptor m r → IsTrue (is_lent m (buffer_address m r) (piece_of srrctl rest))

@@ -1,4 +1,4 @@
--- Lemmas: the memory after a slot is filled.
+-- Lemmas about the memory after a slot is filled.
 use Rattle.std.proofs.Common.{◌≡◌, ℕ, ◌-◌, ◌*◌, ◌^◌, ◌<◌, ◌≤◌, true, Some, List, length, take, sym, ap, ◌∙◌, arith}
 use Rattle.std.specs.Prelude.{IsTrue}
 use Rattle.std.proofs.lemmas.List.{length-take}
@@ -14,7 +14,7 @@ use Rattle.rx_ring.specs.declared.filled.Filled.{Filled}
 use Rattle.rx_ring.specs.Fill.{Rest, memory_with}
 use Rattle.rx_ring.specs.Laws.{ShowsPiece, ChangesOnlySlot, FillsBlocks}
 
--- What is read from the slot.
+-- What a driver reads from the slot.
 
 abbrev bytes_of : Rest → Filled → List ℕ
 bytes_of rest f = take f.len rest.bytes

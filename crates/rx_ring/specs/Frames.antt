@@ -74,8 +74,8 @@ pub record MakeFrame (frame : Rest) (pieces : List Piece) : Type 0 where
 
 -- The pieces that a driver reads, joined in order, are a prefix of the frame. This requires that, at every fill, each
 -- lent block is whole and the buffer doesn't overlap its descriptor. It also requires that the first half is below
--- 2^64. A piece has EOP if and only if it completes the frame, and then no piece follows. Each piece reports the same
--- first half.
+-- 2^64. A piece has EOP if and only if it completes the frame, and then no piece follows. Each piece's descriptor has
+-- the same first half, which reports the packet.
 abbrev pub PiecesMakeFrame : Type 0
 PiecesMakeFrame =
     (turns : List Turn) (frame : Rest) → All IsSound turns → frame.first < 2 ^ 64

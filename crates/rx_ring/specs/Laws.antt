@@ -116,7 +116,7 @@ WritesInsideSlot =
     (m : Memory) (r : Ring) (srrctl : ℕ) (rest : Rest) (f : Filled) → (fill_of m r srrctl rest).answer ≡ Ok f
     → ChangesOnlySlot m (fill_of m r srrctl rest).memory f
 
--- Whether or not the slot is filled, the same blocks remain lent, and each whole block keeps its length of 2,048 bytes.
+-- Whether or not the slot is filled, the same blocks remain lent, and each keeps its length of 2,048 bytes.
 abbrev pub FillKeepsBlocks : Type 0
 FillKeepsBlocks =
     (m : Memory) (r : Ring) (srrctl : ℕ) (rest : Rest)

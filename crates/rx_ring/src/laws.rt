@@ -34,16 +34,16 @@ pub fn read_back()
 
 /// The pieces that a driver reads, joined in order, are a prefix of the frame. This requires that, at every fill, each
 /// lent block is whole and the buffer doesn't overlap its descriptor. It also requires that the first half is below
-/// 2^64. A piece has EOP if and only if it completes the frame, and then no piece follows. Each piece reports the same
-/// first half.
+/// 2^64. A piece has EOP if and only if it completes the frame, and then no piece follows. Each piece's descriptor has
+/// the same first half, which reports the packet.
 pub fn frames()
     ensures { PiecesMakeFrame }
 {}
 
 /// Filling a slot changes no byte outside the descriptor and the written bytes of the buffer. Whether or not the slot
-/// is filled, the same blocks remain lent, and each whole block keeps its length of 2,048 bytes. If the descriptor is
-/// within one block and the written bytes are within one block, every other block is unchanged. If these two blocks
-/// differ, one changes only in the descriptor and the other only in the written bytes.
+/// is filled, the same blocks remain lent, and each keeps its length of 2,048 bytes. If the descriptor is within one
+/// block and the written bytes are within one block, every other block is unchanged. If these two blocks differ, one
+/// changes only in the descriptor and the other only in the written bytes.
 pub fn elsewhere()
     ensures bytes { WritesInsideSlot }
     ensures blocks { FillKeepsBlocks }

@@ -1,4 +1,4 @@
--- Lemmas: a driver's side of the descriptors.
+-- Lemmas about what a driver writes into descriptors and reads from them.
 use Rattle.std.proofs.Common.{◌≡◌, ℕ, ◌/◌, ◌%◌, ◌^◌, Bool, true, false, refl, ap, ◌∙◌, arith}
 use Rattle.std.specs.Prelude.{◌+◌, ◌*◌, ◌<◌, ◌==◌, not, ◌||◌}
 use Rattle.dma_ring.specs.Transmit.{command_of}

@@ -1,4 +1,4 @@
--- Lemmas: where the slots of a ring are.
+-- Lemmas about the addresses of a ring's slots.
 use Rattle.std.proofs.Common.{ℕ, inl, inr, arith}
 use Rattle.std.proofs.lemmas.Bool.{cases_lt}
 use Rattle.dma_ring.specs.Ring.{descriptor_address}

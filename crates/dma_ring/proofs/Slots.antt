@@ -1,4 +1,4 @@
--- Lemmas: counting the slots of a ring.
+-- Lemmas that count the slots that the device owns in a ring.
 use Rattle.std.proofs.Common.{◌≡◌, ◌≢◌, ℕ, zero, suc, ◌+◌, ◌-◌, ◌<◌, ◌≤◌, false, nat_le, ◌==◌, [], ◌∷◌, length, if◌then◌else◌, refl, ap, sym, ◌∙◌, inl, inr, arith, cond}
 use Rattle.std.specs.Prelude.{IsFalse}
 use Rattle.std.proofs.lemmas.Bool.{cases_Bool, cond-true, cond-false, eqb-true, eq-eqb, le-leb, leb-true, false_from_ne_true}

@@ -3,7 +3,7 @@
 pub enum RingFault {
     /// The head or the tail isn't a slot of the ring.
     Outside,
-    /// Memory that the access needs isn't lent. The value is the bus address of the access.
+    /// Memory that the access needs isn't lent. The value is the bus address of the first byte that the access needs.
     NotLent(u64),
     /// The receive queue's descriptor type in SRRCTL isn't 1 (advanced, one buffer).
     DescType,

@@ -106,8 +106,8 @@ abbrev pub IsPort : Port → Type 0
 IsPort Pf = ⊤
 IsPort (Vf v) = v < 2 ^ 8
 
--- An event that a driver can cause. Addresses, words and block numbers have 32 bits, a block is whole, a poke writes 16
--- bytes, each byte is below 256, and the numbers of queues and virtual functions fit their types.
+-- An event that a driver can cause. Addresses, words and block numbers have 32 bits. A block is whole, a poke writes 16
+-- bytes, and each byte is below 256. The numbers of queues and virtual functions fit their types.
 abbrev pub IsEvent : Event Block → Type 0
 IsEvent (event.Read port number) = IsPort port × (number < 2 ^ 32)
 IsEvent (event.Write port number word) = IsPort port × (number < 2 ^ 32) × (word < 2 ^ 32)

@@ -25,9 +25,9 @@ waiting_code =
     (λ p. record { frame = p.0; queue = p.1.0; hash = p.1.1.0; rss = p.1.1.1.0; offset = p.1.1.1.1 })
     (λ _. refl)
 
--- A device: its registers; the memory lent to it; the receive list; the bytes staged by each transmit queue; the
--- transmitted frames not yet collected, oldest first, each with its queue; whether the link is up; the words of the
--- EEPROM image; and its configuration.
+-- The state of a device: its registers; the memory lent to it; the receive list; the bytes staged by each transmit
+-- queue; the transmitted frames; whether the link is up; the words of the EEPROM image; and its configuration. The
+-- transmitted frames are those not yet collected, oldest first, each with its queue.
 pub record State : Type 0 where
   pub registers : Registers
   pub memory : Memory

@@ -41,8 +41,8 @@ after s e = (step_of s e).state
 abbrev pub reply_to : State → Event Block → Reply Block
 reply_to s e = (step_of s e).reply
 
--- Only these events may fail because memory runs out: a `Lend` or `Arrive` that would succeed, and a transmit step of a
--- queue below 128 that isn't idle.
+-- Only these events may fail because memory runs out: a `Lend` or `Arrive` that would succeed, and a transmit step that
+-- isn't idle, for a queue below 128.
 abbrev pub TakesMemory : State → Event Block → Type 0
 TakesMemory s (event.Lend block) = (lent s block).reply ≡ reply.Done
 TakesMemory s (event.Arrive frame) = (arrived s frame).reply ≡ reply.Done

@@ -1,9 +1,9 @@
 //! The device core of the bench: the Intel 82599 as a driver sees it through its registers, one event at a time.
 //!
-//! Contracts view a `Device` as a `State`. A `State` consists of the registers, the memory lent to the device, the
-//! frames in the receive list, the bytes staged by the transmit queues, the transmitted frames not yet collected,
-//! whether the link is up, and the EEPROM image. `Device::install` replaces the image. `Device::step` runs one `Event`
-//! and returns a `Reply`, as the definition `step_of` specifies. `Device::run` runs a list of events.
+//! Contracts view a `Device` as a `State`. A `State` contains the registers, the memory lent to the device, the frames
+//! in the receive list, and the bytes staged by the transmit queues. It also contains the transmitted frames not yet
+//! collected, whether the link is up, and the EEPROM image. `Device::install` replaces the image. `Device::step` runs
+//! one `Event` and returns a `Reply`, as the definition `step_of` specifies. `Device::run` runs a list of events.
 //! `Device::peek_register`, `Device::peek_vf` and `Device::next_out` inspect the device without side effects. Between
 //! two events a device is sound; see `Device::stays_sound`.
 //!

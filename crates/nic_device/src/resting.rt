@@ -79,9 +79,10 @@ impl Engine {
 }
 
 impl Device {
-    /// Whether a queue is at rest. A queue is at rest if its number is below 128, both of its sides are in the state
-    /// that their enable bits request, it currently can't send, and the receive list is empty. In that case, an enable
-    /// step for either side of the queue, the queue's transmit step and a receive step are idle and change nothing.
+    /// Whether a queue is at rest. A queue is at rest if it is below 128, both of its sides are in their requested
+    /// state, it currently can't send, and the receive list is empty. A side's enable bit requests the side's state. In
+    /// that case, an enable step for either side of the queue, the queue's transmit step and a receive step are idle
+    /// and change nothing.
     pub fn is_at_rest(&self, queue: u16) -> bool
         ensures reported { result ≡ is_at_rest self.now queue }
         ensures idle { IsTrue result → Rests self.now queue }
@@ -91,8 +92,8 @@ impl Device {
     }
     /// Returns the event's note, or `None`. If the result is the note, the event would be idle now, would change
     /// nothing, and lends no block. The result may be `None` even for such an event; no clause states when. In
-    /// practice, three kinds of events get a note: the enable step for a side that is already in its requested state,
-    /// the transmit step for a queue that can't send, and a receive step while the receive list is empty. The call
+    /// practice, three kinds of events get a note. These are an enable step for a side that is already in its requested
+    /// state, a transmit step for a queue that can't send, and a receive step while the receive list is empty. The call
     /// allocates nothing.
     pub fn idle_note(&self, event: &Event) -> Option<EventNote>
         ensures note { IfSome result (λ note. note ≡ event.now) }

@@ -63,9 +63,9 @@ pub record LeavesMissed (r : Reach) (old new : State) : Type 0 where
 abbrev pub EventLeavesMissed : Type 0
 EventLeavesMissed = (s : State) (e : Event Block) → LeavesMissed (reach_of s e) s (after s e)
 
--- Register accesses. A read changes no queue, and only the group to which its place belongs. A write that requests
--- neither a device reset nor a pool reset changes only the side of a queue to which its place belongs, and only the
--- groups that it can reach.
+-- Register accesses. A read changes no queue, and only the group to which its place belongs. Suppose that a write
+-- requests neither a device reset nor a pool reset. It changes only the side of a queue to which its place belongs, and
+-- only the groups that it can reach.
 pub record ReadLeaves (s : State) (port : Port) (number : ℕ) : Type 0 where
   pub queues : LeavesQueues s (after s (event.Read port number))
   pub groups :

@@ -14,9 +14,9 @@ side_for s w = receive_queue_of s.registers w.queue
 abbrev pub filling : State → Waiting → Outcome
 filling s w = fill_of s.memory (side_for s w).ring (side_for s w).control (rest_of w)
 
--- The first frame is dropped if its queue is disabled. Suppose that the queue is enabled. If the device owns no slot,
--- the frame is dropped if the queue has drop enable set and no part of the frame is written; otherwise the frame stays
--- in the list. If the device owns a slot, the slot is filled or has a fault.
+-- The first frame is dropped if its queue is disabled. Suppose that the queue is enabled. If the device owns a slot,
+-- the slot is filled or has a fault. If the device owns no slot, the frame stays in the list, except in one case: the
+-- frame is dropped if the queue has drop enable set and no part of the frame is written.
 pub record ReceivesInOrder (s : State) (w : Waiting) (others : List Waiting) : Type 0 where
   pub off :
       IsFalse (side_for s w).on → step_of s event.RxStep ≡ gives (Dropped QueueOff) (record s { waiting = others })

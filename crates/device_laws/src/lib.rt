@@ -104,7 +104,7 @@ pub fn events_raise()
 {}
 
 /// Writing CTRL with a reset request empties the receive list, drops the staged bytes, and otherwise changes only
-/// registers: lent memory, the transmitted frames, the link, the image and the configuration are unchanged. If the
+/// registers. Lent memory, the transmitted frames, the link, the image and the configuration are unchanged. If the
 /// image writes no register, each register then has its reset value, no side of a queue has an enable request, and no
 /// interrupt bit is reported. For an image that writes registers, see `reset_applies_the_image`.
 #[tactic(auto, using(crate::proofs::Resetting::asked_resets, crate::proofs::Resetting::reset_values))]
@@ -145,9 +145,9 @@ pub fn other_events_keep_settings()
 {}
 
 /// No event changes anything outside its reach. The reach determines which registers, blocks, staged bytes and frames
-/// the event can change. The reach depends on the register, block, queue or group to which the event refers, the
-/// written value and the pool mode, the oldest frame in the receive list, and the reply. Each side of a queue and each
-/// interrupt group outside the reach is unchanged.
+/// the event can change. The reach depends on the register, block, queue or group to which the event refers, and on the
+/// written value. It also depends on the pool mode, the oldest frame in the receive list, and the reply. Each side of a
+/// queue and each interrupt group outside the reach is unchanged.
 pub fn event_stays_within_its_reach()
     ensures stays { EventStaysWithinReach }
     ensures missed { EventLeavesMissed }
@@ -158,10 +158,10 @@ pub fn other_events_keep_blocks()
     ensures { OtherEventsKeepBlocks }
 {}
 
-/// A register read changes no queue, and only the interrupt group to which its register belongs. A write that requests
-/// neither a device reset nor a pool reset changes only the side of a queue to which its register belongs, and only the
-/// interrupt groups that it can reach. Neither the read nor such a write changes the receive list or the transmitted
-/// frames. No register access changes memory.
+/// A register read changes no queue, and only the interrupt group to which its register belongs. Suppose that a write
+/// requests neither a device reset nor a pool reset. Then it changes only the side of a queue to which its register
+/// belongs, and only the interrupt groups that it can reach. Neither a read nor such a write changes the receive list
+/// or the transmitted frames. No register access changes memory.
 pub fn access_leaves_the_rest()
     ensures read { ReadLeavesTheRest }
     ensures write { WriteLeavesTheRest }
@@ -216,9 +216,9 @@ pub fn link_leaves_the_rest()
 {}
 
 /// Suppose that CTRL bit 2 is 0. If the receive list is empty, a receive step is idle. If the oldest frame's queue is
-/// disabled, the step drops the frame. If the queue is enabled but has no free descriptor, the step drops the frame if
-/// drop enable is set and no part of the frame is written yet; otherwise the frame stays. If the queue is enabled and
-/// has a free descriptor, the descriptor is filled or has a fault. Each reply occurs only in its own case.
+/// disabled, the step drops the frame. If the queue is enabled and has a free descriptor, the descriptor is filled or
+/// has a fault. If the queue is enabled but has no free descriptor, the frame stays, except in one case: the step drops
+/// the frame if drop enable is set and no part of the frame is written yet. Each reply occurs only in its own case.
 pub fn receiving_has_an_order()
     ensures order { ReceivingHasAnOrder }
     ensures alone { EachReplyInItsCase }
@@ -250,10 +250,11 @@ pub fn muted_queue_is_idle()
     ensures { MutedQueueIsIdle }
 {}
 
-/// Suppose that CTRL bit 2 is 0, that the device has a group, and that a bit of this group is due: its cause and its
-/// mask are 1, it isn't reported, and it has a vector. Then an interrupt step for the group sends the vector of the
-/// lowest due bit and marks that bit as reported. The step clears the bit's cause if the bit is 1 in EIAC, and the
-/// bit's mask if GPIE bit 30 is 1 and the bit is 1 in EIAM. The group's other bits are unchanged.
+/// A bit of an interrupt group is due if its cause and its mask are 1, it isn't reported, and it has a vector. Suppose
+/// that CTRL bit 2 is 0, that the device has a group, and that a bit of this group is due. Then an interrupt step for
+/// the group sends the vector of the lowest due bit and marks that bit as reported. The step clears the bit's cause if
+/// the bit is 1 in EIAC, and the bit's mask if GPIE bit 30 is 1 and the bit is 1 in EIAM. The group's other bits are
+/// unchanged.
 #[tactic(auto, using(crate::proofs::Messages::due_reported))]
 pub fn due_bit_is_reported()
     ensures { DueBitIsReported }
@@ -300,8 +301,8 @@ pub fn vf_access_is_the_physical_functions()
 
 /// A virtual function's access changes only what belongs to its pool, and the bits that signal the physical function:
 /// two bits of PFMBICR, and EICR bit 19. The following belongs to the pool: its registers, including its mailbox and
-/// the mailbox's memory; its enable requests, reported bits and staged bytes; and the frames in the receive list for
-/// its queues. The frames of other pools keep their order. Memory, transmitted frames, the link, the image and the
+/// the mailbox's memory; its enable requests, reported bits and staged bytes; the frames in the receive list for its
+/// queues. The frames of other pools keep their order. Memory, transmitted frames, the link, the image and the
 /// configuration are unchanged. The access changes staged bytes and frames, even of its own pool, only if it requests a
 /// pool reset with PVFCTRL bit 26.
 ///

@@ -3,11 +3,10 @@
 
 ghost use Rattle.tx_ring.specs.Laws.{TestLaw, FaultChangesNothing, SlotLaw, PacketLaw, DriverReads, WritesInsideReport, FetchKeepsBlocks, ReportLaw, ReportsInOneBlock, DoneChangesDoneAlone};
 
-/// The first test that fails determines the fault. The tests are, in order: the head and the tail are in the ring, the
-/// descriptor is lent, its format is advanced, its type is known. A data descriptor must pass four more tests, in
-/// order: it requests no offload, the frame is within the limit, the buffer's bytes are lent, the bytes of a requested
-/// write-back are lent. If no test fails, the descriptor is completed. A fault changes neither the memory nor the
-/// staged bytes.
+/// The first test that fails determines the fault. The tests check, in order: head and tail in the ring; descriptor
+/// lent; advanced format; known type. For a data descriptor, four more tests follow, in order: no offload; frame within
+/// the limit; the buffer's bytes lent; the bytes of a requested write-back lent. If no test fails, the descriptor is
+/// completed. A fault changes neither the memory nor the staged bytes.
 pub fn faults()
     ensures order { TestLaw }
     ensures unchanged { FaultChangesNothing }

@@ -4,9 +4,9 @@
 ghost use Rattle.rx_ring.specs.Laws.{TestLaw, FaultWritesNothing, HealthyIsFilled, PieceLaw, DriverReads, WritesInsideSlot, FillKeepsBlocks, FillsTwoBlocks};
 ghost use Rattle.rx_ring.specs.Frames.{PiecesMakeFrame};
 
-/// The first test that fails determines the fault. The tests are, in order: the head and the tail are in the ring, the
-/// descriptor type is 1, the buffer size isn't 0, the descriptor is lent, the bytes to be written in the buffer are
-/// lent. If no test fails, the slot is filled. A fault writes no memory.
+/// The first test that fails determines the fault. The tests check, in order: head and tail in the ring; descriptor
+/// type 1; nonzero buffer size; descriptor lent; bytes to be written in the buffer lent. If no test fails, the slot is
+/// filled. A fault writes no memory.
 pub fn faults()
     ensures order { TestLaw }
     ensures memory { FaultWritesNothing }

@@ -26,7 +26,7 @@ pub fn halves_come_back()
 /// A written-back descriptor reports each value in its own bits. If the RSS type is below 16 and the hash is below
 /// 2^32, each field of the packet is in its own bits of the first half, and the other bits are 0. If the piece is
 /// shorter than 65,536 bytes, the second half reports that the descriptor is done, whether the packet ends with the
-/// piece, and the number of bytes; bits 31:2 and 63:48 are 0.
+/// piece, and the number of bytes. Bits 31:2 and 63:48 of the second half are then 0.
 pub fn receive_fields()
     ensures packet { PacketIsReported }
     ensures piece { PieceIsReported }

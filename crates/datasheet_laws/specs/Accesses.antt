@@ -15,17 +15,19 @@ shows address bit = has_bit bit (view_among runs address)
 abbrev pub writes_one : (address word bit : ℕ) → Bool
 writes_one address word bit = has_bit bit word && shows address bit
 
--- A bit whose cause an access has set. The access also sets the mask if the auto-mask contains the bit and acts.
+-- A bit after an access set its cause. The access also sets the mask if the auto-mask contains the bit and applies to
+-- accesses.
 abbrev pub cause_set : (acts one : Bool) → Bit → Bit
 cause_set acts one b = record b { cause = b.cause || one; mask = b.mask || (acts && one && b.auto_mask) }
 
--- A bit whose cause an access has cleared. The access also clears the mask if the auto-mask contains the bit and acts.
+-- A bit after an access cleared its cause. The access also clears the mask if the auto-mask contains the bit and
+-- applies to accesses.
 abbrev pub cause_cleared : (acts one : Bool) → Bit → Bit
 cause_cleared acts one b =
     record b { cause = b.cause && not one; mask = b.mask && not (acts && one && b.auto_mask) }
 
--- A write to EICS or PVTEICS sets the causes of the bits that are written as 1 and that the address shows. It also sets
--- their masks if the auto-mask contains them and acts.
+-- A write to EICS or PVTEICS sets the causes of the bits that are written as 1 and that the address shows. The write
+-- also sets the masks of those bits that the auto-mask contains, if the auto-mask applies to accesses.
 abbrev pub WriteOfCauseSetSets : Type 0
 WriteOfCauseSetSets =
     (s : State) → IsSound s → (g : Group) → IsGroup g → (address word : ℕ) → Names address (cause_set_register g) →
@@ -45,8 +47,8 @@ abbrev pub read_keeps : State → Group → ℕ → Bool
 read_keeps s Pf bit = reads_one s general_address 5 && not (nat_le 16 bit && nat_le bit 29)
 read_keeps s (Vf v) bit = false
 
--- A read of EICR or PVTEICR clears causes. If the auto-mask acts, it also clears the mask of every bit that it
--- contains.
+-- A read of EICR or PVTEICR clears causes. If the auto-mask applies to accesses, the read also clears the mask of every
+-- bit that the auto-mask contains.
 abbrev pub causes_read : State → Group → ℕ → Bit → Bit
 causes_read s g bit b =
     record b {
@@ -81,7 +83,7 @@ pub record ReadsZero (s : State) (g : Group) : Type 0 where
 abbrev pub SetAndClearReadZero : Type 0
 SetAndClearReadZero = (s : State) (g : Group) → ReadsZero s g
 
--- A write to EIAC, PVTEIAC, EIAM or PVTEIAM is kept in the bits that the address shows.
+-- A write to EIAC, PVTEIAC, EIAM or PVTEIAM is stored in the bits that the address shows.
 abbrev pub written_bit : (address word bit : ℕ) → Bool → Bool
 written_bit address word bit old = if shows address bit then has_bit bit word else old
 
@@ -97,7 +99,7 @@ WriteOfAutoMaskIsKept =
     ShowsThen s (after_write s address word) g
     (λ bit. record (bit_of s g bit) { auto_mask = written_bit address word bit (bit_of s g bit).auto_mask })
 
--- At each address of a register, a read shows the bits of its word that the address shows.
+-- A read at any address of a register returns those bits of the register's word that the address shows.
 abbrev pub ReadsShowTheView : Type 0
 ReadsShowTheView =
     (s : State) (p : Place) (whole address bit : ℕ) → Names whole p → view_among runs whole ≡ 0xFFFFFFFF →

@@ -52,11 +52,11 @@ pub record IsBeyond (r : Registers) (frame : List ℕ) : Type 0 where
 abbrev pub HasNoPool : Registers → List ℕ → Type 0
 HasNoPool r frame = (selected_pool r frame ≡ None) ⊎ IsBeyond r frame
 
--- The bit of a pool in VFRE: VFRE[0] covers pools 0 to 31, VFRE[1] pools 32 to 63.
+-- A pool's bit in VFRE: VFRE[0] covers pools 0 to 31, VFRE[1] pools 32 to 63.
 abbrev pub receive_bit : Registers → ℕ → ℕ
 receive_bit r pool = bit (pool % 32) (word_of r Vfre (pool / 32))
 
--- A frame's pool accepts frames, or accepts none.
+-- The frame's pool accepts frames (`HasPoolOn`) or doesn't accept frames (`HasPoolOff`).
 pub record HasPoolOn (r : Registers) (frame : List ℕ) : Type 0 where
   pub pool : ℕ
   pub has : HasPool r frame pool
@@ -129,8 +129,8 @@ pub record Joins (s : State) (frame : List ℕ) (new : State) : Type 0 where
   pub hash : last.hash ≡ target.hash
   pub rss : last.rss ≡ target.rss
 
--- The receive list after a frame arrived, by the reply: the frame is appended if it is accepted; otherwise the list is
--- unchanged.
+-- The receive list after a frame arrived: if the reply says that the frame is accepted, the frame is appended;
+-- otherwise the list is unchanged.
 abbrev pub WaitsAfterArriving : State → List ℕ → Reply Block → State → Type 0
 WaitsAfterArriving s frame Done new = Joins s frame new
 WaitsAfterArriving s frame other new = new.waiting ≡ s.waiting

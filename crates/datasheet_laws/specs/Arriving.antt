@@ -15,10 +15,10 @@ queue_mode s = read_at s 0x05818 % 16
 abbrev pub pool_mode : State → ℕ
 pool_mode s = read_at s mode_address % 4
 
--- A queue belongs to pool p, whose bit of VFRE is 1. MRQC bits 3 to 0, the code, select it. With code 8, it is queue
--- 2p; with 10, one of queues 4p to 4p + 3; with 11, queue 2p or 2p + 1. If GCR_EXT selects 16 pools, it is queue 8p
--- with 8, and one of queues 8p to 8p + 7 with 10 or 11. With any other code, except 1 (RSS without pools), it is queue
--- 0.
+-- A queue belongs to pool p, whose bit in VFRE is 1. The code in MRQC bits 3 to 0 selects the queue. With code 8, it is
+-- queue 2p; with 10, one of queues 4p to 4p + 3; with 11, queue 2p or 2p + 1. If GCR_EXT selects 16 pools, it is queue
+-- 8p with 8, and one of queues 8p to 8p + 7 with 10 or 11. With any other code, except 1 (RSS without pools), it is
+-- queue 0.
 pub record IsOfOpenPool (s : State) (queue pool : ℕ) : Type 0 where
   pub small : pool < 64
   pub on : IsTrue (pool_bit_at s 0x051E0 pool)
@@ -29,8 +29,8 @@ pub record IsOfOpenPool (s : State) (queue pool : ℕ) : Type 0 where
   pub eight : pool_mode s ≡ 1 → (queue_mode s ≡ 10) ⊎ (queue_mode s ≡ 11) → queue / 8 ≡ pool
   pub none : queue_mode s ≢ 1 → queue_mode s ≢ 8 → queue_mode s ≢ 10 → queue_mode s ≢ 11 → queue ≡ 0
 
--- The frame was appended to the receive list, and waits for a queue of its pool with the property above. Its pool is
--- the lowest pool of the first address that is its destination, or the default pool.
+-- The frame was appended to the receive list, and waits for a queue of its pool as defined above. The pool is the
+-- lowest pool of the first address that is its destination, or the default pool.
 pub record JoinsOpenPool (s : State) (arrived : List ℕ) (new : State) : Type 0 where
   pub frame : Waiting
   pub bytes : frame.frame ≡ arrived

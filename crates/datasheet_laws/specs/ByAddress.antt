@@ -4,7 +4,7 @@ use Rattle.std.specs.Prelude.{ℕ, Bool, Option, None, Some, bit_and}
 use Rattle.datasheet_laws.specs.NumberPrelude.{Access, Registers, Surroundings, access_at, after_read, has_bit, read_word}
 use Rattle.datasheet_laws.specs.NumberPrelude.{row_of, word_at, written}
 
--- Given the access that an address leads to, if any: the word of its register, the value that a read returns, and the
+-- For the access that an address selects, if any: the word of its register, the value that a read returns, and the
 -- registers after a read and after a write.
 abbrev pub held : Registers → Option Access → ℕ
 held r None = 0

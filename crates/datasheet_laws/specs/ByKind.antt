@@ -1,4 +1,4 @@
--- What accesses do to a register's word, bit by bit, by its listed kind and mask.
+-- What accesses do to a register's word, bit by bit, according to the register's listed kind and mask.
 use Rattle.std.specs.Prelude.{ℕ, ◌≡◌, ◌<◌, ◌+◌, ◌*◌, ◌/◌, ◌%◌, Bool, true, false, ◌&&◌, Some, None, if◌then◌else◌}
 use Rattle.reg_table.specs.declared.kind.Kind.TheVariants as kind
 use Rattle.reg_table.specs.declared.rows.RowId.TheVariants.{Rxdctl, Tdbal, Tdbah, Tdlen, Tdh, Txdctl}
@@ -84,8 +84,8 @@ abbrev pub SidesAreAsked : Type 0
 SidesAreAsked = (r : Registers) → HasShape r → (q w : ℕ) → q < 128 → AsksForASide r q w
 
 -- EERD, at 0x10014: a write stores bits 0 and 15 to 2, and clears all others. If bit 0, START, is 1, it requests the
--- word with the index in bits 15 to 2. The answer keeps these bits, has the word in bits 31 to 16, and has bit 1, DONE,
--- set instead of START.
+-- word with the index in bits 15 to 2. The EEPROM's reply keeps bits 15 to 2, puts the word into bits 31 to 16, and
+-- sets bit 1, DONE, instead of START.
 pub record ReadsTheEeprom (around : Surroundings) (r : Registers) (w : ℕ) : Type 0 where
   pub stores : (bit : ℕ) → bit < 32 →
       reads around (write_at r 0x10014 w) 0x10014 bit ≡ (has_bit bit w && has_bit bit 0xFFFD)

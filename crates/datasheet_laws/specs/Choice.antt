@@ -8,7 +8,7 @@ use Rattle.datasheet_laws.specs.NumberPrelude.{Ctrl, Flow, HasShape, Pvfctrl, Re
 use Rattle.datasheet_laws.specs.NumberPrelude.{asks_reset, has_bit, row_of, rss_entry, rss_hash, rss_type, sorted}
 use Rattle.datasheet_laws.specs.ByAddress.{word, holds}
 
--- The codes of MRQC bits 3 to 0 that hash: 1, 0xA and 0xB.
+-- The codes in MRQC bits 3 to 0 that enable hashing: 1, 0xA and 0xB.
 abbrev pub IsHashing : ℕ → Type 0
 IsHashing mrqc = (mrqc % 16 ≡ 1) ⊎ ((mrqc % 16 ≡ 0xA) ⊎ (mrqc % 16 ≡ 0xB))
 

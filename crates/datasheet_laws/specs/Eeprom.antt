@@ -1,4 +1,4 @@
--- EEPROM images, by the numbers of their words and bytes.
+-- EEPROM images, defined by the numbers of their words and bytes.
 use Rattle.std.specs.Prelude.{ℕ, ◌≡◌, ◌≢◌, ◌<◌, ◌≤◌, ◌^◌, ◌↔◌, ◌+◌, ◌*◌, ◌/◌, ◌%◌, ◌==◌, ◌||◌, ◌&&◌, not, nat_le, nat_lt, Bool, true, false, IsTrue}
 use Rattle.std.specs.Prelude.{if◌then◌else◌, Option, Some, None, List, [], ◌∷◌, length, take, drop, sum, sum_by}
 use Rattle.std.specs.Prelude.{get_or, replicate, slice_get, slice_index}
@@ -16,7 +16,7 @@ use Rattle.eeprom_image.specs.declared.text.AsmFault.{AsmFault}
 use Rattle.eeprom_image.specs.declared.text.AsmFault.TheVariants.{TwoValues, Reserved, DoesNotFit, PointerOutside}
 use Rattle.datasheet_laws.specs.NumberPrelude.{list_any}
 
--- Word n of an image, or 0xFFFF if it contains none.
+-- Word n of an image, or 0xFFFF if the image has no word n.
 abbrev pub nth : List ℕ → ℕ → ℕ
 nth words n = get_or words n 0xFFFF
 
@@ -33,7 +33,7 @@ abbrev pub pointed_sum : List ℕ → ℕ → ℕ
 pointed_sum words n =
     let at = nth words n in sum (if names_none at then [] else take (following words at) (drop (at + 1) words))
 
--- All of these, and the word that word n points to, are in the image.
+-- The word that word n points to, and all words that follow it, are in the image.
 abbrev pub points_in : List ℕ → ℕ → Bool
 points_in words n = let at = nth words n in names_none at || nat_lt (at + following words at) (length words)
 
@@ -58,7 +58,7 @@ abbrev pub is_number : ℕ → Bool
 is_number n =
     list_any (λ size. n == size) (64 ∷ 128 ∷ 256 ∷ 512 ∷ 1024 ∷ 2048 ∷ 4096 ∷ 8192 ∷ 16384 ∷ [])
 
--- Which words form an image.
+-- The conditions under which a list of words is an image.
 pub record IsByNumber (words : List ℕ) : Type 0 where
   pub size : IsTrue (is_number (length words))
   pub fits : (n : ℕ) → nth words n < 65536
@@ -69,7 +69,7 @@ pub record IsByNumber (words : List ℕ) : Type 0 where
 abbrev pub ImagesAreByNumber : Type 0
 ImagesAreByNumber = (words : List ℕ) → IsImage words ↔ IsByNumber words
 
--- A file has the first of these faults, or none.
+-- The first fault of a file in this order, if the file has one.
 abbrev pub first_fault : ℕ → List ℕ → Option LoadFault
 first_fault count words =
     if not (count % 2 == 0) then Some OddLength else
@@ -88,8 +88,9 @@ pub record FileIsRead (bytes : List ℕ) : Type 0 where
 abbrev pub FilesAreByNumber : Type 0
 FilesAreByNumber = (bytes : List ℕ) → FileIsRead bytes
 
--- Register write k of an image. If word 0x0D is p, word p + 1 + 3k is the register's offset in words, p + 2 + 3k the
--- low half of the data and p + 3 + 3k the high half. There are as many as fit in the words that follow word p.
+-- The register writes of an image, numbered by k. If word 0x0D is p, word p + 1 + 3k is the register's offset in words,
+-- p + 2 + 3k the low half of the data and p + 3 + 3k the high half. The words that follow word p contain as many
+-- register writes as fit in them.
 pub record WritesStand (words : List ℕ) : Type 0 where
   pub none : names_none (nth words 0x0D) ≡ true → triples_of words ≡ []
   pub count : names_none (nth words 0x0D) ≡ false →
@@ -122,7 +123,7 @@ TextsPoint =
 abbrev pub with_5 : ℕ → Content
 with_5 n = record { size = 128; words = (n, 5) ∷ []; triples = [] }
 
--- Word n points outside.
+-- Word n is a pointer: a source that sets it to 5 is refused because it points outside.
 abbrev pub IsPointer : ℕ → Type 0
 IsPointer n = content_fault (with_5 n) ≡ Some PointerOutside
 
@@ -160,8 +161,8 @@ pub record TwiceIsFirst : Type 0 where
   pub reserved : text_fault 64 ((0x0D, 1) ∷ (0x3F, 1) ∷ (0x3F, 1) ∷ []) 0 ≡ Some (TwoValues 0x3F)
   pub outside : text_fault 64 ((0x03, 5) ∷ (0x40, 1) ∷ (0x40, 1) ∷ []) 1 ≡ Some (TwoValues 0x40)
 
--- Next is the lowest index among 0x0D, 0x3F and the section of the register writes: word 0x40 and three words for each
--- write, starting at 0x41; no words if there are no writes.
+-- The second fault is a reserved index; the lowest is reported. Indices 0x0D and 0x3F are reserved, and so is the
+-- section of the register writes: word 0x40 and three words for each write, starting at 0x41; no words without writes.
 pub record ReservedIsSecond : Type 0 where
   pub pointer : text_fault 64 ((0x0D, 0xFFFF) ∷ []) 0 ≡ Some (Reserved 0x0D)
   pub checksum : text_fault 64 ((0x3F, 0xFFFF) ∷ []) 0 ≡ Some (Reserved 0x3F)
@@ -173,7 +174,7 @@ pub record ReservedIsSecond : Type 0 where
   pub without : text_fault 128 ((0x40, 1) ∷ (0x43, 1) ∷ []) 0 ≡ None
   pub outside : text_fault 64 ((0x40, 1) ∷ (0x3F, 1) ∷ []) 0 ≡ Some (Reserved 0x3F)
 
--- Last is what doesn't fit: an index at or above the size, or a section that ends after the last word.
+-- The third fault is what doesn't fit: an index at or above the size, or a section that ends after the last word.
 pub record FittingIsThird : Type 0 where
   pub index : text_fault 64 ((0x40, 1) ∷ []) 0 ≡ Some DoesNotFit
   pub within : text_fault 64 ((0x3E, 1) ∷ []) 0 ≡ None
@@ -189,7 +190,7 @@ pub record TextsHaveFaults : Type 0 where
   pub reserved : ReservedIsSecond
   pub fitting : FittingIsThird
 
--- A word inside an image is its own, and a word outside is 0xFFFF.
+-- A word inside an image reads as it is stored, and a word outside reads as 0xFFFF.
 pub record OutsideReadsOnes (words : List ℕ) (n : ℕ) : Type 0 where
   pub inside : n < length words → word_at words n ≡ slice_index words n
   pub outside : length words ≤ n → word_at words n ≡ 0xFFFF

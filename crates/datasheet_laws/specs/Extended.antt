@@ -22,7 +22,7 @@ pub record KeepsExtended (s : State) (word : ℕ) : Type 0 where
       → reads_one (after_write s extended_address word) extended_address bit ≡ has_bit bit word
   pub read : after s (event.Read Pf extended_address) ≡ s
   -- Every register except CTRL_EXT and the mailbox registers reads as before. With bit 14 clear, the mailbox registers
-  -- do too, and only words of registers have changed in the device.
+  -- also read as before, and nothing in the device has changed except words of registers.
   pub others :
       (address : ℕ) (q : Place) → Names address q → q ≢ place CtrlExt 0 → q.row ≢ Pvfmailbox → q.row ≢ Pfmailbox
       → reply_to_read (after_write s extended_address word) address ≡ reply_to_read s address

@@ -1,4 +1,4 @@
--- Which slot of a receive ring is written and which has a fault, by the bits of registers.
+-- Which slot of a receive ring is written and which has a fault, in terms of register bits.
 use Rattle.std.specs.Prelude.{ℕ, ◌≡◌, ◌≢◌, ◌<◌, ◌⊎◌, ◌+◌, ◌-◌, ◌*◌, ◌/◌, ◌%◌, ◌^◌, min, ⊤, IsTrue, IsFalse, List, ◌∷◌, length}
 use Rattle.nic_device.specs.RegTable.declared.rows.RowId.TheVariants.{Srrctl, Rdbal, Rdbah, Rdlen, Rdh, Rdt}
 use Rattle.nic_device.specs.declared.event.Event.TheVariants as event
@@ -7,13 +7,14 @@ use Rattle.datasheet_laws.specs.FramePrelude.{RingFault, State, Waiting, Wrote, 
 use Rattle.datasheet_laws.specs.FramePrelude.{word_of}
 use Rattle.datasheet_laws.specs.Bits.{field}
 
--- Head and tail of a receive ring, RDH and RDT bits 15 to 0, are slots of it. The ring has a slot for each 16 bytes of
--- RDLEN bits 19 to 0.
+-- The head and the tail of a receive ring, RDH and RDT bits 15 to 0, are slots of the ring. The ring has a slot for
+-- each 16 bytes of RDLEN bits 19 to 0.
 pub record IsInside (r : Registers) (queue : ℕ) : Type 0 where
   pub head : field 15 0 (word_of r Rdh queue) < field 19 0 (word_of r Rdlen queue) / 16
   pub tail : field 15 0 (word_of r Rdt queue) < field 19 0 (word_of r Rdlen queue) / 16
 
--- The descriptor type, in SRRCTL bits 27 to 25, and the size of a buffer in bytes, with KB in bits 4 to 0.
+-- The descriptor type is in SRRCTL bits 27 to 25. The size of a buffer is in SRRCTL bits 4 to 0 in KB; here it is in
+-- bytes.
 abbrev pub descriptor_type : Registers → ℕ → ℕ
 descriptor_type r queue = field 27 25 (word_of r Srrctl queue)
 
@@ -39,7 +40,8 @@ buffer_address s queue = 2 * (first_half (read_at s.memory (descriptor_address s
 abbrev pub piece_length : State → Waiting → ℕ
 piece_length s w = min (buffer_size s.registers w.queue) (length w.frame - w.offset)
 
--- The descriptor at the reported address isn't lent; or it is, and the bytes of the buffer aren't.
+-- The descriptor at the reported address isn't lent (`LacksDescriptor`), or the descriptor is lent but the bytes of the
+-- buffer at the reported address aren't (`LacksBuffer`).
 pub record LacksDescriptor (s : State) (queue address : ℕ) : Type 0 where
   pub reported : address ≡ descriptor_address s.registers queue
   pub lacks : IsFalse (is_lent s.memory (descriptor_address s.registers queue) 16)
@@ -60,7 +62,7 @@ HasFault s w (NotLent address) =
     IsSetUp s.registers w.queue × (LacksDescriptor s w.queue address ⊎ LacksBuffer s w address)
 HasFault s w other = ⊥
 
--- A slot can be written: its queue is set up, and descriptor and bytes are lent.
+-- A slot can be written: its queue is set up, and the descriptor and the buffer's bytes are lent.
 pub record CanWrite (s : State) (w : Waiting) : Type 0 where
   pub set_up : IsSetUp s.registers w.queue
   pub descriptor : IsTrue (is_lent s.memory (descriptor_address s.registers w.queue) 16)

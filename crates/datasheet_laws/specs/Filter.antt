@@ -16,7 +16,8 @@ pub record IsAddress (low high : ℕ) (frame : List ℕ) : Type 0 where
   pub fifth : high % 256 ≡ slice_index frame 4
   pub sixth : high / 256 % 256 ≡ slice_index frame 5
 
--- RAL[i] and RAH[i] are a frame's destination. `IsAddressed`: one of the 128 addresses is.
+-- RAL[i] and RAH[i] contain a frame's destination (`IsAddressedBy`). One of the 128 addresses is the frame's
+-- destination (`IsAddressed`).
 abbrev pub IsAddressedBy : Registers → List ℕ → ℕ → Type 0
 IsAddressedBy r frame i = IsAddress (word r (0x0A200 + 8 * i)) (word r (0x0A204 + 8 * i)) frame
 
@@ -32,7 +33,7 @@ vector_of choice frame =
     else (if choice == 2 then (slice_index frame 4 / 4 + 64 * slice_index frame 5) % 4096
     else (slice_index frame 4 + 256 * slice_index frame 5) % 4096))
 
--- MCSTCTRL bit 2 is 1, and so is the bit of the destination in MTA.
+-- MCSTCTRL bit 2 is 1, and so is the destination's bit in MTA.
 pub record IsListed (r : Registers) (frame : List ℕ) (vector : ℕ) : Type 0 where
   pub counts : holds r 0x05090 2 ≡ true
   pub bit : holds r (0x05200 + 4 * (vector / 32)) (vector % 32) ≡ true

@@ -20,8 +20,8 @@ is_queue_of parts v queue =
 abbrev pub has : Registers → (v queue : ℕ) → Bool
 has r v queue = is_queue_of (field 1 0 (word_of r GcrExt 0)) v queue
 
--- Of the frames in the receive list, those for other queues stay in order, whether partly written or not. The pool's
--- queues have nothing staged, and all other queues what they had. Lent memory, the transmitted frames and the link are
+-- The frames in the receive list for other queues stay in order, even partly written ones. The pool's queues have
+-- nothing staged, and all other queues keep their staged bytes. Lent memory, the transmitted frames and the link are
 -- unchanged.
 pub record DropsItsFrames (s : State) (v : ℕ) (new : State) : Type 0 where
   pub waiting : new.waiting ≡ filter (λ w. not (has s.registers v w.queue)) s.waiting

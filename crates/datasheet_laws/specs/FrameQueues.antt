@@ -17,10 +17,10 @@ IsFor r frame pool =
     ((bit 0 (word_of r VtCtl 0) ≡ 0) × (pool ≡ 0))
     ⊎ (PartsAmongPools r × HasPool r frame pool × (receive_bit r pool ≡ 1))
 
--- A frame goes to the queue that MRQC selects. Without one of the codes, this is queue 0, with type 0 and hash 0,
--- whatever the frame's pool. With 1, it is the queue of the frame's entry in the redirection table. With the other
--- codes, it is one of the pool's queues: the first, or the one that the entry names, out of two, four with 0xA, or
--- eight if GCR_EXT selects 16 pools.
+-- A frame goes to the queue that MRQC selects. Without one of the four codes, this is queue 0, with type 0 and hash 0,
+-- whatever the frame's pool. With code 1, the frame's entry in the redirection table names the queue. With code 8, it
+-- is the pool's first queue. With 0xA and 0xB, the entry selects one of the pool's queues. A pool has eight queues if
+-- GCR_EXT selects 16 pools; otherwise it has four with 0xA, and two with 8 and 0xB.
 pub record GoesByMrqc (r : Registers) (frame : List ℕ) (t : Target) : Type 0 where
   pub pool : ℕ
   pub is_for : IsFor r frame pool

@@ -6,7 +6,7 @@ use Rattle.datasheet_laws.specs.Prelude.{after, has_bit, named, place}
 use Rattle.datasheet_laws.specs.Names.{IsGroup, bits_in, cause_register, mask_clear_register, general_address}
 use Rattle.datasheet_laws.specs.Shown.{bit_of, reads_one, masks_by_access}
 
--- Accesses to a bit's cause clear its mask: the auto-mask contains the bit, and acts on accesses.
+-- Accesses to a bit's cause clear the bit's mask: the auto-mask contains the bit and applies to accesses.
 abbrev pub masks_itself : State → Group → ℕ → Bool
 masks_itself s g bit = masks_by_access s g && (bit_of s g bit).auto_mask
 

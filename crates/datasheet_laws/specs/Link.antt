@@ -20,8 +20,8 @@ pub record SetsLink (s : State) (up : Bool) : Type 0 where
 abbrev pub LinkChangesRaise : Type 0
 LinkChangesRaise = (s : State) → IsSound s → (up : Bool) → SetsLink s up
 
--- A `Collect` returns the oldest transmitted frame and removes it from the list. It is idle if and only if there is
--- none.
+-- A `Collect` returns the oldest transmitted frame and removes the frame from the list. If and only if the list is
+-- empty, the `Collect` is idle.
 pub record Collects (s : State) : Type 0 where
   pub none : s.out ≡ [] → step_of s event.Collect ≡ gives Idle s
   pub oldest :

@@ -33,7 +33,7 @@ pub record PhysicalShakes (around : Surroundings) (r : Registers) (v w : ℕ) : 
       reads around (write_at r (other v) w) (own v) 3 ≡ reads around r (own v) 3
   pub gives_up : has_bit 3 w ≡ false → reads around (write_at r (other v) w) (own v) 3 ≡ false
 
--- Both sides read the same holder of the mailbox, and the physical function reads nothing more.
+-- Both sides read the same holder of the mailbox, and all other bits that the physical function reads are 0.
 pub record ReadAlike (around : Surroundings) (r : Registers) (v : ℕ) : Type 0 where
   pub function : reads around r (other v) 2 ≡ reads around r (own v) 2
   pub physical : reads around r (other v) 3 ≡ reads around r (own v) 3
@@ -66,7 +66,7 @@ OnesAreCleared =
     reads around (write_at r (0x00710 + 4 * k) w) (0x00710 + 4 * j) bit
     ≡ (reads around r (0x00710 + 4 * j) bit && not (j == k && has_bit bit w))
 
--- Whether a written word sends.
+-- Whether a written word sends a request or an acknowledgement.
 abbrev pub sends : ℕ → Bool
 sends w = has_bit 0 w || has_bit 1 w
 
@@ -97,8 +97,8 @@ PoolResetsLeave =
     reads around (pool_reset mode v r) (own v) bit
     ≡ (reads around r (own v) bit && not (bit == 2 || bit == 4 || bit == 5))
 
--- A write to function v's mailbox changes only bit 2 of PVFMAILBOX[v]; a write by the physical function only bits 5 to
--- 2. All its other bits, and all of each other function's mailbox, read as before.
+-- A write to function v's mailbox changes only bit 2 of PVFMAILBOX[v]; a write by the physical function changes only
+-- bits 5 to 2 of it. All other bits of the register, and all of each other function's mailbox, read as before.
 pub record LeavesOtherBits (around : Surroundings) (r : Registers) (v u w bit : ℕ) : Type 0 where
   pub function : (v == u && bit == 2) ≡ false →
       reads around (write_at r (own v) w) (own u) bit ≡ reads around r (own u) bit

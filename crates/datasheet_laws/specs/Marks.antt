@@ -23,7 +23,7 @@ pub record SparesMarks (g : Group) (p : Place) (word : ℕ) : Type 0 where
   pub control : p ≡ place Ctrl 0 → IsFalse (has_bit 3 word || has_bit 26 word)
   pub pool : IsPoolReset g p → IsFalse (has_bit 26 word)
 
--- An event isn't a write that requests one, nor a message of the group.
+-- An event is neither a write that requests such a reset nor a message of the group.
 abbrev pub SparesReported : State → Group → Event Block → Type 0
 SparesReported s g (event.Write port number word) =
     (p : Place) (view : ℕ) → named s port number ≡ Register p view → SparesMarks g p word

@@ -6,7 +6,8 @@ use Rattle.nic_device.specs.declared.event.Event.TheVariants as event
 use Rattle.nic_device.specs.declared.event.Reply.TheVariants.{Done, Bytes, Buf, Twice, NotLent}
 use Rattle.datasheet_laws.specs.FramePrelude.{AreApart, IsSound, State, after, gives, reply_to, step_of}
 
--- No block with this number is lent; one is lent, with these bytes.
+-- No block with this number is lent (`IsNotLent`), or the block with this number is lent with these bytes
+-- (`IsLentWith`).
 abbrev pub IsNotLent : State → ℕ → Type 0
 IsNotLent s number = map.get s.memory number ≡ None
 
@@ -30,13 +31,13 @@ pub record Takes (s : State) (number : ℕ) : Type 0 where
       → reply_to s (event.Take number) ≡ Buf (record { number = number; bytes = bytes })
   pub gone : IsNotLent (after s (event.Take number)) number
 
--- A peek at an address that is a multiple of 16: byte 0 of block b is at address 2,048 * b.
+-- What a peek returns at an address that is a multiple of 16: byte 0 of block b is at address 2,048 * b.
 pub record Looks (s : State) (address : ℕ) : Type 0 where
   pub none : IsNotLent s (address / 2048) → step_of s (event.Peek16 address) ≡ gives NotLent s
   pub bytes : (block : List ℕ) → IsLentWith s (address / 2048) block
       → step_of s (event.Peek16 address) ≡ gives (Bytes (sixteen (address % 2048) block)) s
 
--- A write of 16 bytes to that address.
+-- What a poke of 16 bytes at such an address does.
 pub record Writes (s : State) (address : ℕ) (bytes : List ℕ) : Type 0 where
   pub none : IsNotLent s (address / 2048) → step_of s (event.Poke16 address bytes) ≡ gives NotLent s
   pub done : (block : List ℕ) → IsLentWith s (address / 2048) block
@@ -48,7 +49,7 @@ pub record MemoryCallsAnswer : Type 0 where
   pub peek : (s : State) → IsSound s → (address : ℕ) → address % 16 ≡ 0 → Looks s address
   pub poke : (s : State) → IsSound s → (address : ℕ) → address % 16 ≡ 0 → (bytes : List ℕ) → Writes s address bytes
 
--- What was poked is peeked at the same address. A poke doesn't change a peek that shares no byte with it.
+-- A peek returns what was poked at the same address. A poke doesn't change a peek that shares no byte with it.
 pub record PokesShow (s : State) (address : ℕ) (bytes : List ℕ) : Type 0 where
   pub same : reply_to s (event.Poke16 address bytes) ≡ Done
       → reply_to (after s (event.Poke16 address bytes)) (event.Peek16 address) ≡ Bytes bytes

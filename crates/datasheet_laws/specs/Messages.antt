@@ -8,7 +8,8 @@ use Rattle.datasheet_laws.specs.Prelude.{named, place, queues_of, reply_to}
 use Rattle.datasheet_laws.specs.Holding.{IsSparing}
 use Rattle.datasheet_laws.specs.Shown.{word_in, read_at}
 
--- Word x, below 16, of virtual function v: the physical function's address of it, and the function's own offset.
+-- Word x, below 16, of virtual function v: its place, the physical function's address for it, and the function's own
+-- offset.
 abbrev pub message : (v x : ℕ) → Place
 message v x = place Pfmbmem (16 * v + x)
 
@@ -18,7 +19,8 @@ message_address v x = 0x13000 + 0x40 * v + 4 * x
 abbrev pub message_offset : (x : ℕ) → ℕ
 message_offset x = 0x200 + 4 * x
 
--- Both name the word with all its bits; the offset does so if the device has the function and a pool for it.
+-- The address and the offset both name the word with all its bits; the offset does if the device has the function and a
+-- pool for it.
 pub record HasNumbers (s : State) (v x : ℕ) : Type 0 where
   pub physical : named s Pf (message_address v x) ≡ Register (message v x) 0xFFFFFFFF
   pub function :
@@ -37,8 +39,8 @@ MessagesAreShared =
     has_bit bit (word_in (reply_to (after s (event.Write port number word)) (event.Read other again)))
     ≡ has_bit bit word
 
--- It reads the same at the physical function's address after every event except a write to it and a reset of the
--- device.
+-- After every event except a write to the word and a reset of the device, the word reads the same at the physical
+-- function's address.
 pub record SparesMessage (v x : ℕ) (p : Place) (word : ℕ) : Type 0 where
   pub own : p ≢ message v x
   pub control : p ≡ place Ctrl 0 → IsFalse (has_bit 3 word || has_bit 26 word)

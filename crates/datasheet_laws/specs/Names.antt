@@ -13,7 +13,7 @@ abbrev pub bits_in : Group → ℕ
 bits_in Pf = 31
 bits_in (Vf v) = 3
 
--- The registers of a group by their names: the causes.
+-- The registers of a group, by name. This is the register of the causes.
 abbrev pub cause_register : Group → Place
 cause_register Pf = place Eicr 0
 cause_register (Vf v) = place Pvteicr v
@@ -23,7 +23,7 @@ abbrev pub cause_set_register : Group → Place
 cause_set_register Pf = place Eics 0
 cause_set_register (Vf v) = place Pvteics v
 
--- The masks; a write sets them.
+-- The register of the masks; a write sets masks.
 abbrev pub mask_register : Group → Place
 mask_register Pf = place Eims 0
 mask_register (Vf v) = place Pvteims v

@@ -20,7 +20,7 @@ receive_address q after = halves 64 (0x01000 + after) (0x0D000 + after) 0x40 q
 abbrev pub transmit_address : (q after : ℕ) → ℕ
 transmit_address q after = 0x06000 + after + 0x40 * q
 
--- The registers of which function v has only one.
+-- The registers that function v has only once.
 pub record HasOwn (mode : Mode) (vfs v : ℕ) : Type 0 where
   pub control : mapped mode vfs v 0x0000 ≡ Pf (0x00300 + 4 * v)
   pub status : mapped mode vfs v 0x0008 ≡ Pf 0x00008
@@ -38,7 +38,7 @@ pub record HasOwn (mode : Mode) (vfs v : ℕ) : Type 0 where
   pub sent : mapped mode vfs v 0x201C ≡ Pf (0x08300 + 4 * v)
   pub messages : (x : ℕ) → x < 16 → mapped mode vfs v (0x0200 + 4 * x) ≡ Pf (0x13000 + 4 * (16 * v + x))
 
--- The registers of its k queues; x queues come before this one.
+-- The registers of queue x, counted from 0, of a function with k queues.
 pub record HasQueue (mode : Mode) (vfs v k x : ℕ) : Type 0 where
   pub receive_base_low : mapped mode vfs v (0x1000 + 0x40 * x) ≡ Pf (receive_address (v * k + x) 0)
   pub receive_base_high : mapped mode vfs v (0x1004 + 0x40 * x) ≡ Pf (receive_address (v * k + x) 0x04)
@@ -74,7 +74,7 @@ queue_offsets x =
     ++ map (λ after. 0x2000 + 0x40 * x + after)
     (0x00 ∷ 0x04 ∷ 0x08 ∷ 0x10 ∷ 0x18 ∷ 0x28 ∷ 0x38 ∷ 0x3C ∷ [])
 
--- All offsets of a function with k queues: of the registers of which it has only one, of its mailbox memory, of its
+-- All offsets of a function with k queues: those of the registers that it has only once, of its mailbox memory, of its
 -- vectors, and of its queues.
 abbrev pub offsets_of : (k : ℕ) → List ℕ
 offsets_of k =
@@ -83,8 +83,8 @@ offsets_of k =
     ++ map (λ x. 0x0200 + 4 * x) (range_with_len 0 16) ++ map (λ x. 0x0120 + 4 * x) (range_with_len 0 (k / 2))
     ++ flat_map queue_offsets (range_with_len 0 k)
 
--- Each offset of a function that doesn't exist, or has no pool, is absent. For any other function, an offset that isn't
--- listed is a hole.
+-- For a function that doesn't exist, or has no pool, each offset is absent. For any other function, an offset that
+-- isn't listed is a hole.
 pub record HasNoOther (gcr_ext vfs v offset : ℕ) : Type 0 where
   pub absent : vfs ≤ v → mapped (mode_of gcr_ext) vfs v offset ≡ Absent
   pub no_pool : pools_by (gcr_ext % 4) ≤ v → mapped (mode_of gcr_ext) vfs v offset ≡ Absent

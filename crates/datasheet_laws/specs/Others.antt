@@ -7,7 +7,7 @@ use Rattle.datasheet_laws.specs.ByKind.{at}
 use Rattle.datasheet_laws.specs.Mailbox.{own, other}
 use Rattle.datasheet_laws.specs.Table.{line_of}
 
--- Index j of a register isn't index i of this one.
+-- Register j of row y isn't register i of row x.
 abbrev pub IsOther : (x : RowId) (i : ℕ) (y : RowId) (j : ℕ) → Type 0
 IsOther x i y j = y ≡ x → j ≢ i
 
@@ -26,7 +26,7 @@ MailboxesLeaveOthers =
     (r : Registers) (v w : ℕ) → v < 64 → (y : RowId) (j : ℕ) → j < (line_of y).count → MailLeavesOthers r v w y j
 
 -- A write to CTRL that requests no reset changes only CTRL, a write to EERD only EERD, and a write to PFMBICR[k] only
--- that.
+-- PFMBICR[k].
 pub record WriteLeavesOthers (r : Registers) (k w : ℕ) (y : RowId) (j : ℕ) : Type 0 where
   pub control : IsOther Ctrl 0 y j → word (write_at r 0x00000 w) (at y j) ≡ word r (at y j)
   pub eeprom : IsOther Eerd 0 y j → word (write_at r 0x10014 w) (at y j) ≡ word r (at y j)

@@ -1,4 +1,4 @@
--- Which registers the reset of a function's pool resets, by the registers' names and the numbers of queues.
+-- Which registers the reset of a function's pool resets, in terms of register names and queue numbers.
 use Rattle.std.specs.Prelude.{ℕ, ◌≡◌, ◌≢◌, ◌<◌, ◌*◌, ◌/◌, ◌==◌, Bool, true, false}
 use Rattle.reg_table.specs.declared.rows.RowId.TheVariants as row
 use Rattle.vf_map.specs.declared.mode.Mode.TheVariants.{Off, Pools16, Pools32, Pools64}
@@ -14,9 +14,9 @@ pool_has Pools16 v q = q / 8 == v
 pool_has Pools32 v q = q / 4 == v
 pool_has Pools64 v q = q / 2 == v
 
--- Whether the reset affects register j of a row. Of the interrupts, the packet types, the counters and the mailbox's
--- vector, it resets the function's. Of the rings, it resets the rings of the pool's queues, and the words with their
--- vectors, two queues in each.
+-- Whether the reset affects register j of a row. The reset affects the function's interrupt registers, its packet
+-- types, its counters and its mailbox vector. It also affects the rings of the pool's queues, and the words that
+-- contain these queues' vectors, with two queues in each word.
 abbrev pub takes : Mode → (v : ℕ) → RowId → (j : ℕ) → Bool
 takes mode v row.Pvfctrl j = j == v
 takes mode v row.Pvteicr j = j == v
@@ -47,8 +47,8 @@ takes mode v row.Tdwbah j = pool_has mode v j
 takes mode v row.Pvtivar j = pool_has mode v (2 * j)
 takes mode v other j = false
 
--- A register that the reset affects has its reset value, and everything else is unchanged: PFMBICR, PFMBMEM, and, if
--- the device has no such pool, every ring and PVTIVAR.
+-- A register that the reset affects has its reset value, and everything else is unchanged, for example PFMBICR,
+-- PFMBMEM, and, if the device has no such pool, every ring and PVTIVAR.
 pub record IsTaken (r : Registers) (mode : Mode) (v : ℕ) (y : RowId) (j bit : ℕ) : Type 0 where
   pub taken : takes mode v y j ≡ true →
       holds (pool_reset mode v r) (at y j) bit ≡ has_bit bit (line_of y).reset

@@ -1,4 +1,5 @@
--- What the bits of written words decide for queues: what they raise, where they count, and whether they send.
+-- What register bits determine for each queue: which cause it raises, which counter counts its frames, and whether it
+-- sends.
 use Rattle.std.specs.Prelude.{ℕ, ◌≡◌, ◌<◌, ◌+◌, ◌*◌, ◌/◌, ◌%◌, ◌^◌, ◌==◌, Bool, true, ◌&&◌, ◌||◌, nat_le, IsTrue, IsFalse, List, ◌∷◌, Option, Some, if◌then◌else◌}
 use Rattle.nic_device.specs.declared.event.Event.TheVariants as event
 use Rattle.nic_device.specs.declared.event.Why.TheVariants.{NoSlot}
@@ -14,7 +15,7 @@ queues_by mode = if mode == 1 then 8 else (if mode == 2 then 4 else (if mode == 
 abbrev pub queues_in_pool : State → ℕ
 queues_in_pool s = queues_by (read_at s mode_address % 4)
 
--- Queue x of a virtual function that the device has is this queue of the device.
+-- If the device has virtual function v, queue x of this function is queue `queue` of the device.
 pub record IsQueueOf (s : State) (v x queue : ℕ) : Type 0 where
   pub function : v < s.vfs
   pub pool : v < pools_of s
@@ -26,22 +27,22 @@ pub record IsOfPf (s : State) (queue : ℕ) : Type 0 where
   pub small : queue < 128
   pub none : (v x : ℕ) → ¬ IsQueueOf s v x queue
 
--- IVAR and PVTIVAR.
+-- The vectors in IVAR and PVTIVAR.
 
 -- A byte of a word.
 abbrev pub byte_of : ℕ → ℕ → ℕ
 byte_of word k = word / 2 ^ (8 * k) % 256
 
--- Of the two bytes of a queue, receive is the first.
+-- Which of a queue's two bytes is for a side: the first for receive, the second for transmit.
 abbrev pub side_byte : Dir → ℕ
 side_byte Rx = 0
 side_byte Tx = 1
 
--- The byte of a queue of the physical function: byte 2(q mod 2) of IVAR[q/2] for receive, and the next for transmit.
+-- The byte for a queue of the physical function: byte 2(q mod 2) of IVAR[q/2] for receive, and the next for transmit.
 abbrev pub pf_byte : State → Dir → ℕ → ℕ
 pf_byte s dir queue = byte_of (read_at s (0x00900 + 4 * (queue / 2))) (2 * (queue % 2) + side_byte dir)
 
--- The byte of queue x of a virtual function: byte 2(x mod 2) of PVTIVAR[v*k/2 + x/2] for receive, and the next for
+-- The byte for queue x of a virtual function: byte 2(x mod 2) of PVTIVAR[v*k/2 + x/2] for receive, and the next for
 -- transmit.
 abbrev pub vf_byte : State → Dir → (v x : ℕ) → ℕ
 vf_byte s dir v x =
@@ -60,7 +61,7 @@ pub data RaisesFor (s : State) : Event Block → Dir → ℕ → Type 0 where
   advanced : (queue slot back : ℕ) → reply_to s (event.TxStep queue) ≡ Advanced queue slot (Some back)
       → RaisesFor s (event.TxStep queue) Tx queue
 
--- A bit with its cause raised, or not.
+-- A bit after its cause was raised, or not raised.
 abbrev pub raised_bit : Bool → Bit → Bit
 raised_bit raise b = record b { cause = b.cause || raise }
 
@@ -80,9 +81,9 @@ PvtivarNamesCauses =
     (v x : ℕ) → IsQueueOf s v x queue → ShowsThen s (after s e) (Vf v)
     (λ bit. raised_bit (names_cause 2 (vf_byte s dir v x) bit) (bit_of s (Vf v) bit))
 
--- RQSMR and TQSM.
+-- The counters that RQSMR and TQSM select.
 
--- The counter of a queue: register q/4 of RQSMR or TQSM names it in bits 8(q mod 4)+3 to 8(q mod 4).
+-- The number of a queue's counter: RQSMR[q/4] or TQSM[q/4] contains it in bits 8(q mod 4)+3 to 8(q mod 4).
 abbrev pub counter_by : State → (registers queue : ℕ) → ℕ
 counter_by s registers queue = read_at s (registers + 4 * (queue / 4)) / 2 ^ (8 * (queue % 4)) % 16
 
@@ -96,7 +97,7 @@ transmit_counter s queue = counter_by s 0x08600 queue
 abbrev pub one_more : ℕ → ℕ
 one_more word = if word == 0xFFFFFFFF then word else word + 1
 
--- Of the 16 counters starting at an address, the counter with this number reads one more, and the others read as
+-- Among the 16 counters that start at an address, the counter with this number reads one more, and the others read as
 -- before.
 abbrev pub CountsIn : (s new : State) → (counters number : ℕ) → Type 0
 CountsIn s new counters number =
@@ -118,13 +119,13 @@ pub record QueueCounts (s : State) : Type 0 where
 abbrev pub MappingsNameCounters : Type 0
 MappingsNameCounters = (s : State) → IsSound s → QueueCounts s
 
--- VFTE.
+-- The pools that VFTE mutes.
 
--- The bit of a pool in a pair of words.
+-- A pool's bit in a pair of words, for example VFTE[0] and VFTE[1].
 abbrev pub pool_bit_at : State → (pair pool : ℕ) → Bool
 pool_bit_at s pair pool = reads_one s (pair + 4 * (pool / 32)) (pool % 32)
 
--- While VT_CTL bit 0 is 1, a queue of a pool with a VFTE bit of 0 takes no transmit step.
+-- While VT_CTL bit 0 is 1, each transmit step for a queue is idle if the VFTE bit of the queue's pool is 0.
 abbrev pub VfteMutesPools : Type 0
 VfteMutesPools =
     (s : State) → IsSound s → IsTrue (reads_one s 0x051B0 0) → (pool x queue : ℕ) → pool < pools_of s →

@@ -1,4 +1,4 @@
--- What a receive step does with the first waiting frame, by the bits of registers.
+-- What a receive step does with the first waiting frame, in terms of register bits.
 use Rattle.std.specs.Prelude.{ℕ, ◌≡◌, ◌≢◌, ◌<◌, ◌≤◌, ◌⊎◌, ◌+◌, ◌*◌, ◌/◌, ◌%◌, ◌^◌, IsFalse, Bool, true, false, List, [], ◌∷◌, length}
 use Rattle.nic_device.specs.RegTable.declared.rows.RowId.TheVariants.{Ctrl, Rxdctl, Srrctl, Rdbal, Rdbah, Rdlen, Rdh, Rdt}
 use Rattle.nic_device.specs.declared.event.Event.TheVariants as event
@@ -12,7 +12,7 @@ pub record IsNext (s : State) (w : Waiting) (others : List Waiting) : Type 0 whe
   pub runs : bit 2 (word_of s.registers Ctrl 0) ≡ 0
   pub first : s.waiting ≡ w ∷ others
 
--- Its queue is also enabled: RXDCTL bit 25 is 1.
+-- In addition, the frame's queue is enabled: RXDCTL bit 25 is 1.
 pub record IsMet (s : State) (w : Waiting) (others : List Waiting) : Type 0 where
   pub next : IsNext s w others
   pub on : bit 25 (word_of s.registers Rxdctl w.queue) ≡ 1
@@ -32,14 +32,14 @@ pub record WaitsOn (s : State) : Type 0 where
   pub slotless : HasNoSlot s.registers w.queue
   pub keeps : (bit 28 (word_of s.registers Srrctl w.queue) ≡ 0) ⊎ (w.offset ≢ 0)
 
--- Its queue is disabled.
+-- The first frame is dropped because its queue is disabled.
 pub record IsTurnedAway (s : State) : Type 0 where
   pub w : Waiting
   pub others : List Waiting
   pub next : IsNext s w others
   pub off : bit 25 (word_of s.registers Rxdctl w.queue) ≡ 0
 
--- There is no slot for it, SRRCTL bit 28 is 1, and no part of the frame is written.
+-- The first frame is dropped for lack of a slot: SRRCTL bit 28 is 1, and no part of the frame is written.
 pub record IsDroppedSlotless (s : State) : Type 0 where
   pub w : Waiting
   pub others : List Waiting
@@ -48,7 +48,7 @@ pub record IsDroppedSlotless (s : State) : Type 0 where
   pub drops : bit 28 (word_of s.registers Srrctl w.queue) ≡ 1
   pub unbegun : w.offset ≡ 0
 
--- A slot of its queue is processed.
+-- The step processes a slot of the first frame's queue.
 pub record LooksAtSlot (s : State) (queue : ℕ) : Type 0 where
   pub w : Waiting
   pub others : List Waiting
@@ -66,7 +66,7 @@ IsLostFor s QueueOff = IsTurnedAway s
 IsLostFor s NoSlot = IsDroppedSlotless s
 IsLostFor s other = ⊥
 
--- The reason for each reply of a receive step.
+-- The reason for each reply to a receive step.
 abbrev pub IsReceivedSo : State → Reply Block → Type 0
 IsReceivedSo s Idle = ReceivesNothing s
 IsReceivedSo s (Dropped why) = IsLostFor s why
@@ -74,11 +74,11 @@ IsReceivedSo s (Wrote queue slot end desc at len) = LooksAtSlot s queue
 IsReceivedSo s (Fault queue fault) = LooksAtSlot s queue
 IsReceivedSo s other = ⊥
 
--- A receive step gets its reply only for its reason. No two reasons apply at the same time.
+-- A receive step gets each reply only for the reason of that reply. No two reasons apply at the same time.
 abbrev pub ReceivedForAReason : Type 0
 ReceivedForAReason = (s : State) → IsReceivedSo s (reply_to s event.RxStep)
 
--- Each reason to be idle, which changes nothing, or to drop a frame leads to its reply.
+-- If a reason to be idle or to drop a frame applies, the step gets that reply. An idle step changes nothing.
 pub record ReasonsAreMet (s : State) : Type 0 where
   pub idle : ReceivesNothing s → step_of s event.RxStep ≡ gives Idle s
   pub dropped : (why : Why) → IsLostFor s why → reply_to s event.RxStep ≡ Dropped why
@@ -97,8 +97,8 @@ pub record EndsFirst (len : ℕ) (old new : List Waiting) : Type 0 where
   pub was : old ≡ first ∷ new
   pub whole : first.offset + len ≡ length first.frame
 
--- The first frame stays at the front with this many more bytes written, some of it remaining, and the other frames
--- unchanged.
+-- The first frame stays at the front. This many more of its bytes are written, some bytes remain, and the other frames
+-- are unchanged.
 pub record MovesOnFirst (len : ℕ) (old new : List Waiting) : Type 0 where
   pub first : Waiting
   pub others : List Waiting
@@ -124,9 +124,10 @@ FramesLeaveAtTheirEnd =
     (s : State) → IsSound s →
     WaitsAfterReceiving (reply_to s event.RxStep) s.waiting (after s event.RxStep).waiting
 
--- A written slot is the one in RDH bits 15 to 0. Its descriptor is at the base in RDBAH and RDBAL plus 16 bytes for
--- each slot before it, and names the buffer in its first half, with bit 0 ignored. SRRCTL bits 27 to 25 say that
--- descriptors have one buffer. Bits 4 to 0 say how many KB the buffer has; a piece from the middle of a frame fills it.
+-- A receive step writes only the slot in RDH bits 15 to 0. The slot's descriptor is at the base in RDBAH and RDBAL plus
+-- 16 bytes for each slot before it. The first half of the descriptor is the buffer's address, with bit 0 ignored.
+-- SRRCTL bits 27 to 25 say that descriptors have one buffer. Bits 4 to 0 say how many KB the buffer has; if the frame
+-- doesn't end in this slot, its bytes fill the buffer.
 pub record WritesAtHead (s : State) (queue slot : ℕ) (end : Bool) (desc at len : ℕ) : Type 0 where
   pub head : slot ≡ field 15 0 (word_of s.registers Rdh queue)
   pub descriptor :

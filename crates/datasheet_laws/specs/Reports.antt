@@ -16,16 +16,16 @@ next_head r queue =
     then 0
     else field 15 0 (word_of r Tdh queue) + 1
 
--- That head in 4 bytes, the lowest first.
+-- The new head as 4 bytes, the lowest first.
 abbrev pub head_bytes : ℕ → List ℕ
 head_bytes head = field 7 0 head ∷ field 15 8 head ∷ 0 ∷ 0 ∷ []
 
--- A descriptor with DD, bit 0 of byte 12, set, and the rest unchanged.
+-- A descriptor with DD, bit 0 of byte 12, set, and all other bits unchanged.
 abbrev pub with_dd : List ℕ → List ℕ
 with_dd descriptor = take 12 descriptor ++ (2 * (slice_index descriptor 12 / 2) + 1) ∷ drop 13 descriptor
 
--- Nothing is written with type 2 or RS 0. Otherwise it is the new head, or, if TDWBAL bit 0 is 0, the descriptor with
--- DD.
+-- If the type is 2 or RS is 0, nothing is written back. Otherwise the step writes back the new head if TDWBAL bit 0 is
+-- 1, and the descriptor with DD if it is 0.
 pub record WritesBack (s : State) (queue : ℕ) (back : Option ℕ) (new : State) : Type 0 where
   pub none : (type_in s queue ≡ 2) ⊎ (report_bit s queue ≡ 0) → (back ≡ None) × (new.memory ≡ s.memory)
   pub head :

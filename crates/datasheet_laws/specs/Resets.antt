@@ -1,5 +1,5 @@
--- A reset is reported to a function once: by RSTI, bit 6 of PVFMAILBOX[v], until the physical function reports that it
--- is done, and then by RSTD, bit 7, at one read.
+-- A reset is reported to a function once: by RSTI, bit 6 of PVFMAILBOX[v], until the physical function reports that the
+-- reset is done, and then by RSTD, bit 7, in one read.
 use Rattle.std.specs.Prelude.{ℕ, ◌≡◌, ◌<◌, ◌≤◌, ◌+◌, Bool, false, ◌&&◌, ◌||◌, List, [], ◌∷◌, ⊤, if◌then◌else◌, IsTrue, IsFalse}
 use Rattle.nic_device.specs.RegisterLaws.Footprint.{is_place}
 use Rattle.nic_device.specs.declared.event.Event.TheVariants as event
@@ -20,7 +20,7 @@ tells_end s v (event.Read port number) =
     is_mailbox v (named s port number) && has_bit 7 (word_in (reply_to s (event.Read port number)))
 tells_end s v other = false
 
--- How many of these events are reads of that kind.
+-- How many of these events are reads that return RSTD.
 abbrev pub times_reported : State → ℕ → List (Event Block) → ℕ
 times_reported s v [] = 0
 times_reported s v (e ∷ es) = (if tells_end s v e then 1 else 0) + times_reported (after s e) v es
@@ -40,7 +40,8 @@ EndIsReportedOnce =
     (s : State) → IsSound s → (v : ℕ) → v < 64 → (es : List (Event Block)) → AreWithoutReset s es
     → times_reported s v es ≤ 1
 
--- A write to CTRL_EXT with bit 14 set reports it to each function to which the beginning of a reset was reported.
+-- A write to CTRL_EXT with bit 14 set reports the end of a reset to each function to which the beginning of a reset was
+-- reported.
 pub record IsReportedOfTheEnd (s new : State) (v : ℕ) : Type 0 where
   pub begun : IsFalse (reads_one new (function_mail v) 6)
   pub done : reads_one new (function_mail v) 7

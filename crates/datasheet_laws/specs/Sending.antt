@@ -9,8 +9,8 @@ use Rattle.datasheet_laws.specs.Shown.{reads_one}
 abbrev pub requests_address : ℕ → ℕ
 requests_address k = 0x00710 + 4 * k
 
--- A word that function v writes sets a bit of PFMBICR[k]: its bit 0 the function's request, its bit 1 the
--- acknowledgement.
+-- Whether a word that function v writes sets a bit of PFMBICR[k]: bit 0 of the word sets the function's request bit,
+-- and bit 1 of the word sets the function's acknowledgement bit.
 abbrev pub asks_by : (v word k bit : ℕ) → Bool
 asks_by v word k bit =
     k == v / 16 && ((has_bit 0 word && bit == v % 16) || (has_bit 1 word && bit == 16 + v % 16))

@@ -1,4 +1,4 @@
--- The mailboxes of virtual functions, as reads of both sides show them.
+-- The mailboxes of virtual functions, as both sides read them.
 use Rattle.std.specs.Prelude.{ℕ, ◌≡◌, ◌<◌, ◌+◌, ◌*◌, ◌&&◌, IsFalse}
 use Rattle.datasheet_laws.specs.Prelude.{IsSound, State}
 use Rattle.datasheet_laws.specs.Shown.{reads_one}
@@ -11,7 +11,7 @@ abbrev pub physical_mail : ℕ → ℕ
 physical_mail v = 0x04B00 + 4 * v
 
 -- Both sides read the same holder of the mailbox: the function by bit 2, the physical function by bit 3, at most one of
--- them. The function reads that a reset began, by bit 6, or that it is done, by bit 7, but never both.
+-- them. The function reads that a reset began, by bit 6, or that the reset is done, by bit 7, but never both.
 pub record IsMailbox (s : State) (v : ℕ) : Type 0 where
   pub function : reads_one s (physical_mail v) 2 ≡ reads_one s (function_mail v) 2
   pub physical : reads_one s (physical_mail v) 3 ≡ reads_one s (function_mail v) 3

@@ -1,4 +1,4 @@
--- What reads show a driver of the interrupts of a group.
+-- A group's interrupts, as a driver's reads show them.
 use Rattle.std.specs.Prelude.{ℕ, ◌≡◌, ◌≢◌, ◌<◌, Bool, true, not}
 use Rattle.datasheet_laws.specs.Prelude.{Block, Group, Pf, Reply, State, Vf, Word, has_bit, reply_to_read}
 use Rattle.datasheet_laws.specs.Names.{IsGroup, bits_in, cause_address, mask_address, auto_clear_address, auto_mask_address}

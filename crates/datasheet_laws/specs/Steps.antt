@@ -1,4 +1,4 @@
--- What a message step of a group does, by what reads show before it.
+-- What a message step for a group does, depending on what reads return before the step.
 use Rattle.std.specs.Prelude.{ℕ, ◌≡◌, ◌≢◌, ◌<◌, ◌/◌, ◌%◌, ◌^◌, ◌==◌, Bool, not, ◌&&◌, nat_lt, nat_le, ⊤, IsTrue, IsFalse, Option, Some, None, if◌then◌else◌}
 use Rattle.nic_device.specs.declared.event.Event.TheVariants as event
 use Rattle.datasheet_laws.specs.Prelude.{Group, Idle, IsSound, Message, NoGroup, Pf, State, Vf, after, gives, has_bit}
@@ -50,15 +50,15 @@ pub record IsDue (s : State) (g : Group) (bit vector : ℕ) : Type 0 where
   pub unreported : IsFalse (has_bit bit (reported_by s.registers g))
   pub routed : vector_by (read_at s misc_address) g bit ≡ Some vector
 
--- No bit is due, and no bit below a given one is.
+-- No bit is due (`NoneIsDue`), or no bit below a given bit is due (`NoneIsDueBelow`).
 abbrev pub NoneIsDue : State → Group → Type 0
 NoneIsDue s g = (bit vector : ℕ) → ¬ IsDue s g bit vector
 
 abbrev pub NoneIsDueBelow : State → Group → ℕ → Type 0
 NoneIsDueBelow s g bit = (lower vector : ℕ) → lower < bit → ¬ IsDue s g lower vector
 
--- A bit that is reported: its cause is cleared if the auto-clear contains it, and its mask if GPIE bit 30 is 1 and the
--- auto-mask contains it.
+-- A bit after it was reported: its cause is cleared if the auto-clear contains it, and its mask if GPIE bit 30 is 1 and
+-- the auto-mask contains it.
 abbrev pub reported_bit : State → Bit → Bit
 reported_bit s b =
     record b {
@@ -73,8 +73,8 @@ pub record Tells (s : State) (g : Group) (bit vector : ℕ) : Type 0 where
       ShowsThen s (after s (event.IntStep g)) g
       (λ other. if other == bit then reported_bit s (bit_of s g other) else bit_of s g other)
 
--- Without the group, the step gets the reply `NoGroup`, and changes nothing. With it, it is idle and changes nothing
--- while CTRL bit 2 is 1 or if no bit is due; otherwise it reports the lowest due bit.
+-- If the group doesn't exist, the step gets the reply `NoGroup` and changes nothing. If the group exists, the step is
+-- idle and changes nothing while CTRL bit 2 is 1 or if no bit is due; otherwise the step reports the lowest due bit.
 pub record StepsByWhatIsDue (s : State) (g : Group) : Type 0 where
   pub absent : ¬ HasGroup s g → step_of s (event.IntStep g) ≡ gives NoGroup s
   pub there : HasGroup s g → reply_to s (event.IntStep g) ≢ NoGroup

@@ -1,4 +1,4 @@
--- What an enable step of a side does, by the bits of registers.
+-- What an enable step for a side of a queue does, in terms of register bits.
 use Rattle.std.specs.Prelude.{ℕ, ◌≡◌, ◌≢◌, ◌<◌, ◌≤◌, ◌⊎◌, ◌↔◌, ◌+◌, ◌^◌, Bool, true, false, List, [], ◌∷◌, if◌then◌else◌}
 use Rattle.nic_device.specs.declared.event.Event.TheVariants as event
 use Rattle.datasheet_laws.specs.FramePrelude.{Ctrl, Dir, Done, Idle, IsSound, NoQueue, Registers, Rx, Rxdctl, State, Tx}
@@ -23,8 +23,8 @@ pub record IsToSwitch (s : State) (dir : Dir) (queue : ℕ) : Type 0 where
   pub runs : bit 2 (word_of s.registers Ctrl 0) ≡ 0
   pub differs : enable_bit s.registers dir queue ≢ wanted_bit s.registers dir queue
 
--- Queues 128 and above don't exist, whatever else holds. Below that, the step is done if and only if the side is to be
--- switched, and idle otherwise. Only a step that is done changes anything.
+-- Queues 128 and above don't exist, whatever else holds. For a queue below 128, the step is done if the side isn't in
+-- its requested state and the device takes steps, and is idle otherwise. Only a step that is done changes anything.
 pub record SwitchesOnReason (s : State) (dir : Dir) (queue : ℕ) : Type 0 where
   pub none : (reply_to s (event.QueueStep dir queue) ≡ NoQueue) ↔ (128 ≤ queue)
   pub done : (reply_to s (event.QueueStep dir queue) ≡ Done) ↔ ((queue < 128) × IsToSwitch s dir queue)
@@ -35,20 +35,21 @@ pub record SwitchesOnReason (s : State) (dir : Dir) (queue : ℕ) : Type 0 where
 abbrev pub SwitchingHasItsReason : Type 0
 SwitchingHasItsReason = (s : State) (dir : Dir) (queue : ℕ) → SwitchesOnReason s dir queue
 
--- A receive side that becomes disabled loses the first frame if it has written part of it, and no other frame.
+-- A receive side that becomes disabled loses the first frame if the side has written part of the frame, and loses no
+-- other frame.
 pub record LosesPart (queue : ℕ) (old new : List Waiting) : Type 0 where
   pub begun : (w : Waiting) (others : List Waiting) → old ≡ w ∷ others → w.queue ≡ queue → w.offset ≢ 0 → new ≡ others
   pub other : (w : Waiting) (others : List Waiting) → old ≡ w ∷ others → (w.queue ≢ queue) ⊎ (w.offset ≡ 0) → new ≡ old
   pub none : old ≡ [] → new ≡ []
 
 -- The frames after a side became enabled or disabled: enabling changes none, and a transmit side that becomes disabled
--- loses what it has staged.
+-- loses its staged bytes.
 abbrev pub FramesAfter : Bool → Dir → ℕ → State → State → Type 0
 FramesAfter true dir queue s new = (new.waiting ≡ s.waiting) × (new.staged ≡ s.staged)
 FramesAfter false Rx queue s new = LosesPart queue s.waiting new.waiting × (new.staged ≡ s.staged)
 FramesAfter false Tx queue s new = (new.waiting ≡ s.waiting) × (staged_by new queue ≡ [])
 
--- Bit 25 of the enable word took the requested value, and no other bit of it changed.
+-- Bit 25 of the enable word took the requested value, and no other bit of the word changed.
 abbrev pub WordAfter : Bool → ℕ → ℕ → Type 0
 WordAfter true old new = new ≡ old + 2 ^ 25
 WordAfter false old new = old ≡ new + 2 ^ 25

@@ -22,7 +22,8 @@ line name count address kind mask reset =
 abbrev pub whole : ℕ
 whole = 0xFFFFFFFF
 
--- Addresses at equal steps, and addresses in two ranges with the first `count` of them in the first.
+-- Addresses at equal steps (`steps`), and addresses in two ranges, of which the first contains `count` addresses
+-- (`halves`).
 abbrev pub steps : (first step : ℕ) → ℕ → ℕ
 steps first step i = first + step * i
 
@@ -144,7 +145,7 @@ pub record HasLowViews : Type 0 where
   pub masks_cleared : access_at 0x00AB0 ≡ Some (access Eimc 0 0xFFFF)
   pub auto_mask : access_at 0x00AD0 ≡ Some (access Eiam 0 0xFFFF)
 
--- This many addresses at equal steps.
+-- A series of `count` addresses at equal steps.
 pub record Series : Type 0 where
   pub first : ℕ
   pub step : ℕ

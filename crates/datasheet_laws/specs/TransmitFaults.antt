@@ -1,4 +1,4 @@
--- What a transmit descriptor requests, byte by byte, and which fault a transmit step has, by the bits of registers.
+-- What a transmit descriptor requests, byte by byte, and which fault a transmit step has, in terms of register bits.
 use Rattle.std.specs.Prelude.{ℕ, ◌≡◌, ◌≢◌, ◌<◌, ◌≤◌, ◌⊎◌, ◌+◌, ◌*◌, ◌/◌, ◌%◌, ◌^◌, ⊤, IsTrue, IsFalse, length, slice_index}
 use Rattle.nic_device.specs.DmaRing.declared.fault.RingFault.TheVariants.{Outside, NotLent, Legacy, UnknownType, Offload, TooLong}
 use Rattle.nic_device.specs.declared.event.Event.TheVariants as event
@@ -9,8 +9,8 @@ use Rattle.datasheet_laws.specs.Arrival.{IsLimit}
 use Rattle.datasheet_laws.specs.Bits.{bit, field}
 use Rattle.datasheet_laws.specs.Transmitting.{head_descriptor}
 
--- Head and tail of a transmit ring, TDH and TDT bits 15 to 0, are slots of it. The ring has a slot for each 16 bytes of
--- TDLEN bits 19 to 0.
+-- The head and the tail of a transmit ring, TDH and TDT bits 15 to 0, are slots of the ring. The ring has a slot for
+-- each 16 bytes of TDLEN bits 19 to 0.
 pub record IsInside (r : Registers) (queue : ℕ) : Type 0 where
   pub head : field 15 0 (word_of r Tdh queue) < field 19 0 (word_of r Tdlen queue) / 16
   pub tail : field 15 0 (word_of r Tdt queue) < field 19 0 (word_of r Tdlen queue) / 16
@@ -52,7 +52,8 @@ abbrev pub AsksOffload : State → ℕ → Type 0
 AsksOffload s queue =
     (bit 6 (byte s queue 11) ≡ 1) ⊎ ((bit 7 (byte s queue 11) ≡ 1) ⊎ (field 5 0 (byte s queue 13) ≢ 0))
 
--- The descriptor is present, has the advanced format, and is of type 3, without offload.
+-- The descriptor is inside the ring and lent (`HasDescriptor`). It also has the advanced format and this type
+-- (`IsAdvanced`). It is also of type 3 and requests no offload (`IsPlain`).
 pub record HasDescriptor (s : State) (queue : ℕ) : Type 0 where
   pub inside : IsInside s.registers queue
   pub lent : IsTrue (is_lent s.memory (descriptor_address s.registers queue) 16)
@@ -66,7 +67,7 @@ pub record IsPlain (s : State) (queue : ℕ) : Type 0 where
   pub advanced : IsAdvanced s queue 3
   pub none : ¬ AsksOffload s queue
 
--- The staged bytes and the buffer's bytes together exceed the limit, or don't.
+-- The staged bytes and the buffer's bytes together exceed the limit (`IsTooLong`), or don't exceed it (`IsShort`).
 pub record IsTooLong (s : State) (queue : ℕ) : Type 0 where
   pub limit : ℕ
   pub is : IsLimit s.registers limit

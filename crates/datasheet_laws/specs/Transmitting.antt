@@ -1,4 +1,4 @@
--- When a transmit step is idle, and what frame is sent, by the bits of registers.
+-- When a transmit step is idle, and which frame is sent, in terms of register bits.
 use Rattle.std.specs.Prelude.{ℕ, ◌≡◌, ◌<◌, ◌≤◌, ◌⊎◌, ◌↔◌, ◌+◌, ◌-◌, ◌*◌, ◌/◌, ◌%◌, ◌^◌, ⊤, IsFalse, List, [], ◌∷◌, ◌++◌, length, replicate}
 use Rattle.nic_device.specs.RegTable.declared.rows.RowId.TheVariants.{Ctrl, Dmatxctl, Txdctl, VtCtl, GcrExt, Vfte, Hlreg0, Tdbal, Tdbah, Tdlen, Tdh, Tdt}
 use Rattle.nic_device.specs.declared.event.Event.TheVariants as event
@@ -7,8 +7,8 @@ use Rattle.datasheet_laws.specs.FramePrelude.{after, first_half, gives, read_at,
 use Rattle.datasheet_laws.specs.FramePrelude.{word_of}
 use Rattle.datasheet_laws.specs.Bits.{bit, field}
 
--- The pool of a queue, by GCR_EXT bits 1 to 0: eight queues in each of 16 pools while they are 1, four in each of 32
--- while they are 2, two in each of 64 while they are 3, and otherwise no pools.
+-- A queue's pool, according to GCR_EXT bits 1 to 0: eight queues in each of 16 pools while they are 1, four in each of
+-- 32 while they are 2, two in each of 64 while they are 3, and otherwise no pools.
 abbrev pub IsInPool : Registers → (queue pool : ℕ) → Type 0
 IsInPool r queue pool =
     ((field 1 0 (word_of r GcrExt 0) ≡ 1) × (pool ≡ queue / 8))
@@ -39,8 +39,8 @@ pub data IsSilent (s : State) (queue : ℕ) : Type 0 where
   muted : IsMuted s.registers queue → IsSilent s queue
   slotless : HasNoSlot s.registers queue → IsSilent s queue
 
--- Queues 128 and above don't exist, whatever else holds. A queue below that is idle if and only if it has a reason.
--- Neither changes anything.
+-- Queues 128 and above don't exist, whatever else holds. For a queue below 128, the step is idle if and only if one of
+-- these reasons applies. Neither step changes anything.
 pub record SendsOnReason (s : State) (queue : ℕ) : Type 0 where
   pub none : (reply_to s (event.TxStep queue) ≡ NoQueue) ↔ (128 ≤ queue)
   pub idle : (reply_to s (event.TxStep queue) ≡ Idle) ↔ ((queue < 128) × IsSilent s queue)

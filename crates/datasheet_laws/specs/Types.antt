@@ -7,7 +7,7 @@ use Rattle.datasheet_laws.specs.Bits.{bit, field}
 use Rattle.datasheet_laws.specs.Packets.{is_ipv4, is_ipv6, over_ipv4, over_ipv6, ipv4_addresses, ipv4_ports, ipv6_addresses}
 use Rattle.datasheet_laws.specs.Packets.{ipv6_ports}
 
--- The codes of MRQC bits 3 to 0 that hash, and one bit of MRQC.
+-- Whether the code in MRQC bits 3 to 0 enables hashing (`hashes`), and whether one bit of MRQC is 1 (`has`).
 abbrev pub hashes : (mrqc : ℕ) → Bool
 hashes mrqc = field 3 0 mrqc == 1 || field 3 0 mrqc == 0xA || field 3 0 mrqc == 0xB
 

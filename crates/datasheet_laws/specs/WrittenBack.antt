@@ -14,7 +14,7 @@ byte k number = field (8 * k + 7) (8 * k) number
 
 -- Bytes 0 to 7: the RSS type in bits 3 to 0 of byte 0, IPv4 in bit 4 and IPv6 in bit 6; TCP in bit 0 of byte 1 and UDP
 -- in bit 1; the hash in bytes 4 to 7, the lowest first. Bytes 8 to 15: DD, always 1, in bit 0 of byte 8, EOP in bit 1;
--- the number of bytes in bytes 12 and 13, the lower first. The rest is 0.
+-- the number of bytes in bytes 12 and 13, the lower first. All other bits are 0.
 abbrev pub written_bytes : Waiting → (end : Bool) (len : ℕ) → List ℕ
 written_bytes w end len =
     (w.rss + 16 * one_if (is_ipv4 w.frame) + 64 * one_if (is_ipv6 w.frame))

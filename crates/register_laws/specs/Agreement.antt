@@ -7,8 +7,8 @@ use Rattle.register_laws.specs.Prelude.{pool_reset, read_word, row_of}
 use Rattle.register_laws.specs.Footprint.{Footprint, Part, ChangesWithin, Covers, Misses, AgreeWithin, all_of, pool_agrees, pool_has, pool_changes, of_read, of_write}
 use Rattle.register_laws.specs.Laws.{HasShape, after_write}
 
--- An access to a pool's register that requests no reset changes only what belongs to the pool, the bits of its function
--- in PFMBICR, and EICR bit 19.
+-- If an access to a pool's register requests no reset, it changes only what belongs to the pool, the bits of the pool's
+-- function in PFMBICR, and EICR bit 19.
 abbrev pub PoolReadsStayWithin : Type 0
 PoolReadsStayWithin =
     (mode : Mode) (v : ℕ) (p : Place) → IsTrue (is_of_pool mode v p) → Covers (pool_changes mode v) (of_read p)
@@ -30,22 +30,22 @@ SharedWritesChangeNothing =
 abbrev pub answered_at : Registers → Surroundings → Place → ℕ
 answered_at r around p = read_word (row_of p.row).kind r around p
 
--- Two register files that agree in a pool return the same words at the pool's registers, with the same link and EEPROM
--- size.
+-- If two register files agree in a pool, and their link and EEPROM size are the same, reads of the pool's registers
+-- return the same words.
 abbrev pub PoolReadsTellTheSame : Type 0
 PoolReadsTellTheSame =
     (mode : Mode) (v : ℕ) (a b : Registers) → AgreeWithin (pool_agrees mode v) a b →
     (around : Surroundings) (p : Place) → IsTrue (is_of_pool mode v p) → answered_at a around p ≡ answered_at b around p
 
--- STATUS and LINKS return the same words, with the same link and EEPROM size, if bus mastering is enabled in both or in
--- neither.
+-- If bus mastering is enabled in both register files or in neither, and their link and EEPROM size are the same, reads
+-- of STATUS and LINKS return the same words.
 abbrev pub SharedReadsTellTheSame : Type 0
 SharedReadsTellTheSame =
     (a b : Registers) → is_stopped a ≡ is_stopped b →
     (around : Surroundings) (p : Place) → IsTrue (is_shared p) → answered_at a around p ≡ answered_at b around p
 
--- Two register files that agree in a pool agree in it again after the same access to one of the pool's registers, and
--- after the pool's reset.
+-- Two register files that agree in a pool still agree in the pool after the same access to one of the pool's registers,
+-- and after the pool's reset.
 abbrev pub PoolReadsKeepAgreement : Type 0
 PoolReadsKeepAgreement =
     (mode : Mode) (v : ℕ) (a b : Registers) → HasShape a → HasShape b → AgreeWithin (pool_agrees mode v) a b →
@@ -63,13 +63,13 @@ PoolResetKeepsAgreement =
     (mode : Mode) (v : ℕ) (a b : Registers) → HasShape a → HasShape b → AgreeWithin (pool_agrees mode v) a b →
     AgreeWithin (pool_agrees mode v) (pool_reset mode v a) (pool_reset mode v b)
 
--- The bit that accesses to one pool and accesses to another may both change: the physical function's mailbox cause,
--- EICR bit 19.
+-- The bit that both accesses to one pool and accesses to another pool may change: the physical function's mailbox
+-- cause, EICR bit 19.
 abbrev pub IsShared : Place → ℕ → Type 0
 IsShared p bit = IsTrue (is_mail_cause p bit)
 
--- The only bit that accesses to one pool and accesses to the other may both change is the physical function's mailbox
--- cause. What accesses to one pool may change has nothing in common with what must agree for the other.
+-- The physical function's mailbox cause is the only bit that both accesses to one pool and accesses to the other may
+-- change. What accesses to one pool may change has nothing in common with what must agree for the other pool.
 pub record ArePoolsApart (mode : Mode) (v w : ℕ) : Type 0 where
   pub bits : (p : Place) (bit : ℕ) → IsTrue ((pool_changes mode v).bits p bit)
       → IsTrue ((pool_changes mode w).bits p bit) → IsShared p bit
@@ -78,8 +78,8 @@ pub record ArePoolsApart (mode : Mode) (v w : ℕ) : Type 0 where
 abbrev pub PoolsHaveNothingInCommon : Type 0
 PoolsHaveNothingInCommon = (mode : Mode) (v w : ℕ) → v ≢ w → ArePoolsApart mode v w
 
--- Register files that agree in a part still agree after any changes within a footprint that has nothing in common with
--- it.
+-- If register files agree in a part, they still agree in the part after any changes within a footprint that has nothing
+-- in common with it.
 abbrev pub MissedAgreementStands : Type 0
 MissedAgreementStands =
     (f : Footprint) (g : Part) (a b then_a then_b : Registers) → Misses f (all_of g) → ChangesWithin f a then_a →

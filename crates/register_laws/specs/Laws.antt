@@ -1,4 +1,5 @@
--- What the registers as a whole promise, whatever happened before. `view` is a mask of the bits that an address shows.
+-- What the laws promise about all registers together, whatever happened before. `view` is a mask of the bits that an
+-- address shows.
 use Rattle.std.specs.Prelude.{ℕ, ◌+◌, ◌/◌, ◌%◌, ◌^◌, ◌≡◌, ◌≢◌, ◌<◌, ◌⊎◌, false, IsTrue, IsFalse, List, [], ◌∷◌, All, None, bit_and}
 use Rattle.register_file.specs.RegTable.declared.bank.Bank.TheVariants as bank
 use Rattle.register_file.specs.RegTable.declared.kind.Kind.TheVariants as kind
@@ -22,8 +23,8 @@ pub use Rattle.register_laws.specs.Sound.{HasShape}
 abbrev pub after_write : Registers → Place → ℕ → ℕ → Registers
 after_write r p view word = written (row_of p.row).kind r p view word
 
--- After a reset each place has its row's reset value, no side of a queue is enabled or has an enable request, and no
--- bit is reported.
+-- After a reset, each place contains its row's reset value. No side of a queue is enabled or has an enable request, and
+-- no bit is reported.
 abbrev pub ResetGivesResetValues : Type 0
 ResetGivesResetValues =
     (p : Place) → p.index < (row_of p.row).count → word_at reset_registers.words p ≡ (row_of p.row).reset
@@ -36,7 +37,7 @@ ResetSwitchesOff =
 abbrev pub ResetTellsNothing : Type 0
 ResetTellsNothing = (g : Group) → index_of g < 64 → reported_by reset_registers g ≡ 0
 
--- A word that is stored at a place is found there, and everything else is unchanged.
+-- After a word is stored at a place, the place contains this word, and everything else is unchanged.
 abbrev pub PutWordIsThere : Type 0
 PutWordIsThere =
     (r : Registers) → HasShape r → (p : Place) → p.index < (row_of p.row).count → (word : ℕ) →
@@ -52,7 +53,7 @@ GroupBitsAreMasks =
     ((row_of (cause_row g)).mask ≡ group_bits g) × ((row_of (mask_row g)).mask ≡ group_bits g) ×
     ((row_of (auto_clear_row g)).mask ≡ group_bits g) × ((row_of (auto_mask_row g)).mask ≡ group_bits g)
 
--- A word that is written to a plain read/write register is read back in the bits that the register's mask has and the
+-- After a write to a plain read/write register, a read returns the written bits that the register's mask has and the
 -- address shows. All other bits are unchanged.
 abbrev pub StoredWordReadsBack : Type 0
 StoredWordReadsBack =
@@ -92,7 +93,7 @@ abbrev pub SwitchedSideStays : Type 0
 SwitchedSideStays =
     (r : Registers) (dir : Dir) (queue : ℕ) → is_on r dir queue ≡ is_wanted r dir queue → switched r dir queue ≡ r
 
--- Bit 25 of a side's enable word, as read, shows whether the side is enabled.
+-- When a side's enable word is read, bit 25 shows whether the side is enabled.
 abbrev pub EnableReadTellsOn : Type 0
 EnableReadTellsOn =
     (r : Registers) (dir : Dir) (queue : ℕ) (around : Surroundings) →
@@ -118,8 +119,8 @@ RingIsHeldWhileOn =
     (r : Registers) (dir : Dir) (queue view word : ℕ) → IsTrue (is_on r dir queue) →
     All (λ row. after_write r (place row queue) view word ≡ r) (held_rows dir)
 
--- A write to a side's enable word changes only the side's enable request, which becomes bit 25 of the written word: the
--- side stays enabled or disabled, and its ring is unchanged.
+-- A write to a side's enable word changes only the side's enable request, to bit 25 of the written word. The side stays
+-- enabled or disabled as it was, and its ring is unchanged.
 abbrev pub EnableWriteAsksReceive : Type 0
 EnableWriteAsksReceive =
     (r : Registers) → HasShape r → (queue view word : ℕ) → queue < 128 →
@@ -132,16 +133,16 @@ EnableWriteAsksTransmit =
     transmit_queue_of (after_write r (place Txdctl queue) view word) queue
     ≡ record (transmit_queue_of r queue) { wanted = has_bit 25 word }
 
--- A row of a side accepts a write: it is plain, or it is held and the side is disabled.
+-- A row of a side accepts a write: the row is plain, or the row is held and the side is disabled.
 abbrev pub IsOpen : Registers → Dir → ℕ → RowId → Type 0
 IsOpen r dir queue row =
     ((row_of row).kind ≡ kind.Rw) ⊎ (((row_of row).kind ≡ kind.Held) × IsFalse (is_on r dir queue))
 
--- The word that a write leaves at a place that accepts it.
+-- The word at a place after a write that the place accepts.
 abbrev pub word_after : Registers → Place → ℕ → ℕ → ℕ
 word_after r p view word = merged (bit_and (row_of p.row).mask view) (word_at r.words p) word
 
--- A word that is written to a row that accepts it becomes part of the side: its ring's base, length, head or tail, its
+-- If a row accepts a write, the written word becomes part of the side: its ring's base, length, head or tail, its
 -- control word, or its write-back address.
 abbrev pub WrittenReceiveIsTheSides : Type 0
 WrittenReceiveIsTheSides =
@@ -159,7 +160,7 @@ WrittenTransmitIsTheSides =
     ≡ transmit_queue_by (with_row (λ own. word_of r own queue) row (word_after r (place row queue) view word))
     (is_wanted r Tx queue)
 
--- A counter adds one for each count, up to the largest word. A read returns the count, and restarts the counter from 0.
+-- Each count adds one to a counter, up to the largest word. A read returns the count and sets the counter to 0.
 pub record CountsAndClears (r : Registers) (p : Place) : Type 0 where
   pub counts : (around : Surroundings)
       → read_word kind.Rc (counted r p.row p.index) around p ≡ bumped (read_word kind.Rc r around p)
@@ -170,8 +171,8 @@ CountersCount =
     (r : Registers) → HasShape r → (p : Place) → p.index < (row_of p.row).count → (row_of p.row).kind ≡ kind.Rc →
     CountsAndClears r p
 
--- A read-only counter adds one for each count, and 0 follows the largest word. A read returns the count. Reads and
--- writes leave the counter unchanged.
+-- Each count adds one to a read-only counter, and the largest word is followed by 0. A read returns the count. Reads
+-- and writes leave the counter unchanged.
 pub record GoesRound (r : Registers) (p : Place) : Type 0 where
   pub counts : (around : Surroundings)
       → read_word kind.Ro (counted_wrapping r p.row p.index) around p ≡ (read_word kind.Ro r around p + 1) % 2 ^ 32
@@ -188,7 +189,8 @@ abbrev pub CalculatedRowsHaveFormulas : Type 0
 CalculatedRowsHaveFormulas =
     (row : RowId) → (row_of row).kind ≡ kind.Calc → (row ≡ Status) ⊎ (row ≡ Links) ⊎ (row ≡ Eec)
 
--- An EEPROM answer is read back with the requested index and with DONE set. Afterwards, no word is requested.
+-- After an EEPROM reply, EERD contains the word of the reply, with the requested index and with DONE set. Afterwards,
+-- no word is requested.
 pub record IsAnswered (r : Registers) (asked answer : ℕ) : Type 0 where
   pub word : word_of r Eerd 0 / 2 ^ 16 ≡ answer
   pub index : eeprom_index r ≡ asked
@@ -200,8 +202,8 @@ EepromAnswerIsRead =
     (r : Registers) → HasShape r → (word : ℕ) → word < 2 ^ 16 →
     IsAnswered (eeprom_answered r word) (eeprom_index r) word
 
--- Causes, masks and reported bits that are stored in a group's registers are read back, with the auto-clear and the
--- auto-mask unchanged. The group is below 64 and its interrupts are consistent 32-bit words.
+-- If a group is below 64 and its new interrupts are consistent 32-bit words, their causes, masks and reported bits are
+-- stored in the group's registers. The auto-clear and the auto-mask are unchanged.
 abbrev pub InterruptsStand : Type 0
 InterruptsStand =
     (r : Registers) → HasShape r → (s : Interrupts) → IsConsistent s → index_of s.group < 64 →
@@ -261,7 +263,7 @@ ShutStaysWithin =
 abbrev pub ReadStaysWithOwner : Type 0
 ReadStaysWithOwner = (p : Place) → Covers (of_owner (owner_of p)) (of_read p)
 
--- What a write to a place may change belongs to the place's owner, for a register that affects only its owner.
+-- If a register affects only its owner, what a write to the register's place may change belongs to the place's owner.
 abbrev pub WriteStaysWithOwner : Type 0
 WriteStaysWithOwner =
     (p : Place) → IsTrue (is_own (row_of p.row).kind) → Covers (of_owner (owner_of p)) (of_write p)
@@ -270,11 +272,11 @@ WriteStaysWithOwner =
 abbrev pub OwnersAreApart : Type 0
 OwnersAreApart = (o other : Owner) → IsFalse (is_owner o other) → Misses (of_owner o) (of_owner other)
 
--- The footprint of a word has only its own place.
+-- The footprint of a word contains no bit at any other place.
 abbrev pub WordIsOnePlace : Type 0
 WordIsOnePlace = (p q : Place) → q ≢ p → LacksWord (the_word p) q
 
--- What is pending for a group consists of causes, masks and reported bits.
+-- The pending state of a group consists of causes, masks and reported bits.
 abbrev pub PendingIsPending : Type 0
 PendingIsPending = (g : Group) → Covers any_pending (pending g)
 
@@ -286,7 +288,7 @@ OwnersDiffer = (o other : Owner) → o ≢ other → IsFalse (is_owner o other)
 abbrev pub CountersAreTheirOwn : Type 0
 CountersAreTheirOwn = (p : Place) → (row_of p.row).kind ≡ kind.Rc → owner_of p ≡ owner.Counters
 
--- Nothing that is pending for an owner belongs to a side of a queue.
+-- The pending state of an owner contains nothing that belongs to a side of a queue.
 abbrev pub PendingMissesSides : Type 0
 PendingMissesSides = (o : Owner) (dir : Dir) (queue : ℕ) → Misses (pending_of o) (of_side dir queue)
 
@@ -312,7 +314,7 @@ MissedInterruptsStand =
     (f : Footprint) (old new : Registers) (g : Group) → Misses f (of_group g) → ChangesWithin f old new →
     interrupts_of new g ≡ interrupts_of old g
 
--- The settings in single words are unchanged if the footprint doesn't have these words.
+-- The settings in single words are unchanged if the footprint doesn't contain these words.
 pub record SettingsStand (f : Footprint) (old new : Registers) : Type 0 where
   pub stopped : LacksWord f (place Ctrl 0) → is_stopped new ≡ is_stopped old
   pub can_receive : LacksWord f (place Rxctrl 0) → can_receive new ≡ can_receive old
@@ -328,7 +330,8 @@ pub record SettingsStand (f : Footprint) (old new : Registers) : Type 0 where
   pub counter : (dir : Dir) (queue : ℕ) → LacksWord f (place (mapping_row dir) (queue / 4))
       → counter_of new dir queue ≡ counter_of old dir queue
 
--- Settings in single words are unchanged if the footprint doesn't have these words.
+-- After a change within a footprint, settings in single words are unchanged if the footprint doesn't contain these
+-- words.
 abbrev pub MissedSettingsStand : Type 0
 MissedSettingsStand = (f : Footprint) (old new : Registers) → ChangesWithin f old new → SettingsStand f old new
 

@@ -40,11 +40,11 @@ transmit_queue_of r queue =
       wanted = is_wanted r Tx queue;
     }
 
--- The words by row, with another word for one row.
+-- A function from rows to words, with another word for one row.
 abbrev pub with_row : (RowId → ℕ) → RowId → ℕ → RowId → ℕ
 with_row words row word other = if number_of other == number_of row then word else words other
 
--- A side with these words of its rows, and whether it has an enable request.
+-- A side, given the words of its rows and whether it has an enable request.
 abbrev pub receive_queue_by : (RowId → ℕ) → Bool → ReceiveQueue
 receive_queue_by words wanted =
     record {

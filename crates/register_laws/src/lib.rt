@@ -1,10 +1,10 @@
-//! Laws of the registers as a whole, beyond the definitions that the contracts of `register_file` cite.
+//! Laws about all registers together. They go beyond the definitions that the contracts of `register_file` cite.
 //!
-//! Each law is the contract of a function with an empty body. It holds for the definitions that specify the operations
-//! of `register_file::RegisterFile`. The footprint of an operation is what it can change. Each place has one owner, and
-//! an access changes nothing that belongs to another owner. A side of a queue and the interrupts of a group are seen as
-//! values, and every change outside them leaves them unchanged. Registers stay sound. The device core proves its own
-//! soundness with these laws, and the laws of the device use them.
+//! Each law is the contract of a function with an empty body. The law holds for the definitions that specify the
+//! operations of `register_file::RegisterFile`. The footprint of an operation is what the operation can change. Each
+//! place has one owner, and an access changes nothing that belongs to another owner. The laws treat a side of a queue,
+//! and the interrupts of a group, as one value; a change outside that value leaves it unchanged. Registers stay sound.
+//! The device core uses these laws to prove its own soundness, and the laws about the device use them too.
 #![tactic(auto)]
 
 ghost use Rattle.register_laws.specs.Laws.{ResetIsSound, ReadKeepsSound, WriteKeepsSound, CountKeepsSound, CountWrappingKeepsSound, AnswerKeepsSound, RaiseKeepsSound, QueueRaiseKeepsSound, MessageKeepsSound, HeadKeepsSound, SwitchKeepsSound, ShutKeepsSound, ResetGivesResetValues, ResetSwitchesOff, ResetTellsNothing, PutWordIsThere, PutWordIsAlone, GroupBitsAreMasks, StoredWordReadsBack, ReadStaysWithin, WriteStaysWithin, CountStaysWithin, CountWrappingStaysWithin, AnswerStaysWithin, RaiseStaysWithin, QueueRaiseStaysWithin, MessageStaysWithin, HeadStaysWithin, SwitchStaysWithin, ShutStaysWithin, ReadStaysWithOwner, WriteStaysWithOwner, OwnersAreApart, OwnersDiffer, WordIsOnePlace, PendingIsPending, CountersAreTheirOwn, PendingMissesSides, ReadMissesSides, MissedReceiveStands, MissedTransmitStands, MissedInterruptsStand, MissedSettingsStand, HeadMovesReceive, HeadMovesTransmit, SwitchObeysReceive, SwitchObeysTransmit, SwitchedSideStays, ShutIsOffReceive, ShutIsOffTransmit, RingIsHeldWhileOn, WrittenReceiveIsTheSides, WrittenTransmitIsTheSides, EnableWriteAsksReceive, EnableWriteAsksTransmit, EnableReadTellsOn, CountersCount, ReadOnlyCountersGoRound, CalculatedRowsHaveFormulas, EepromAnswerIsRead, InterruptsStand};
@@ -13,36 +13,37 @@ ghost use Rattle.register_laws.specs.PoolReset.{PoolIsReset, PoolResetTakesTheRe
 ghost use Rattle.register_laws.specs.Agreement.{PoolReadsStayWithin, PoolWritesStayWithin, SharedReadsChangeNothing, SharedWritesChangeNothing, PoolReadsTellTheSame, SharedReadsTellTheSame, PoolReadsKeepAgreement, PoolWritesKeepAgreement, PoolResetKeepsAgreement, PoolsHaveNothingInCommon, MissedAgreementStands};
 
 /// Registers are sound after a reset and stay sound through every change. Sound registers have every place in the
-/// table. Each word has only bits that its row can have. A bit is reported only if its cause and mask are 1. Each
-/// mailbox has at most one holder and at most one of the bits that report a reset.
+/// table. Each word has only bits that its row can have. If a bit is reported, its cause and mask are 1. Each mailbox
+/// has at most one holder, and at most one of the two bits that report a reset is 1 in it.
 pub fn soundness_is_kept()
     ensures reset { ResetIsSound }
-    // A read keeps them sound.
+    // A read keeps sound registers sound.
     ensures read { ReadKeepsSound }
-    // A write keeps them sound. A reset that the write requests isn't part of it.
+    // A write keeps sound registers sound. A reset that the write requests isn't part of the write.
     ensures write { WriteKeepsSound }
-    // Incrementing a counter that saturates keeps them sound.
+    // Incrementing a counter that saturates keeps sound registers sound.
     ensures count { CountKeepsSound }
-    // Incrementing a counter that wraps keeps them sound.
+    // Incrementing a counter that wraps keeps sound registers sound.
     ensures count_wrapping { CountWrappingKeepsSound }
-    // An EEPROM answer below 65,536 keeps them sound.
+    // An EEPROM reply below 65,536 keeps sound registers sound.
     ensures answer { AnswerKeepsSound }
-    // Raising causes keeps them sound.
+    // Raising causes keeps sound registers sound.
     ensures raise { RaiseKeepsSound }
-    // Raising the cause of a queue's side keeps them sound.
+    // Raising the cause of a queue's side keeps sound registers sound.
     ensures queue_raise { QueueRaiseKeepsSound }
-    // A message keeps them sound.
+    // A message keeps sound registers sound.
     ensures message { MessageKeepsSound }
-    // Moving a head to a slot below 65,536 keeps them sound.
+    // Moving a head to a slot below 65,536 keeps sound registers sound.
     ensures head { HeadKeepsSound }
-    // Switching a side keeps them sound.
+    // Switching a side keeps sound registers sound.
     ensures switch { SwitchKeepsSound }
-    // Disabling a side after a fault keeps them sound.
+    // Disabling a side after a fault keeps sound registers sound.
     ensures shut { ShutKeepsSound }
 {}
 
-/// Each word of sound registers has 32 bits. The word is 0 if the register only acts or is calculated. Writing the word
-/// back never requests a reset: bits 3 and 26 of CTRL are 0. The base and the length of each ring are multiples of 128.
+/// Each word of sound registers has 32 bits. If the register only triggers actions or is calculated, its word is 0.
+/// Writing a word back to its register never requests a reset: bits 3 and 26 of CTRL are 0. The base and the length of
+/// each ring are multiples of 128.
 pub fn sound_words_are_of_their_rows()
     ensures small { SoundWordsAreSmall }
     ensures none { ActingWordsAreNone }
@@ -50,15 +51,15 @@ pub fn sound_words_are_of_their_rows()
     ensures rings { RingsAreAligned }
 {}
 
-/// After a reset each place has its row's reset value, no side of a queue is enabled or has an enable request, and no
-/// bit is reported.
+/// After a reset, each place contains its row's reset value. No side of a queue is enabled or has an enable request,
+/// and no bit is reported.
 pub fn reset_is_the_tables()
     ensures words { ResetGivesResetValues }
     ensures off { ResetSwitchesOff }
     ensures reported { ResetTellsNothing }
 {}
 
-/// A word that is stored at a place is found there, and everything else is unchanged.
+/// After a word is stored at a place, the place contains this word, and everything else is unchanged.
 pub fn put_word_is_there()
     ensures there { PutWordIsThere }
     ensures alone { PutWordIsAlone }
@@ -69,16 +70,16 @@ pub fn group_bits_are_masks()
     ensures { GroupBitsAreMasks }
 {}
 
-/// A word that is written to a plain read/write register is read back in the bits that the register's mask has and the
+/// After a write to a plain read/write register, a read returns the written bits that the register's mask has and the
 /// address shows. All other bits are unchanged.
 pub fn stored_word_reads_back()
     ensures { StoredWordReadsBack }
 {}
 
-/// An operation changes only what is in its footprint. For a read or a write, this is the footprint of its place. For a
-/// count, an EEPROM answer and a moved head, it is one word. For raised causes and a message, it is the causes, masks
-/// and reported bits of the group. For a switch, it is the enable word; for a fault, it is the enable word and the
-/// side's enable request.
+/// An operation changes only what is in its footprint. A read and a write have the footprint of their place. The
+/// footprint of a count, an EEPROM reply or a moved head is one word. The footprint of raised causes or a message is
+/// the causes, masks and reported bits of the group. The footprint of a switch is the enable word. The footprint of a
+/// fault is the enable word and the side's enable request.
 #[tactic(auto, using(crate::proofs::Within::changes_within))]
 pub fn changes_stay_in_their_footprint()
     ensures read { ReadStaysWithin }
@@ -88,7 +89,7 @@ pub fn changes_stay_in_their_footprint()
     ensures count { CountStaysWithin }
     // Incrementing a counter that wraps changes nothing outside its footprint.
     ensures count_wrapping { CountWrappingStaysWithin }
-    // An EEPROM answer changes nothing outside its footprint.
+    // An EEPROM reply changes nothing outside its footprint.
     ensures answer { AnswerStaysWithin }
     // Raising causes changes nothing outside its footprint.
     ensures raise { RaiseStaysWithin }
@@ -119,8 +120,8 @@ pub fn accesses_stay_with_their_owner()
     ensures no_side { ReadMissesSides }
 {}
 
-/// A change leaves a side of a queue, a group's interrupts, and settings in single words as they were, if its footprint
-/// doesn't contain them.
+/// If the footprint of a change doesn't contain a side of a queue, a group's interrupts or a setting in a single word,
+/// the change leaves it as it was.
 pub fn what_a_footprint_misses_stands()
     ensures receive { MissedReceiveStands }
     ensures transmit { MissedTransmitStands }
@@ -153,16 +154,16 @@ pub fn ring_is_held_while_on()
     ensures { RingIsHeldWhileOn }
 {}
 
-/// After a write to a side's tail, control word or write-back address, the side has the written value. The same holds
-/// for a base, length or head while the side is disabled. Only the bits that the register's mask has and the address
-/// shows are written. The rest of the side is unchanged.
+/// After a write to a side's tail, control word or write-back address, the side contains the written value. The same
+/// holds for a base, length or head while the side is disabled. Only the bits that the register's mask has and the
+/// address shows are written. The rest of the side is unchanged.
 pub fn written_word_is_the_sides()
     ensures receive { WrittenReceiveIsTheSides }
     ensures transmit { WrittenTransmitIsTheSides }
 {}
 
-/// A write to a side's enable word changes only the side's enable request, which becomes bit 25 of the written word:
-/// the side stays enabled or disabled, and its ring is unchanged. Bit 25 of a side's enable word, as read, shows
+/// A write to a side's enable word changes only the side's enable request, to bit 25 of the written word. The side
+/// stays enabled or disabled as it was, and its ring is unchanged. When a side's enable word is read, bit 25 shows
 /// whether the side is enabled.
 pub fn enable_write_only_asks()
     ensures receive { EnableWriteAsksReceive }
@@ -170,13 +171,13 @@ pub fn enable_write_only_asks()
     ensures read { EnableReadTellsOn }
 {}
 
-/// A read of a counter returns what was counted: each count adds one, up to the largest word. A read restarts the
-/// counter from 0.
+/// A read of a clear-on-read counter returns the count and sets the counter to 0. Each count adds one, up to the
+/// largest word.
 pub fn counters_count()
     ensures { CountersCount }
 {}
 
-/// A read of a read-only counter returns what was counted: each count adds one, and the largest word is followed by 0.
+/// A read of a read-only counter returns the count. Each count adds one, and the largest word is followed by 0.
 /// Accesses don't change the counter.
 pub fn read_only_counters_go_round()
     ensures { ReadOnlyCountersGoRound }
@@ -189,22 +190,22 @@ pub fn calculated_rows_have_formulas()
     ensures { CalculatedRowsHaveFormulas }
 {}
 
-/// An EEPROM answer below 65,536 is read back, with the requested index and with DONE set. Afterwards, no word is
-/// requested.
+/// After an EEPROM reply below 65,536, EERD contains the word of the reply, with the requested index and with DONE set.
+/// Afterwards, no word is requested.
 pub fn eeprom_answer_is_read()
     ensures { EepromAnswerIsRead }
 {}
 
 /// A change to the interrupts of a group below 64 is stored in the group's registers: causes, masks and reported bits.
-/// Each reported bit has its cause and mask at 1. The auto-clear and the auto-mask are unchanged.
+/// The cause and the mask of each reported bit are 1. The auto-clear and the auto-mask are unchanged.
 pub fn interrupts_stand()
     ensures { InterruptsStand }
 {}
 
-/// After a pool reset, everything that the reset covers is as after a reset. Each word has its row's reset value, no
-/// side of the pool's queues has an enable request, and no bit of its function's interrupts is reported. The reset
-/// covers everything that belongs to the pool, except PFMBMEM and all bits of PVFMAILBOX other than 2, 4 and 5.
-/// Everything else is unchanged. Sound registers stay sound.
+/// After a pool reset, everything that the pool reset covers is as after a reset of the device. Each word contains its
+/// row's reset value, no side of the pool's queues has an enable request, and no interrupt bit of the pool's function
+/// is reported. The pool reset covers everything that belongs to the pool, except PFMBMEM and all bits of PVFMAILBOX
+/// other than 2, 4 and 5. Everything else is unchanged. Sound registers stay sound.
 pub fn reset_pool_is_reset()
     ensures reset { PoolIsReset }
     ensures rest { PoolResetTakesTheRest }
@@ -212,8 +213,8 @@ pub fn reset_pool_is_reset()
     ensures sound { PoolResetKeepsSound }
 {}
 
-/// An access to a pool's register that requests no reset changes only what belongs to the pool, the bits of its
-/// function in PFMBICR, and EICR bit 19. An access to STATUS or LINKS changes nothing.
+/// If an access to a pool's register requests no reset, it changes only what belongs to the pool, the bits of the
+/// pool's function in PFMBICR, and EICR bit 19. An access to STATUS or LINKS changes nothing.
 pub fn pool_accesses_stay_within()
     ensures read { PoolReadsStayWithin }
     ensures write { PoolWritesStayWithin }
@@ -221,10 +222,10 @@ pub fn pool_accesses_stay_within()
     ensures shared_write { SharedWritesChangeNothing }
 {}
 
-/// Two register files that agree in a pool return the same words at the pool's registers, with the same link and EEPROM
-/// size. STATUS and LINKS return the same words, with the same link and EEPROM size, if bus mastering is enabled in
-/// both or in neither. Two register files that agree in a pool agree in it again after the same access to one of the
-/// pool's registers, and after the pool's reset.
+/// If two register files agree in a pool, and their link and EEPROM size are the same, reads of the pool's registers
+/// return the same words. If bus mastering is enabled in both register files or in neither, and their link and EEPROM
+/// size are the same, reads of STATUS and LINKS return the same words. Two register files that agree in a pool still
+/// agree in the pool after the same access to one of the pool's registers, and after the pool's reset.
 pub fn pool_accesses_tell_of_the_pool()
     ensures word { PoolReadsTellTheSame }
     ensures shared_word { SharedReadsTellTheSame }
@@ -233,9 +234,10 @@ pub fn pool_accesses_tell_of_the_pool()
     ensures reset { PoolResetKeepsAgreement }
 {}
 
-/// For two different pools, the only bit that accesses to one and accesses to the other can both change is EICR bit 19.
-/// What accesses to one pool can change has nothing in common with what must agree for the other. Register files that
-/// agree in a part still agree after any changes within a footprint that has nothing in common with it.
+/// EICR bit 19 is the only bit that both accesses to one pool and accesses to a different pool can change. What
+/// accesses to one pool can change has nothing in common with what must agree for the other pool. If register files
+/// agree in a part, they still agree in the part after any changes within a footprint that has nothing in common with
+/// it.
 pub fn pools_have_nothing_in_common()
     ensures apart { PoolsHaveNothingInCommon }
     ensures stands { MissedAgreementStands }

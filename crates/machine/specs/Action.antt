@@ -48,13 +48,13 @@ StaysInside program (act.JumpUnlessEqual word target) = target ≤ length progra
 StaysInside program (act.Jump target) = target ≤ length program.instructions
 StaysInside program act.Halt = ⊤
 
--- A stored part is one of four words.
+-- If the stored part of a reply is a word of 16 bytes, its number is below 4.
 abbrev pub IsPart : Kept → Type 0
 IsPart Nothing = ⊤
 IsPart Word = ⊤
 IsPart (Part word) = word < 4
 
--- The action is one that a program's instructions can request.
+-- An action that an instruction of the program can have.
 abbrev pub IsSoundAction : Listing → Action → Type 0
 IsSoundAction program (Make event kept) = IsFalse (moves_block event) × IsPart kept
 IsSoundAction program (Lend block) = ⊤

@@ -1,4 +1,4 @@
--- The view of a machine in contracts.
+-- What a machine is in contracts.
 use Rattle.nic_device.specs.declared.Config.{Config}
 use Rattle.program.specs.Listing.{Listing}
 use Rattle.machine.specs.MachineState.{MachineState}

@@ -1,4 +1,4 @@
--- Laws of the machine.
+-- Laws about the machine.
 use Rattle.std.specs.Prelude.{◌≡◌, ◌≢◌, ℕ, ◌+◌, ◌-◌, ◌^◌, ◌<◌, Some}
 use Rattle.nic_device.specs.Run.{state_after}
 use Rattle.nic_device.specs.State.{new_state}
@@ -26,19 +26,20 @@ pub record RunningMachinesStep : Type 0 where
       → (machine_at program config n).steps < 2 ^ 64 - 1
       → (machine_step program (machine_at program config n)).answer ≢ Stopped
 
--- A machine that stops after n steps stays unchanged in all further steps.
+-- If the step after n steps returns `Stopped`, the machine stays unchanged in all further steps.
 abbrev pub StoppedMachinesStay : Type 0
 StoppedMachinesStay = (program : Listing) (config : Config) (n more : ℕ)
     → (machine_step program (machine_at program config n)).answer ≡ Stopped
     → machine_at program config (n + more) ≡ machine_at program config n
 
--- After n steps, the machine's device is in the state to which the events of these steps lead from a new device.
+-- After n steps, the machine's device is in the same state as a new device after the events of these n steps.
 abbrev pub MachinesRunTheirDevice : Type 0
 MachinesRunTheirDevice = (program : Listing) (config : Config) (n : ℕ)
     → (machine_at program config n).device ≡
     state_after (new_state config.vfs config.fifo) (events_until program config n)
 
--- A taken jump leads to its target; a jump that isn't taken leads to the next instruction.
+-- After a taken jump, the jump's target is the next instruction to execute. After a jump that isn't taken, the machine
+-- continues with the following instruction.
 pub record JumpsGo : Type 0 where
   pub always : (program : Listing) (s : MachineState) (target : ℕ)
       → next_instruction program s ≡ Some (instr.Jump target)

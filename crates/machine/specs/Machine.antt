@@ -26,7 +26,8 @@ use Rattle.machine.specs.declared.machine.StepAnswer.TheVariants as answer
 use Rattle.program.specs.Listing.{Listing, string_at}
 use Rattle.program.specs.declared.instruction.Instruction.{Instruction}
 
--- The machine's status when this instruction is next: it has ended after the last instruction.
+-- The machine's status if the instruction with this number is next: the machine has ended if this is the number after
+-- the last instruction, otherwise it is running.
 abbrev pub status_at : Listing → ℕ → Status
 status_at program pc = if pc == length program.instructions then Ended else Running
 
@@ -47,7 +48,7 @@ start_of program config =
       steps = 0;
     }
 
--- The state with one more step counted and this instruction next.
+-- The state with one more step counted and the instruction with this number next.
 abbrev pub moved_to : Listing → MachineState → ℕ → MachineState
 moved_to program s pc = record s { pc = pc; status = status_at program pc; steps = s.steps + 1 }
 
@@ -59,7 +60,7 @@ moved_on program s = moved_to program s (s.pc + 1)
 abbrev pub stopped_as : MachineState → Status → MachineState
 stopped_as s status = record s { status = status; steps = s.steps + 1 }
 
--- A step's answer, and the state after it.
+-- A step's result, and the state after the step.
 pub record Step : Type 0 where
   pub answer : StepAnswer
   pub state : MachineState
@@ -70,7 +71,7 @@ word_read (reply.Word word) acc = word
 word_read (reply.Stray word) acc = word
 word_read other acc = acc
 
--- One of the four little-endian words of 16 bytes.
+-- The word with this number, out of the four little-endian words in 16 bytes.
 abbrev pub word_in : List ℕ → ℕ → ℕ
 word_in bytes word =
     slice_index bytes (4 * word) + 2 ^ 8 * slice_index bytes (4 * word + 1) + 2 ^ 16 * slice_index bytes
@@ -81,7 +82,7 @@ abbrev pub word_peeked : ℕ → Reply Block → ℕ → ℕ
 word_peeked word (reply.Bytes bytes) acc = word_in bytes word
 word_peeked word other acc = acc
 
--- The value in `acc` after this part of a reply is stored.
+-- The value in `acc` after this part of a reply was stored.
 abbrev pub acc_after : Kept → Reply Block → ℕ → ℕ
 acc_after Nothing reply acc = acc
 acc_after Word reply acc = word_read reply acc
@@ -98,8 +99,8 @@ made program s kept arena outcome = record {
   });
 }
 
--- The state after an action without an event: `acc` is compared under a mask, or is masked, or another instruction is
--- next, or the program ends.
+-- The state after an action without an event: compare `acc` under a mask, clear bits of `acc`, jump, or end the
+-- program.
 abbrev pub acted : Listing → MachineState → LocalAction → MachineState
 acted program s (act.Expect want mask) =
     if bit_and s.acc mask == want then moved_on program s else stopped_as s (Failed s.pc (bit_and s.acc mask) want)
@@ -109,7 +110,7 @@ acted program s (act.JumpUnlessEqual word target) = moved_to program s (if s.acc
 acted program s (act.Jump target) = moved_to program s target
 acted program s act.Halt = stopped_as s Ended
 
--- The device event of an action, if it runs one.
+-- The device event that an action runs, if any, as a list.
 abbrev pub events_of : Listing → MachineState → Action → List (Event Block)
 events_of program s (Make event kept) = event ∷ []
 events_of program s (Lend block) = if is_free s.arena block then event.Lend (zero_block block) ∷ [] else []
@@ -117,7 +118,7 @@ events_of program s (TakeBack block) = event.Take block ∷ []
 events_of program s (Arrive number) = event.Arrive (string_at program.strings number) ∷ []
 events_of program s (Local local) = []
 
--- The step of an action. It doesn't lend a block that isn't free.
+-- The step that executes an action. If a block to be lent isn't free, the step runs no event.
 abbrev pub done : Listing → MachineState → Action → Step
 done program s (Make event kept) = made program s kept s.arena (step_of s.device event)
 done program s (Lend block) =
@@ -139,7 +140,8 @@ abbrev pub next_instruction : Listing → MachineState → Option (Instruction �
 next_instruction program s =
     if is_running s.status && nat_lt s.steps (2 ^ 64 - 1) then slice_get program.instructions s.pc else None
 
--- The step that executes the next instruction. Without one, the machine is stopped and stays unchanged.
+-- The step that executes the next instruction. If no instruction is next, the result is `Stopped` and the machine stays
+-- unchanged.
 abbrev pub executed_if_some : Listing → MachineState → Option (Instruction ℕ ℕ) → Step
 executed_if_some program s None = record { answer = answer.Stopped; state = s }
 executed_if_some program s (Some instruction) = done program s (action_of program instruction)
@@ -153,7 +155,7 @@ unfoldable pub machine_at : Listing → Config → ℕ → MachineState
 machine_at program config zero = start_of program config
 machine_at program config (suc n) = (machine_step program (machine_at program config n)).state
 
--- The device event of a step, if it runs one.
+-- The device event that a step runs, if any, as a list.
 abbrev pub events_if_some : Listing → MachineState → Option (Instruction ℕ ℕ) → List (Event Block)
 events_if_some program s None = []
 events_if_some program s (Some instruction) = events_of program s (action_of program instruction)
@@ -165,8 +167,8 @@ events_until program config (suc n) =
     let s = machine_at program config n in
     events_until program config n ++ events_if_some program s (next_instruction program s)
 
--- The action may be refused for lack of memory: to copy the block that is taken back or the frame that arrives, to lend
--- a free block, or to run a transmit step of a queue that isn't idle.
+-- Memory may run out for an action: to copy the block that is taken back or the frame that arrives, to lend a free
+-- block, or to run a transmit step that isn't idle.
 abbrev pub TakesSome : MachineState → Action → Type 0
 TakesSome s (Make event kept) = TakesMemory s.device event
 TakesSome s (Lend block) = TakesMemory s.device (event.Lend (zero_block block))
@@ -178,6 +180,6 @@ abbrev pub NextTakesSome : Listing → MachineState → Option (Instruction ℕ 
 NextTakesSome program s None = ⊥
 NextTakesSome program s (Some instruction) = TakesSome s (action_of program instruction)
 
--- A step may be refused for lack of memory.
+-- Memory may run out for a step.
 abbrev pub StepTakesMemory : Listing → MachineState → Type 0
 StepTakesMemory program s = NextTakesSome program s (next_instruction program s)

@@ -1,4 +1,4 @@
--- The fields of a machine, as definitions see them.
+-- The state that the fields of a machine represent.
 use Rattle.std.specs.Prelude.{◌≡◌, ℕ}
 use Rattle.nic_device.specs.declared.Config.{Config}
 use Rattle.card.specs.Card.{Holdings}
@@ -15,6 +15,6 @@ state_with card pc acc status steps =
 abbrev pub state_of : Processor → MachineState
 state_of processor = state_with processor.card processor.pc processor.acc processor.status processor.steps
 
--- The machine's state is the one to which its counted steps lead.
+-- The machine's state is the one after its counted steps.
 abbrev pub IsWhereStepsLead : Listing → Config → MachineState → Type 0
 IsWhereStepsLead program config s = s ≡ machine_at program config s.steps

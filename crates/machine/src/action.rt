@@ -7,35 +7,35 @@ ghost use Rattle.machine.specs.Action.{action_of, IsSoundAction};
 use nic_device::{Event, Port};
 use program::{Instruction, Program};
 
-/// The part of the device's reply that an instruction stores in `acc`.
+/// Which part of the device's reply an instruction stores in `acc`.
 #[derive(Clone, Copy)]
 pub(crate) enum Kept {
     /// Nothing: `acc` keeps its value.
     Nothing,
     /// The value that was read, even if the read reached no register.
     Word,
-    /// One of the four words of the 16 bytes that were read, 0 to 3.
+    /// The word with this number, 0 to 3, in the 16 bytes that were read.
     Part(u8),
 }
 
-/// An instruction's action without the device.
+/// What an instruction does if it runs no device event.
 #[derive(Clone, Copy)]
 pub(crate) enum LocalAction {
-    /// The machine fails unless `acc` equals this value in the bits of this mask.
+    /// Compares `acc` with the first value in the bits of the second, the mask. If they differ, the machine fails.
     Expect(u32, u32),
-    /// Clears the bits of `acc` that are 0 in this value.
+    /// Clears those bits of `acc` that are 0 in this value.
     And(u32),
-    /// Jumps to this instruction if `acc` equals this value.
+    /// Jumps to the instruction with this number if `acc` equals this value.
     JumpIfEqual(u32, u16),
-    /// Jumps to this instruction unless `acc` equals this value.
+    /// Jumps to the instruction with this number unless `acc` equals this value.
     JumpUnlessEqual(u32, u16),
-    /// Jumps to this instruction.
+    /// Jumps to the instruction with this number.
     Jump(u16),
     /// Ends the program normally.
     Halt,
 }
 
-/// An instruction's action.
+/// What an instruction does.
 pub(crate) enum Action {
     /// Runs an event that moves no block, and stores a part of the reply in `acc`.
     Make(Event, Kept),
@@ -59,7 +59,7 @@ fn sixteen(string: &[u8]) -> [u8; 16]
     bytes
 }
 
-/// Returns the action of this instruction of the program.
+/// Returns the action of an instruction of the program.
 pub(crate) fn action_of(program: &Program, instruction: Instruction) -> Action
     requires { IsSound program.now.strings (length program.now.instructions) instruction }
     ensures action { result ≡ action_of program.now instruction }

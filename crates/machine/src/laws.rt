@@ -1,4 +1,4 @@
-//! Laws of the machine. Each law is the contract of an empty function.
+//! Laws about the machine. Each law is the contract of a function that does nothing.
 
 ghost use Rattle.machine.specs.Laws.{StepsCount, RunningMachinesStep, StoppedMachinesStay, MachinesRunTheirDevice, JumpsGo};
 
@@ -13,17 +13,18 @@ pub fn running_machines_step()
     ensures { RunningMachinesStep }
 {}
 
-/// A machine that stops after this many steps stays unchanged from then on.
+/// If a step of a machine returns `Stopped`, the machine stays unchanged in all further steps.
 pub fn stopped_machines_stay()
     ensures { StoppedMachinesStay }
 {}
 
-/// After n steps, the machine's device is in the state to which the events of these steps lead from a new device.
+/// After n steps, the machine's device is in the same state as a new device after the events of these n steps.
 pub fn machines_run_their_device()
     ensures { MachinesRunTheirDevice }
 {}
 
-/// A taken jump leads to its target; a jump that isn't taken leads to the next instruction.
+/// After a taken jump, the jump's target is the next instruction to execute. After a jump that isn't taken, the machine
+/// continues with the following instruction.
 pub fn jumps_go_where_they_say()
     ensures { JumpsGo }
 {}

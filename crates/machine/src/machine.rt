@@ -41,23 +41,24 @@ pub enum StepAnswer {
     Made(ReplyNote),
     /// The step executed an instruction that runs no event.
     Local,
-    /// The step ran no event: the block to be lent isn't free in the machine's arena.
+    /// The step ran no event, because the block to be lent isn't free in the machine's arena.
     NoBlock,
-    /// The step did nothing: the machine has ended or failed, or has counted 2^64 - 1 steps.
+    /// The step did nothing, because the machine has ended or failed, or has counted 2^64 - 1 steps.
     Stopped,
 }
 
-/// Why the machine couldn't be created, and the program.
+/// The error of `Machine::new`: why the machine couldn't be created, and the program.
 #[derive(Debug, Drop)]
 pub struct NewRefused {
-    /// Why its device couldn't be created.
+    /// Why the machine's device couldn't be created.
     pub fault: NewFault,
     /// The program that was passed, unchanged.
     pub program: Program,
 }
 
-/// A program, its device with an arena of blocks 0 to 255, and its progress: after n counted steps a machine equals
-/// `machine_at` n. It can't be dropped: `finish` or `into_program` ends it.
+/// A machine: a program, a device with an arena of blocks 0 to 255, and the progress of the program. After n counted
+/// steps, the state of the machine is `machine_at` n. A machine can't be dropped; end it with `finish` or
+/// `into_program`.
 pub struct Machine {
     pub(crate) program: Program,
     pub(crate) config: Config,
@@ -82,7 +83,7 @@ impl Model for Machine {
 }
 
 impl Machine {
-    /// Creates a machine before its first step, on a new device of this configuration, with all 256 blocks free.
+    /// Creates a machine with a new device of this configuration. All 256 blocks are free, and no step has run.
     ///
     /// Errors: `TooManyVfs` and `Fifo`, each exactly if `Device::new` returns it for the configuration; or
     /// `OutOfMemory`. The error contains the program, unchanged.
@@ -107,11 +108,11 @@ impl Machine {
         })
     }
 
-    /// Executes one instruction: runs a device event and stores the value in the reply, acts without an event, or
-    /// reports that the block to lend isn't free. If the machine isn't running, or has counted 2^64 - 1 steps, returns
-    /// `Stopped`, counts no step and changes nothing. After `OutOfMemory` the machine is unchanged, and you can retry
-    /// the step. Only four steps can run out of memory: lending a free block, taking one back, an arrival, and a
-    /// transmit step of a queue below 128 that isn't idle.
+    /// Executes one instruction. The step runs a device event and stores the value in the reply, does something without
+    /// an event, or reports that the block to lend isn't free. If the machine isn't running, or has counted 2^64 - 1
+    /// steps, returns `Stopped`, counts no step and changes nothing. After `OutOfMemory` the machine is unchanged, and
+    /// you can retry the step. Memory can run out in only four cases: when a free block is lent, when a block is taken
+    /// back, when a frame arrives, and in a transmit step that isn't idle for a queue below 128.
     pub fn step(&mut self) -> Result<StepAnswer, OutOfMemory>
         ensures answer { IfOk result (λ answer. answer ≡ (machine_step self.old.program self.old.state).answer) }
         ensures state { OnOk result
@@ -122,8 +123,8 @@ impl Machine {
         self.processor.step(&self.program)
     }
 
-    /// Returns the number of counted steps. The machine is in its state after this many steps of its program on a new
-    /// device.
+    /// Returns the number of counted steps. The machine's state is the one after this many steps of its program on a
+    /// new device.
     pub fn steps(&self) -> u64
         ensures count { result ≡ self.now.state.steps }
         ensures at { self.now.state ≡ machine_at self.now.program self.now.config result }
@@ -132,7 +133,7 @@ impl Machine {
     }
 
     /// Returns the number of the next instruction, counted from 0, or the number of instructions if the machine is at
-    /// the end. `halt` and a failing `expect` don't advance it.
+    /// the program's end. `halt` and a failing `expect` don't advance this number.
     pub fn pc(&self) -> u16
         ensures { result ≡ self.now.state.pc }
     {
@@ -140,7 +141,7 @@ impl Machine {
     }
 
     /// Returns the accumulator: the last value that was read or peeked, even if the read reached no register, with each
-    /// later `and` applied. It is 0 before the first read or peek.
+    /// later `and` applied. The accumulator is 0 before the first read or peek.
     pub fn acc(&self) -> u32
         ensures { result ≡ self.now.state.acc }
     {
@@ -154,16 +155,16 @@ impl Machine {
         self.processor.status
     }
 
-    /// Returns the result of a read of this address through the physical function, without the read's side effects, or
-    /// `None` if there is no register.
+    /// Returns what a read of this address through the physical function would return, without the read's side effects,
+    /// or `None` if the address has no register.
     pub fn peek_register(&self, address: u32) -> Option<u32>
         ensures { result ≡ reported_word (step_of self.now.state.device (Event.Read Port.Pf address)).reply }
     {
         self.processor.card.peek(Port::Pf, address)
     }
 
-    /// Returns the result of a read of this offset through a virtual function, without the read's side effects, or
-    /// `None` if there is no register.
+    /// Returns what a read of this offset through a virtual function would return, without the read's side effects, or
+    /// `None` if the offset has no register.
     pub fn peek_vf(&self, function: u8, offset: u32) -> Option<u32>
         ensures { result ≡ reported_word (step_of self.now.state.device (Event.Read (Port.Vf function) offset)).reply }
     {
@@ -177,7 +178,7 @@ impl Machine {
         &self.program
     }
 
-    /// Closes the machine and returns its program. Its packet memory is freed, including lent blocks.
+    /// Closes the machine and returns its program. Frees the machine's packet memory, including lent blocks.
     pub fn into_program(self) -> Program
         ensures { result ≡ self.program }
     {

@@ -1,4 +1,4 @@
-//! Execution of instructions: the device with its packet memory, and the state of the machine.
+//! Executes instructions on the device and its packet memory, and keeps the state of the machine.
 
 ghost use Rattle.std.specs.Prelude.{◌≡◌, ◌+◌, ◌-◌, ◌*◌, ◌<◌, ◌≤◌, ◌^◌, IsFalse, IfOk, IfSome, IsSome, OnOk, OnErr, length};
 ghost use Rattle.nic_device.specs.Step.{moves_block};
@@ -35,7 +35,7 @@ fn word_read(reply: &ReplyNote, acc: u32) -> u32
     }
 }
 
-/// Returns one of the four little-endian words of 16 bytes.
+/// Returns the word with this number, out of the four little-endian words in 16 bytes.
 fn word_in(bytes: &[u8; 16], word: u8) -> u32
     requires { word < 4 }
     ensures { result ≡ word_in bytes.now word }
@@ -54,7 +54,7 @@ fn word_peeked(word: u8, reply: &ReplyNote, acc: u32) -> u32
     }
 }
 
-/// Returns the value in `acc` after this part of a reply is stored.
+/// Returns the value in `acc` after this part of a reply was stored.
 fn acc_after(kept: Kept, reply: &ReplyNote, acc: u32) -> u32
     requires { IsPart kept }
     ensures { result ≡ acc_after kept reply.now acc }
@@ -66,7 +66,7 @@ fn acc_after(kept: Kept, reply: &ReplyNote, acc: u32) -> u32
     }
 }
 
-/// Returns the machine's status when this instruction is next.
+/// Returns the machine's status if the instruction with this number is next.
 fn status_at(program: &Program, pc: u16) -> Status
     ensures { result ≡ status_at program.now pc }
 {
@@ -108,7 +108,7 @@ impl Processor {
         program.instruction(self.pc)
     }
 
-    /// Counts a step and continues at this instruction.
+    /// Counts a step and continues at the instruction with this number.
     fn move_to(&mut self, program: &Program, pc: u16)
         requires { self.old.steps < 2 ^ 64 - 1 }
         ensures { state_of self.new ≡ moved_to program.now (state_of self.old) pc }
@@ -180,7 +180,7 @@ impl Processor {
         }
     }
 
-    /// Runs an event that moves no block, and advances.
+    /// Runs an event that moves no block, stores part of the reply in `acc`, and advances.
     fn make(
         &mut self,
         program: &Program,
@@ -264,7 +264,7 @@ impl Processor {
         self.make(program, Event::Arrive(Octets::of(frame)), Kept::Nothing)
     }
 
-    /// Executes an instruction's action and advances.
+    /// Executes an instruction's action, and continues at the instruction that is next.
     fn execute(&mut self, program: &Program, action: Action) -> Result<StepAnswer, OutOfMemory>
         requires sound { IsSoundAction program.now action }
         requires inside { self.old.pc < 4096 }

@@ -1,4 +1,4 @@
-//! Snapshots of a machine, and machines restored from them.
+//! Snapshots of a machine, and machines that are restored from snapshots.
 
 ghost use Rattle.std.specs.Prelude.{◌≡◌, IfOk};
 ghost use Rattle.machine.specs.Machine.{machine_at};
@@ -11,7 +11,7 @@ use program::{OutOfMemory, Program};
 use std::alloc::Global;
 use std::marker::Model;
 
-/// A machine as plain data: its program and its state. It can be dropped.
+/// A saved copy of a machine: its program and its state. A snapshot can be dropped.
 #[derive(Drop)]
 pub struct MachineSnapshot {
     alloc: Global,
@@ -58,7 +58,8 @@ impl MachineSnapshot {
 }
 
 impl Machine {
-    /// Returns a snapshot of the machine, or `OutOfMemory` if there is no memory for it. The machine is unchanged.
+    /// Returns a snapshot of the machine, or `OutOfMemory` if there is no memory for the snapshot. The machine is
+    /// unchanged.
     pub fn snapshot(&self) -> Result<MachineSnapshot, OutOfMemory>
         ensures { IfOk result (λ snapshot. snapshot ≡ self.now) }
     {
@@ -81,8 +82,8 @@ impl Machine {
         })
     }
 
-    /// Creates a machine in the snapshot's state, with its own packet memory. Fails with `OutOfMemory` if there is no
-    /// memory for it.
+    /// Creates a machine in the snapshot's state, with its own packet memory. Returns `OutOfMemory` if there is no
+    /// memory for the machine.
     pub fn restore(snapshot: &MachineSnapshot) -> Result<Machine, OutOfMemory>
         ensures { IfOk result (λ machine. machine ≡ snapshot.now) }
     {

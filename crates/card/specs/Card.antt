@@ -52,13 +52,14 @@ abbrev pub reply_of_write : (stray : Bool) → Reply Block
 reply_of_write true = Stray 0
 reply_of_write false = Done
 
--- No other reply to a write is possible.
+-- A reply that the device can give to a write.
 abbrev pub IsOfWrite : Reply Block → Type 0
 IsOfWrite (Stray word) = word ≡ 0
 IsOfWrite Done = ⊤
 IsOfWrite other = ⊥
 
--- The card after a block is lent, if it is free. Its bytes are 0.
+-- The card after a block was lent, if the block is free. The block's bytes are 0. If the block isn't free, the card is
+-- unchanged.
 abbrev pub with_lent : Holdings → ℕ → Holdings
 with_lent c block =
     if is_free c.arena block
@@ -68,38 +69,39 @@ with_lent c block =
     }
     else c
 
--- The block of a reply, if any, belongs to the arena and isn't free there, so it can be returned.
+-- If a reply contains a block, the block belongs to the arena and isn't free there, so the block can be returned to the
+-- arena.
 abbrev pub CanReturn : Numbers → Reply Block → Type 0
 CanReturn arena (Buf block) = (is_own arena block.number ≡ true) × (is_free arena block.number ≡ false)
 CanReturn arena (Twice block) = ⊥
 CanReturn arena other = ⊤
 
--- A block that a reply returns is free again.
+-- The arena after a block, if any, was returned to it: the block is free again.
 abbrev pub given_back : Numbers → Option Block → Numbers
 given_back arena (Some block) = with_free arena block.number true
 given_back arena None = arena
 
--- The blocks that are free after a reply. A block in the reply is returned to the arena.
+-- The arena after a reply: a block in the reply is returned to the arena.
 abbrev pub arena_after : Numbers → Reply Block → Numbers
 arena_after arena reply = given_back arena (handed_block reply)
 
--- The card after a block is taken back. If it was lent, it is free again.
+-- The card after a block was taken back. If the block was lent, it is free again.
 abbrev pub with_taken : Holdings → ℕ → Holdings
 with_taken c block = record {
   device = after c.device (event.Take block);
   arena = arena_after c.arena (reply_to c.device (event.Take block));
 }
 
--- The card after each free block below a number is lent.
+-- The card after each free block below a number was lent.
 unfoldable pub lent_below : Holdings → ℕ → Holdings
 lent_below c zero = c
 lent_below c (suc block) = with_lent (lent_below c block) block
 
--- The card after bytes are written over the bus.
+-- The card after bytes were written over the bus.
 abbrev pub written : Holdings → ℕ → List ℕ → Holdings
 written c bus bytes = record c { device = record c.device { memory = write_at c.device.memory bus bytes } }
 
--- The card after the bytes of a lent block are replaced.
+-- The card after the bytes of a lent block were replaced.
 abbrev pub with_bytes : Holdings → ℕ → List ℕ → Holdings
 with_bytes c block bytes = record c { device = record c.device { memory = map.insert c.device.memory block bytes } }
 

@@ -1,4 +1,4 @@
--- A card kept as plain data. The blocks that aren't lent are free.
+-- A saved copy of a card. The blocks that aren't lent are free.
 use Rattle.std.specs.Prelude.{ℕ, not, map}
 use Rattle.std.specs.List.{range_with_len}
 use Rattle.nic_device.specs.DmaArena.Memory.{Memory, has_block}

@@ -9,8 +9,8 @@ use crate::card::Card;
 use nic_device::BlockBox;
 
 impl Card {
-    /// Fills the slice with the bytes that start at a bus address. Returns `false` if and only if one of these bytes
-    /// isn't lent; in that case the slice is unchanged.
+    /// Copies the memory that starts at a bus address into the slice, and returns `true`. Returns `false` if and only
+    /// if one of these bytes isn't lent; in that case the slice is unchanged.
     pub fn dma_read(&self, bus: u64, bytes: &mut [u8]) -> bool
         ensures lent { result ≡ is_lent self.now.device.memory bus (length bytes.old) }
         ensures read { result ≡ true → bytes.new ≡ read_at self.now.device.memory bus (length bytes.old) }
@@ -19,8 +19,8 @@ impl Card {
         self.device.dma_read(bus, bytes)
     }
 
-    /// Writes the bytes of the slice to memory, starting at a bus address. Returns `false` if and only if one of them
-    /// wouldn't be in a lent block; in that case nothing changes.
+    /// Writes the slice to memory, starting at a bus address, and returns `true`. Returns `false` if and only if one of
+    /// the bytes wouldn't be in a lent block; in that case nothing changes.
     pub fn dma_write(&mut self, bus: u64, bytes: &[u8]) -> bool
         ensures lent { result ≡ is_lent self.old.device.memory bus (length bytes.now) }
         ensures written { result ≡ true → self.new ≡ written self.old bus bytes.now }
@@ -29,9 +29,9 @@ impl Card {
         self.device.dma_write(bus, bytes)
     }
 
-    /// Exchanges the memory of a lent block for new memory. The block then contains the bytes of the new memory. The
-    /// former memory is returned, with the bytes that the block contained. Fails if and only if the block isn't lent;
-    /// the error then contains the new memory, and nothing changes.
+    /// Replaces the memory of a lent block by new memory. The block then contains the bytes of the new memory. Returns
+    /// the former memory, with the bytes that the block contained. Fails if and only if the block isn't lent; the error
+    /// then contains the new memory, and nothing changes.
     pub fn exchange(&mut self, block: u32, memory: BlockBox) -> Result<BlockBox, BlockBox>
         ensures ok { IsOk result ↔ IsTrue (has_block self.old.device.memory block) }
         ensures put { OnOk result (self.new ≡ with_bytes self.old block memory.value) }

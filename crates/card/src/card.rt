@@ -1,5 +1,5 @@
-//! A device with an arena of packet memory: calls that move blocks between the two, and calls for the device's other
-//! events.
+//! A device with an arena of packet memory. Some calls move blocks between the device and the arena; the others run the
+//! device's other events.
 
 ghost use Rattle.std.specs.Prelude.{◌≡◌, ◌<◌, ◌≤◌, ◌↔◌, ℕ, [], true, false, IsFalse, IfOk, OnOk, OnErr, Ok, Err};
 ghost use Rattle.std.specs.FinMap as map;
@@ -20,7 +20,7 @@ use std::alloc::{AllocError, Global};
 use std::marker::Model;
 
 /// A device, and an arena of blocks numbered from 0. Each block is free in the arena or lent to the device. Dropping a
-/// card frees both.
+/// card frees the device and the arena.
 pub struct Card {
     pub(crate) device: Device,
     pub(crate) arena: Arena,
@@ -38,7 +38,7 @@ impl Model for Card {
     ghost invariant = { λ c. AreShared c.device.memory c.arena };
 }
 
-/// Returns the note of a reply that contains no block.
+/// Converts a reply that contains no block to a note, and returns the note.
 fn note_of(reply: Reply) -> ReplyNote
     requires { IsFalse (hands_out reply) }
     ensures { result ≡ reply }
@@ -71,7 +71,8 @@ fn is_stray(reply: Reply) -> bool
     }
 }
 
-/// Returns the note of a reply. A block in it is returned to the arena, and its bytes are copied into `room`.
+/// Converts a reply to a note, and returns the note. If the reply contains a block, the block is returned to the arena,
+/// and its bytes are copied into `room`.
 fn note_returned(arena: &mut Arena, reply: Reply, room: Vec<u8>) -> ReplyNote
     requires own { CanReturn arena.old reply }
     requires empty { room.items ≡ [] }
@@ -89,7 +90,7 @@ fn note_returned(arena: &mut Arena, reply: Reply, room: Vec<u8>) -> ReplyNote
     }
 }
 
-/// Disposes of lent memory that contains no blocks.
+/// Frees lent memory that contains no blocks.
 fn end_memory(memory: LentMemory)
     requires { (number : ℕ) → has_block memory number ≡ false }
 {
@@ -131,7 +132,7 @@ fn close(mut memory: LentMemory, mut arena: Arena)
     }
 }
 
-/// Disposes of a device that has no lent memory.
+/// Frees a device that has no lent memory.
 fn end_device(device: Device)
     requires { device.memory ≡ map.empty }
 {
@@ -147,10 +148,10 @@ fn end_device(device: Device)
 }
 
 impl Card {
-    /// Creates a new device and `blocks` blocks, 1 to 65,536, all free.
+    /// Creates a card with a new device and 1 to 65,536 blocks (`blocks`), all free.
     ///
-    /// Errors: `TooManyVfs`, `Fifo` and `OutOfMemory`, as for `Device::new`. Nothing is allocated for a refused
-    /// configuration; the contract doesn't state this.
+    /// Errors: `TooManyVfs`, `Fifo` and `OutOfMemory`, as for `Device::new`. If the configuration is refused, nothing
+    /// is allocated; the contract doesn't state this.
     pub fn new(alloc: Global, config: Config, blocks: u32) -> Result<Card, NewFault>
         requires some { 0 < blocks }
         requires few { blocks ≤ 65536 }
@@ -168,7 +169,8 @@ impl Card {
         }
     }
 
-    /// Runs an event that moves no block, and returns the reply. After `AllocError` nothing has changed.
+    /// Runs an event that moves no block, and returns the reply. If memory runs out, returns `AllocError` and changes
+    /// nothing.
     #[inline(always)]
     pub fn make(&mut self, event: Event) -> Result<ReplyNote, AllocError>
         requires { IsFalse (moves_block event) }
@@ -188,8 +190,8 @@ impl Card {
         }
     }
 
-    /// Reads a register at a port, with the read's side effects. Returns the value, and whether the access reached no
-    /// register.
+    /// Reads a register through a port, with the read's side effects. Returns the value, and `true` if the access
+    /// reached no register.
     #[inline]
     pub fn read(&mut self, port: Port, number: u32) -> (u32, bool)
         ensures reply { reply_to self.old.device (Event.Read port number) ≡ reply_of_read result.0 result.1 }
@@ -203,7 +205,7 @@ impl Card {
         }
     }
 
-    /// Writes a register at a port. Returns whether the access reached no register.
+    /// Writes a register through a port. Returns `true` if the access reached no register.
     #[inline]
     pub fn write(&mut self, port: Port, number: u32, word: u32) -> bool
         ensures reply { reply_to self.old.device (Event.Write port number word) ≡ reply_of_write result }
@@ -216,14 +218,14 @@ impl Card {
     }
 
     /// Lends a free block, with all bytes 0. Returns `false` and changes nothing if and only if the block isn't free.
-    /// After `AllocError` nothing has changed.
+    /// If memory runs out, returns `AllocError` and changes nothing.
     pub fn lend(&mut self, block: u32) -> Result<bool, AllocError>
         ensures free { IfOk result (λ lent. lent ≡ is_free self.old.arena block) }
         ensures lent { OnOk result (self.new ≡ with_lent self.old block) }
         // If the result is `true`, the device's reply is `Done`.
         ensures done { result ≡ Ok true → reply_to self.old.device (Event.Lend (zero_block block)) ≡ Reply.Done }
         ensures unchanged { OnErr result (self.new ≡ self.old) }
-        // Memory runs out only if the block is free.
+        // Memory can run out only if the block is free.
         ensures wanted { OnErr result (is_free self.old.arena block ≡ true) }
         ensures memory { OnErr result (TakesMemory self.old.device (Event.Lend (zero_block block))) }
     {
@@ -275,8 +277,8 @@ impl Card {
     }
 
     #[tactic(auto, unfolding(crate::specs::Card::lent_below))]
-    /// Lends the free blocks in order. After `AllocError`, memory ran out for a block: the free blocks below it have
-    /// been lent, and no others.
+    /// Lends all free blocks, in the order of their numbers. If memory runs out for a block, returns `AllocError`; the
+    /// free blocks below that block have then been lent, and no others.
     pub fn lend_all(&mut self) -> Result<(), AllocError>
         ensures lent { OnOk result (self.new ≡ lent_below self.old (count_of self.old.arena)) }
         ensures stopped { OnErr result ((block : ℕ) × (block < count_of self.old.arena)
@@ -288,8 +290,8 @@ impl Card {
         Ok(())
     }
 
-    /// Returns what a read of a register would return, without the read's side effects, or `None` if there is no
-    /// register.
+    /// Returns what a read of a register would return, without the read's side effects, or `None` if the address or
+    /// offset has no register.
     pub fn peek(&self, port: Port, number: u32) -> Option<u32>
         ensures { result ≡ reported_word (reply_to self.now.device (Event.Read port number)) }
     {
@@ -299,7 +301,7 @@ impl Card {
         }
     }
 
-    /// Returns the length in bytes of the frame that would be collected, or 0 if there is none.
+    /// Returns the length in bytes of the frame that the next `Collect` would return, or 0 if there is no such frame.
     pub fn next_out(&self) -> usize
         ensures { result ≡ next_out_of self.now.device.out }
     {

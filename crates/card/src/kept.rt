@@ -1,4 +1,4 @@
-//! A card kept as plain data.
+//! A saved copy of a card, as plain data.
 
 ghost use Rattle.std.specs.Prelude.{◌≡◌, IsTrue, IfOk, OnOk, OnErr};
 ghost use Rattle.nic_device.specs.DmaArena.Numbers.{are_all_free};
@@ -9,8 +9,8 @@ use std::alloc::{AllocError, Global};
 use std::marker::Model;
 use std::mem;
 
-/// The contents of a card: a snapshot of its device, with the bytes of the lent blocks, and the number of its blocks.
-/// Blocks that aren't lent are free.
+/// The saved contents of a card: a snapshot of the card's device, with the bytes of the lent blocks, and the number of
+/// the card's blocks. Blocks that aren't lent are free.
 #[derive(Drop)]
 pub struct Kept {
     device: Snapshot,
@@ -30,7 +30,7 @@ impl Model for Kept {
     ghost invariant = { λ k. AreShared k.device.memory (blocks_not_lent k.blocks k.device.memory) };
 }
 
-/// Disposes of an arena whose blocks are all free.
+/// Frees an arena whose blocks are all free.
 fn end_arena(arena: Arena)
     requires { IsTrue (are_all_free arena) }
 {
@@ -41,7 +41,8 @@ fn end_arena(arena: Arena)
 }
 
 impl Card {
-    /// Returns a copy of the card as plain data, or `AllocError` if there is no memory for it. The card is unchanged.
+    /// Returns a copy of the card as plain data, or `AllocError` if there is no memory for the copy. The card is
+    /// unchanged.
     pub fn keep(&self) -> Result<Kept, AllocError>
         ensures { IfOk result (λ kept. kept ≡ self.now) }
     {
@@ -56,8 +57,8 @@ impl Card {
 }
 
 impl Kept {
-    /// Creates a card with the kept contents and its own packet memory. Fails with `AllocError` if there is no memory
-    /// for it.
+    /// Creates a card with the saved contents and its own packet memory. Returns `AllocError` if there is no memory for
+    /// the card.
     pub fn card(&self, alloc: Global) -> Result<Card, AllocError>
         ensures { IfOk result (λ card. card ≡ self.now) }
     {
@@ -74,9 +75,9 @@ impl Kept {
         }
     }
 
-    /// Puts the kept contents into a card. After `AllocError` nothing has changed. The card keeps its packet memory if
-    /// it has as many blocks and all blocks to be lent are lent already; otherwise it gets new packet memory. The
-    /// contract doesn't specify which of the two happens.
+    /// Puts the saved contents into a card. If memory runs out, returns `AllocError` and changes nothing. The card
+    /// keeps its packet memory if it has as many blocks as the saved card and all blocks to be lent are lent already;
+    /// otherwise the card gets new packet memory. The contract doesn't specify which of the two happens.
     pub fn restore(&self, alloc: Global, card: &mut Card) -> Result<(), AllocError>
         ensures restored { OnOk result (card.new ≡ self.now) }
         ensures unchanged { OnErr result (card.new ≡ card.old) }

@@ -1,4 +1,4 @@
--- The registers after writes to EIAC and EIAM, and of PVTEIAC and PVTEIAM.
+-- The registers after writes to EIAC and EIAM, and to PVTEIAC and PVTEIAM.
 use Rattle.std.proofs.Common.{◌≡◌, ◌≢◌, ℕ, ◌-◌, ◌<◌, ◌^◌, true, ◌&&◌, if◌then◌else◌, cond, refl, ap, sym, ◌∙◌, arith, lit<, ◌==◌}
 use Rattle.std.specs.Prelude.{bit_and}
 use Rattle.std.proofs.lemmas.Nat.{and_le_l}

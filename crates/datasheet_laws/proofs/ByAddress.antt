@@ -11,7 +11,7 @@ use Rattle.datasheet_laws.proofs.Table.{at, listed}
 least : (n : ℕ) → n < 2 → min n 1 ≡ n
 least n small = omega arith
 
--- A bit of a word that shows all its bits.
+-- A bit of a word, at an address that shows all bits.
 pub has_bit-shown : (w bit : ℕ) → bit < 32 → has_bit bit (bit_and w whole) ≡ has_bit bit w
 has_bit-shown w bit low =
     ap (λ n. n == 1) (bit_at_and w whole bit ∙ ap (λ n. min (bit_at w bit) n) (bit_at_ones 32 bit low)

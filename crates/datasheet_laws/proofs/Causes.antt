@@ -1,4 +1,4 @@
--- What accesses to EICS and EICR, and of PVTEICS and PVTEICR, do to causes and masks.
+-- What accesses to EICS and EICR, and to PVTEICS and PVTEICR, do to causes and masks.
 use Rattle.std.proofs.Common.{◌≡◌, ◌≢◌, ℕ, ◌<◌, Bool, ◌&&◌, ◌||◌, refl, ap, sym, ◌∙◌, arith}
 use Rattle.std.specs.Prelude.{bit_and, not, nat_le}
 use Rattle.nic_device.specs.IntrUnit.BitSet.{BitSet, contains}

@@ -1,4 +1,4 @@
--- Which counters count the frames of queues.
+-- Which counters count a queue's frames.
 use Rattle.std.proofs.Common.{◌≡◌, ℕ, ◌+◌, ◌*◌, ◌/◌, ◌%◌, ◌^◌, ◌<◌, ◌==◌, refl, ap, sym, ◌∙◌, subst, arith}
 use Rattle.nic_device.specs.RegTable.declared.rows.RowId.TheVariants.{Qprc, Qprdc, Qptc, Rqsmr, Tqsm}
 use Rattle.nic_device.specs.RegisterFile.Counters.{counter_of}

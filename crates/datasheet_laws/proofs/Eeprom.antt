@@ -1,4 +1,4 @@
--- EEPROM images, by the numbers of their words and bytes.
+-- EEPROM images, in terms of the numbers of their words and bytes.
 use Rattle.std.proofs.Common.{◌≡◌, ◌≢◌, ℕ, zero, suc, ◌+◌, ◌*◌, ◌/◌, ◌%◌, ◌<◌, ◌≤◌, true, false, List, [], ◌∷◌, length, take, drop, get_or}
 use Rattle.std.proofs.Common.{Some, None, inl, inr, ltb, refl, ap, sym, ◌∙◌, arith, length-take, length-drop, get_or-drop, get_or-take}
 use Rattle.std.specs.List.{slice_get, flat_map}
@@ -217,7 +217,7 @@ faults = record {
   };
 }
 
--- A word inside the image is the image's own; outside, there is none.
+-- A word inside the image reads as it is stored; outside the image there is no word.
 word_inside : (words : List ℕ) (n : ℕ) → n < length words → get_or words n 0xFFFF ≡ get_or words n 0
 word_inside [] n h = absurd (omega arith)
 word_inside (w ∷ words) zero h = refl

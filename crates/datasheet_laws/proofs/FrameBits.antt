@@ -1,4 +1,4 @@
--- Bits as numbers, and as tests.
+-- Lemmas about bits as numbers and bits as tests.
 use Rattle.std.proofs.Common.{◌≡◌, ℕ, true, false, arith}
 use Rattle.std.proofs.lemmas.Bool.{eq-eqb, ne_eqb, eqb-true, eqb-false}
 use Rattle.datasheet_laws.specs.FramePrelude.{has_bit}

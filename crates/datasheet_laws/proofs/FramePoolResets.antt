@@ -1,4 +1,4 @@
--- What a pool reset drops.
+-- Which frames and staged bytes a pool reset drops.
 use Rattle.std.proofs.Common.{◌≡◌, ◌/◌, ◌%◌, ◌==◌, ◌&&◌, ℕ, Bool, true, false, cond, not, nat_lt, Some, None, filter, refl, ap, sym, subst, ◌∙◌, arith}
 use Rattle.std.proofs.lemmas.Bool.{cond-true, cond-false, cond_both, eqb-true, eqb-false, le-ltb}
 use Rattle.nic_device.specs.RegTable.Rows.{row_of}
@@ -14,7 +14,7 @@ use Rattle.datasheet_laws.specs.Bits.{field}
 use Rattle.datasheet_laws.specs.FramePoolResets.{is_queue_of, has, DropsItsFrames, PoolResetsDropFrames}
 use Rattle.datasheet_laws.proofs.FrameBits.{has-one}
 
--- The queues of a pool, by the mode and by the bits.
+-- A pool's queues, in terms of the mode and in terms of the bits.
 
 pooled : (b : Bool) (pool v : ℕ) → is_pool v (cond b (Some pool) None) ≡ (b && pool == v)
 pooled true pool v = refl

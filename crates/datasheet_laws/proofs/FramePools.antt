@@ -1,4 +1,4 @@
--- Where a frame goes, by the bits of registers.
+-- Where a frame goes, in terms of register bits.
 use Rattle.std.proofs.Common.{◌≡◌, ◌<◌, ◌/◌, ◌%◌, ◌==◌, ℕ, true, false, cond, List, Option, Some, None, Ok, Err, inl, inr, refl, ap, ◌∙◌, subst, arith}
 use Rattle.std.specs.Prelude.{Result, IfSome}
 use Rattle.std.proofs.lemmas.Bool.{cond-true, cond-false, cond_both, both_ways, cases_Bool, eqb-true}

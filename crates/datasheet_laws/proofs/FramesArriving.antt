@@ -20,7 +20,7 @@ use Rattle.datasheet_laws.proofs.FramePools.{sorted-filtered, sorted-passed, cho
 use Rattle.datasheet_laws.proofs.FramePools.{chosen_cases}
 
 module _ (s : State) (frame : List ℕ) where
-  -- How far a frame gets.
+  -- Which checks an arriving frame passes.
 
   abbrev limited : Outcome
   limited =

@@ -65,7 +65,7 @@ physical_holds mail word on held =
     (λ b. has_bit-set 3 free))
     (λ no. absurd (both_ways (has_bit 3 word) no on))
 
--- The mailbox after a write of this kind.
+-- The mailbox's word after a write by the function and after a write by the physical function.
 function_mailed : (r : Registers) → HasShape r → (v word : ℕ) → v < 64
     → mail_of (function_writes r v word) v ≡ function_wrote (mail_of r v) word
 function_mailed r h v word there =

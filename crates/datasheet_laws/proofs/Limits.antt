@@ -1,4 +1,4 @@
--- The frame limit, by the bits of its registers.
+-- The frame limit, in terms of register bits.
 use Rattle.std.proofs.Common.{◌≡◌, ◌<◌, ◌-◌, ◌/◌, ◌^◌, ℕ, inl, inr, refl, sym, ap, ◌∙◌, arith}
 use Rattle.nic_device.specs.RegisterLaws.Sound.{AreSound}
 use Rattle.datasheet_laws.specs.FramePrelude.{Hlreg0, Maxfrs, Registers, frame_limit, has_bit, place, word_of}

@@ -30,7 +30,7 @@ apart_mail w v apart =
     is_place-other (place row.Pvfmailbox w) (place row.Pvfmailbox v)
     (λ same. apart (ap (λ (q : Place). q.index) (sym same)))
 
--- A read changes no bit of a mailbox, but a read of the mailbox itself changes the bits that are reported once.
+-- A read changes no bit of a mailbox, except that a read of the mailbox itself changes the bits that are reported once.
 abbrev pub IsUnread : Place → (v n : ℕ) → Type 0
 IsUnread p v n =
     (row_of p.row).kind ≡ kind.Vfmail → (is_place (place row.Pvfmailbox p.index) (place row.Pvfmailbox v)

@@ -38,7 +38,7 @@ put_there r x y i j w apart =
     word_at-put_other r.words (at x i) (at y j) w (λ same. apart (ap (λ (q : Place). q.row) same))
 
 module _ (around : Surroundings) (r : Registers) (h : HasShape r) (v w : ℕ) (there : v < 64) where
-  -- What the function reads of its mailbox.
+  -- What the function reads in its mailbox.
   own_reads : (s : Registers) (bit : ℕ) → bit < 32 → reads around s (own v) bit ≡ has_bit bit (mail_of s v)
   own_reads s bit low = reads-at s row.Pvfmailbox v there around bit low
 

@@ -15,7 +15,7 @@ use Rattle.datasheet_laws.proofs.Groups.{index_small, bit_of-in, bit_left}
 use Rattle.datasheet_laws.proofs.Steps.{reported_inner}
 use Rattle.datasheet_laws.proofs.Words.{bit_of-words, small}
 
--- A marked bit has its cause and its mask.
+-- The cause and the mask of a marked bit are 1.
 pending : (t : State) → IsSound t → (g : Group) → IsGroup g → (bit : ℕ) → bit < bits_in g → is_reported t g bit ≡ true
     → ((bit_of t g bit).cause && (bit_of t g bit).mask) ≡ true
 unfolding contains
@@ -89,7 +89,7 @@ module _ (s new : State) (h : IsSound s) (then : IsSound new) (g : Group) (there
       (λ j. interrupts_of new.registers g ≡ j → Keeps s new g bit)
       (λ own e. settled_marks (raised i c.bits false) e refl) (λ other e. same_interrupts e) is
 
-  -- The marks after the interrupts were put into the registers.
+  -- The marks after the interrupts were stored in the registers.
   pub put_with : (marked : ℕ) (mark : Bool) → contains marked bit ≡ mark → (left : Interrupts) → left.group ≡ g
       → IsSettled left → left.reported < 2 ^ 32 → new.registers ≡ with_interrupts s.registers left
       → left.reported ≡ intersection marked (intersection left.causes left.enabled)

@@ -1,4 +1,4 @@
--- What accesses to EIMS and EIMC, and of PVTEIMS and PVTEIMC, do to masks.
+-- What accesses to EIMS and EIMC, and to PVTEIMS and PVTEIMC, do to masks.
 use Rattle.std.proofs.Common.{◌≡◌, ◌≢◌, ℕ, ◌<◌, Bool, ◌&&◌, ◌||◌, refl}
 use Rattle.std.specs.Prelude.{bit_and, not}
 use Rattle.nic_device.specs.IntrUnit.Interrupts.{after_mask_set, after_mask_clear}

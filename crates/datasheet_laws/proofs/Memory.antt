@@ -40,7 +40,7 @@ shown m a block aligned is whole =
     read_at_in m a 16 (a / 2048) (a % 2048) block is whole (place a) (within a aligned)
     ∙ part-is block (a % 2048) 16
 
--- A peek, and a write.
+-- A peek, and a poke.
 
 abbrev looked : State → ℕ → Outcome
 looked s a = cond (is_lent s.memory a 16) (gives (Bytes (read_at s.memory a 16)) s) (gives NotLent s)

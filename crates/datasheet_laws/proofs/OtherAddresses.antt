@@ -1,4 +1,4 @@
--- An address at which there is a register is listed by hand.
+-- Each address that has a register is listed by hand.
 use Rattle.std.proofs.Common.{◌≡◌, ℕ, ◌+◌, ◌*◌, ◌<◌, Bool, true, ◌==◌, ◌&&◌, ◌||◌, nat_lt, List, [], ◌∷◌, Option, Some, None, refl, ap, sym, ◌∙◌, ◌⊎◌, inl, inr, arith}
 use Rattle.std.specs.List.{list_all, list_any, range_with_len}
 use Rattle.std.proofs.lemmas.Bool.{and_parts, or_cases, ltb-true, eqb-true}
@@ -10,7 +10,7 @@ use Rattle.vf_map.proofs.Owners.{at_number}
 use Rattle.datasheet_laws.specs.NumberPrelude.{Access, Place, access_of, runs}
 use Rattle.datasheet_laws.specs.Table.{Series, IsAmong, IsFirst, further_addresses, line_of, OtherAddressesMeetNone}
 
--- Whether step k of a run leads to the line's first address.
+-- Whether step k of a run is the first address in the line.
 is_first : Run → (k : ℕ) → Bool
 is_first r k =
     nat_lt (r.first_index + k) (line_of r.row).count

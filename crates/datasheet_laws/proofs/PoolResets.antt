@@ -1,4 +1,4 @@
--- What a pool reset resets.
+-- Which registers a pool reset resets.
 use Rattle.std.proofs.Common.{◌≡◌, ◌≢◌, ℕ, ◌*◌, ◌<◌, refl, ap, sym, ◌∙◌, arith}
 use Rattle.std.proofs.lemmas.Bool.{lt-ltb, le-ltb}
 use Rattle.reg_table.specs.declared.rows.RowId.TheVariants as row

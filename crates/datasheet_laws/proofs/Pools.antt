@@ -1,4 +1,4 @@
--- Which of the device's queues belong to a virtual function, by the field of GCR_EXT.
+-- Which of the device's queues belong to a virtual function, according to the field of GCR_EXT.
 use Rattle.std.proofs.Common.{◌≡◌, ℕ, ◌+◌, ◌*◌, ◌%◌, ◌<◌, cond, nat_lt, Option, Some, None, refl, ap, sym, ◌∙◌, subst, arith, inl, inr}
 use Rattle.std.proofs.lemmas.Bool.{lt-ltb, ltb-true, cases_Bool}
 use Rattle.std.proofs.lemmas.Bool.Decides.{nat_tests}

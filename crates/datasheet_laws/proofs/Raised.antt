@@ -13,7 +13,7 @@ use Rattle.datasheet_laws.proofs.Causes.{set_bit}
 use Rattle.datasheet_laws.proofs.Groups.{bit_in, bit_of-in, bit_left, bit_stands}
 use Rattle.datasheet_laws.proofs.Raising.{only_cause}
 
--- The set of one bit.
+-- The set that contains one bit.
 one_bit : (n bit : ℕ) → contains (2 ^ n) bit ≡ (bit == n)
 unfolding contains
 one_bit n bit =

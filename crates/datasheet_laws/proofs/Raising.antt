@@ -1,4 +1,4 @@
--- What the end of a frame and a report raise.
+-- Which causes the end of a frame and a report raise.
 use Rattle.std.proofs.Common.{◌≡◌, ◌≢◌, ℕ, Bool, true, false, ◌||◌, cond, Some, refl, ap, sym, ◌∙◌, arith}
 use Rattle.nic_device.specs.IntrUnit.Group.{last_queue_cause, queue_causes}
 use Rattle.nic_device.specs.declared.event.Event.TheVariants as event
@@ -28,7 +28,7 @@ raises_own s e dir queue (ended q slot desc at len is) = ap (raises s event.RxSt
 raises_own s e dir queue (sent q len back is) = ap (raises s (event.TxStep q)) is
 raises_own s e dir queue (advanced q slot back is) = ap (raises s (event.TxStep q)) is
 
--- What is raised in a group.
+-- Which causes are raised in a group.
 abbrev caused : State → Dir → ℕ → Group → Causes
 caused s dir queue g = record { group = g; bits = queue_causes g (vector_entry s.registers g dir queue) }
 

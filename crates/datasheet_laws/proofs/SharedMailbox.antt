@@ -1,4 +1,4 @@
--- Mailboxes, as reads of both sides show them.
+-- Mailboxes, as both sides read them.
 use Rattle.std.proofs.Common.{◌≡◌, ℕ, ◌<◌, true, ◌&&◌, refl, sym, ◌∙◌, lit<}
 use Rattle.std.proofs.Math.Bool.{and-true}
 use Rattle.nic_device.specs.RegisterFile.Mailbox.{mail_of}

@@ -34,7 +34,7 @@ module _ (s : State) (a : ℕ) (bytes : List ℕ) (sixteen_bytes : length bytes 
   lent-still : (b : ℕ) → is_lent written.memory b 16 ≡ is_lent s.memory b 16
   lent-still b = is_lent-same written.memory s.memory (SameLent-write_at s.memory a bytes) b 16
 
-  -- A write that is done wrote lent bytes at a multiple of 16.
+  -- A poke that is done wrote lent bytes at a multiple of 16.
   pub record IsDone (o : Outcome) : Type 0 where
     pub aligned : o.reply ≡ Done → a % 16 ≡ 0
     pub lent : o.reply ≡ Done → is_lent s.memory a 16 ≡ true

@@ -17,7 +17,7 @@ use Rattle.datasheet_laws.specs.Transmitting.IsSilent.{stopped, down, disabled, 
 use Rattle.datasheet_laws.proofs.FrameBits.{has-one, has-zero, one-has, zero-has}
 use Rattle.datasheet_laws.proofs.Slots.{transmit-slotless, transmit-empty}
 
--- The pool of a queue.
+-- A queue's pool.
 
 mode-1 : (w : ℕ) → field 1 0 w ≡ 1 → mode_of w ≡ Pools16
 mode-1 w e =
@@ -101,7 +101,7 @@ is-muted r queue e =
     let parts = and_parts (uses_pools r) (is_muted_pool r (pool_of (mode_in r) queue)) e in
     mutes r queue (one-has 0 (word_of r VtCtl 0) parts.0) parts.1
 
--- Each reason, and its test.
+-- Each reason to be idle, and the test for it.
 
 module _ (s : State) (queue : ℕ) where
   abbrev side : TransmitQueue

@@ -1,4 +1,4 @@
--- Rings without a slot for the device, by the bits of their registers.
+-- Rings without a slot for the device, in terms of register bits.
 use Rattle.std.proofs.Common.{◌≡◌, ◌<◌, ◌%◌, ◌^◌, ◌==◌, ◌&&◌, ℕ, true, false, not, nat_lt, ap, subst, arith}
 use Rattle.std.proofs.lemmas.Bool.{and_parts, and_from, not-true, not-false, ltb-true, lt-ltb, eqb-true, eq-eqb}
 use Rattle.nic_device.specs.RegisterFile.Queue.{ring_of}

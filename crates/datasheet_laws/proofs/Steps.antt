@@ -1,4 +1,4 @@
--- What a message step does, by which bits are due.
+-- What a message step does, depending on which bits are due.
 use Rattle.std.proofs.Common.{◌≡◌, ℕ, ◌<◌, Bool, true, false, ◌&&◌, nat_lt, cond, Some, None, refl, ap, sym, ◌∙◌, arith}
 use Rattle.std.specs.Prelude.{is_some}
 use Rattle.std.proofs.lemmas.Bool.{and_from, and_left, and_parts, lt-ltb, ltb-true}

@@ -61,7 +61,7 @@ module _ (s : State) (dir : Dir) (queue : ℕ) (shape : HasShape s.registers) (s
       ∙ ap (bit_cleared 25) word-is
       ∙ cond-true (has_bit 25 word) (word - 2 ^ 25) word (has-one 25 word one)
 
--- The frames.
+-- The waiting frames and the staged bytes after an enable step.
 
 part-of : (queue : ℕ) (w : Waiting) (others : List Waiting) → w.queue ≡ queue → w.offset ≢ 0
     → without_part queue (w ∷ others) ≡ others

@@ -1,4 +1,4 @@
--- The table matches the one listed by hand.
+-- The table that the code searches matches the table that is listed by hand.
 use Rattle.std.proofs.Common.{◌≡◌, ℕ, ◌+◌, ◌-◌, ◌*◌, ◌<◌, true, false, nat_lt, Some, refl, ap, ◌∙◌, arith}
 use Rattle.std.proofs.lemmas.Bool.{cond_both, ltb-true, ltb-false}
 use Rattle.reg_table.specs.FirstAddresses.{first_of}

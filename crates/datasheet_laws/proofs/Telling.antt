@@ -24,7 +24,7 @@ use Rattle.datasheet_laws.proofs.SettingsShown.{stops}
 use Rattle.datasheet_laws.proofs.Steps.{has_from, has_to, small_group, due_inner, due_outer}
 use Rattle.datasheet_laws.proofs.Words.{general_bit, small}
 
--- A step of a group that doesn't exist.
+-- A message step for a group that doesn't exist.
 
 absent : (s : State) (g : Group) → has_group s g ≡ false → step_of s (event.IntStep g) ≡ gives NoGroup s
 unfolding step_of
@@ -48,7 +48,7 @@ stopped s g is =
     ap (λ b. cond b (gives Idle s)
     (gives (message_reply g (message_of s.registers g)) (record s { registers = message_made s.registers g }))) is
 
--- Without a message nothing changes.
+-- If no message is sent, nothing changes.
 
 unmade : (s : State) (g : Group) → message_of s.registers g ≡ None → message_made s.registers g ≡ s.registers
 unmade s g none =

@@ -131,7 +131,7 @@ module _ (s : State) (h : IsSound s) (queue : ℕ) where
       (λ on. inl (one-has 0 low on, ap (λ n. word_of s.registers Tdwbah queue * 2 ^ 32 + 4 * n) upper, refl))
       (λ off. inr (zero-has 0 low off, address-is, refl))
 
-  -- The tests, in order.
+  -- The tests for faults, in their order.
 
   abbrev FaultSo : Option RingFault → Type 0
   FaultSo (Some fault) = HasFault s queue fault

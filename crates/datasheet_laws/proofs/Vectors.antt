@@ -20,7 +20,7 @@ vectors misc Pf bit b =
     ]
 vectors misc (Vf v) bit b = rw (le-leb bit 2 (omega arith)) refl
 
--- A bit with a vector is one of its group's.
+-- A bit with a vector is one of the bits of its group.
 choice : {A : Type 0} (b : Bool) (o p : Option A) (x : A) → cond b o p ≡ Some x → (b ≡ true) ⊎ (p ≡ Some x)
 choice true o p x e = inl refl
 choice false o p x e = inr e

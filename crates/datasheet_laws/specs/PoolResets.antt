@@ -47,8 +47,8 @@ takes mode v row.Tdwbah j = pool_has mode v j
 takes mode v row.Pvtivar j = pool_has mode v (2 * j)
 takes mode v other j = false
 
--- A register that the reset affects has its reset value, and everything else is unchanged, for example PFMBICR,
--- PFMBMEM, and, if the device has no such pool, every ring and PVTIVAR.
+-- A register that the reset affects has its reset value. Everything else is unchanged, for example PFMBICR, PFMBMEM,
+-- and, if the device has no such pool, every ring and PVTIVAR.
 pub record IsTaken (r : Registers) (mode : Mode) (v : ℕ) (y : RowId) (j bit : ℕ) : Type 0 where
   pub taken : takes mode v y j ≡ true →
       holds (pool_reset mode v r) (at y j) bit ≡ has_bit bit (line_of y).reset

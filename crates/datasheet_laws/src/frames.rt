@@ -53,9 +53,10 @@ pub fn queues_go_by_mrqc()
 {}
 
 /// MRQC and the bytes of an accepted frame determine the frame's RSS type. While MRQC bits 3 to 0 are 1, 0xA or 0xB,
-/// TCP over IPv4 has type 1 if bit 16 is 1, UDP over IPv4 type 7 if bit 22 is 1, TCP over IPv6 type 3 if bit 21 is 1,
-/// and UDP over IPv6 type 8 if bit 23 is 1. If none of these applies, IPv4 has type 2 if bit 17 is 1, and IPv6 type 5
-/// if bit 20 is 1. Any other frame has type 0.
+/// other bits of MRQC select the type; otherwise the type is 0. TCP over IPv4 has type 1 if bit 16 is 1, and UDP over
+/// IPv4 has type 7 if bit 22 is 1. TCP over IPv6 has type 3 if bit 21 is 1, and UDP over IPv6 has type 8 if bit 23 is
+/// 1. If none of these applies, IPv4 has type 2 if bit 17 is 1, and IPv6 has type 5 if bit 20 is 1. Any other frame has
+/// type 0.
 ///
 /// An IPv4 frame has 0x0800 in bytes 12 and 13, version 4 in byte 14, and a complete header of at least 20 bytes. An
 /// IPv6 frame has 0x86DD in bytes 12 and 13, version 6 in byte 14, and a complete 40-byte header. The protocol is 6 for
@@ -116,9 +117,10 @@ pub fn descriptors_are_written_back()
 {}
 
 /// A transmit step for queue 128 or above gets the reply `NoQueue`. A transmit step for a queue below 128 is idle if
-/// and only if CTRL bit 2 is 1, the link is down, DMATXCTL bit 0 is 0, TXDCTL bit 25 is 0, TDH equals TDT inside the
-/// ring, or the queue's pool is muted. GCR_EXT bits 1 to 0 divide the queues into pools. A pool is muted while VT_CTL
-/// bit 0 is 1 and the pool's bit in VFTE is 0. A step that gets `NoQueue` or is idle changes nothing.
+/// and only if one of these holds: CTRL bit 2 is 1; the link is down; DMATXCTL bit 0 is 0; TXDCTL bit 25 is 0; TDH
+/// equals TDT inside the ring; or the queue's pool is muted. GCR_EXT bits 1 to 0 divide the queues into pools. A pool
+/// is muted while VT_CTL bit 0 is 1 and the pool's bit in VFTE is 0. A step that gets `NoQueue` or is idle changes
+/// nothing.
 #[tactic(auto, using(crate::proofs::Silence::silence_reasons))]
 pub fn silence_has_its_reasons()
     ensures { SilenceHasItsReasons }
@@ -162,9 +164,9 @@ pub fn frames_go_out_whole()
     ensures { FramesGoOutWhole }
 {}
 
-/// An enable step for queue 128 or above gets the reply `NoQueue`. An enable step for a queue below 128 is done if and
-/// only if CTRL bit 2 is 0 and bit 25 of RXDCTL or TXDCTL doesn't have its requested value; otherwise the step is idle.
-/// Only a step that is done changes anything.
+/// An enable step for queue 128 or above gets the reply `NoQueue`. An enable step for a queue below 128 is done or
+/// idle. The step is done if and only if CTRL bit 2 is 0 and bit 25 of RXDCTL or TXDCTL doesn't have its requested
+/// value. Only a step that is done changes anything.
 #[tactic(auto, using(crate::proofs::Switching::switching_reasons))]
 pub fn switching_has_its_reason()
     ensures { SwitchingHasItsReason }
@@ -178,11 +180,11 @@ pub fn switched_side_is_as_wanted()
     ensures { SwitchedSideIsAsWanted }
 {}
 
-/// A write to PVFCTRL[v] with bit 26 set, through either port, drops all frames in the receive list for pool v's
-/// queues, even partly written ones, and the bytes that these queues staged. Pool v's queues are 8v to 8v + 7 if
-/// GCR_EXT bits 1 to 0 are 1, 4v to 4v + 3 if they are 2, and 2v and 2v + 1 if they are 3. If they are 0, the pool has
-/// no queues. The frames for all other queues stay in order, and the other queues keep their staged bytes. Lent memory,
-/// the transmitted frames and the link are unchanged.
+/// A write to PVFCTRL[v] with bit 26 set, through either port, drops the frames for pool v's queues from the receive
+/// list, even partly written ones. The write also drops the bytes that these queues staged. Pool v's queues are 8v to
+/// 8v + 7 if GCR_EXT bits 1 to 0 are 1, 4v to 4v + 3 if they are 2, and 2v and 2v + 1 if they are 3. If they are 0, the
+/// pool has no queues. The frames for all other queues stay in order, and the other queues keep their staged bytes.
+/// Lent memory, the transmitted frames and the link are unchanged.
 #[tactic(auto, using(crate::proofs::FramePoolResets::resets_drop))]
 pub fn pool_resets_drop_their_frames()
     ensures { PoolResetsDropFrames }

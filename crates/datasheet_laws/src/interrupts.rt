@@ -128,8 +128,8 @@ pub fn requests_are_apart()
 /// The vector of each of bits 0 to 15 of EICR, and of each bit of PVTEICR, is the bit's own number. The vector of bits
 /// 16 to 29 of EICR is in IVAR_MISC bits 13 to 8 if bit 15 of IVAR_MISC is 1. The vector of bit 30 is in IVAR_MISC bits
 /// 5 to 0 if bit 7 of IVAR_MISC is 1. Both of these vectors must be below 16. When a bit is reported, its cause is
-/// cleared if EIAC or PVTEIAC contains the bit, and its mask is cleared if GPIE bit 30 is 1 and EIAM or PVTEIAM
-/// contains the bit.
+/// cleared if EIAC or PVTEIAC contains the bit. Its mask is cleared if GPIE bit 30 is 1 and EIAM or PVTEIAM contains
+/// the bit.
 #[tactic(auto, using(crate::proofs::Telling::steps))]
 pub fn message_steps_tell_what_is_due()
     ensures { MessageStepsTellWhatIsDue }
@@ -195,9 +195,9 @@ pub fn vfte_mutes_pools()
 {}
 
 /// A mask that is set stays set until one of these events: a write to EIMC or PVTEIMC with the bit set; a read of EICR
-/// or PVTEICR, or a write to it with the bit set, while the auto-mask contains the bit and applies to accesses; a
-/// message of the group while GPIE bit 30 is 1 and the auto-mask contains the bit; or a reset of the device or of the
-/// function's pool.
+/// or PVTEICR while the auto-mask contains the bit and applies to accesses; a write to EICR or PVTEICR with the bit
+/// set, under the same condition; a message of the group while GPIE bit 30 is 1 and the auto-mask contains the bit; or
+/// a reset of the device or of the function's pool.
 #[tactic(auto, using(crate::proofs::Lasting::masks_last))]
 pub fn masks_last()
     ensures { MasksLast }

@@ -131,9 +131,10 @@ pub fn frames_are_let_in()
 
 /// If bit 0 of VT_CTL, at 0x051B0, is 1, frames are distributed among pools. A frame's pool is the lowest pool of the
 /// first receive address that is the frame's destination. For receive address i, the bits of the register at 0x0A600 +
-/// 8i are pools 0 to 31, and the bits of the next register are pools 32 to 63. If no receive address is the frame's
-/// destination, or the first that is has no pool, the frame is for the pool in VT_CTL bits 12 to 7, or for no pool if
-/// VT_CTL bit 29 is 1. Bit p mod 32 of the register at 0x051E0 + 4(p/32) enables reception for pool p.
+/// 8i are pools 0 to 31, and the bits of the next register are pools 32 to 63. A frame lacks its own pool if no receive
+/// address is its destination, or if the first such address has no pool. Such a frame is for the pool in VT_CTL bits 12
+/// to 7, or for no pool if VT_CTL bit 29 is 1. Bit p mod 32 of the register at 0x051E0 + 4(p/32) enables reception for
+/// pool p.
 pub fn pools_are_chosen()
     ensures { PoolsAreChosen }
 {}
@@ -148,12 +149,12 @@ pub fn types_are_chosen()
 {}
 
 /// The code in MRQC bits 3 to 0, at 0x05818, and GCR_EXT bits 1 to 0, at 0x11050, determine the queue of a frame. With
-/// code 1, the frame's entry in the redirection table is the queue. For pool p, while VT_CTL bit 0 is 1, the queue is
-/// 2p with code 8, 4p plus the entry's two low bits with 0xA, and 2p plus the entry's lowest bit with 0xB. But while
-/// GCR_EXT bits 1 to 0 are 1, the queue is 8p with code 8, and 8p plus the entry's three low bits with 0xA or 0xB. If a
-/// frame's type isn't 0, its entry is in bits 8(n mod 4) + 3 to 8(n mod 4) of the register at 0x05C00 + 4(n/4), where n
-/// is the low seven bits of the frame's hash. If RXCSUM bit 13, at 0x05000, is 1, the reported hash is the frame's
-/// hash, otherwise 0.
+/// code 1, the frame's entry in the redirection table is the queue. The following holds for pool p, while VT_CTL bit 0
+/// is 1. The queue is 2p with code 8, 4p plus the entry's two low bits with 0xA, and 2p plus the entry's lowest bit
+/// with 0xB. But while GCR_EXT bits 1 to 0 are 1, the queue is 8p with code 8, and 8p plus the entry's three low bits
+/// with 0xA or 0xB. If a frame's type isn't 0, the low seven bits n of the frame's hash select the entry. The entry is
+/// in bits 8(n mod 4) + 3 to 8(n mod 4) of the register at 0x05C00 + 4(n/4). If RXCSUM bit 13, at 0x05000, is 1, the
+/// reported hash is the frame's hash, otherwise 0.
 #[tactic(auto, using(crate::proofs::Choice::queues_chosen))]
 pub fn queues_are_chosen()
     ensures { QueuesAreChosen }
@@ -202,9 +203,9 @@ pub fn eeprom_is_read()
     ensures { EepromIsRead }
 {}
 
-/// Bit 31 - j of a frame's hash is 1 if and only if, for an odd number of values k, bit k of the hash's input and bit k
-/// + j of the key are both 1. Bit k of the input is bit 7 - k mod 8 of byte k / 8. Bit k of the key is bit 8((k / 8)
-/// mod 4) + 7 - k mod 8 of RSSRK[k / 32], at 0x0EB80 + 4(k / 32).
+/// Bit 31 - j of a frame's hash is 1 if and only if this count is odd: the number of values k for which bit k of the
+/// hash's input and bit k + j of the key are both 1. Bit k of the input is bit 7 - k mod 8 of byte k / 8. Bit k of the
+/// key is bit 8((k / 8) mod 4) + 7 - k mod 8 of RSSRK[k / 32], at 0x0EB80 + 4(k / 32).
 #[tactic(auto, using(crate::proofs::Hash::of_the_key))]
 pub fn hash_is_of_the_key()
     ensures { HashIsOfTheKey }
@@ -229,8 +230,8 @@ pub fn settings_are_bits()
 /// to 0x3F, together with the words that follow each word pointed to, add up to 0xBABA, modulo 2^16. Word 0x0D points
 /// to the register writes, which are three words each: a quarter of the register's offset, then the low and the high
 /// half of the data. In a file, the low byte of each word is first. If a file has several faults, the first in this
-/// order is reported: an odd number of bytes, the size, a pointer that points outside the image or to words that end
-/// outside it, the sum, the number of words in the register writes.
+/// order is reported: an odd number of bytes, the size, a pointer with words outside the image, the sum, the number of
+/// words in the register writes.
 #[tactic(auto, using(crate::proofs::Eeprom::images, crate::proofs::Eeprom::writes))]
 pub fn images_are_by_number()
     ensures image { ImagesAreByNumber }

@@ -1,4 +1,4 @@
--- Lemmas: what an access to a place may change.
+-- Lemmas about what an access to a place may change.
 use Rattle.std.proofs.Common.{◌≡◌, true, false, refl}
 use Rattle.register_laws.specs.Prelude.{Kind, Place, owner_of, row_of}
 use Rattle.register_laws.specs.Footprint.{LacksWord, Covers, is_place, of_owner, is_alone, is_own, read_by, of_read, written_by, of_write}
@@ -17,7 +17,7 @@ covers-of_write p own = (keeps (row_of p.row).kind).write.owned own p refl
 pub read_misses_sides : ReadMissesSides
 read_misses_sides p dir queue = (keeps (row_of p.row).kind).read.no_side p refl dir queue
 
--- A word that is alone is changed only by accesses to its own place.
+-- Only accesses to a word's own place change the word if its kind is alone.
 module _ (q : Place) (alone : is_alone (row_of q.row).kind ≡ true) where
   pub none_read_by : (k : Kind) (p : Place) → is_place p q ≡ false → LacksWord (read_by k p) q
   none_read_by k p n = (keeps k).read.calm p q n alone

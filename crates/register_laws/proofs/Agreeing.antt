@@ -1,4 +1,4 @@
--- Lemmas: registers that agree still agree after the same change.
+-- Lemmas that prove that registers which agree still agree after the same change.
 use Rattle.std.proofs.Common.{◌≡◌, ℕ, Bool, true, false, cond, nat_lt, refl, ap, sym, ◌∙◌, subst, inl, inr}
 use Rattle.register_file.specs.declared.owner.Owner.TheVariants as owner
 use Rattle.register_laws.specs.Prelude.{Dir, Group, Interrupts, Pf, Place, Registers, Vf, cause_row, index_of, is_group}
@@ -80,7 +80,7 @@ module _ (f : Part) (a b : Registers) (ha : HasShape a) (hb : HasShape b) (same 
         ];
   }
 
--- A group with the same interrupts in both.
+-- A group with the same interrupts in both register files.
 pub agree-with_interrupts : (f : Part) (a b : Registers) → HasShape a → HasShape b → AgreeWithin f a b
     → (s t : Interrupts) → s ≡ t → AgreeWithin f (with_interrupts a s) (with_interrupts b t)
 agree-with_interrupts f a b ha hb same s t e =

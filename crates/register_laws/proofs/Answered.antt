@@ -1,11 +1,11 @@
--- The word of EERD after an EEPROM answer.
+-- The word of EERD after an EEPROM reply.
 use Rattle.std.proofs.Common.{◌≡◌, ℕ, ◌+◌, ◌*◌, ◌/◌, ◌%◌, ◌^◌, ◌<◌, None, ap, ◌∙◌, arith, lit<}
 use Rattle.std.proofs.lemmas.Bool.{cond-false, eq-eqb, ne_eqb}
 use Rattle.register_laws.specs.Prelude.{Eerd, eeprom_answered, eeprom_index, has_bit, place, word_of}
 use Rattle.register_laws.specs.Laws.{EepromAnswerIsRead}
 use Rattle.register_laws.proofs.Shape.{put_stands}
 
--- The parts of a word with an answer.
+-- The parts of the word of EERD after an EEPROM reply.
 answer : ℕ → ℕ → ℕ
 answer index word = index * 4 + 2 + word * 2 ^ 16
 

@@ -1,4 +1,4 @@
--- Lemmas: single bits of words.
+-- Lemmas about single bits of words.
 use Rattle.std.proofs.Common.{◌≡◌, ℕ, ◌+◌, ◌-◌, ◌/◌, ◌%◌, ◌^◌, ◌<◌, ◌≤◌, Bool, true, false, cond, ap, ◌∙◌, inl, inr, arith, ◌==◌}
 use Rattle.std.specs.Prelude.{bit_and, bit_xor, min, max}
 use Rattle.std.proofs.Math.Nat.{add-div_right, div-eq_of_lt, div-eq-sub-div}

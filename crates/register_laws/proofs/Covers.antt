@@ -1,4 +1,4 @@
--- Lemmas: which footprints contain other footprints, and which have nothing in common with others.
+-- Lemmas about which footprints contain other footprints, and which footprints have nothing in common.
 use Rattle.std.proofs.Common.{◌≡◌, ℕ, Bool, true, false, ◌||◌, refl, ap, sym, ◌∙◌, subst, inl, inr}
 use Rattle.std.proofs.lemmas.Bool.{both_ways, and_parts, or_cases, or_left, or_right}
 use Rattle.register_file.specs.declared.owner.Owner.TheVariants as owner
@@ -20,7 +20,7 @@ covers-trans f g h wide narrow = record {
   reported = λ i is. wide.reported i (narrow.reported i is);
 }
 
--- A footprint within another misses what the other misses.
+-- If a footprint is within a larger footprint, it has nothing in common with what the larger footprint misses.
 pub misses-narrower : (f e g : Footprint) → Covers f e → Misses f g → Misses e g
 misses-narrower f e g has none = record {
   bits = λ p bit is. fails (e.bits p bit) (f.bits p bit) (has.bits p bit) (none.bits p bit is);
@@ -36,7 +36,7 @@ misses-within f g h has none = record {
   reported = λ i is. none.reported i (has.reported i is);
 }
 
--- A footprint has everything that a pool reset covers of it, and that part lacks what the footprint lacks.
+-- The part of a footprint that a pool reset covers is within the footprint, and lacks what the footprint lacks.
 pub covers-renewed : (f : Footprint) → Covers f (renewed_of f)
 covers-renewed f = record {
   bits = λ p bit is. (and_parts (is_renewed p.row bit) (f.bits p bit) is).1;
@@ -50,7 +50,7 @@ lacks-renewed f p none bit = fails _ _ ((covers-renewed f).bits p bit) (none bit
 pub misses-nothing : (g : Footprint) → Misses nothing g
 misses-nothing g = record { bits = λ p bit is. refl; wanted = λ dir queue is. refl; reported = λ h is. refl }
 
--- A union has everything that each of its footprints has.
+-- A union of footprints contains everything that each of the footprints contains.
 pub covers-first : (f g : Footprint) → Covers (either f g) f
 covers-first f g = record {
   bits = λ p bit is. or_left _ (g.bits p bit) is;
@@ -94,7 +94,7 @@ misses-either f e g one other = record {
   reported = λ h is. neither (f.reported h) (e.reported h) (one.reported h is) (other.reported h is);
 }
 
--- Two owners have nothing in common.
+-- The footprints of two owners have nothing in common.
 none_shared : (o other third : Owner) → is_owner o other ≡ false → is_owner other third ≡ true
     → is_owner o third ≡ false
 none_shared o other third n is = ap (is_owner o) (sym (is_owner-same other third is)) ∙ n

@@ -1,4 +1,4 @@
--- Lemmas: a change of one part of the registers leaves the other parts unchanged.
+-- Lemmas that prove that a change of one part of the registers leaves the other parts unchanged.
 use Rattle.std.proofs.Common.{◌≡◌, ◌≢◌, ℕ, Bool, false, refl, ap, sym}
 use Rattle.register_laws.specs.Prelude.{Dir, Group, Pf, Place, Registers, Rx, Tx, Vf, is_wanted, put, reported_by}
 use Rattle.register_laws.specs.Prelude.{with_reported, with_wanted}

@@ -1,4 +1,4 @@
--- Lemmas: changes within footprints.
+-- Lemmas about changes within footprints.
 use Rattle.std.proofs.Common.{◌≡◌, Bool, true, false, cond, refl, ◌∙◌}
 use Rattle.std.proofs.lemmas.Bool.{or_parts}
 use Rattle.register_laws.specs.Prelude.{Place, Registers, word_at}
@@ -8,7 +8,7 @@ use Rattle.register_laws.proofs.Covers.{fails}
 pub use Rattle.register_laws.proofs.Covers.{misses-narrower, misses-within, misses-owner}
 pub use Rattle.register_laws.proofs.Covers.{covers-the_word, covers-the_enable, covers-pending, covers-any_pending}
 
--- A word is unchanged if the footprint has no bit of it.
+-- If the footprint contains no bit of a word, the word is unchanged.
 pub word_stands : {f : Footprint} {old new : Registers} → ChangesWithin f old new → (p : Place) → LacksWord f p
     → word_at new.words p ≡ word_at old.words p
 word_stands only p none = same_word (λ bit. only.bits p bit (none bit))

@@ -1,4 +1,4 @@
--- Registers that agree in a pool return the same words at its places.
+-- Registers that agree in a pool return the same words at the pool's places.
 use Rattle.std.proofs.Common.{◌≡◌, ℕ, true, false, refl}
 use Rattle.register_file.specs.RegTable.declared.kind.Kind.TheVariants as kind
 use Rattle.register_file.specs.RegTable.declared.rows.RowId.TheVariants as row

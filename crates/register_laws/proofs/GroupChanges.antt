@@ -1,4 +1,4 @@
--- Each access and each step of a group stores settled interrupts in its registers.
+-- Each access to a group and each step for a group stores settled interrupts in the group's registers.
 use Rattle.std.proofs.Common.{◌≡◌, ℕ, Bool, true, false, cond, Option, Some, None, refl}
 use Rattle.std.specs.Prelude.{is_some}
 use Rattle.register_file.specs.RegTable.declared.rows.RowId.TheVariants.{IvarMisc}
@@ -8,7 +8,7 @@ use Rattle.register_file.specs.Groups.{cause_row, mask_row, auto_clear_row, auto
 use Rattle.register_laws.specs.Prelude.{Group, Registers, word_of}
 use Rattle.register_laws.proofs.Settled.{IsSettled, settled-of_words, settled-raised, settled-after_read, settled-after_write_one, settled-after_mask_set, settled-after_mask_clear, settled-after_message_of}
 
--- The registers are unchanged, or have other interrupts of the group.
+-- The registers are unchanged, or contain other interrupts for the group.
 pub data GroupChange (r : Registers) (g : Group) : Registers → Type 0 where
   kept : GroupChange r g r
   changed : (made : Interrupts) → made.group ≡ g → IsSettled made → GroupChange r g (with_interrupts r made)

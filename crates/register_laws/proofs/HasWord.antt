@@ -1,4 +1,4 @@
--- A footprint that has all bits of a word.
+-- A footprint that contains all bits of a word.
 use Rattle.std.specs.Prelude.{ℕ, IsTrue}
 use Rattle.register_laws.specs.Prelude.{Place}
 use Rattle.register_laws.specs.Footprint.{Footprint}

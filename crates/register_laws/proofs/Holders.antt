@@ -18,7 +18,7 @@ abbrev pub is_mail : Kind → Bool
 is_mail kind.Vfmail = true
 is_mail other = false
 
--- A bit that is set only if the old one was excludes what the old one excluded.
+-- If a new bit is set only when the old bit was set, the new bit excludes what the old bit excluded.
 fewer : (new old third : Bool) → (new ≡ true → old ≡ true) → (old && third) ≡ false → (new && third) ≡ false
 fewer true old third less none = ap (λ b. b && third) (sym (less refl)) ∙ none
 fewer false old third less none = refl

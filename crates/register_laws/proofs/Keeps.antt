@@ -1,4 +1,4 @@
--- What accesses to each kind of register keep: one record for each kind.
+-- Which properties accesses to each kind of register preserve: one record for each kind.
 use Rattle.std.proofs.Common.{◌^◌, true, refl}
 use Rattle.std.specs.Prelude.{bit_and}
 use Rattle.register_file.specs.RegTable.declared.kind.Kind.TheVariants as kind

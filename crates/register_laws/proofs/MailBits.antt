@@ -1,4 +1,4 @@
--- Lemmas: which bits of a mailbox's word the two sides change.
+-- Lemmas about which bits of a mailbox's word the two sides change.
 use Rattle.std.proofs.Common.{◌≡◌, ◌≢◌, ℕ, ◌+◌, ◌-◌, ◌/◌, ◌%◌, ◌^◌, ◌<◌, ◌≤◌, Bool, true, false, cond, ◌==◌, ◌||◌, refl, ap, sym, ◌∙◌, subst, inl, inr, arith}
 use Rattle.std.specs.Prelude.{bit_or, max}
 use Rattle.std.proofs.Math.Nat.{div-eq_of_lt}
@@ -54,7 +54,7 @@ has_bit-clear_other n bit word other =
           sym (has_bit-set_other n bit (bit_cleared n word) other) ∙ ap (has_bit bit) back
     ]
 
--- The new word keeps all bits of the old one that don't pass the test.
+-- The new word keeps all bits of the old word that don't pass the test.
 abbrev pub KeepsOut : (ℕ → Bool) → (old new : ℕ) → Type 0
 KeepsOut has old new = (bit : ℕ) → has bit ≡ false → has_bit bit new ≡ has_bit bit old
 

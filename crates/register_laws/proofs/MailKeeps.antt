@@ -1,4 +1,4 @@
--- What accesses to each kind of mailbox register keep.
+-- Which properties accesses to each kind of mailbox register preserve.
 use Rattle.std.proofs.Common.{◌≡◌, ℕ, ◌+◌, ◌%◌, ◌/◌, true, false, ◌==◌, ◌&&◌, ◌||◌, refl, ap, sym, ◌∙◌, subst}
 use Rattle.std.specs.Prelude.{bit_and, if◌then◌else◌}
 use Rattle.register_file.specs.RegTable.declared.kind.Kind.TheVariants as kind

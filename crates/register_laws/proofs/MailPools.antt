@@ -1,4 +1,5 @@
--- Lemmas: mailboxes and pools, the owners of their places, what two functions' mailboxes share, and what must agree.
+-- Lemmas about mailboxes and pools: the owners of their places, what the mailboxes of two functions share, and what
+-- must agree.
 use Rattle.std.proofs.Common.{◌≡◌, ◌≢◌, ℕ, ◌+◌, ◌/◌, ◌%◌, Bool, true, false, ◌==◌, ◌&&◌, ◌||◌, refl, ap, sym, ◌∙◌, subst, inl, inr, arith}
 use Rattle.std.specs.Prelude.{IsTrue, ◌⊎◌}
 use Rattle.std.proofs.lemmas.Bool.{and_parts, or_cases, eqb-true, eq-eqb}
@@ -34,7 +35,7 @@ causes_are_the_devices row.Pfmbicr mode v i e = refl
 causes_are_the_devices row.Ctrl mode v i e = cc
 causes_are_the_devices other mode v i e = cc
 
--- What a function's write to its mailbox may change belongs to its pool, or is what it sends.
+-- What a function's write to its mailbox may change belongs to the function's pool, or is what the function sends.
 mail_is_the_pools : (mode : Mode) (v : ℕ) (has : ℕ → Bool)
     → Covers (pool_has mode v) (the_bits (place row.Pvfmailbox v) has)
 mail_is_the_pools mode v has = record {

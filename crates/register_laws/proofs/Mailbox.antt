@@ -194,7 +194,7 @@ reset_in bit is =
       | inr seven ↦ at_bit bit 7 HasMail seven refl
     ]
 
--- Setting a cause keeps what is pending for other groups, and adds to what is pending for its own.
+-- Setting a cause keeps the pending state of other groups, and adds to the pending state of the cause's own group.
 more_pending : (a b c : BitSet) → IsSubset (intersection a c) (intersection (bit_or a b) c)
 more_pending a b c = record {
   member = λ k h. elim (cases_lt k 32) as (λ _. contains (intersection (bit_or a b) c) k ≡ true) [

@@ -1,4 +1,4 @@
--- Lemmas: equal places and equal owners.
+-- Lemmas about equal places and equal owners.
 use Rattle.std.proofs.Common.{◌≡◌, ◌≢◌, Bool, true, false, refl, ap, sym, ◌∙◌}
 use Rattle.std.proofs.lemmas.Bool.{both_ways, false_from_ne_true, and_parts, and_from, eqb-true, eq-eqb}
 use Rattle.register_file.specs.Owner.{is_dir, is_group, is_owner}
@@ -7,7 +7,7 @@ use Rattle.register_laws.specs.Prelude.{Dir, Group, Owner, Pf, Place, Rx, Tx, Vf
 use Rattle.register_laws.proofs.Prelude.{same_number}
 use Rattle.register_laws.specs.Footprint.{is_place}
 
--- A value that passes a test differs from one that fails it.
+-- A value that passes a test differs from a value that fails the test.
 pub apart : {A : Type 0} (test : A → Bool) (x y : A) → test x ≡ true → test y ≡ false → y ≢ x
 apart test x y on off e = both_ways (test y) off (ap test e ∙ on)
 

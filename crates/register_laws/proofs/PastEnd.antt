@@ -1,4 +1,4 @@
--- Lemmas: stored words, requests and reported bits, and the values past the end.
+-- Lemmas about stored words, requests and reported bits, and about the values past the end.
 use Rattle.std.proofs.Common.{List, length, set, get_or, ◌≡◌, ℕ, ◌<◌, Bool, false, cond, nat_lt, sym, ◌∙◌, subst, inl, inr, arith}
 use Rattle.std.proofs.lemmas.Bool.{cases_lt, cond-true, cond-false, lt-ltb, le-ltb}
 use Rattle.register_laws.specs.Prelude.{Dir, Place, Registers, Rx, Tx, Vf, is_wanted, put, reported_by, row_of}
@@ -7,7 +7,7 @@ use Rattle.register_laws.proofs.Prelude.{get_or-set_same, get_or_past, length-se
 use Rattle.register_laws.specs.Sound.{HasShape}
 use Rattle.register_laws.proofs.Shape.{put_stands, HasShape-put}
 
--- What is at the place where a word, a request or reported bits were stored; past the end there is nothing.
+-- The value at the place where a word, a request or reported bits were stored; past the end, nothing is stored.
 pub word_put : (r : Registers) → HasShape r → (p : Place) (v : ℕ)
     → word_at (put r.words p v) p ≡ cond (nat_lt p.index (row_of p.row).count) v 0
 word_put r h p v =
@@ -20,7 +20,7 @@ word_put r h p v =
           ∙ sym (cond-false (nat_lt p.index count) v 0 (le-ltb p.index count past))
     ]
 
--- What is at the index where an element was set.
+-- The value at the index at which an element was set.
 set_there : {A : Type 0} (xs : List A) (n i : ℕ) (x d : A) → length xs ≡ n
     → get_or (set xs i x) i d ≡ cond (nat_lt i n) x d
 set_there xs n i x d e =

@@ -1,4 +1,4 @@
--- Lemmas: what is pending for an owner, and at which places nothing is.
+-- Lemmas about what is pending for an owner, and about the places at which nothing is pending.
 use Rattle.std.proofs.Common.{◌≡◌, true, false, refl}
 use Rattle.register_file.specs.RegTable.declared.kind.Kind.TheVariants as kind
 use Rattle.register_file.specs.declared.owner.Owner.TheVariants as owner
@@ -16,7 +16,7 @@ alone_steady kind.Cause alone = cc
 alone_steady kind.Ones alone = cc
 alone_steady other alone = refl
 
--- A place that has neither causes nor masks isn't pending.
+-- At a place that contains neither causes nor masks, nothing is pending.
 module _ (q : Place) (steady : is_pending (row_of q.row).kind ≡ false) where
   pub none_pending : (g : Group) → LacksWord (pending g) q
   none_pending g bit =

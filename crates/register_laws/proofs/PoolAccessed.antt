@@ -1,4 +1,5 @@
--- Lemmas: registers that agree in a pool still agree after the same part of an access to one of its places.
+-- Lemmas that prove that registers which agree in a pool still agree after the same part of an access to one of the
+-- pool's places.
 use Rattle.std.proofs.Common.{◌≡◌, ℕ, Bool, true, refl, ap, sym, ◌∙◌}
 use Rattle.std.specs.Prelude.{bit_and}
 use Rattle.std.proofs.lemmas.Bool.{eq-eqb, eqb-true}
@@ -16,7 +17,7 @@ use Rattle.register_laws.specs.Sound.{HasShape}
 use Rattle.register_laws.proofs.Agreeing.{agree-put, agree-with_wanted, agree-with_interrupts}
 use Rattle.register_laws.proofs.Shape.{HasShape-put}
 
--- The owner of a pool's place has only what belongs to the pool.
+-- The owner of a pool's place owns only what belongs to the pool.
 pub group_of_pool : (b : Bank) (mode : Mode) (v i : ℕ) (g : Group) → is_of_pool_by b mode v i ≡ true
     → owner_in b i ≡ owner.Group g → g ≡ Vf v
 group_of_pool bank.VfInterrupts mode v i g is e = let same : i ≡ v = eqb-true i v is in cc
@@ -87,13 +88,14 @@ module _ (mode : Mode) (v : ℕ) (a b : Registers) (same : AgreeWithin (pool_agr
     running_at p is =
         running_same (owner_of p) (λ dir queue e. side_of_pool (row_of p.row).bank mode v p.index dir queue is e)
 
--- A change to a group's interrupts keeps agreement in the pool that has the group's virtual function.
+-- A change to a group's interrupts keeps agreement in the pool of the group's virtual function.
 abbrev pub KeepsGroupAgreement : (Registers → Group → ℕ → Registers) → Type 0
 KeepsGroupAgreement change =
     (mode : Mode) (v : ℕ) (a b : Registers) → HasShape a → HasShape b → AgreeWithin (pool_agrees mode v) a b →
     (bits : ℕ) → AgreeWithin (pool_agrees mode v) (change a (Vf v) bits) (change b (Vf v) bits)
 
--- It does so if it computes the new interrupts from the group's, with the auto-mask that acts on accesses.
+-- The change keeps agreement if it computes the new interrupts from the group's interrupts, with the auto-mask that
+-- applies to accesses.
 pub keeps_group_agreement : (made : Interrupts → ℕ → Interrupts)
     → KeepsGroupAgreement (λ r g bits. with_interrupts r (made (interrupts_of r g) bits))
 keeps_group_agreement made mode v a b ha hb same bits =

@@ -1,4 +1,4 @@
--- Registers that agree in a pool still agree after its reset.
+-- Registers that agree in a pool still agree after the pool's reset.
 use Rattle.std.proofs.Common.{◌≡◌, ℕ, ◌<◌, false, ap, sym, ◌∙◌, inl, inr, arith}
 use Rattle.register_laws.specs.Prelude.{Dir, Group, Pf, Place, Registers, Rx, Tx, Vf, has_bit, index_of, is_wanted}
 use Rattle.register_laws.specs.Prelude.{pool_reset, reported_by, row_of, row_words, word_at}

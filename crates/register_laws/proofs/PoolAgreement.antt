@@ -1,4 +1,4 @@
--- Registers that agree in a pool still agree after the same access to one of its places.
+-- Registers that agree in a pool still agree after the same access to one of the pool's places.
 use Rattle.std.proofs.Common.{refl}
 use Rattle.register_laws.specs.Prelude.{row_of}
 use Rattle.register_laws.specs.Agreement.{PoolReadsKeepAgreement, PoolWritesKeepAgreement}

@@ -1,4 +1,4 @@
--- Lemmas: what a pool reset does, part by part.
+-- Lemmas about what a pool reset does to each part of the registers.
 use Rattle.std.proofs.Common.{◌≡◌, ℕ, ◌/◌, Bool, false, ◌==◌, ◌&&◌, ◌||◌, List, Option, Some, None, refl, ap, sym, ◌∙◌}
 use Rattle.std.specs.Prelude.{fold}
 use Rattle.std.proofs.Math.Bool.{or-false, and-false}

@@ -1,4 +1,4 @@
--- Lemmas: the places of a pool, and what accesses to them may change.
+-- Lemmas about the places of a pool, and about what accesses to these places may change.
 use Rattle.std.proofs.Common.{◌≡◌, ℕ, ◌*◌, Bool, true, false, ◌==◌, refl, ap, sym, ◌∙◌, subst, inl, inr}
 use Rattle.register_file.specs.RegTable.declared.kind.Kind.TheVariants as kind
 use Rattle.register_file.specs.RegTable.declared.bank.Bank.TheVariants as bank
@@ -33,7 +33,7 @@ unfolding owns
 owned bank.Device mode v i = refl
 owned other mode v i = refl
 
--- Of two places with the same owner, both belong to the pool or neither does.
+-- If two places have the same owner, both places belong to the pool or neither does.
 one_owner : (b c : Bank) (mode : Mode) (v i j : ℕ) → is_owner (owner_in b i) (owner_in c j) ≡ true
     → is_of_pool_by b mode v i ≡ true → is_of_pool_by c mode v j ≡ true
 one_owner b c mode v i j same is =
@@ -64,7 +64,7 @@ covers-own mode v p is f own =
 pub covers-read : PoolReadsStayWithin
 covers-read mode v p is = covers-own mode v p is (of_read p) (covers-of_read p)
 
--- A write that affects other owners is a write of the function's mailbox.
+-- If a write to a pool's place affects other owners, it is a write to the function's mailbox.
 covers-reaching : (k : Kind) → is_own k ≡ false → (mode : Mode) (v : ℕ) (p : Place) → (row_of p.row).kind ≡ k
     → is_of_pool mode v p ≡ true → Covers (pool_changes mode v) (written_by k p)
 covers-reaching kind.Vfmail other mode v p e is =

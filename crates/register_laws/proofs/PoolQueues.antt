@@ -1,4 +1,4 @@
--- Lemmas: the queues of a pool, counted from its first.
+-- Lemmas about the queues of a pool, counted from the pool's first queue.
 use Rattle.std.proofs.Common.{◌≡◌, ℕ, zero, suc, ◌+◌, ◌*◌, ◌/◌, ◌<◌, Bool, false, ◌==◌, nat_lt, ◌&&◌, ◌||◌, ap, sym, ◌∙◌, arith}
 use Rattle.std.specs.Prelude.{nat_le}
 use Rattle.register_file.specs.VfMap.Pools.{pools_in, queues_each}
@@ -12,7 +12,7 @@ use Rattle.register_laws.proofs.Renewed.{any_of}
 pub turned : (a b : ℕ) → (a == b) ≡ (b == a)
 turned a b = grind (arith, nat_tests)
 
--- Whether a number is among `count` numbers starting at the first.
+-- Whether a number is among the `count` numbers that start at the first.
 abbrev pub among : (first count i : ℕ) → Bool
 among first zero i = false
 among first (suc count) i = (first == i) || among (first + 1) count i
@@ -22,7 +22,7 @@ among-is zero first i = grind (arith, nat_tests)
 among-is (suc count) first i =
     ap (λ b. (first == i) || b) (among-is count (first + 1) i) ∙ grind (arith, nat_tests)
 
--- The pool's queues, and the words of its vectors, begin with its first.
+-- The pool's queues, and the words with the pool's vectors, begin with the pool's first.
 pub queues-among : (mode : Mode) (v i : ℕ) → v < pools_in mode
     → among (v * queues_each mode) (queues_each mode) i ≡ has_queue mode v i
 queues-among mode v i small =

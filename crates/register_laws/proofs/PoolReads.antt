@@ -1,4 +1,4 @@
--- Registers that agree in a pool return the same words at its places.
+-- Registers that agree in a pool return the same words at the pool's places.
 use Rattle.std.proofs.Common.{◌≡◌, cond, refl, ap}
 use Rattle.register_laws.specs.Prelude.{read_word, row_of}
 use Rattle.register_laws.specs.Agreement.{SharedReadsTellTheSame, PoolReadsTellTheSame}

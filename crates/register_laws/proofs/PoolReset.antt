@@ -20,7 +20,7 @@ use Rattle.register_laws.proofs.Renewed.{IsRenewed, IsSame, any_of, taken-either
 use Rattle.register_laws.proofs.PoolQueues.{turned, among, queues-among, words-among, any-among}
 use Rattle.register_laws.proofs.PoolTests.{and-true, and-false, both_ways_round, first_alone, second_alone, own_alone}
 
--- What is reset, from the queues that the mode assigns to the pool.
+-- What a pool reset resets, starting from the queues that the mode assigns to the pool.
 abbrev whole : ℕ → Option (ℕ × ℕ) → Footprint
 whole v o = either (of_function v) (of_queues o)
 
@@ -158,7 +158,7 @@ within-pool_reset r mode v =
     within-wider (pool_has mode v) (pool_renews mode v) r (pool_reset mode v r)
     (covers-renewed (pool_has mode v)) (renewed-pool r mode v).alone
 
--- The reset covers all of the pool's words, except what it leaves of the mailbox.
+-- The pool reset covers all of the pool's words, except the part of the mailbox that it leaves unchanged.
 abbrev is_pooled : Bank → Bool
 is_pooled bank.Device = false
 is_pooled bank.Counters = false

@@ -16,7 +16,7 @@ use Rattle.register_laws.proofs.PoolReset.{renewed-pool, within-pool_reset}
 use Rattle.register_laws.proofs.RowBits.{HaveRowBits, bits_where_inside, reset_bits}
 use Rattle.register_laws.proofs.SoundParts.{reported_stands}
 
--- A bit of a word is the reset value's or unchanged.
+-- Each bit of a word is the reset value's bit, or is unchanged.
 own_bits : (r : Registers) (mode : Mode) (v : ℕ) → AreSound r → HaveRowBits (pool_reset mode v r)
 unfolding contains
 own_bits r mode v sound p =
@@ -30,7 +30,7 @@ own_bits r mode v sound p =
           ];
     })
 
--- What is pending for another group isn't the pool's.
+-- The pending state of another group doesn't belong to the pool.
 not_of_pool : (b : Bank) (mode : Mode) (v i : ℕ) (g : Group) → owner.Group g ≡ owner_in b i → is_group (Vf v) g ≡ false
     → is_of_pool_by b mode v i ≡ false
 not_of_pool bank.Interrupts mode v i g e n = refl
@@ -47,7 +47,7 @@ others_miss mode v g n = misses-within (pool_has mode v) (of_group g) (pending g
   reported = λ h is. ap (is_group (Vf v)) (sym (is_group-same g h is)) ∙ n;
 })
 
--- The pool's mailbox isn't held by its function, or doesn't exist.
+-- The pool's function doesn't hold its mailbox, or the mailbox doesn't exist.
 mail_renewed : (r : Registers) (mode : Mode) (v w : ℕ) → AreSound r → is_of_pool mode v (place Pvfmailbox w) ≡ true
     → has_bit 2 (mail_of (pool_reset mode v r) w) ≡ false
 mail_renewed r mode v w sound own =

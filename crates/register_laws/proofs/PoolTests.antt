@@ -1,4 +1,4 @@
--- Lemmas: tests with parts that are always true or always false.
+-- Lemmas about tests with parts that are always true or always false.
 use Rattle.std.proofs.Common.{◌≡◌, Bool, true, false, ◌&&◌, ◌||◌, refl, arith}
 
 pub and-true : (a : Bool) → (a && true) ≡ a

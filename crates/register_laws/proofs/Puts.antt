@@ -1,4 +1,4 @@
--- Lemmas: storing words at places, one after another.
+-- Lemmas about words that are stored at places one after another.
 use Rattle.std.proofs.Common.{◌≡◌, ◌≢◌, ℕ, ◌<◌, ◌≤◌, [], length, get_or, ap, sym, ◌∙◌, subst, inl, inr}
 use Rattle.std.proofs.lemmas.Bool.{cases_eq, cases_lt}
 use Rattle.register_file.specs.Words.{Words, word_at, put, row_words}
@@ -8,7 +8,7 @@ use Rattle.register_laws.proofs.Prelude.{get_or-set_other, get_or-set_same, get_
 pub same_parts : (p q : Place) → p.row ≡ q.row → p.index ≡ q.index → p ≡ q
 same_parts p q e f = λ k. record { row = e k; index = f k }
 
--- A word that is stored at a place is found there.
+-- After a word is stored at a place, the place contains this word.
 pub word_at-put_same : (words : Words) (p : Place) (v : ℕ) → number_of p.row < length words
     → p.index < length (row_words words p.row) → word_at (put words p v) p ≡ v
 word_at-put_same words p v there inside =
@@ -48,7 +48,7 @@ word_at-put_other words p q v n =
           ]
     ]
 
--- A word that is stored at a place is found there, or the place doesn't exist and nothing changes.
+-- After a word is stored at a place, the place contains this word, or the place doesn't exist and nothing has changed.
 pub put_cases : (words : Words) (p : Place) (v : ℕ) (P : ℕ → Type 0) → P v → P (word_at words p)
     → P (word_at (put words p v) p)
 put_cases words p v P new old =

@@ -1,4 +1,4 @@
--- Lemmas: what is read from stored and counted words, and from registers after a reset.
+-- Lemmas about what is read from stored and counted words, and from registers after a reset.
 use Rattle.std.proofs.Common.{◌≡◌, ℕ, ◌+◌, ◌-◌, ◌*◌, ◌/◌, ◌%◌, ◌^◌, ◌<◌, false, if◌then◌else◌, refl, ap}
 use Rattle.register_file.specs.RegTable.declared.rows.RowId.TheVariants.{Ctrl, Rxctrl, Dmatxctl, Hlreg0, Maxfrs, Gpie, Srrctl, Rxdctl, Txdctl}
 use Rattle.register_file.specs.IntrUnit.BitSet.{bits_below, bits_where, bits_from_to}
@@ -49,7 +49,7 @@ one_place p q n bit = is_place-other p q n
 pub owners_differ : OwnersDiffer
 owners_differ o other n = false_from_ne_true (is_owner o other) (λ e. n (is_owner-same o other e))
 
--- What single words set.
+-- The settings in single words.
 vector_stands : (old new : Registers) (g : Group) (dir : Dir) (queue : ℕ)
     → word_of new (vector_row g) (queue / 2) ≡ word_of old (vector_row g) (queue / 2)
     → vector_entry new g dir queue ≡ vector_entry old g dir queue

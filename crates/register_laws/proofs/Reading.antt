@@ -1,4 +1,4 @@
--- What a read of a register keeps, from what it leaves and what it may change.
+-- Which properties a read of a register preserves, given what it leaves and what it may change.
 use Rattle.std.proofs.Common.{◌≡◌, ℕ, true, false, refl, ap}
 use Rattle.register_file.specs.RegTable.declared.kind.Kind.TheVariants as kind
 use Rattle.register_file.specs.Access.{group_in, in_group, group_read}
@@ -47,7 +47,7 @@ quiet_read k = record {
   agree = λ mode v a b ha hb same p e is. same;
 }
 
--- A read that restarts a counter from 0.
+-- A read that sets a counter to 0.
 pub counter_read : KeepsReading kind.Rc (λ r p. record r { words = put r.words p 0 }) the_word
 counter_read = record {
   within = λ r p. within-put (the_word p) r p 0 (λ bit. is_place-itself p);

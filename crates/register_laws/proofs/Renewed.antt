@@ -1,4 +1,4 @@
--- Lemmas: what a reset of a part of the registers does.
+-- Lemmas about what a reset of a part of the registers does.
 use Rattle.std.proofs.Common.{◌≡◌, ℕ, ◌<◌, Bool, true, false, cond, ◌&&◌, ◌||◌, List, [], ◌∷◌, refl, ap, sym, ◌∙◌, subst, inl, inr}
 use Rattle.std.specs.Prelude.{fold}
 use Rattle.std.proofs.Math.Bool.{and-false}
@@ -16,7 +16,7 @@ use Rattle.register_laws.proofs.Shape.{put_stands, HasShape-put, HasShape-with_w
 use Rattle.register_laws.proofs.Standing.{reported_by-with_reported}
 use Rattle.register_laws.proofs.WithinParts.{within-bits, within-with_wanted, within-with_reported}
 
--- Everything in the footprint is as after a reset, if the registers have their shape, and everything else is unchanged.
+-- If the registers have their shape, everything in the footprint is as after a reset. Everything else is unchanged.
 pub record IsRenewed (f : Footprint) (old new : Registers) : Type 0 where
   pub alone : ChangesWithin f old new
   pub shape : HasShape old → HasShape new
@@ -127,7 +127,7 @@ taken-same f g r s same new =
     })
     new
 
--- The bits of a word after a renewal: those that it covers are the reset value's.
+-- The bits of a word after a renewal: the bits that the renewal covers are those of the reset value.
 has_bit-renewed : (renewal : Renewal) (old bit : ℕ)
     → has_bit bit (renewed renewal old)
     ≡ cond (takes renewal bit) (has_bit bit (row_of renewal.row).reset) (has_bit bit old)
@@ -139,7 +139,7 @@ has_bit-renewed renewal old bit = all_or_some renewal.whole
     all_or_some true = refl
     all_or_some false = has_bit-mixed bit renewal.mask old (row_of renewal.row).reset
 
--- A word, the request for a side, and what is reported for a group.
+-- A word, the request for a side, and the reported bits of a group.
 abbrev pub of_renewal : ℕ → Renewal → Footprint
 of_renewal index renewal = the_bits (place renewal.row index) (takes renewal)
 

@@ -1,4 +1,4 @@
--- Lemmas: what a reset of rows at an index does.
+-- Lemmas about what a reset of rows at an index does.
 use Rattle.std.proofs.Common.{◌≡◌, ℕ, Bool, ◌==◌, ◌&&◌, ◌||◌, List, [], ◌∷◌, refl, ap, ◌∙◌, arith}
 use Rattle.register_file.specs.PoolReset.{Renewal, takes, has_renewal, word_reset, rows_reset}
 use Rattle.register_laws.specs.Prelude.{Place, Registers, number_of}

@@ -10,7 +10,7 @@ use Rattle.register_laws.specs.Laws.{HasShape}
 use Rattle.register_file.proofs.ResetWords.{number_small, row_words-reset}
 use Rattle.register_laws.proofs.Puts.{word_at-put_same, length-row_words-put}
 
--- A word that is stored at an existing place is found there.
+-- After a word is stored at an existing place, the place contains this word.
 pub put_stands : (r : Registers) (p : Place) (v : ℕ) → HasShape r → p.index < (row_of p.row).count
     → word_at (put r.words p v) p ≡ v
 put_stands r p v h b =

@@ -1,4 +1,4 @@
--- Lemmas: a side of a queue after another word of one of its rows, or another request, is stored.
+-- Lemmas about a side of a queue after another word for one of its rows, or another request, was stored.
 use Rattle.std.proofs.Common.{◌≡◌, ℕ, ◌<◌, Bool, cond, ap, sym, ◌∙◌, inl, inr, ◌==◌}
 use Rattle.std.proofs.Math.Nat.{mod-eq_of_lt}
 use Rattle.register_file.specs.RegTable.declared.bank.Bank.TheVariants as bank
@@ -12,7 +12,7 @@ use Rattle.register_laws.specs.Sides.{receive_queue_of, transmit_queue_of, with_
 use Rattle.register_laws.proofs.Puts.{word_at-put_other}
 use Rattle.register_laws.proofs.Shape.{put_stands}
 
--- The words of a queue, with another one of a row.
+-- The words of a queue, with another word for one row.
 with_word-rows : (r : Registers) → HasShape r → (row : RowId) (queue v : ℕ) → queue < (row_of row).count → (own : RowId)
     → word_of (with_word r row queue v) own queue ≡ with_row (λ x. word_of r x queue) row v own
 with_word-rows r h row queue v b own =

@@ -1,4 +1,4 @@
--- Lemmas: 32-bit words.
+-- Lemmas about 32-bit words.
 use Rattle.std.proofs.Common.{◌≡◌, ℕ, ◌+◌, ◌*◌, ◌/◌, ◌%◌, ◌<◌, ◌^◌, inl, inr, arith}
 use Rattle.register_laws.specs.Prelude.{bit_cleared, bit_set, bumped, has_bit}
 use Rattle.register_laws.proofs.Prelude.{cases_Bool, eqb-false, nat_tests}

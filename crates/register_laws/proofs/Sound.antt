@@ -34,7 +34,7 @@ sound-after_read r p sound = (keeps (row_of p.row).kind).read.sound r p refl sou
 pub sound-written : (r : Registers) (p : Place) (view word : ℕ) → AreSound r → AreSound (after_write r p view word)
 sound-written r p view word sound = (keeps (row_of p.row).kind).write.sound r p refl sound view word
 
--- Device counts, EEPROM answers, and changes of sides.
+-- Device counts, EEPROM replies, and changes of sides.
 pub sound-answered : (r : Registers) (word : ℕ) → word < 2 ^ 16 → AreSound r → AreSound (eeprom_answered r word)
 sound-answered r word small sound =
     sound-put r (place Eerd 0) _ sound (IsSubset-ones 32 _ (answer-lt (word_of r Eerd 0) word small)) refl

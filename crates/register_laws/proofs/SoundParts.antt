@@ -1,4 +1,4 @@
--- Registers stay sound when a word is stored at a place, another side is requested, or a group has other interrupts.
+-- Registers stay sound when a word is stored at a place, another side is requested, or a group gets other interrupts.
 use Rattle.std.proofs.Common.{◌≡◌, ℕ, ◌<◌, Bool, true, false, refl, ap, sym, ◌∙◌, subst, inl, inr}
 use Rattle.register_file.specs.declared.owner.Owner.TheVariants as owner
 use Rattle.register_laws.specs.Prelude.{Dir, Group, Interrupts, IsConsistent, IsSubset, Kind, Owner, Pf, Place}
@@ -26,7 +26,8 @@ use Rattle.register_laws.specs.Sound.{bits_of_kind}
 use Rattle.register_laws.proofs.GroupChanges.{GroupChange, kept, changed}
 use Rattle.register_laws.proofs.RowBits.{IsSubset-trans, IsSubset-and_left, IsSubset-merged, within_row}
 
--- Reported bits are unchanged if a footprint misses what is pending for their group.
+-- If a footprint has nothing in common with the pending state of a group, the cause and the mask of each reported bit
+-- of the group remain 1.
 pub reported_stands : (f : Footprint) (r s : Registers) (g : Group) → Misses f (pending g) → ChangesWithin f r s
     → IsSubset (reported_by r g) (pending_bits r g) → IsSubset (reported_by s g) (pending_bits s g)
 reported_stands f r s g out only reported =

@@ -7,7 +7,7 @@ use Rattle.register_laws.proofs.Holders.{mail-reset}
 use Rattle.register_laws.proofs.Shape.{HasShape-reset}
 use Rattle.register_laws.proofs.RowBits.{row_bits-reset}
 
--- Nothing is reported after a reset.
+-- After a reset, no bit is reported.
 pub none_reported : (g : Group) → index_of g < 64 → reported_by reset_registers g ≡ 0
 none_reported Pf b = refl
 none_reported (Vf v) b = get_or-replicate 64 v 0 0 b

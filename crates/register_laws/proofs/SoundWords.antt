@@ -1,4 +1,4 @@
--- Lemmas: the words of sound registers, from the bits that their rows can have.
+-- Lemmas about the words of sound registers, proved from the bits that their rows can have.
 use Rattle.std.proofs.Common.{◌≡◌, ℕ, ◌+◌, ◌*◌, ◌%◌, ◌^◌, ◌||◌, true, false, refl, ap, sym, ◌∙◌, arith}
 use Rattle.std.specs.Prelude.{bit_and}
 use Rattle.std.specs.Int.Bits.{and_zero_r}

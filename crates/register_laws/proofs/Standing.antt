@@ -1,4 +1,4 @@
--- The interrupts of a group that were stored in its registers are read back.
+-- After a group's interrupts are stored in its registers, reading them returns the same interrupts.
 use Rattle.std.proofs.Common.{◌≡◌, ◌≢◌, ℕ, ◌^◌, ◌<◌, length, refl, ap, sym, ◌∙◌, subst, lit<}
 use Rattle.register_file.specs.RegTable.declared.rows.RowId.TheVariants.{Eicr, Eims, Pvteicr, Pvteims}
 use Rattle.register_file.specs.Groups.{cause_row, mask_row, auto_clear_row, auto_mask_row, index_of, reported_by, with_reported, interrupts_of, with_interrupts}

@@ -1,4 +1,4 @@
--- Sides of queues and groups are unchanged if a footprint misses them.
+-- If a footprint has nothing in common with a side of a queue or a group, the side or the group is unchanged.
 use Rattle.std.proofs.Common.{◌≡◌, ℕ, ◌+◌, ◌*◌, ◌/◌, ◌%◌, ◌^◌, if◌then◌else◌, Option, Some, None, refl, ap, ◌∙◌}
 use Rattle.register_file.specs.RegTable.declared.bank.Bank.TheVariants as bank
 use Rattle.register_file.specs.RegTable.declared.rows.RowId.TheVariants.{Rdbal, Rdbah, Rdlen, Rdh, Rdt, Srrctl, Rxdctl, Tdbal, Tdbah, Tdlen, Tdh, Tdt, Tdwbal, Tdwbah, Txdctl}

@@ -1,4 +1,4 @@
--- Lemmas: a side of a queue after a switch, a fault, or a write to its enable word.
+-- Lemmas about a side of a queue after a switch, a fault, or a write to the side's enable word.
 use Rattle.std.proofs.Common.{[], ◌≡◌, ℕ, ◌<◌, Bool, true, false, cond, refl, ap, sym, ◌∙◌, subst}
 use Rattle.std.proofs.lemmas.List.{get_or-set_same, set-get_or}
 use Rattle.register_file.specs.RegTable.declared.rows.RowId.TheVariants.{Rxdctl, Txdctl}
@@ -66,7 +66,7 @@ module _ (r : Registers) (h : HasShape r) (queue : ℕ) (b : queue < 128) where
       transmit-asked_with (bit_cleared 25 (word_of r Txdctl queue)) false
       ∙ (λ k. record (transmit_queue_of r queue) { on = has_bit-cleared (word_of r Txdctl queue) k; wanted = false })
 
-  -- A write to an enable word only requests.
+  -- A write to an enable word only requests a state of its side.
   pub receive-asked : (view word : ℕ) → receive_queue_of (after_write r (place Rxdctl queue) view word) queue
       ≡ record (receive_queue_of r queue) { wanted = has_bit 25 word }
   receive-asked view word =

@@ -1,4 +1,4 @@
--- Lemmas: what each operation changes.
+-- Lemmas about what each operation changes.
 use Rattle.std.proofs.Common.{◌≡◌, ℕ, ◌+◌, ◌%◌, ◌^◌, false, refl, ap, sym, ◌∙◌, subst}
 use Rattle.register_file.specs.Queue.{head_row, enable_row, with_head, switched, switched_on, switched_off, shut}
 use Rattle.register_file.specs.declared.owner.Owner.TheVariants as owner
@@ -31,7 +31,7 @@ pub within-written : (r : Registers) (p : Place) (view word : ℕ)
     → ChangesWithin (of_write p) r (after_write r p view word)
 within-written r p view word = (keeps (row_of p.row).kind).write.within r p view word
 
--- Device counts, EEPROM answers, and changes of sides.
+-- Device counts, EEPROM replies, and changes of sides.
 pub within-answered : (r : Registers) (word : ℕ) → ChangesWithin (the_word (place Eerd 0)) r (eeprom_answered r word)
 within-answered r word = within-word r Eerd 0 _
 
@@ -58,7 +58,7 @@ enable_owner : (dir : Dir) (queue : ℕ) → owner_of (place (enable_row dir) qu
 enable_owner Rx queue = refl
 enable_owner Tx queue = refl
 
--- A fault changes what a write of the side's enable word may change.
+-- A fault changes only what a write to the side's enable word may change.
 pub within-shut_enable : (r : Registers) (dir : Dir) (queue : ℕ)
     → ChangesWithin (the_enable (place (enable_row dir) queue)) r (shut r dir queue)
 within-shut_enable r dir queue =

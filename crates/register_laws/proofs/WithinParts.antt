@@ -1,4 +1,4 @@
--- Lemmas: what a stored word, a requested side, and other interrupts of a group change.
+-- Lemmas about what changes when a word is stored, a side is requested, or a group gets other interrupts.
 use Rattle.std.proofs.Common.{◌≡◌, ℕ, Bool, true, false, ◌&&◌, refl, ap, sym, ◌∙◌, subst, inl, inr}
 use Rattle.register_laws.specs.Prelude.{Dir, Group, Interrupts, Owner, Place, Registers, RowId, asked, cause_row}
 use Rattle.register_laws.specs.Prelude.{group_in, has_bit, index_of, is_owner, mask_row, option_map_or, place, put}
@@ -17,8 +17,8 @@ use Rattle.register_laws.proofs.Owners.{is_owner-itself}
 use Rattle.register_laws.proofs.Footprints.{within-refl}
 use Rattle.register_laws.specs.Footprint.{nothing, pending_of}
 
--- A word at one place, the request for one side, and what is reported for one group, each within a footprint that has
--- it.
+-- A word at one place, the request for one side, and the reported bits of one group, each within a footprint that
+-- contains it.
 pub within-put : (f : Footprint) (r : Registers) (p : Place) (v : ℕ) → HasWord f p
     → ChangesWithin f r (record r { words = put r.words p v })
 within-put f r p v has = record {

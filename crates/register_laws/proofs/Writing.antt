@@ -1,4 +1,5 @@
--- What a write to a register keeps, from what it leaves and what it may change, if it requests no reset.
+-- If a write to a register requests no reset: which properties the write preserves, given what it leaves and what it
+-- may change.
 use Rattle.std.proofs.Common.{◌≡◌, ℕ, true, false, refl}
 use Rattle.std.specs.Prelude.{bit_and, if◌then◌else◌}
 use Rattle.register_file.specs.Access.{group_in, in_group, is_running, asked, stored}

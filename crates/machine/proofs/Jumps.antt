@@ -1,4 +1,4 @@
--- A taken jump leads to its target.
+-- After a taken jump, the jump's target is the next instruction.
 use Rattle.std.proofs.Common.{◌≡◌, ◌≢◌, refl, ◌∙◌, ap, ℕ, ◌==◌, false, Option, Some, eq-eqb, inl, inr}
 use Rattle.std.proofs.lemmas.Bool.Decides.{eqb_tells}
 use Rattle.machine.specs.Laws.{JumpsGo}

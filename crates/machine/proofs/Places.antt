@@ -85,7 +85,7 @@ placed-done program s (Lend block) below inside =
 placed-done program s (Local action) below inside = placed-acted program s action below inside
 placed-done program s other below inside = placed-moved program s (s.pc + 1) (omega arith)
 
--- If all instructions of a list have a property, the one at each index has it.
+-- If all instructions in a list have a property, the instruction at each index has the property.
 each : (P : Instruction ℕ ℕ → Type 0) (xs : List (Instruction ℕ ℕ)) (k : ℕ) (i : Instruction ℕ ℕ)
     → AllByRecursion P xs → slice_get xs k ≡ Some i → P i
 each P [] k i all found = cc

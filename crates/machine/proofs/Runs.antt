@@ -1,4 +1,4 @@
--- A machine's device is in the state to which its events lead.
+-- A machine's device is in the state of a new device after the machine's events.
 use Rattle.std.proofs.Common.{◌≡◌, refl, sym, ◌∙◌, ap, ℕ, zero, suc, Bool, true, false, cond, List, [], ◌∷◌, ◌++◌, Option, Some, None}
 use Rattle.program.specs.DmaArena.Block.{Block, zero_block}
 use Rattle.nic_device.specs.Run.{state_after}

@@ -1,4 +1,4 @@
--- A machine is in the state to which its steps lead.
+-- A machine is in the state after its counted steps.
 use Rattle.std.proofs.Common.{◌≡◌, ◌⊎◌, refl, sym, ◌∙◌, ap, ℕ, suc, ◌+◌, Bool, true, false, cond, Option, Some, None, inl, inr, ⊎_elim, add-one, Result, Ok, Err, OnOk, OnErr}
 use Rattle.nic_device.specs.declared.Config.{Config}
 use Rattle.card.specs.Card.{Holdings, new_card}

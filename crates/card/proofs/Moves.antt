@@ -1,4 +1,4 @@
--- Events of a card's device: which blocks are free and lent before and after.
+-- Which blocks are free and which are lent, before and after events of a card's device.
 use Rattle.std.proofs.Common.{◌≡◌, IsFalse, refl, sym, ◌∙◌, ap, subst, ℕ, Bool, true, false, is_some, option_map, List, Option, Some, None, Result, Ok, Err, OnOk, OnErr, inl, inr}
 use Rattle.std.specs.FinMap as map
 use Rattle.std.specs.Prelude.{IsOk}

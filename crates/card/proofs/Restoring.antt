@@ -12,7 +12,7 @@ use Rattle.card.specs.Card.{Holdings, AreShared}
 use Rattle.card.specs.Kept.{blocks_not_lent}
 use Rattle.card.proofs.Sharing.{lent_away}
 
--- Which blocks are lent determines which are free.
+-- Which blocks are lent determines which blocks are free.
 
 slot-shared : (m : Memory) (a : Numbers) (i : ℕ) → AreShared m a → i < length a.free
     → get_or a.free i false ≡ not (has_block m i)
@@ -34,7 +34,7 @@ beside-is m a h =
     sym (ap (λ f. let b : Numbers = record { first = f; free = a.free } in b) h.first
     ∙ ap (λ xs. let b : Numbers = record { first = 0; free = xs } in b) (free-beside m a h))
 
--- What is kept of a card.
+-- What a saved copy of a card contains.
 pub kept-shared : (d s : State) (a : Numbers) (count : ℕ) → AreShared d.memory a → s ≡ d → count ≡ count_of a
     → AreShared s.memory (blocks_not_lent count s.memory)
 kept-shared d s a count h is all =
@@ -64,7 +64,7 @@ new-free count n small = is_free-all_free 0 count n ∙ is_own-all_free 0 count 
 pub new-unused : (count : ℕ) → are_all_free (all_free 0 count) ≡ true
 new-unused count = (CountsFree-numbers (all_free 0 count)).all.1 (λ n own. is_free-all_free 0 count n ∙ own)
 
--- Therefore no lent block keeps a device from being restored.
+-- Therefore no lent block prevents a device from being restored.
 pub never-taken : (m : Memory) (count n : ℕ) → AreShared m (blocks_not_lent count m)
     → IsLowestTaken (all_free 0 count) m n → true ≡ false
 never-taken m count n h is = sym (new-free count n (lent-few m count n h is.lent)) ∙ is.taken

@@ -35,7 +35,7 @@ removed_other m n other away = elim (eqb_tells other n) [
   | inr (test, differs) ↦ ap is_some (get-remove_other m n other differs) ∙ away
 ]
 
--- If none of the arena's blocks is lent, no block is.
+-- If none of the arena's blocks is lent, no block is lent.
 pub none_lent : (m : Memory) (a : Numbers) (n : ℕ) (lent : Bool) → AreShared m a
     → (n < count_of a → has_block m n ≡ false) → has_block m n ≡ lent → lent ≡ false
 none_lent m a n true h below is =

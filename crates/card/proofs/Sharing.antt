@@ -1,4 +1,4 @@
--- Each block of a card is either free or lent, and stays so.
+-- Each block of a card is free or lent, and remains free or lent through each operation.
 use Rattle.std.proofs.Common.{◌≡◌, refl, sym, ◌∙◌, ap, ℕ, zero, suc, ◌-◌, ◌<◌, Bool, true, false, not, is_some, List, [], ◌∷◌, get_or, slice_set, arith, inl, inr}
 use Rattle.std.specs.FinMap as map
 use Rattle.std.specs.Ordering.{nat_cmp}
@@ -80,7 +80,7 @@ shared-new m count none = record {
   few = λ q has. (let no : false ≡ true = sym (none_has m q none) ∙ has in cc);
 }
 
--- If no block is lent, all are free.
+-- If no block is lent, all blocks are free.
 pub all_free_at_last : (m : Memory) (a : Numbers) → AreShared m a → ((n : ℕ) → has_block m n ≡ false)
     → are_all_free a ≡ true
 all_free_at_last m a h none = (CountsFree-numbers a).all.1 (λ n own. h.either n own ∙ ap not (none n))

@@ -4,7 +4,7 @@ use Rattle.nic_device.specs.DmaArena.Numbers.{count_of}
 use Rattle.card.specs.Card.{AreShared}
 use Rattle.card.proofs.card.close.Given as goal
 
--- The blocks so far are taken back.
+-- The blocks before the current one are taken back.
 abbrev pub invariant-loop-number : goal.invariant-loop-number
 invariant-loop-number l = record {
   shared : AreShared l.memory l.arena;

@@ -107,11 +107,11 @@ pub fn slots_have_their_faults()
     ensures { SlotsHaveTheirFaults }
 {}
 
-/// A receive step that writes a slot overwrites the 16 bytes of its descriptor. Byte 0 contains the RSS type in bits 3
-/// to 0, IPv4 in bit 4 and IPv6 in bit 6. Byte 1 contains TCP in bit 0 and UDP in bit 1. The hash is in bytes 4 to 7.
-/// Byte 8 contains DD in bit 0 and EOP in bit 1. The number of bytes is in bytes 12 and 13, the lower byte first. All
-/// other bits are 0. The buffer is at the address that the descriptor had in bytes 0 to 7, with bit 0 ignored. If the
-/// buffer shares no byte with the descriptor, it contains the next bytes of the frame.
+/// A receive step that writes a slot overwrites the 16 bytes of the slot's descriptor. Byte 0 contains the RSS type in
+/// bits 3 to 0, IPv4 in bit 4 and IPv6 in bit 6. Byte 1 contains TCP in bit 0 and UDP in bit 1. The hash is in bytes 4
+/// to 7. Byte 8 contains DD in bit 0 and EOP in bit 1. The number of bytes is in bytes 12 and 13, the lower byte first.
+/// All other bits are 0. The buffer is at the address that the descriptor had in bytes 0 to 7, with bit 0 ignored. If
+/// the buffer shares no byte with the descriptor, it contains the next bytes of the frame.
 pub fn descriptors_are_written_back()
     ensures { DescriptorsAreWrittenBack }
 {}
@@ -205,10 +205,10 @@ pub fn oldest_is_collected()
 {}
 
 /// Lending a block succeeds if and only if no block with its number is lent; otherwise the block is handed back. A
-/// `Take` gets the reply `NotLent` and changes nothing if and only if the block isn't lent. So does a `Peek16` or a
-/// `Poke16` at a multiple of 16, for the block that contains this address. A `Take` returns a lent block with its
-/// current bytes; the block is then no longer lent. A `Peek16` at a multiple of 16 returns 16 bytes of a lent block and
-/// changes nothing.
+/// `Take` gets the reply `NotLent` and changes nothing if and only if the block isn't lent. The same holds for a
+/// `Peek16` or a `Poke16` at a multiple of 16, for the block that contains this address. A `Take` returns a lent block
+/// with its current bytes; the block is then no longer lent. A `Peek16` at a multiple of 16 returns 16 bytes of a lent
+/// block and changes nothing.
 #[tactic(auto, using(crate::proofs::Memory::calls_answer))]
 pub fn memory_calls_answer()
     ensures { MemoryCallsAnswer }

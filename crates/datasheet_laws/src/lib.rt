@@ -92,8 +92,8 @@ pub fn ones_are_cleared()
 
 /// If bit v mod 32 of PFMBIMR[v / 32], at 0x00720 + 4(v / 32), is 1, a write to PVFMAILBOX[v] with bit 0 or 1 set
 /// raises bit 19 of EICR, at 0x00800. If bit 7 of PVTIVAR_MISC[v], at 0x04E00 + 4v, is 1, a write to PFMAILBOX[v] with
-/// bit 0 or 1 set raises a cause in PVTEICR[v], at 0x00B00 + 4v. This is the cause, at most 2, that bits 5 to 0 of
-/// PVTIVAR_MISC[v] name. No other cause in EICR or PVTEICR[v] is raised.
+/// bit 0 or 1 set raises a cause in PVTEICR[v], at 0x00B00 + 4v. This is the cause that bits 5 to 0 of PVTIVAR_MISC[v]
+/// name, if it is at most 2. No other cause in EICR or PVTEICR[v] is raised.
 #[tactic(auto, using(crate::proofs::Mailbox::function_raises_all, crate::proofs::Mailbox::physical_raises_all))]
 pub fn mailboxes_raise_causes()
     ensures physical { FunctionsRaise }

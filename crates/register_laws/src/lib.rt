@@ -120,8 +120,8 @@ pub fn accesses_stay_with_their_owner()
     ensures no_side { ReadMissesSides }
 {}
 
-/// If the footprint of a change doesn't contain a side of a queue, a group's interrupts or a setting in a single word,
-/// the change leaves it as it was.
+/// If the footprint of a change contains no part of a side of a queue, the change leaves the side unchanged. The same
+/// holds for a group's interrupts, and for settings in single words.
 pub fn what_a_footprint_misses_stands()
     ensures receive { MissedReceiveStands }
     ensures transmit { MissedTransmitStands }

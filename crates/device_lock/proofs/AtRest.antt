@@ -1,4 +1,4 @@
--- Lemmas: a history with entries of idle events added.
+-- Lemmas about a history to which entries of idle events are added.
 use Rattle.std.proofs.Common.{◌≡◌, ◌==◌, ℕ, ◌+◌, ◌^◌, ◌<◌, ◌≤◌, List, [], ◌∷◌, ◌++◌, length, get_or, slice_set, refl, sym, ap, ◌∙◌, subst, arith, length-append}
 use Rattle.std.proofs.lemmas.Bool.Decides.{nat_tests}
 use Rattle.std.proofs.lemmas.Grind.{common_steps}
@@ -18,7 +18,7 @@ use Rattle.device_lock.proofs.Histories.{entries_of-append, events-append, leads
 pub rest_idle : (s : State) (queue : ℕ) → Rests s queue → AreIdle s (steps_of_queue queue)
 rest_idle s queue r = (r.receive_side, (r.transmit_side, (r.sending, (r.receiving, tt))))
 
--- Two lists, one after the other.
+-- Two histories in sequence.
 below-append : (n : ℕ) (g h : List Entry) → AllBelow n g → AllBelow n h → AllBelow n (g ++ h)
 below-append n [] h first then = then
 below-append n (x ∷ g) h first then = (first.0, below-append n g h first.1 then)
@@ -47,7 +47,7 @@ rest_counted counts h pass queue each lt counted tag below =
     rw (entries_of-append tag h (idle_entries pass (steps_of_queue queue)))
     (grind (arith, nat_tests, common_steps, counted tag below))
 
--- A count has room for the entries of the steps.
+-- If the history has room for four more entries, so does the count.
 pub rest_few : (vfs fifo : ℕ) (h : Held) (counts : List ℕ) (tag : ℕ) → IsKept vfs fifo h counts → tag < 64
     → length h.history + 4 ≤ h.limit → get_or counts tag 0 + 4 ≤ 1000000
 rest_few vfs fifo h counts tag k lt room =

@@ -1,4 +1,4 @@
--- Lemmas: passes that close a history, or don't.
+-- Lemmas about which passes close a history.
 use Rattle.std.proofs.Common.{◌≡◌, ℕ, ◌<◌, ◌≤◌, ◌↔◌, List, [], ◌∷◌, inl, inr, refl, ap, subst, arith, slice_index_or, Some}
 use Rattle.std.proofs.lemmas.Bool.{cases_lt}
 use Rattle.std.proofs.lemmas.Grind.{common_steps}
@@ -22,7 +22,7 @@ all_below count (e ∷ es) below none =
     ] in
     (first, all_below count es below.1 (λ tag from lt. let no = none tag from lt in grind (arith, common_steps, no)))
 
--- All of the bench's passes, with the history's calls for each tag, close it.
+-- All of the bench's passes close the history if they have its calls for each tag.
 pub closes : (bench count : ℕ) (h : List Entry) (ps : List PassValue) → count ≤ 64 → AllBelow 64 h
     → AreAll bench count ps → ((tag : ℕ) → tag < 64 → TagStands h tag ps) → Closes bench count h ps
 closes bench count h ps small below all stands = record {
@@ -35,7 +35,7 @@ closes bench count h ps small below all stands = record {
       (stands tag lt).none (λ k d within same. let own = all.own k d within in let is = own.1 in omega (arith, is)));
 }
 
--- Only one tag is the lowest missing one.
+-- Only one tag can be the lowest missing tag.
 missing_once : (bench count : ℕ) (ps : List PassValue) (a b : ℕ) → IsMissing bench count ps a
     → IsMissing bench count ps b → a ≡ b
 missing_once bench count ps a b x y = elim (cases_lt a b) [
@@ -80,7 +80,7 @@ missing_exactly bench count h ps (Mismatch other) tag is =
     (λ same. absurd cc, λ missing. absurd (none_missing bench count ps tag is.0 missing))
 missing_exactly bench count h ps OutOfMemory tag is = absurd is
 
--- A surplus pass is reported if and only if there is one and no tag is missing.
+-- A surplus pass is reported if and only if a pass is surplus and no tag is missing.
 pub surplus_exactly : (bench count : ℕ) (h : List Entry) (ps : List PassValue) (fault : CloseFault)
     → Answers bench count h ps (Some fault) → (fault ≡ ForeignPass) ↔ IsSurplus bench count ps
 surplus_exactly bench count h ps (MissingPass tag) is = (

@@ -1,4 +1,4 @@
--- Lemma: passes without calls.
+-- A lemma about passes without calls.
 use Rattle.std.proofs.Common.{◌≡◌, ℕ, ◌+◌, List, [], ◌∷◌, ◌++◌, length, ◌∙◌, ap, arith}
 use Rattle.device_lock.specs.Pass.{PassValue, fresh_pass, AreFresh}
 

@@ -1,4 +1,4 @@
--- Lemmas: histories in sequence, split into two parts, and with one more entry.
+-- Lemmas about histories that are appended to each other, split in two, or extended by one entry.
 use Rattle.std.proofs.Common.{◌≡◌, ℕ, ◌+◌, ◌<◌, ◌≤◌, ◌==◌, List, [], ◌∷◌, ◌++◌, length, get_or, replicate, slice_set, refl, sym, arith, rules, length-append}
 use Rattle.std.proofs.lemmas.Bool.Decides.{nat_tests}
 use Rattle.std.proofs.lemmas.Grind.{common_steps}
@@ -28,7 +28,7 @@ pub events_more : (h : List Entry) (e : Entry) → AreEvents h → IsEvent e.eve
 events_more [] e events is = (is, tt)
 events_more (x ∷ h) e events is = (events.0, events_more h e events.1 is)
 
--- One history after another.
+-- A history appended to another.
 
 pub leads-append : (s : State) (g h : List Entry) → leads_to s (g ++ h) ≡ leads_to (leads_to s g) h
 leads-append s [] h = refl
@@ -42,7 +42,7 @@ pub events-append : (g h : List Entry) → AreEvents g → AreEvents h → AreEv
 events-append [] h first then = then
 events-append (x ∷ g) h first then = (first.0, events-append g h first.1 then)
 
--- A history in two parts.
+-- A history split in two.
 
 pub legal_before : (s : State) (g h : List Entry) → IsLegal s (g ++ h) → IsLegal s g
 legal_before s [] h legal = tt
@@ -60,7 +60,7 @@ pub events_after : (g h : List Entry) → AreEvents (g ++ h) → AreEvents h
 events_after [] h events = events
 events_after (x ∷ g) h events = events_after g h events.1
 
--- Tags and counts.
+-- The tags and the counts of a longer history.
 
 one_more_below : (n : ℕ) (h : List Entry) (e : Entry) → AllBelow n h → e.pass < n → AllBelow n (h ++ e ∷ [])
 one_more_below n [] e below lt = (lt, tt)
@@ -76,7 +76,7 @@ counts_more : (n : ℕ) (counts : List ℕ) (h : List Entry) (e : Entry) → len
 counts_more n counts h e each lt counted tag below =
     rw (entries_of-append tag h (e ∷ [])) (grind (arith, nat_tests, common_steps, counted tag below))
 
--- Without a history, each count is 0.
+-- If the history is empty, each count is 0.
 pub kept_opened : (vfs fifo : ℕ) (device : State) (history : List Entry) (limit : ℕ) (counts : List ℕ)
     → device ≡ new_state vfs fifo → history ≡ [] → limit ≤ 1000000 → counts ≡ replicate 64 0
     → IsKept vfs fifo (record { device = device; history = history; limit = limit }) counts

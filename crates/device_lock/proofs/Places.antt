@@ -1,4 +1,4 @@
--- Lemmas: the positions of one pass's entries, with one more entry.
+-- Lemmas about the positions of one pass's entries when the history grows by one entry.
 use Rattle.std.proofs.Common.{◌≡◌, ℕ, ◌+◌, ◌<◌, ◌==◌, Bool, true, false, List, [], ◌∷◌, ◌++◌, length, get_or, take, refl, ◌∙◌, ap, arith, eq-eqb, ◌≢◌, append-nil}
 use Rattle.std.proofs.lemmas.Grind.{common_steps}
 use Rattle.std.proofs.lemmas.Bool.{ne_eqb}
@@ -23,7 +23,7 @@ positions_more at tag (x ∷ h) e =
     ∙ one_more (x.pass == tag) at (positions_from (at + 1) tag h) rest
     ∙ ap (λ n. positions_from at tag (x ∷ h) ++ (if e.pass == tag then n ∷ [] else [])) (omega arith)
 
--- The positions up to an entry with the tag, and up to one with another tag.
+-- The positions up to an entry with this tag, and up to an entry with another tag.
 pub positions_here : (tag : ℕ) (h : List Entry) (i : ℕ) (d : Entry) → i < length h → (get_or h i d).pass ≡ tag
     → positions_of tag (take (i + 1) h) ≡ positions_of tag (take i h) ++ i ∷ []
 positions_here tag h i d lt is =

@@ -1,4 +1,4 @@
--- Lemmas: the blocks that a range touches are the blocks of its bytes.
+-- Lemmas: the blocks that a range touches are the blocks that contain its bytes.
 use Rattle.std.proofs.Common.{◌≡◌, ℕ, ◌+◌, ◌-◌, ◌*◌, ◌/◌, ◌%◌, ◌<◌, ◌≤◌, ◌⊎◌, inl, inr, refl, arith}
 use Rattle.std.proofs.lemmas.Bool.{ne_eqb, cases_lt}
 use Rattle.device_lock.specs.Watching.{touched}

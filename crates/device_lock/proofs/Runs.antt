@@ -1,4 +1,4 @@
--- Lemmas: histories and runs.
+-- Lemmas that relate histories to runs of their events.
 use Rattle.std.proofs.Common.{◌≡◌, List, [], ◌∷◌, map, refl, ap, get_or, drop}
 use Rattle.nic_device.specs.Run.{replies_of}
 use Rattle.nic_device.specs.State.{State}

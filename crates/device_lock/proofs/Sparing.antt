@@ -18,7 +18,7 @@ use Rattle.device_lock.specs.Alone.{Blocks, place_at, Spares, SparesIfSome, Leav
 use Rattle.device_lock.proofs.Ranges.{inside_touched, block_has}
 use Rattle.device_lock.specs.Watching.{spares, spares_if_some, leaves_registers, leaves_blocks, none_of, touched, is_clear, writes_outside, leaves_alone}
 
--- Tests with two parts, and with one part that makes the other unnecessary.
+-- Tests in which both conditions must hold, or one condition makes the other unnecessary.
 
 both : (a b : Bool) (P Q : Type 0) → ((a ≡ true) ↔ P) → ((b ≡ true) ↔ Q) → ((a && b) ≡ true) ↔ (P × Q)
 both a b P Q i j =
@@ -37,7 +37,7 @@ or_else on queue b P i = (
 no_more : (b c : Bool) → b ≡ c → (not b ≡ true) ↔ (c ≡ false)
 no_more b c same = ((λ h. sym same ∙ not-true b h), λ h. not_from_false b (same ∙ h))
 
--- If one condition holds, the other doesn't.
+-- The test that two conditions don't both hold.
 excludes : (a b : Bool) → (not (a && b) ≡ true) ↔ (IsTrue a → IsFalse b)
 excludes a b = (
   (λ h is. elim (and_cases a b (not-true _ h))
@@ -49,7 +49,7 @@ excludes a b = (
     by_first true b h = h refl
     by_first false b h = refl
 
--- Registers.
+-- Writes to registers.
 
 excludes_place : (a : Bool) (i queue : ℕ) → (not (a && (i == queue)) ≡ true) ↔ (IsTrue a → i ≢ queue)
 excludes_place a i queue =

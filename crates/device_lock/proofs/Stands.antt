@@ -1,4 +1,4 @@
--- Lemmas: the calls of one pass in a history, compared with the calls as stored.
+-- Lemmas that compare one pass's calls in a history with its calls as stored.
 use Rattle.std.proofs.Common.{suc, ◌≡◌, ◌≢◌, ◌↔◌, ℕ, ◌+◌, ◌<◌, List, [], ◌∷◌, ◌++◌, length, get_or, take, drop, refl, sym, ◌∙◌, ap, arith, drop-cons, append_assoc, append-nil}
 use Rattle.std.proofs.lemmas.List.{append_cancel_left, take_more, take-append-drop}
 use Rattle.device_lock.specs.declared.calls.Made.{Made}
@@ -6,7 +6,7 @@ use Rattle.device_lock.specs.declared.entry.Call.{Call}
 use Rattle.device_lock.specs.declared.resting.IdleSteps.{IdleSteps}
 use Rattle.device_lock.specs.Calls.{rested_calls, made_calls, calls_in}
 
--- Stored calls, split at one of them.
+-- Stored calls, split at one call.
 
 made-append : (a b : List Made) → made_calls (a ++ b) ≡ made_calls a ++ made_calls b
 made-append [] b = refl

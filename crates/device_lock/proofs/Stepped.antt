@@ -1,4 +1,4 @@
--- Lemmas: the device steps of a pass, and the data under the lock at the same time.
+-- Lemmas about device steps that a pass runs: what they do to the pass and to the data under the lock.
 use Rattle.std.proofs.Common.{◌≡◌, ℕ, List, [], ◌∷◌, ◌++◌, take, refl, sym, ap, ◌∙◌, append_assoc, append-nil, Result, Ok, Err, IfOk, OnOk, OnErr}
 use Rattle.std.proofs.lemmas.Result.{err_from_is_err_and}
 use Rattle.std.specs.Prelude.{IsErrAnd}
@@ -22,7 +22,7 @@ use Rattle.device_lock.specs.Resting.{after_calls}
 use Rattle.device_lock.specs.Stepping.{AreMade, StepsAndMakes, StopsMaking, StopsStepping, calls_made, events_in, steps_of_queue, with_calls}
 use Rattle.device_lock.proofs.Histories.{leads_to-snoc, legal_more}
 
--- Calls that follow other calls.
+-- Calls that are added after other calls.
 
 with_both : (t : PassValue) (a b : List Call) → with_calls (with_calls t a) b ≡ with_calls t (a ++ b)
 with_both t a b =
@@ -105,7 +105,7 @@ all_made h i j k l p q r s t queue a b c d =
 
 -- The steps of a queue at rest.
 
--- Steps that stop.
+-- Steps that stop early.
 
 none_made : (h then : Held) (old new : PassValue) → (then ≡ h) × (new ≡ old) → AreMade h old [] then new
 none_made h then old new same = record { under = same.0; noted = same.1 ∙ sym (with_none old) }
@@ -150,7 +150,7 @@ module _ (queue : ℕ) (e : Event Block) (h i then : Held) (old mid new : PassVa
       (ap (λ (t : Held). t.device) made.under ∙ after_device h old.tag (steps_of_queue queue))
   answer_after (Err f) reply = tt
 
--- What is reported to the caller.
+-- What the caller learns.
 
 module _ (queue : ℕ) (e : Event Block) (h then : Held) (old new : PassValue) where
   pub exactly : (r : Result (Reply Block) (CallFault (Event Block)))
@@ -211,7 +211,7 @@ foreign_answered vfs fifo old queue = (
   },
 )
 
--- A refusal for a full history, with another event in it.
+-- A refusal for a full history stays one when its event is replaced.
 pub full_again : {T U E F : Type 0} (reported : CallFault F) (f : CallFault E) (x : F) (e : E) → reported
     ≡ fault_with f x
     → event_of f ≡ e → ◌≡◌ {A = Result T (CallFault F)} (Err reported) (Err (HistoryFull x))
@@ -220,13 +220,13 @@ full_again reported (HistoryFull y) x e is back same = ap (λ z. Err (HistoryFul
 full_again reported (ForeignPass y) x e is back same = absurd cc
 full_again reported (OutOfMemory y) x e is back same = absurd cc
 
--- A refusal that `?` returns to the caller.
+-- The error that `?` returns to the caller.
 pub passed_on : {T E : Type 0} (r : Result T E) (e f : E) → IsErrAnd r (λ y. y ≡ e) → r ≡ Err f
     → ◌≡◌ {A = Result T E} (Err e) (Err f)
 passed_on r e f is same =
     let p = err_from_is_err_and r is in sym (ap (λ y. Err y) p.2) ∙ (sym p.1 ∙ same)
 
--- A fact holds in particular if the result is an error.
+-- A fact that always holds also holds if the result is an error.
 pub on_err : {T E P : Type 0} (r : Result T E) → P → OnErr r P
 on_err (Ok x) p = tt
 on_err (Err e) p = p

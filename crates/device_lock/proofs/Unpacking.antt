@@ -1,4 +1,4 @@
--- Lemmas: entries as stored, with one more entry, and with the first entry separate.
+-- Lemmas about stored entries to which one entry is added, or whose first entry is made separate.
 use Rattle.std.proofs.Common.{◌≡◌, ℕ, ◌+◌, ◌≤◌, List, [], ◌∷◌, ◌++◌, length, refl, sym, ap, ◌∙◌, append_assoc, append-nil, length-append}
 use Rattle.nic_device.specs.DmaArena.Block.{Block}
 use Rattle.nic_device.specs.declared.event.Event.{Event}
@@ -36,7 +36,7 @@ entries-more whole packed rested none pass event reply is =
     ∙ ap (λ (l : List Entry). whole ++ l) (append-nil _ ∙ packed-more packed p)
     ∙ sym (append_assoc whole (packed_entries packed ++ rested_entries rested) (own p ∷ []))
 
--- More idle steps after the last entry.
+-- More idle steps are added after the last entry.
 pub rested-more : (whole : List Entry) (packed : List Packed) (rested then : Rested) (more : List Entry)
     → rested_entries then ≡ rested_entries rested ++ more
     → entries_in whole packed then ≡ entries_in whole packed rested ++ more

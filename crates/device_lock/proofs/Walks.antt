@@ -1,4 +1,4 @@
--- Lemmas: a walk through a history, and through the blocks of a range, one by one.
+-- Lemmas for loops over a history's entries and over the blocks in a range.
 use Rattle.std.proofs.Common.{◌≡◌, ℕ, zero, suc, ◌+◌, ◌-◌, ◌<◌, Bool, true, false, not, ◌&&◌, ◌||◌, List, ◌∷◌, length, get_or, drop, replicate, refl, sym, ap, ◌∙◌, arith, drop-cons}
 use Rattle.std.proofs.Math.Bool.{or_assoc, or-false}
 use Rattle.std.proofs.Math.Seq.{drop-length}
@@ -9,7 +9,7 @@ use Rattle.device_lock.specs.declared.entry.Entry.{Entry}
 use Rattle.device_lock.specs.Alone.{Blocks, lent_in, lent_by, mode_after}
 use Rattle.device_lock.specs.Watching.{marked, none_of, leaves_alone, rest_leaves_alone}
 
--- A range of blocks.
+-- The loop over a range of blocks.
 
 next_none : (mine : Blocks) (n m : ℕ) → none_of mine n (suc m) ≡ (not (mine n) && none_of mine (n + 1) m)
 unfolding none_of
@@ -38,7 +38,7 @@ none_first mine n c =
     let same : n + 0 ≡ n = omega arith in
     let all : c - 0 ≡ c = omega arith in rw (same, all) refl
 
--- The lent blocks.
+-- The loop that collects the lent blocks.
 
 pub none_marked : (count number : ℕ) → marked (replicate count false) number ≡ false
 none_marked zero number = refl
@@ -61,7 +61,7 @@ pub lent_last : (pass : ℕ) (h : List Entry) (i : ℕ) (a : Bool) (number : ℕ
 lent_last pass h i a number is =
     ap (λ (rest : List Entry). a || lent_by pass rest number) (ap (λ k. drop k h) is ∙ drop-length h) ∙ or-false a
 
--- The entries.
+-- The loop over the entries.
 
 module _ (w : Watched) (mine : Blocks) (mode : Mode) (begun : Bool) (h : List Entry) (i : ℕ) (e : Entry)
     (lt : i < length h) (is : get_or h i e ≡ e) where

@@ -1,4 +1,5 @@
--- What it means to leave a queue of a shared device alone: what other passes don't do to it after its driver has begun.
+-- What it means to leave a shared device's queue alone: what other passes don't do to the queue after its driver has
+-- begun.
 use Rattle.std.specs.Prelude.{ℕ, ◌≡◌, ◌≢◌, ◌+◌, ◌/◌, ◌==◌, ◌<◌, ◌≤◌, nat_lt, Bool, true, false, ◌&&◌, ◌||◌, ⊤, IsTrue, IsFalse, List, [], ◌∷◌, ◌++◌, Option, Some, None, if◌then◌else◌}
 use Rattle.nic_device.specs.RegTable.Place.{place_among}
 use Rattle.nic_device.specs.RegTable.Rows.{row_of}
@@ -28,7 +29,7 @@ use Rattle.device_lock.specs.declared.alone.Watched.{Watched}
 abbrev pub Blocks : Type 0
 Blocks = ℕ → Bool
 
--- The register that a number names at a port, given how the mode divides the queues into pools.
+-- The register that a number names at a port, in this pool mode.
 
 abbrev pub register_at : Located → Option Place
 register_at located_as.Absent = None
@@ -59,7 +60,7 @@ abbrev pub mode_through : ℕ → Mode → List Entry → Mode
 mode_through vfs mode [] = mode
 mode_through vfs mode (e ∷ es) = mode_through vfs (mode_after vfs mode e.event) es
 
--- Whether a driver relies on this register of the whole device.
+-- Whether this is a device-wide register that a driver relies on.
 abbrev pub is_setting : RowId → Bool
 is_setting Ctrl = true
 is_setting Hlreg0 = true
@@ -75,7 +76,7 @@ pub record Spares (queue : ℕ) (mode : Mode) (p : Place) (word : ℕ) : Type 0 
   pub transmit : IsTrue (is_transmit p.row) → p.index ≢ queue
   pub pool : IsTrue (asks_pool_reset (row_of p.row).kind word) → IsFalse (has_queue mode p.index queue)
 
--- The event writes no register that the queue relies on, at whatever address.
+-- The event writes no register that the queue relies on, whatever the address.
 abbrev pub SparesIfSome : ℕ → Mode → Option Place → ℕ → Type 0
 SparesIfSome queue mode None word = ⊤
 SparesIfSome queue mode (Some p) word = Spares queue mode p word
@@ -84,7 +85,7 @@ abbrev pub LeavesRegisters : Watched → Mode → Event Block → Type 0
 LeavesRegisters w mode (event.Write port number word) = SparesIfSome w.queue mode (place_at mode w.vfs port number) word
 LeavesRegisters w mode other = ⊤
 
--- The event lends, takes or pokes none of these blocks, whatever its reply.
+-- The event lends, takes or pokes none of these blocks, whatever the reply to the event.
 abbrev pub LeavesBlocks : Blocks → Event Block → Type 0
 LeavesBlocks mine (event.Lend block) = IsFalse (mine block.number)
 LeavesBlocks mine (event.Take number) = IsFalse (mine number)
@@ -129,8 +130,8 @@ abbrev pub has_begun : ℕ → List Entry → Bool
 has_begun pass [] = false
 has_begun pass (e ∷ es) = (e.pass == pass) || has_begun pass es
 
--- The history leaves the queue of a pass alone: each entry after the pass's first one does, with regard to all blocks
--- that the pass lends anywhere in the history.
+-- The history leaves the queue of a pass alone: each entry after the pass's first entry leaves the queue alone. The
+-- blocks to be left alone are all those that the pass lends anywhere in the history.
 abbrev pub LeavesAlone : Watched → List Entry → Type 0
 LeavesAlone w h =
     (before : List Entry) (e : Entry) (after : List Entry) → h ≡ before ++ e ∷ after → IsTrue (has_begun w.pass before)

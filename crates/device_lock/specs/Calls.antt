@@ -1,4 +1,4 @@
--- Calls as stored. For idle device steps, only which of them ran is stored.
+-- Calls as stored. For idle device steps, only which steps ran is stored.
 use Rattle.std.specs.Prelude.{List, [], ◌∷◌, ◌++◌}
 use Rattle.device_lock.specs.declared.calls.Made.{Made}
 use Rattle.device_lock.specs.declared.entry.Call.{Call}
@@ -9,11 +9,11 @@ use Rattle.device_lock.specs.Resting.{idle_calls, steps_in}
 abbrev pub rested_calls : IdleSteps → List Call
 rested_calls s = idle_calls (steps_in s)
 
--- Each call, after the idle steps before it.
+-- Each call, preceded by the idle steps that ran before it.
 abbrev pub made_calls : List Made → List Call
 made_calls [] = []
 made_calls (m ∷ more) = rested_calls m.rested ++ (m.call ∷ made_calls more)
 
--- These calls, with the idle steps after the last one.
+-- These calls, followed by the idle steps after the last call.
 abbrev pub calls_in : List Made → IdleSteps → List Call
 calls_in made rested = made_calls made ++ rested_calls rested

@@ -14,7 +14,7 @@ pub record ClosedValue : Type 0 where
   pub history : List Entry
   pub passes : ℕ
 
--- How many passes of the bench have this tag.
+-- How many of the bench's passes have this tag.
 abbrev pub tag_count : ℕ → ℕ → List PassValue → ℕ
 tag_count bench tag ps = count_by (λ (p : PassValue). (p.bench == bench) && (p.tag == tag)) ps
 
@@ -26,12 +26,12 @@ StandsIn h p = calls_of p.tag h ≡ p.calls
 abbrev pub AllThere : ℕ → ℕ → List PassValue → Type 0
 AllThere bench count ps = (tag : ℕ) → tag < count → 0 < tag_count bench tag ps
 
--- The passes are the bench's passes, one for each tag.
+-- These are all of the bench's passes, exactly one for each tag.
 pub record AreAll (bench count : ℕ) (ps : List PassValue) : Type 0 where
   pub own : All (IsOwn bench count) ps
   pub once : (tag : ℕ) → tag < count → tag_count bench tag ps ≡ 1
 
--- The passes with a tag have the calls that the history has for this tag. If no pass has the tag, no entry has it.
+-- Each pass with this tag has the calls that the history records for the tag. If no pass has the tag, no entry has it.
 pub record TagStands (h : List Entry) (tag : ℕ) (ps : List PassValue) : Type 0 where
   pub own : All (λ p. p.tag ≡ tag → StandsIn h p) ps
   pub none : All (λ p. p.tag ≢ tag) ps → entries_of tag h ≡ 0
@@ -42,7 +42,8 @@ pub record IsMissing (bench count : ℕ) (ps : List PassValue) (tag : ℕ) : Typ
   pub absent : tag_count bench tag ps ≡ 0
   pub lowest : (other : ℕ) → other < tag → 0 < tag_count bench other ps
 
--- No tag is missing, and a pass belongs to another bench, has no tag of this one, or has the tag of another pass.
+-- No tag is missing, and a pass belongs to another bench, has a tag that isn't one of this bench's, or has the tag of
+-- another pass.
 abbrev pub IsSurplus : ℕ → ℕ → List PassValue → Type 0
 IsSurplus bench count ps = AllThere bench count ps × ¬ AreAll bench count ps
 
@@ -59,8 +60,8 @@ pub record Closes (bench count : ℕ) (h : List Entry) (ps : List PassValue) : T
   pub stand : All (StandsIn h) ps
   pub below : AllBelow count h
 
--- The answer to closing: none if the passes close the history; otherwise, in this order, the lowest missing tag, a
--- surplus pass, or the lowest tag with different calls.
+-- What closing returns: `None` if the passes close the history. Otherwise it returns the first that applies of these:
+-- the lowest missing tag, a surplus pass, or the lowest tag with different calls.
 abbrev pub Answers : ℕ → ℕ → List Entry → List PassValue → Option CloseFault → Type 0
 Answers bench count h ps None = Closes bench count h ps
 Answers bench count h ps (Some (MissingPass tag)) = IsMissing bench count ps tag

@@ -1,4 +1,4 @@
--- Refused calls.
+-- The event in a refused call's error.
 use Rattle.device_lock.specs.declared.fault.CallFault.{CallFault}
 use Rattle.device_lock.specs.declared.fault.CallFault.TheVariants.{ForeignPass, HistoryFull, OutOfMemory}
 

@@ -29,11 +29,11 @@ abbrev pub AllBelow : ℕ → List Entry → Type 0
 AllBelow n [] = ⊤
 AllBelow n (e ∷ es) = (e.pass < n) × AllBelow n es
 
--- An event of a pass, with its reply.
+-- The entry for an event of a pass and its reply.
 abbrev pub entry_of : ℕ → Event Block → Reply Block → Entry
 entry_of tag event reply = record { pass = tag; event = event; reply = reply }
 
--- The call of an entry.
+-- The call that an entry records.
 abbrev pub call_in : Entry → Call
 call_in e = record { event = e.event; reply = e.reply }
 

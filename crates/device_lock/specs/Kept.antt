@@ -17,9 +17,9 @@ pub record Held : Type 0 where
 abbrev pub entries_of : ℕ → List Entry → ℕ
 entries_of tag h = count_by (λ (e : Entry). e.pass == tag) h
 
--- The history is legal from a new device and leads to the state of the device under the lock. Its events are ones that
--- a driver can cause, and its tags are below 64. It is no longer than the limit, which is at most 1,000,000. The count
--- of each tag below 64 is its number of entries.
+-- The history is legal from a new device and leads to the state of the device under the lock. The history's events are
+-- ones that a driver can cause, and its tags are below 64. The history is no longer than the limit, which is at most
+-- 1,000,000. For each tag below 64, the count is the number of entries with that tag.
 pub record IsKept (vfs fifo : ℕ) (h : Held) (counts : List ℕ) : Type 0 where
   pub legal : IsLegal (new_state vfs fifo) h.history
   pub leads : leads_to (new_state vfs fifo) h.history ≡ h.device
@@ -34,11 +34,12 @@ pub record IsLed (vfs fifo : ℕ) (h : Held) : Type 0 where
   pub legal : IsLegal (new_state vfs fifo) h.history
   pub leads : leads_to (new_state vfs fifo) h.history ≡ h.device
 
--- No call has been made yet.
+-- The data under the lock before the first call.
 abbrev pub opened : ℕ → ℕ → ℕ → Held
 opened vfs fifo limit = record { device = new_state vfs fifo; history = []; limit = limit }
 
--- After one call: the device is in the state after the event, and the history contains its entry.
+-- The data under the lock after one more call: the device is in the state after the event, and the event's entry is
+-- appended to the history.
 abbrev pub after_call : Held → ℕ → Event Block → Held
 after_call h tag event = record h {
   device = (step_of h.device event).state;

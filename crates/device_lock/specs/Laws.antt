@@ -1,4 +1,4 @@
--- Legal histories, described by the run of their events.
+-- How legal histories are related to the run of their events.
 use Rattle.std.specs.Prelude.{◌≡◌, ◌↔◌, List, map}
 use Rattle.nic_device.specs.Run.{replies_of, state_after}
 use Rattle.nic_device.specs.State.{State}

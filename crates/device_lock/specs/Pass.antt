@@ -31,7 +31,7 @@ fresh_pass bench tag = record { bench = bench; tag = tag; calls = [] }
 abbrev pub with_call : PassValue → Event Block → Reply Block → PassValue
 with_call p event reply = record p { calls = p.calls ++ call_of event reply ∷ [] }
 
--- The passes have no calls, and their tags are consecutive, starting with this one.
+-- The passes have no calls, and their tags are consecutive, starting with this tag.
 abbrev pub AreFresh : ℕ → ℕ → List PassValue → Type 0
 AreFresh bench tag [] = ⊤
 AreFresh bench tag (p ∷ ps) = (p ≡ fresh_pass bench tag) × AreFresh bench (tag + 1) ps

@@ -1,4 +1,4 @@
--- Where the entries of one pass are in a history.
+-- Where one pass's entries are in a history.
 use Rattle.std.specs.Prelude.{ℕ, ◌+◌, ◌==◌, List, [], ◌∷◌, if◌then◌else◌}
 use Rattle.device_lock.specs.declared.entry.Entry.{Entry}
 

@@ -19,7 +19,7 @@ use Rattle.device_lock.specs.declared.reported.Settings.{Settings}
 abbrev pub limit_of : Frames → ℕ
 limit_of f = if f.jumbo then f.longest - 4 else 1514
 
--- How long frames may be after a reset.
+-- The frame length settings after a reset.
 abbrev pub usual_frames : Frames
 usual_frames = record { jumbo = false; longest = 1518 }
 
@@ -27,7 +27,7 @@ usual_frames = record { jumbo = false; longest = 1518 }
 abbrev pub first_settings : Settings
 first_settings = record { mode = Off; frames = usual_frames }
 
--- How long frames may be after a write. HLREG0 bit 2 determines whether MAXFRS applies, MAXFRS bits 31 to 16 contain
+-- The frame length settings after a write. HLREG0 bit 2 determines whether MAXFRS applies, MAXFRS bits 31 to 16 contain
 -- the maximum frame length, and a device reset undoes both.
 abbrev pub frames_set : Frames → RowId → ℕ → Frames
 frames_set f Hlreg0 word = record f { jumbo = has_bit 2 word }

@@ -21,24 +21,24 @@ idle_calls events = map (λ (e : Event Block). call_of e Idle) events
 abbrev pub idle_entries : ℕ → List (Event Block) → List Entry
 idle_entries tag events = map (λ (e : Event Block). entry_of tag e Idle) events
 
--- The event, if it ran.
+-- A list of the event, or an empty list if the event didn't run.
 abbrev pub step_if : Bool → Event Block → List (Event Block)
 step_if true e = e ∷ []
 step_if false e = []
 
--- The device steps of a queue that ran, in order.
+-- The queue's device steps that ran, in order.
 abbrev pub steps_in : IdleSteps → List (Event Block)
 steps_in s =
     step_if s.receive_side (event.QueueStep dir.Rx s.queue)
     ++ (step_if s.transmit_side (event.QueueStep dir.Tx s.queue)
     ++ (step_if s.sending (event.TxStep s.queue) ++ step_if s.receiving event.RxStep))
 
--- Each event is idle.
+-- Each event would be idle in this state.
 abbrev pub AreIdle : State → List (Event Block) → Type 0
 AreIdle s [] = ⊤
 AreIdle s (e ∷ events) = IsIdle s e × AreIdle s events
 
--- The data under the lock after some calls of one pass.
+-- The data under the lock after some calls made by one pass.
 abbrev pub after_calls : Held → ℕ → List (Event Block) → Held
 after_calls h tag [] = h
 after_calls h tag (e ∷ events) = after_calls (after_call h tag e) tag events

@@ -1,4 +1,4 @@
--- A pass that runs its queue's device steps before a call.
+-- How a pass runs its queue's device steps before a call.
 use Rattle.std.specs.Prelude.{◌≡◌, ℕ, List, [], ◌∷◌, ◌++◌, map, take}
 use Rattle.nic_device.specs.DmaArena.Block.{Block}
 use Rattle.nic_device.specs.State.{State}
@@ -25,7 +25,7 @@ with_calls p calls = record p { calls = p.calls ++ calls }
 abbrev pub events_in : List Call → List (Event Block)
 events_in calls = map (λ (c : Call). c.event) calls
 
--- The pass ran these events, with any replies.
+-- The pass ran these events, whatever their replies.
 abbrev pub AreStepped : PassValue → PassValue → List (Event Block) → Type 0
 AreStepped old new events =
     (steps : List Call) × (events_in steps ≡ events) × (new ≡ with_calls old steps)
@@ -40,13 +40,13 @@ StepsAndMakes queue old new event reply =
     (steps : List Call) × (events_in steps ≡ steps_of_queue queue)
     × (new ≡ with_calls old (steps ++ call_of event reply ∷ []))
 
--- The calls of these events, which run starting in a state, each with the device's reply.
+-- The calls of these events, run from a state, each with the device's reply.
 abbrev pub calls_made : State → List (Event Block) → List Call
 calls_made s [] = []
 calls_made s (event ∷ events) = call_of event (step_of s event).reply ∷ calls_made (step_of s event).state events
 
--- These events ran on the device under the lock, as calls of the pass. Only they change the data under the lock, and
--- the pass gained exactly their calls, each with the device's reply.
+-- These events ran on the device under the lock, as calls made by the pass. Only these events changed the data under
+-- the lock. The pass gained exactly their calls, each with the device's reply.
 pub record AreMade (held : Held) (old : PassValue) (events : List (Event Block)) (then : Held) (new : PassValue)
     : Type 0 where
   pub under : then ≡ after_calls held old.tag events

@@ -1,4 +1,4 @@
-//! Whether a history leaves a queue alone, judged by what other passes did to the queue after its driver began.
+//! Whether a history leaves a queue alone, judged by what other passes did to the queue after the queue's driver began.
 
 ghost use Rattle.std.specs.Prelude.{◌≡◌, ◌↔◌, ◌==◌, ◌||◌, not, ℕ, IsTrue, IfSome, IfNone, false};
 ghost use Rattle.nic_device.specs.VfMap.declared.mode.Mode.TheVariants.{Off};
@@ -20,17 +20,17 @@ type Blocks = [bool; BLOCK_NUMBERS as usize];
 /// The queue to watch, and the pass of its driver.
 #[derive(Clone, Copy)]
 pub struct Watched {
-    /// The number of virtual functions of the device.
+    /// The device's number of virtual functions.
     pub vfs: u8,
-    /// The tag of the pass of the queue's driver.
+    /// The tag of the pass that the queue's driver has.
     pub pass: u8,
-    /// The number of the queue, among the device's 128.
+    /// The queue's number, among the device's 128 queues.
     pub queue: u16,
 }
 
-/// Returns the register that a number names at a port, in this pool mode and with `vfs` virtual functions, as
-/// `left_alone` looks it up for each write. The number is a register address of the physical function, or an offset of
-/// a virtual function. Returns `None` if it names no register.
+/// Returns the register that `number` names at a port, or `None` if `number` names no register. The number is a
+/// register address of the physical function, or an offset of a virtual function. The result depends on the pool mode
+/// and on `vfs`, the number of virtual functions. `left_alone` looks up the register of each write like this.
 pub fn place_at(mode: Mode, vfs: u8, port: Port, number: u32) -> Option<Place>
     ensures { result ≡ place_at mode vfs port number }
 {
@@ -43,7 +43,7 @@ pub fn place_at(mode: Mode, vfs: u8, port: Port, number: u32) -> Option<Place>
     }
 }
 
-/// Returns the mode after a write.
+/// Returns the pool mode after a write.
 fn mode_written(mode: Mode, place: Option<Place>, word: u32) -> Mode
     ensures { result ≡ mode_written mode place word }
 {
@@ -53,7 +53,7 @@ fn mode_written(mode: Mode, place: Option<Place>, word: u32) -> Mode
     }
 }
 
-/// Returns the mode after a write to a register.
+/// Returns the pool mode after a write to a register.
 fn mode_set(mode: Mode, place: Place, word: u32) -> Mode
     ensures { result ≡ mode_set mode place.row word }
 {
@@ -64,7 +64,7 @@ fn mode_set(mode: Mode, place: Place, word: u32) -> Mode
     }
 }
 
-/// Returns the mode after an event.
+/// Returns the pool mode after an event.
 pub(crate) fn mode_after(vfs: u8, mode: Mode, event: &EventNote) -> Mode
     ensures { result ≡ mode_after vfs mode event.now }
 {
@@ -76,7 +76,7 @@ pub(crate) fn mode_after(vfs: u8, mode: Mode, event: &EventNote) -> Mode
     }
 }
 
-/// Returns whether a driver relies on this register of the whole device.
+/// Returns whether this is a device-wide register that a driver relies on.
 fn is_setting(row: RowId) -> bool
     ensures { result ≡ is_setting row }
 {
@@ -86,7 +86,7 @@ fn is_setting(row: RowId) -> bool
     )
 }
 
-/// Returns whether writing this register changes nothing that the queue relies on.
+/// Returns whether this write to a register changes nothing that the queue relies on.
 fn spares(queue: u16, mode: Mode, place: Place, word: u32) -> bool
     ensures { result ≡ spares queue mode place word }
 {
@@ -151,7 +151,7 @@ fn is_clear(blocks: &Blocks, at: u64, len: u64) -> bool
     true
 }
 
-/// Returns whether everything that another queue's step wrote is outside the blocks.
+/// Returns whether the reply reports no write into the blocks by another queue's step.
 fn writes_outside(queue: u16, blocks: &Blocks, reply: &ReplyNote) -> bool
     ensures { result ≡ writes_outside queue (marked blocks.now) reply.now }
 {
@@ -186,7 +186,7 @@ fn leaves_alone(watched: Watched, blocks: &Blocks, mode: Mode, entry: &Entry) ->
         && writes_outside(watched.queue, blocks, &entry.reply)
 }
 
-/// Returns the block that an entry lends.
+/// Returns the number of the block that an entry lends, or `None` if the entry lends none.
 fn lends(entry: &Entry) -> Option<u32>
     ensures none { IfNone result ((number : ℕ) → lends entry.now.event entry.now.reply number ≡ false) }
     ensures some { IfSome result
@@ -198,7 +198,7 @@ fn lends(entry: &Entry) -> Option<u32>
     }
 }
 
-/// Marks the block that an entry of the pass lends.
+/// Marks the block that an entry lends, if the entry belongs to the pass.
 fn mark(blocks: &mut Blocks, pass: u8, entry: &Entry)
     ensures { (number : ℕ) → marked blocks.new number ≡ (marked blocks.old number || lent_in pass entry.now number) }
 {
@@ -221,13 +221,13 @@ fn lent_by(pass: u8, history: &[Entry]) -> Blocks
     blocks
 }
 
-/// Returns whether a history of a new device leaves a queue alone.
+/// Returns whether a history that starts with a new device leaves a queue alone.
 ///
-/// After the first entry of the driver's pass, no entry of another pass may write a register of the queue, or CTRL,
-/// HLREG0, MAXFRS or GCR_EXT. None may reset a pool that contains the queue. None may lend, take or poke a block that
-/// the pass lends anywhere in the history; peeking at such a block is allowed. Entries of the pass itself may do all of
-/// this. But after that first entry, no entry of any pass may report that another queue's step wrote into one of these
-/// blocks. It allocates nothing.
+/// The rules apply after the first entry of the driver's pass. No entry of another pass may write a register of the
+/// queue, or CTRL, HLREG0, MAXFRS or GCR_EXT. No entry of another pass may reset a pool that contains the queue. No
+/// entry of another pass may lend, take or poke a block that the driver's pass lends anywhere in the history; peeking
+/// at such a block is allowed. Entries of the driver's pass may do all of this. But no entry of any pass may report
+/// that another queue's step wrote into one of these blocks. This function allocates nothing.
 pub fn left_alone(watched: Watched, history: &[Entry]) -> bool
     ensures { IsTrue result ↔ LeavesAlone watched history.now }
 {
@@ -235,7 +235,7 @@ pub fn left_alone(watched: Watched, history: &[Entry]) -> bool
     are_left_alone(watched, &blocks, history)
 }
 
-/// Returns what `left_alone` does, given the blocks that the pass lends.
+/// Returns the same as `left_alone`, given the blocks that the driver's pass lends.
 fn are_left_alone(watched: Watched, blocks: &Blocks, history: &[Entry]) -> bool
     ensures { result ≡ rest_leaves_alone watched (marked blocks.now) Off false history.now }
 {
@@ -251,14 +251,14 @@ fn are_left_alone(watched: Watched, blocks: &Blocks, history: &[Entry]) -> bool
     true
 }
 
-/// Returns whether an entry leaves the queue alone, or its driver hasn't begun.
+/// Returns whether an entry leaves the queue alone, or the queue's driver hasn't begun yet.
 fn passes(watched: Watched, blocks: &Blocks, mode: Mode, begun: bool, entry: &Entry) -> bool
     ensures { result ≡ (not begun || leaves_alone watched (marked blocks.now) mode entry.now) }
 {
     !begun || leaves_alone(watched, blocks, mode, entry)
 }
 
-/// Returns whether the driver has begun, after an entry.
+/// Returns whether the queue's driver has begun, counting this entry.
 fn has_begun(watched: Watched, begun: bool, entry: &Entry) -> bool
     ensures { result ≡ (begun || (entry.now.pass == watched.pass)) }
 {

@@ -1,4 +1,4 @@
-//! The calls made to a device, in hand or under its lock.
+//! The calls made to a device that is in hand or under a lock.
 
 ghost use Rattle.std.specs.Prelude.{◌≡◌, ◌≢◌, ◌<◌, ◌++◌, ◌∷◌, ◌*◌, ◌+◌, ◌≤◌, [], true, false, None, Err, IfOk, IfErr, OnOk, OnErr, length};
 ghost use Rattle.std.specs.Vec.{vec_len, vec_capacity};
@@ -34,7 +34,7 @@ pub struct Made {
     pub call: Call,
 }
 
-/// The calls made to a device, with their replies, oldest first. Idle device steps of a queue take no extra room.
+/// The calls made to a device, with their replies, oldest first. A queue's idle device steps take no extra room.
 #[derive(Debug, Drop)]
 pub struct Calls {
     made: Vec<Made>,
@@ -66,16 +66,17 @@ impl Calls {
         }
     }
 
-    /// Returns the calls as stored: each with the idle device steps before it, and the idle steps after the last one.
+    /// Returns the calls as stored: each call with the idle device steps before it, and separately the idle steps after
+    /// the last call.
     pub fn kept(&self) -> (&[Made], IdleSteps)
         ensures { calls_in result.0.now result.1 ≡ self.now }
     {
         (self.made.as_slice(), self.rested)
     }
 
-    /// Runs the device steps of a queue only if the queue is at rest: each step is then idle and leaves the device
-    /// unchanged. It may run none even if the queue is at rest; no clause states when. Records the calls if the steps
-    /// ran, and returns whether they did. It allocates nothing.
+    /// Runs a queue's device steps, but only if the queue is at rest. Each step is then idle and leaves the device
+    /// unchanged. Returns whether the steps ran; if they did, records their calls. Even if the queue is at rest, the
+    /// function may run no step; no clause states when. It allocates nothing.
     pub fn rest(&mut self, device: &Device, queue: u16) -> bool
         ensures made { result ≡ true → self.new ≡ self.old ++ idle_calls (steps_of_queue queue) }
         ensures idle { result ≡ true → Rests device.now queue }
@@ -90,9 +91,9 @@ impl Calls {
         }
     }
 
-    /// Runs a device step only if it is idle, and records its call among the idle steps since the last call. It does
-    /// nothing if the step isn't idle, and sometimes even if it is; no clause states when. Returns whether the step
-    /// ran. It allocates nothing.
+    /// Runs a device step only if the step is idle, and records its call among the idle steps since the last call.
+    /// Returns whether the step ran. If the step isn't idle, the function does nothing. It may also do nothing for an
+    /// idle step; no clause states when. It allocates nothing.
     #[inline(always)]
     pub fn idle(&mut self, device: &Device, step: &Event) -> bool
         ensures made { result ≡ true → self.new ≡ self.old ++ call_of step.now Idle ∷ [] }
@@ -146,9 +147,9 @@ impl Calls {
         Ok(reply)
     }
 
-    /// Runs the device steps of a queue under the lock, for the pass with this tag. It does so if the queue is at rest,
-    /// the history has room for their entries, and there is memory. All of them are then idle. Otherwise it runs none;
-    /// it also runs none if some have run since the last call. Returns whether they ran.
+    /// Runs a queue's device steps under the lock, for the pass with this tag, and returns whether they ran. They run
+    /// if the queue is at rest, the history has room for their entries, and there is memory. All of them are then idle.
+    /// Otherwise none of them runs. Nor do they run if idle steps have already run since the last call.
     pub(crate) fn rest_locked<const VFS: u8, const FIFO: u16>(
         &mut self,
         locked: &mut Locked<VFS, FIFO>,
@@ -172,9 +173,9 @@ impl Calls {
         }
     }
 
-    /// Runs a device step under the lock, for the pass with this tag. It does so if the step is idle, it comes after
-    /// the steps recorded since the last call, and the history has room for its entry. Otherwise it does nothing.
-    /// Returns whether it ran.
+    /// Runs a device step under the lock, for the pass with this tag, and returns whether the step ran. The step runs
+    /// if it is idle and comes after the steps recorded since the last call, and the history has room for its entry.
+    /// Otherwise nothing happens.
     #[inline(always)]
     pub(crate) fn idle_locked<const VFS: u8, const FIFO: u16>(
         &mut self,
@@ -237,7 +238,8 @@ impl Calls {
         Ok(reply)
     }
 
-    /// Expands the calls into a list with every call separate. If there is no memory for it, returns them unchanged.
+    /// Expands the calls into a list with every call separate. If there is no memory for the list, returns the calls
+    /// unchanged.
     pub fn into_vec(self, alloc: Global) -> Result<Vec<Call>, Calls>
         ensures calls { IfOk result (λ calls. calls.items ≡ self) }
         ensures refused { IfErr result (λ calls. calls ≡ self) }
@@ -271,7 +273,7 @@ pub(crate) fn end_event(event: Event)
     }
 }
 
-/// Makes room for the first calls, if there is memory, so that calls are moved less often.
+/// Reserves room for the first calls, if there is memory. The vector then moves its calls less often as it grows.
 fn make_room(made: &mut Vec<Made>)
     ensures { made.new.items ≡ made.old.items }
 {
@@ -280,7 +282,7 @@ fn make_room(made: &mut Vec<Made>)
     }
 }
 
-/// Appends a call after the others and the idle steps that follow them. There is room for it.
+/// Appends a call after the stored calls and the idle steps that follow them. The vector has room for the call.
 fn put_call(made: &mut Vec<Made>, rested: &mut IdleSteps, event: EventNote, reply: ReplyNote)
     requires { vec_len made.old < vec_capacity made.old }
     ensures { calls_in made.new.items rested.new ≡ calls_in made.old.items rested.old ++ call_of event reply ∷ [] }
@@ -292,8 +294,8 @@ fn put_call(made: &mut Vec<Made>, rested: &mut IdleSteps, event: EventNote, repl
     *rested = IdleSteps::none();
 }
 
-/// Reserves room for `count` calls, for the device steps before each, and for those after the last. Returns whether
-/// there is memory for it.
+/// Reserves room for `count` calls, the device steps before each call, and the device steps after the last call.
+/// Returns whether there was enough memory.
 fn reserve_for(calls: &mut Vec<Call>, count: usize) -> bool
     requires { calls.old.items ≡ [] }
     ensures same { calls.new.items ≡ [] }

@@ -19,8 +19,8 @@ use std::alloc::{AllocError, Global};
 use std::marker::Model;
 use std::sync::Mutex;
 
-/// A device that was shared, with the history of its calls. Each tag in it is below the number of passes. It can't be
-/// dropped; you must take the device out.
+/// A device that was shared, with the history of its calls. Each tag in the history is below the number of passes. A
+/// `Closed` can't be dropped; you must take the device out.
 pub struct Closed<const VFS: u8, const FIFO: u16> {
     unlocked: Unlocked<VFS, FIFO>,
     passes: u8,
@@ -42,8 +42,8 @@ impl<const VFS: u8, const FIFO: u16> Model for Closed<VFS, FIFO> {
 }
 
 impl<const VFS: u8, const FIFO: u16> Closed<VFS, FIFO> {
-    /// Returns all calls, oldest first. They are legal from a new device and lead to the state of the device stored
-    /// here. Each belongs to a pass. Their events are ones that a driver can cause.
+    /// Returns all calls, oldest first. The history is legal from a new device and leads to the state of the device
+    /// stored here. Each call belongs to a pass. Each event is one that a driver can cause.
     pub fn history(&self) -> &[Entry]
         ensures entries { result.now ≡ self.now.history }
         ensures legal { IsLegal (new_state VFS FIFO) self.now.history }
@@ -54,16 +54,16 @@ impl<const VFS: u8, const FIFO: u16> Closed<VFS, FIFO> {
         self.unlocked.history()
     }
 
-    /// Returns the positions in the history of the calls of the pass with this tag. The first call of the history is at
-    /// 0.
+    /// Returns the positions, in the history, of the calls made by the pass with this tag. The history's first call is
+    /// at position 0.
     pub fn of_pass(&self, alloc: Global, tag: u8) -> Result<Vec<usize>, AllocError>
         ensures { IfOk result (λ places. places.items ≡ positions_of tag self.now.history) }
     {
         positions(alloc, self.unlocked.history(), tag)
     }
 
-    /// Returns whether the history leaves a queue of the device alone, if the queue's driver has the pass with this
-    /// tag. See `left_alone` for the definition. It never blocks and allocates nothing.
+    /// Returns whether the history leaves a queue of the device alone. `pass` is the tag of the pass that the queue's
+    /// driver has. The function `left_alone` gives the definition. This call never blocks and allocates nothing.
     pub fn left_alone(&self, pass: u8, queue: u16) -> bool
         ensures { IsTrue result ↔ LeavesAlone (record { vfs = VFS; pass = pass; queue = queue }) self.now.history }
     {
@@ -75,7 +75,7 @@ impl<const VFS: u8, const FIFO: u16> Closed<VFS, FIFO> {
         left_alone(watched, self.unlocked.history())
     }
 
-    /// Returns the device, in the state that the history led to.
+    /// Returns the device, in the state that the history leads to.
     pub fn into_device(self) -> Device
         ensures { result ≡ self.entry.device }
     {
@@ -88,12 +88,13 @@ impl<const VFS: u8, const FIFO: u16> Closed<VFS, FIFO> {
 }
 
 impl<const VFS: u8, const FIFO: u16> Unlocked<VFS, FIFO> {
-    /// Returns why these passes don't close the history of the bench with this number and `count` passes, at most 64.
-    /// Returns `None` if they do.
+    /// Returns why these passes don't close the history, or `None` if they do. The bench has this number and `count`
+    /// passes, at most 64.
     ///
-    /// The reasons, in this order: `MissingPass` with the lowest tag that no pass of the bench has; `ForeignPass` if a
-    /// pass belongs to another bench, has no tag of this one, or has the tag of another pass; `Mismatch` with the
-    /// lowest tag for which the entries aren't the calls of its pass, in order, or which has entries but no pass.
+    /// The first of these reasons that applies is returned. `MissingPass` contains the lowest tag that no pass of the
+    /// bench has. `ForeignPass` means that a pass belongs to another bench, has a tag that isn't one of this bench's,
+    /// or has the tag of another pass. `Mismatch` contains the lowest tag for which the entries aren't the calls of its
+    /// pass in order, or which has entries but no pass.
     pub fn refusal(&self, bench: u64, count: u8, passes: &[Pass]) -> Option<CloseFault>
         requires { count ≤ 64 }
         ensures answers { Answers bench count self.now.history passes.now result }
@@ -116,8 +117,8 @@ impl<const VFS: u8, const FIFO: u16> Unlocked<VFS, FIFO> {
 impl<const VFS: u8, const FIFO: u16> Locked<VFS, FIFO> {
     /// Closes the contents of a lock, for the bench with this number and `count` passes, at most 64.
     ///
-    /// If these passes don't close it, returns the reason, as `Unlocked::refusal` does, and the contents: the same
-    /// device, history and limit.
+    /// If these passes don't close the contents, returns the reason, as `Unlocked::refusal` does, and the contents with
+    /// the same device, history and limit.
     pub fn close(
         self,
         bench: u64,
@@ -150,10 +151,11 @@ impl<const VFS: u8, const FIFO: u16> Locked<VFS, FIFO> {
 impl<const VFS: u8, const FIFO: u16> Shared<VFS, FIFO> {
     /// Closes a shared device with its passes. It never blocks.
     ///
-    /// Fails with `MissingPass` if and only if no pass of this bench has some tag; the error then contains the lowest
-    /// such tag. If no tag is missing, fails with `ForeignPass` if and only if a pass belongs to another bench, has no
-    /// tag of this one, or shares another pass's tag. Any other error is `Mismatch`, with the lowest tag for which the
-    /// entries in some legal history aren't the calls of its pass. Each error returns the shared device and the passes.
+    /// Fails with `MissingPass` if and only if a tag is missing, that is, no pass of this bench has the tag. The error
+    /// contains the lowest missing tag. If no tag is missing, fails with `ForeignPass` if and only if a pass belongs to
+    /// another bench, has a tag that isn't one of this bench's, or has another pass's tag. Any other error is
+    /// `Mismatch`. It contains the lowest tag for which, in some legal history, the entries aren't the calls of its
+    /// pass. Each error returns the shared device and the passes.
     pub fn close(self, passes: Vec<Pass>) -> Result<Closed<VFS, FIFO>, CloseRefused<VFS, FIFO>>
         ensures closed { IfOk result
             (λ closed. Closes self.entry.bench self.entry.passes closed.history passes.items) }
@@ -162,7 +164,7 @@ impl<const VFS: u8, const FIFO: u16> Shared<VFS, FIFO> {
             ↔ IsMissing self.entry.bench self.entry.passes passes.items tag }
         ensures foreign { IsErrAnd result (λ refused. refused.fault ≡ CloseFault.ForeignPass)
             ↔ IsSurplus self.entry.bench self.entry.passes passes.items }
-        // Some legal history differs from the passes in this way.
+        // In some legal history, this tag is the lowest whose entries aren't the calls of its pass.
         ensures mismatch { (tag : ℕ) → IsErrAnd result (λ refused. refused.fault ≡ CloseFault.Mismatch tag)
             → AreAll self.entry.bench self.entry.passes passes.items × Differs VFS FIFO passes.items tag }
         // Closing never fails for lack of memory.

@@ -17,7 +17,8 @@ use crate::resting::{IdleSteps, idle_call};
 use crate::shared::MAX_PASSES;
 use nic_device::{Dir, Event, EventNote};
 
-/// Skips past the next entry with this tag, if it is the entry of this call. Returns the entries after it.
+/// Returns the entries after the next one with this tag, or `None` if no such entry exists or it doesn't record this
+/// call.
 fn after_call<'a>(history: &'a [Entry], tag: u8, call: &Call) -> Option<&'a [Entry]>
     ensures some { IfSome result (λ rest. calls_of tag history.now ≡ call.now ∷ calls_of tag rest.now) }
     ensures none { IfNone result ((more : List Call) → calls_of tag history.now ≢ call.now ∷ more) }
@@ -33,8 +34,8 @@ fn after_call<'a>(history: &'a [Entry], tag: u8, call: &Call) -> Option<&'a [Ent
     None
 }
 
-/// If the step ran, skips past the next entry with this tag, which must be idle and for this event; otherwise skips
-/// nothing. Returns the entries after it.
+/// If the step ran, skips past the next entry with this tag, which must record this event as idle. If the step didn't
+/// run, skips nothing. Returns the remaining entries.
 fn after_step<'a>(
     history: &'a [Entry],
     tag: u8,
@@ -53,8 +54,7 @@ fn after_step<'a>(
     }
 }
 
-/// Skips past the next entries with this tag, if they are the entries of these idle device steps. Returns the entries
-/// after them.
+/// Skips past the next entries with this tag, which must record these idle device steps. Returns the remaining entries.
 fn after_rested<'a>(history: &'a [Entry], tag: u8, rested: IdleSteps) -> Option<&'a [Entry]>
     ensures some { IfSome result (λ rest. calls_of tag history.now ≡ rested_calls rested ++ calls_of tag rest.now) }
     ensures none { IfNone result ((more : List Call) → calls_of tag history.now ≢ rested_calls rested ++ more) }
@@ -76,8 +76,8 @@ fn after_rested<'a>(history: &'a [Entry], tag: u8, rested: IdleSteps) -> Option<
     after_step(rest, tag, rested.receiving, Event::RxStep)
 }
 
-/// Skips past the next entries with this tag, if they are the entries of a call and of the steps before it. Returns the
-/// entries after them.
+/// Skips past the next entries with this tag, which must record a call and the steps before the call. Returns the
+/// remaining entries.
 fn after_made<'a>(history: &'a [Entry], tag: u8, made: &Made) -> Option<&'a [Entry]>
     ensures some { IfSome result
         (λ rest. calls_of tag history.now ≡ made_calls (made.now ∷ []) ++ calls_of tag rest.now) }
@@ -118,8 +118,8 @@ pub(crate) fn stands(history: &[Entry], tag: u8, calls: &Calls) -> bool
     }
 }
 
-/// Returns whether the passes with a tag have the calls that the history has for this tag. If there are such calls,
-/// there must also be such a pass.
+/// Returns whether each pass with this tag has the calls that the history records for the tag. If the history records
+/// such calls, a pass with this tag must exist.
 fn tag_stands(history: &[Entry], count: u32, tag: u8, passes: &[Pass]) -> bool
     requires { count ≡ entries_of tag history.now }
     ensures { IsTrue result ↔ TagStands history.now tag passes.now }
@@ -134,21 +134,21 @@ fn is_unused(tag: u8, passes: &[Pass]) -> bool
     passes.iter().all(|pass| pass.tag() != tag)
 }
 
-/// Returns whether the passes with a tag have the calls that the history has for this tag.
+/// Returns whether each pass with this tag has the calls that the history records for the tag.
 fn own_stand(history: &[Entry], tag: u8, passes: &[Pass]) -> bool
     ensures { IsTrue result ↔ All (λ p. p.tag ≡ tag → StandsIn history.now p) passes.now }
 {
     passes.iter().all(|pass| stands_as(history, tag, pass))
 }
 
-/// Returns whether the pass, if it has this tag, has the calls that the history has for this tag.
+/// Returns whether the pass has another tag, or has the calls that the history records for this tag.
 fn stands_as(history: &[Entry], tag: u8, pass: &Pass) -> bool
     ensures { IsTrue result ↔ (pass.now.tag ≡ tag → StandsIn history.now pass.now) }
 {
     pass.tag() != tag || stands(history, tag, pass.calls())
 }
 
-/// Returns the number of passes of the bench with this tag.
+/// Returns how many of the bench's passes have this tag.
 fn tag_count(bench: u64, tag: u8, passes: &[Pass]) -> usize
     ensures { result ≡ tag_count bench tag passes.now }
 {
@@ -158,7 +158,7 @@ fn tag_count(bench: u64, tag: u8, passes: &[Pass]) -> usize
         .count()
 }
 
-/// Returns the lowest tag that no pass has.
+/// Returns the lowest tag below `count` that no pass of the bench has, or `None` if no tag is missing.
 pub(crate) fn lowest_missing(bench: u64, count: u8, passes: &[Pass]) -> Option<u8>
     ensures some { IfSome result (λ tag. IsMissing bench count passes.now tag) }
     ensures none { IfNone result (AllThere bench count passes.now) }
@@ -171,7 +171,7 @@ pub(crate) fn lowest_missing(bench: u64, count: u8, passes: &[Pass]) -> Option<u
     None
 }
 
-/// Returns whether the passes are the bench's passes, one for each tag.
+/// Returns whether these are all of the bench's passes, exactly one for each tag.
 pub(crate) fn are_all(bench: u64, count: u8, passes: &[Pass]) -> bool
     ensures { IsTrue result ↔ AreAll bench count passes.now }
 {
@@ -187,7 +187,7 @@ fn are_own(bench: u64, count: u8, passes: &[Pass]) -> bool
         .all(|pass| pass.bench() == bench && pass.tag() < count)
 }
 
-/// Returns whether each tag has exactly one pass.
+/// Returns whether exactly one pass of the bench has each tag below `count`.
 fn is_each_once(bench: u64, count: u8, passes: &[Pass]) -> bool
     ensures { IsTrue result ↔ ((tag : ℕ) → tag < count → tag_count bench tag passes.now ≡ 1) }
 {
@@ -199,7 +199,8 @@ fn is_each_once(bench: u64, count: u8, passes: &[Pass]) -> bool
     true
 }
 
-/// Returns the lowest tag for which the entries aren't the calls of its pass, given the number of entries of each tag.
+/// Returns the lowest tag for which the entries aren't the calls of its pass, or which has entries but no pass.
+/// `counts` contains the number of entries with each tag.
 pub(crate) fn lowest_mismatch(history: &[Entry], counts: &Counts, passes: &[Pass]) -> Option<u8>
     requires { (tag : ℕ) → tag < 64 → slice_index counts.now tag ≡ entries_of tag history.now }
     ensures some { IfSome result (λ tag. IsMismatch history.now passes.now tag) }

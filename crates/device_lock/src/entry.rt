@@ -12,10 +12,10 @@ pub struct Call {
     pub reply: ReplyNote,
 }
 
-/// A call in the history.
+/// A call in the history, with the tag of the pass that made it.
 #[derive(Debug, Drop)]
 pub struct Entry {
-    /// The tag of the pass that made it; under a lock it is below 64.
+    /// The tag of the pass that made the call. In a history under a lock, each tag is below 64.
     pub pass: u8,
     /// The event, as a note.
     pub event: EventNote,
@@ -24,7 +24,7 @@ pub struct Entry {
 }
 
 impl Call {
-    /// Returns whether the entry is of this call.
+    /// Returns whether the entry records this call.
     pub fn is_in(&self, entry: &Entry) -> bool
         ensures { IsTrue result ↔ (self.now ≡ call_in entry.now) }
     {

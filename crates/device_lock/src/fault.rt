@@ -14,10 +14,10 @@ pub enum NewFault {
     OutOfMemory,
 }
 
-/// Why a call was refused. It returns the event, which wasn't applied.
+/// Why a call was refused. Each reason returns the event, which wasn't applied.
 #[derive(Debug, Drop)]
 pub enum CallFault<E = Event> {
-    /// The pass belongs to another bench, or has no tag of this one.
+    /// The pass belongs to another bench, or its tag isn't one of this bench's.
     ForeignPass(E),
     /// The history is at its limit.
     HistoryFull(E),
@@ -42,9 +42,9 @@ impl<E> CallFault<E> {
 /// Why a shared device stays open.
 #[derive(Clone, Copy, PartialEq, Eq, Debug)]
 pub enum CloseFault {
-    /// No pass with this tag was returned. No lower tag is missing.
+    /// No pass with this tag was returned. This is the lowest missing tag.
     MissingPass(u8),
-    /// A pass belongs to another bench, has no tag of this one, or occurs twice.
+    /// A pass belongs to another bench, has a tag that isn't one of this bench's, or occurs twice.
     ForeignPass,
     /// The calls of the pass with this tag aren't the history's entries with the tag. This is the lowest such tag.
     Mismatch(u8),

@@ -3,8 +3,8 @@
 
 ghost use Rattle.device_lock.specs.Laws.{LegalIsReplies, LeadsToStateAfter};
 
-/// A history is legal if and only if its replies are the replies of a run of its events. It leads to the state that the
-/// run leads to.
+/// A history is legal if and only if its replies are the device's replies when the history's events run in order. The
+/// history leads to the state that this run leads to.
 pub fn history_is_a_run()
     ensures replies { LegalIsReplies }
     ensures state { LeadsToStateAfter }

@@ -2,10 +2,10 @@
 //!
 //! `Shared::new` returns a shared device and one `Pass` for each caller. `Shared::call` applies one event under the
 //! lock: it appends one `Entry` to the history and one `Call` to the pass, or changes nothing. The lock protects a
-//! `Locked`; its type guarantees that the history is legal from a new device and leads to the device's state.
-//! `Shared::close` takes back all passes and returns the one history, which contains each pass's calls in order. It is
-//! then an `Unlocked`, with a separate entry for each call. `Calls` are the calls made to a device in hand, or by one
-//! pass. The driver and the threads of the bench depend on this crate.
+//! `Locked`. The type `Locked` guarantees that the history is legal from a new device and leads to the device's state.
+//! `Shared::close` takes back all passes and returns the one history, which contains each pass's calls in order. The
+//! closed history is in an `Unlocked`, with a separate entry for each call. `Calls` are the calls made to a device in
+//! hand, or the calls made by one pass. The driver and the bench's threads depend on this crate.
 #![tactic(auto)]
 
 mod alone;

@@ -25,17 +25,17 @@ use std::marker::Model;
 /// The number of entries to make room for at first.
 const FIRST_ROOM: usize = 65_536;
 
-/// For each tag that a pass can have, the number of its entries.
+/// The number of entries with each tag that a pass can have.
 pub(crate) type Counts = [u32; MAX_PASSES as usize];
 
 /// The data under the lock: the device, and the history of its calls.
 ///
 /// Whenever the lock is free, the following holds. The history is legal from a new device with `VFS` virtual functions
-/// and a receive list of `FIFO` frames. It leads to the state of the device under the lock. Its tags are below 64. A
-/// `Locked` can't be dropped, because the device can't.
+/// and a receive list of `FIFO` frames. The history leads to the state of the device under the lock. The history's tags
+/// are below 64. A `Locked` can't be dropped, because the device can't.
 ///
-/// Entries of idle device steps take no extra room in this form. When the device is no longer shared, it becomes an
-/// `Unlocked`, with every entry separate.
+/// Entries of idle device steps take no extra room in this form. When the device is no longer shared, the `Locked`
+/// becomes an `Unlocked`, with every entry separate.
 pub struct Locked<const VFS: u8, const FIFO: u16> {
     pub(crate) device: Device,
     pub(crate) whole: Vec<Entry>,
@@ -127,8 +127,8 @@ impl<const VFS: u8, const FIFO: u16> Locked<VFS, FIFO> {
         &self.device
     }
 
-    /// Allocates what a pass needs for the next event, as `ready` does. The pass's note and the history's note share a
-    /// block's unchanged bytes.
+    /// Allocates what a pass needs for the next event, as `noting::ready` does. The pass's note and the history's note
+    /// share a block's bytes if these are unchanged.
     pub(crate) fn ready<T>(
         &mut self,
         alloc: Global,
@@ -148,7 +148,7 @@ impl<const VFS: u8, const FIFO: u16> Locked<VFS, FIFO> {
         ready(alloc, &self.device, calls, spare, &mut self.notes, event)
     }
 
-    /// Returns the note of a reply for a pass's calls, made as `note_of` does.
+    /// Returns the note of a reply for a pass's calls, as `noting::note_of` does.
     pub(crate) fn note_of(&mut self, alloc: Global, reply: &Reply, spare: &mut Vec<u8>) -> ReplyNote
         requires empty { spare.old.items ≡ [] }
         requires room { note_length reply.now ≤ vec_capacity spare.old }
@@ -204,9 +204,9 @@ impl<const VFS: u8, const FIFO: u16> Locked<VFS, FIFO> {
         }
     }
 
-    /// Appends the entry of an idle device step for the pass with this tag. It does so if the step comes after the
-    /// steps recorded since the last call, the history has room for it, and there is memory. Returns whether it
-    /// appended the entry.
+    /// Appends the entry of an idle device step for the pass with this tag, and returns whether it did. The entry is
+    /// appended if the step comes after the steps recorded since the last call, the history has room for the entry, and
+    /// there is memory.
     #[inline(always)]
     pub(crate) fn idle(&mut self, tag: u8, step: &EventNote) -> bool
         requires tag { tag < 64 }
@@ -227,9 +227,9 @@ impl<const VFS: u8, const FIFO: u16> Locked<VFS, FIFO> {
         true
     }
 
-    /// Runs the device steps of a queue for the pass with this tag, which is below 64. It does so if the queue is at
-    /// rest, the history has room for their entries, and there is memory. All of them are then idle. Otherwise it runs
-    /// none; it also runs none if some have run since the last call. Returns whether they ran.
+    /// Runs a queue's device steps for the pass with this tag, which is below 64, and returns whether they ran. They
+    /// run if the queue is at rest, the history has room for their entries, and there is memory. All of them are then
+    /// idle. Otherwise none of them runs. Nor do they run if idle steps have already run since the last call.
     pub(crate) fn rest(&mut self, tag: u8, queue: u16) -> bool
         requires { tag < 64 }
         ensures led { IsLed VFS FIFO self.old }
@@ -252,7 +252,7 @@ impl<const VFS: u8, const FIFO: u16> Locked<VFS, FIFO> {
         true
     }
 
-    /// Converts this to the form for a device that is no longer shared, with a separate entry for each event.
+    /// Converts the data to the form for a device that is no longer shared, with a separate entry for each event.
     pub fn unlock(self) -> Unlocked<VFS, FIFO>
         ensures { result ≡ self.entry }
     {
@@ -278,8 +278,8 @@ impl<const VFS: u8, const FIFO: u16> Locked<VFS, FIFO> {
     }
 }
 
-/// Creates an empty history of at most `limit` entries. It has room for the first of them, if there is memory, so that
-/// entries are moved less often.
+/// Creates an empty history of at most `limit` entries. If there is memory, reserves room for the first entries; the
+/// vector then moves them less often as it grows.
 fn empty_history(alloc: Global, limit: u32) -> Vec<Packed>
     ensures { result.items ≡ [] }
 {
@@ -295,7 +295,7 @@ fn no_entries() -> Counts
     [0; MAX_PASSES as usize]
 }
 
-/// Counts one more entry of a tag.
+/// Adds 1 to the number of entries with this tag.
 fn count_one(counts: &mut Counts, tag: u8)
     requires tag { tag < 64 }
     requires few { slice_index counts.old tag < 1000000 }
@@ -306,7 +306,7 @@ fn count_one(counts: &mut Counts, tag: u8)
     counts[at] = count + 1;
 }
 
-/// Counts the entries of a tag's device steps.
+/// Adds 4 to the number of entries with this tag: one entry for each of a queue's device steps.
 fn count_steps(counts: &mut Counts, tag: u8)
     requires tag { tag < 64 }
     requires few { slice_index counts.old tag + 4 ≤ 1000000 }

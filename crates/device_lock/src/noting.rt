@@ -1,6 +1,5 @@
 //! Notes of events and of their replies. A list of calls keeps a spare vector with room for anything that a reply may
-//! return. A note therefore takes only the memory that its bytes need, and there is always a note of the device's
-//! reply.
+//! return. A note therefore takes only the memory that its bytes need, and the device's reply can always be noted.
 
 ghost use Rattle.std.specs.Prelude.{◌≡◌, ◌<◌, ◌≤◌, [], true, IfOk, OnOk};
 ghost use Rattle.std.specs.Vec.{vec_len, vec_capacity};
@@ -33,7 +32,7 @@ pub(crate) fn ready<T>(
     note_event(alloc, notes, event)
 }
 
-/// Returns the note of an event. A block shares its bytes with its previous note if they are unchanged.
+/// Returns the note of an event. A block's note shares its bytes with the block's previous note if they are unchanged.
 fn note_event(alloc: Global, notes: &mut Notes, event: &Event) -> Result<EventNote, AllocError>
     ensures { IfOk result (λ note. note ≡ event.now) }
 {
@@ -46,8 +45,8 @@ fn note_event(alloc: Global, notes: &mut Notes, event: &Event) -> Result<EventNo
     }
 }
 
-/// Returns the note of a reply. A block's note is made as for an event. If there is no memory for it, the note goes
-/// into the spare vector, which has room for it.
+/// Returns the note of a reply. The note of a block is made as for an event. If there is no memory for a new note, the
+/// note goes into the spare vector, which has room for it.
 #[inline(always)]
 pub(crate) fn note_of(
     alloc: Global,
@@ -67,8 +66,8 @@ pub(crate) fn note_of(
     note_alone(alloc, reply, spare)
 }
 
-/// Returns the note of a reply in a new vector, or in the spare one if there is no memory for a new one. The spare one
-/// has room for the note.
+/// Returns the note of a reply in a new vector, or in the spare vector if there is no memory for a new one. The spare
+/// vector has room for the note.
 #[inline(always)]
 fn note_alone(alloc: Global, reply: &Reply, spare: &mut Vec<u8>) -> ReplyNote
     requires empty { spare.old.items ≡ [] }

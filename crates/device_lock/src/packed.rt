@@ -1,5 +1,5 @@
-//! A history as stored under the lock. Entries of idle device steps of a queue take no extra room. Room for every entry
-//! is reserved, so all entries can be separated without an allocation.
+//! A history as stored under the lock. Entries of a queue's idle device steps take no extra room. Room for every entry
+//! is reserved, so every entry can later be stored separately without an allocation.
 
 ghost use Rattle.std.specs.Prelude.{◌≡◌, ◌+◌, ◌++◌, ◌∷◌, ◌<◌, ◌≤◌, [], true, IfSome, length, List};
 ghost use Rattle.std.specs.Vec.{vec_len, vec_capacity};
@@ -12,12 +12,12 @@ use crate::entry::Entry;
 use crate::resting::{IdleSteps, STEPS, keep_entries};
 use nic_device::{EventNote, ReplyNote};
 
-/// The idle device steps of a queue that a pass ran.
+/// A queue's idle device steps that a pass ran.
 #[derive(Clone, Copy, Debug)]
 pub struct Rested {
     /// The tag of the pass.
     pub pass: u8,
-    /// The steps that it ran.
+    /// The steps that the pass ran.
     pub steps: IdleSteps,
 }
 
@@ -32,7 +32,8 @@ impl Rested {
         }
     }
 
-    /// Returns these steps followed by this event of a pass, if the event is the step that comes after them.
+    /// Returns these steps followed by this event of a pass, if the event is a step that comes after them. Otherwise
+    /// returns `None`.
     pub(crate) fn and(&self, pass: u8, event: &EventNote) -> Option<Rested>
         ensures { IfSome result (λ more.
             rested_entries more ≡ rested_entries self.now ++ entry_of pass event.now Idle ∷ []) }
@@ -47,10 +48,10 @@ impl Rested {
     }
 }
 
-/// An entry, and the idle steps before it.
+/// An entry, with the idle steps that ran before it.
 #[derive(Debug, Drop)]
 pub struct Packed {
-    /// The device steps before the entry that have no separate entry.
+    /// The idle device steps before this entry; they have no separate entries.
     pub rested: Rested,
     /// The tag of the pass that made the call.
     pub pass: u8,
@@ -63,9 +64,9 @@ pub struct Packed {
 /// The minimum number of entries to make room for, if there is memory and the history may have that many.
 const LEAST_ROOM: u32 = 131_072;
 
-/// Makes room for `count` separate entries, if the history may have that many. Returns whether there is memory for
-/// them. It reserves more room if possible, because storage that grows in small steps is moved each time, and its pages
-/// are touched before anything is stored there.
+/// Reserves room for `count` separate entries; the caller has checked that the history may have that many. Returns
+/// whether there is memory for them. If possible, the function reserves more room. Storage that grows in small steps is
+/// moved each time, and its pages are touched before anything is stored there.
 #[inline(always)]
 pub(crate) fn hold_room(whole: &mut Vec<Entry>, count: u32, limit: u32) -> bool
     ensures same { whole.new.items ≡ whole.old.items }
@@ -81,7 +82,7 @@ pub(crate) fn hold_room(whole: &mut Vec<Entry>, count: u32, limit: u32) -> bool
     whole.reserve(roomy).is_ok() || whole.reserve(more).is_ok()
 }
 
-/// Makes room for the four entries of the idle device steps of a queue, after `count` entries. Returns false if that
+/// Reserves room for `count` entries and the four entries of a queue's idle device steps. Returns false if the total
 /// would exceed `limit`, or if there is no memory.
 pub(crate) fn has_room(whole: &mut Vec<Entry>, count: u32, limit: u32) -> bool
     ensures same { whole.new.items ≡ whole.old.items }
@@ -93,7 +94,7 @@ pub(crate) fn has_room(whole: &mut Vec<Entry>, count: u32, limit: u32) -> bool
     limit >= steps && count <= limit - steps && hold_room(whole, count + steps, limit)
 }
 
-/// Appends an entry after the others and the idle steps that follow them. There is room for it.
+/// Appends an entry after the stored entries and the idle steps that follow them. The vector has room for the entry.
 #[inline(always)]
 pub(crate) fn put_entry(
     packed: &mut Vec<Packed>,
@@ -115,7 +116,8 @@ pub(crate) fn put_entry(
     *rested = Rested::none();
 }
 
-/// Expands the entries: those already separate, then the others. There is room for all of them.
+/// Returns all entries separately: first the entries that are already separate, then the others. `whole` has room for
+/// all of them.
 pub(crate) fn unpacked(whole: Vec<Entry>, packed: Vec<Packed>, rested: Rested) -> Vec<Entry>
     requires { length (entries_in whole.items packed.items rested) ≤ vec_capacity whole }
     ensures { result.items ≡ entries_in whole.items packed.items rested }
@@ -128,7 +130,7 @@ pub(crate) fn unpacked(whole: Vec<Entry>, packed: Vec<Packed>, rested: Rested) -
     entries
 }
 
-/// Appends an entry and the steps before it. There is room for them.
+/// Appends the idle steps before an entry, then the entry. The vector has room for all of them.
 fn put_one(entries: &mut Vec<Entry>, it: Packed)
     requires { vec_len entries.old + length (rested_entries it.rested) < vec_capacity entries.old }
     ensures items { entries.new.items

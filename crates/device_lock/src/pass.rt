@@ -12,7 +12,7 @@ use nic_device::{Event, Reply};
 use std::alloc::Global;
 use std::marker::Model;
 
-/// The right to call a shared device, and the calls made with it.
+/// A caller's right to use a shared device, with the calls that the caller has made.
 #[derive(Drop)]
 pub struct Pass {
     bench: u64,

@@ -4,7 +4,7 @@ ghost use Rattle.device_lock.specs.Positions.{positions_of};
 use crate::entry::Entry;
 use std::alloc::{AllocError, Global};
 
-/// Returns the positions in the history of the entries with a tag. The first entry of the history is at 0.
+/// Returns the positions, in the history, of the entries with this tag. The history's first entry is at position 0.
 pub(crate) fn positions(alloc: Global, history: &[Entry], tag: u8) -> Result<Vec<usize>, AllocError>
     ensures { IfOk result (λ places. places.items ≡ positions_of tag history.now) }
 {

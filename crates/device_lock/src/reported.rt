@@ -1,4 +1,4 @@
-//! The device's settings, as a history's entries show them.
+//! The device's settings, derived from a history's entries.
 
 ghost use Rattle.std.specs.Prelude.{◌≡◌};
 ghost use Rattle.device_lock.specs.Reported.{first_settings, frames_set, frames_written, limit_of, settings_after, usual_frames};
@@ -25,7 +25,7 @@ pub struct Frames {
     pub longest: u16,
 }
 
-/// Device settings that a driver's start relies on.
+/// The device settings that a driver relies on when it starts.
 #[derive(Clone, Copy, PartialEq, Eq, Debug)]
 pub struct Settings {
     /// How the queues are divided into pools.
@@ -35,7 +35,7 @@ pub struct Settings {
 }
 
 impl Frames {
-    /// Returns the limits after a reset.
+    /// Returns the frame length settings after a reset.
     fn usual() -> Frames
         ensures { result ≡ usual_frames }
     {
@@ -56,7 +56,7 @@ impl Frames {
         }
     }
 
-    /// Returns the limits after a write to a register.
+    /// Returns the frame length settings after a write to a register.
     fn set(self, place: Place, word: u32) -> Frames
         ensures { result ≡ frames_set self place.row word }
     {
@@ -74,7 +74,7 @@ impl Frames {
         }
     }
 
-    /// Returns the limits after writing a value to a place. Without a place nothing changes.
+    /// Returns the frame length settings after a value is written to `place`. If `place` is `None`, nothing changes.
     fn written(self, place: Option<Place>, word: u32) -> Frames
         ensures { result ≡ frames_written self place word }
     {
@@ -96,7 +96,7 @@ impl Settings {
         }
     }
 
-    /// Returns the settings after an event of a device with `vfs` virtual functions.
+    /// Returns the settings after an event at a device with `vfs` virtual functions.
     pub fn after(self, vfs: u8, event: &EventNote) -> Settings
         ensures { result ≡ settings_after vfs self event.now }
     {

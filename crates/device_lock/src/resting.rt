@@ -1,4 +1,4 @@
-//! Idle device steps of a queue. They change nothing, so only which of them ran is stored.
+//! A queue's idle device steps. Idle steps change nothing, so only which steps ran is stored.
 
 ghost use Rattle.std.specs.Prelude.{◌≡◌, ◌+◌, ◌++◌, ◌∷◌, [], ◌<◌, ◌≤◌, ◌⊎◌, true, IfSome, length};
 ghost use Rattle.std.specs.Vec.{vec_len, vec_capacity};
@@ -11,17 +11,17 @@ ghost use Rattle.device_lock.specs.Stepping.{steps_of_queue};
 use crate::entry::{Call, Entry};
 use nic_device::{Dir, Event, EventNote, Reply};
 
-/// The number of device steps before a call.
+/// The number of a queue's device steps that run before a call.
 pub(crate) const STEPS: usize = 4;
 
-/// The idle device steps of a queue that ran in a row.
+/// A queue's idle device steps that ran one after the other.
 #[derive(Clone, Copy, Debug)]
 pub struct IdleSteps {
     /// The number of the queue.
     pub queue: u8,
-    /// Whether the step that switches its receive side ran.
+    /// Whether the step that switches the queue's receive side ran.
     pub receive_side: bool,
-    /// Whether the step that switches its transmit side ran next.
+    /// Whether the step that switches the queue's transmit side ran next.
     pub transmit_side: bool,
     /// Whether the queue's send step ran next.
     pub sending: bool,
@@ -43,7 +43,7 @@ impl IdleSteps {
         }
     }
 
-    /// Returns all steps of a queue, or `None` if there is no queue with this number.
+    /// Returns all of a queue's device steps, or `None` if the queue's number is above 255.
     pub(crate) fn all(queue: u16) -> Option<IdleSteps>
         ensures { IfSome result (λ all. steps_in all ≡ steps_of_queue queue) }
     {
@@ -108,7 +108,7 @@ impl IdleSteps {
         }
     }
 
-    /// Returns the number of a queue, if these steps belong to that queue or there are none.
+    /// Returns the queue's number as a byte, if these steps belong to that queue or no step has run.
     fn queue_as(&self, queue: u16) -> Option<u8>
         ensures queue { IfSome result (λ number. number ≡ queue) }
         ensures same { IfSome result (λ number. (steps_in self.now ≡ []) ⊎ (number ≡ self.now.queue)) }
@@ -130,7 +130,7 @@ pub(crate) fn idle_call(event: EventNote) -> Call
     }
 }
 
-/// Appends the calls of idle device steps. There is room for the maximum number of them.
+/// Appends the calls of idle device steps. The vector has room for all four.
 pub(crate) fn keep_idle(calls: &mut Vec<Call>, steps: IdleSteps)
     requires { vec_len calls.old + 4 ≤ vec_capacity calls.old }
     ensures items { calls.new.items ≡ calls.old.items ++ idle_calls (steps_in steps) }
@@ -144,7 +144,7 @@ pub(crate) fn keep_idle(calls: &mut Vec<Call>, steps: IdleSteps)
     keep_call(calls, steps.receiving, Event::RxStep);
 }
 
-/// Appends the call of an idle step, if the step ran. There is room for it.
+/// Appends the call of an idle step, if the step ran. The vector has room for the call.
 fn keep_call(calls: &mut Vec<Call>, made: bool, event: EventNote)
     requires { vec_len calls.old < vec_capacity calls.old }
     ensures items { calls.new.items ≡ calls.old.items ++ idle_calls (step_if made event) }
@@ -167,7 +167,7 @@ fn idle_entry(pass: u8, event: EventNote) -> Entry
     }
 }
 
-/// Appends the entries of idle device steps. There is room for them.
+/// Appends the entries of idle device steps. The vector has room for them.
 pub(crate) fn keep_entries(history: &mut Vec<Entry>, pass: u8, steps: IdleSteps)
     requires { vec_len history.old + length (idle_entries pass (steps_in steps)) ≤ vec_capacity history.old }
     ensures items { history.new.items ≡ history.old.items ++ idle_entries pass (steps_in steps) }
@@ -190,7 +190,7 @@ pub(crate) fn keep_entries(history: &mut Vec<Entry>, pass: u8, steps: IdleSteps)
     keep_entry(history, pass, steps.receiving, Event::RxStep);
 }
 
-/// Appends the entry of an idle step, if the step ran. There is room for it.
+/// Appends the entry of an idle step, if the step ran. The vector has room for the entry.
 fn keep_entry(history: &mut Vec<Entry>, pass: u8, made: bool, event: EventNote)
     requires { vec_len history.old + length (step_if made event) ≤ vec_capacity history.old }
     ensures items { history.new.items ≡ history.old.items ++ idle_entries pass (step_if made event) }

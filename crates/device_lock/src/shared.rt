@@ -26,9 +26,9 @@ const LOOKS: u32 = 100;
 /// makes many calls.
 const PAUSES: u32 = 2048;
 
-/// A device that threads share, identified by its bench number and its number of passes, 1 to 64. It has `VFS` virtual
-/// functions and a receive list of `FIFO` frames; `new` requires at most 63 functions and 1 to 4,096 frames. It can't
-/// be dropped; you must close it.
+/// A device that threads share, identified by its bench number and its number of passes, 1 to 64. The device has `VFS`
+/// virtual functions and a receive list of `FIFO` frames; `new` requires at most 63 functions and 1 to 4,096 frames. A
+/// `Shared` can't be dropped; you must close it.
 pub struct Shared<const VFS: u8, const FIFO: u16> {
     pub(crate) lock: Mutex<Locked<VFS, FIFO>>,
     pub(crate) bench: u64,
@@ -46,21 +46,21 @@ impl<const VFS: u8, const FIFO: u16> Model for Shared<VFS, FIFO> {
     ghost invariant = { λ s. (0 < s.passes) × (s.passes ≤ 64) };
 }
 
-/// A shared device that stays open: the reason, and what was passed in.
+/// The error if a shared device stays open: the reason, and what was passed to `close`.
 pub struct CloseRefused<const VFS: u8, const FIFO: u16> {
-    /// Why it stays open.
+    /// Why the shared device stays open.
     pub fault: CloseFault,
     /// The shared device, unchanged.
     pub shared: Shared<VFS, FIFO>,
-    /// The passes passed in, unchanged.
+    /// The passes that were passed to `close`, unchanged.
     pub passes: Vec<Pass>,
 }
 
 impl<const VFS: u8, const FIFO: u16> Shared<VFS, FIFO> {
-    /// Shares a new device, and creates one pass for each tag below `passes`, in order.
+    /// Creates a shared device, and one pass for each tag below `passes`, in order of their tags.
     ///
-    /// Errors, in this order: `Passes` if there are none or more than 64, `Limit` if the history may have no entries or
-    /// more than 1,000,000, and `OutOfMemory`.
+    /// Fails with `Passes` if `passes` is 0 or more than 64. Otherwise fails with `Limit` if `limit` is 0 or more than
+    /// 1,000,000. Any other error is `OutOfMemory`.
     pub fn new(
         alloc: Global,
         bench: u64,
@@ -104,7 +104,7 @@ impl<const VFS: u8, const FIFO: u16> Shared<VFS, FIFO> {
         self.bench
     }
 
-    /// Returns the number of passes; each tag is below it.
+    /// Returns the number of passes. Each tag is below this number.
     pub fn passes(&self) -> u8
         ensures number { result ≡ self.now.passes }
         ensures range { (0 < result) × (result ≤ 64) }
@@ -114,9 +114,9 @@ impl<const VFS: u8, const FIFO: u16> Shared<VFS, FIFO> {
 
     /// Applies one event to the device and records the call in the pass. The call waits for the lock.
     ///
-    /// Fails with `ForeignPass` if and only if the pass belongs to another bench or has no tag of this one; the call
-    /// then takes no lock. Any other error is `HistoryFull` or `OutOfMemory`. The clauses of `Locked::step` say when
-    /// each is returned, but the clauses of this call don't. Each error returns the event and leaves the pass
+    /// Fails with `ForeignPass` if and only if the pass belongs to another bench, or its tag isn't one of this bench's.
+    /// The call then takes no lock. Any other error is `HistoryFull` or `OutOfMemory`. The clauses of `Locked::step`
+    /// say when each is returned, but the clauses of this call don't. Each error returns the event and leaves the pass
     /// unchanged.
     pub fn call<R: Wait>(
         &self,
@@ -130,8 +130,8 @@ impl<const VFS: u8, const FIFO: u16> Shared<VFS, FIFO> {
         ensures fits { IfOk result (λ reply. may_answer event reply ≡ true) }
         ensures foreign { (result ≡ Err (CallFault.ForeignPass event))
             ↔ ¬ IsOwn self.now.bench self.now.passes pass.old }
-        // Some legal history is full for some limit, which is always true. No clause says which history is under the
-        // lock.
+        // The clause says only that some legal history reaches some limit, which is always true. No clause says which
+        // history is under the lock.
         ensures full { result ≡ Err (CallFault.HistoryFull event) → IsFull VFS FIFO }
         ensures back { IfErr result (λ fault. event_of fault ≡ event) }
         ensures unchanged { OnErr result (pass.new ≡ pass.old) }
@@ -145,9 +145,9 @@ impl<const VFS: u8, const FIFO: u16> Shared<VFS, FIFO> {
 }
 
 impl<const VFS: u8, const FIFO: u16> Shared<VFS, FIFO> {
-    /// Acquires the lock and returns the data under it. A call holds the lock so briefly that a thread first tries it
-    /// several times before it sleeps. It pauses between two tries, because each try moves the lock's cache line from
-    /// one processor to another.
+    /// Acquires the lock and returns the data under it. A call holds the lock only briefly, so a thread tries the lock
+    /// several times before it sleeps. The thread pauses between two tries, because each try moves the lock's cache
+    /// line from one processor to another.
     pub(crate) fn hold<R: Wait>(&self, rt: &R) -> MutexGuard<'_, Locked<VFS, FIFO>> {
         for _ in 0..LOOKS {
             if let Some(locked) = self.lock.try_lock() {

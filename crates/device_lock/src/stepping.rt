@@ -1,4 +1,4 @@
-//! Device steps that a pass runs before its calls, while it holds the lock.
+//! Device steps that a pass runs before its calls, while its thread holds the lock.
 
 ghost use Rattle.std.specs.Prelude.{◌≡◌, ◌≢◌, ◌<◌, ◌↔◌, ◌∷◌, ◌++◌, [], true, Err, IfOk, IfErr, OnOk, OnErr};
 ghost use Rattle.nic_device.specs.Answering.{may_answer};
@@ -21,7 +21,7 @@ use std::alloc::Global;
 use std::sync::Wait;
 
 impl Pass {
-    /// Runs one device step under the lock. The recorded call in the pass contains its reply.
+    /// Runs one device step under the lock. The pass records the step's call with the reply.
     fn make_step<const VFS: u8, const FIFO: u16>(
         &mut self,
         alloc: Global,
@@ -77,7 +77,7 @@ impl Pass {
         self.make_steps(alloc, locked, queue)
     }
 
-    /// Runs the device steps of a queue one after the other.
+    /// Runs a queue's device steps, one after the other.
     fn make_steps<const VFS: u8, const FIFO: u16>(
         &mut self,
         alloc: Global,
@@ -99,7 +99,7 @@ impl Pass {
         Ok(())
     }
 
-    /// Runs the device steps of a queue, then applies the event.
+    /// Runs a queue's device steps, then applies the event.
     fn step_and_call<const VFS: u8, const FIFO: u16>(
         &mut self,
         alloc: Global,
@@ -127,13 +127,14 @@ impl Pass {
 }
 
 impl<const VFS: u8, const FIFO: u16> Shared<VFS, FIFO> {
-    /// Runs the device steps of a queue, then applies the event, each as a call. The thread waits for the lock once and
-    /// holds it until all are done. The steps switch both sides of the queue, then send, then receive.
+    /// Runs a queue's device steps, then applies the event. Each step and the event is a separate call. The thread
+    /// waits for the lock once and holds it until all of these calls are done. The steps switch both sides of the
+    /// queue, then send, then receive.
     ///
-    /// Fails with `ForeignPass` if and only if the pass belongs to another bench or has no tag of this one; the call
-    /// then takes no lock and does nothing. Otherwise it fails if `call` would refuse one of these steps or the event,
-    /// and for the same reason. The earlier steps have then run, and the event hasn't been applied. Each error returns
-    /// the event. Each reply is the device's, as for `call`.
+    /// Fails with `ForeignPass` if and only if the pass belongs to another bench, or its tag isn't one of this bench's.
+    /// The call then takes no lock and does nothing. Otherwise, if `call` would refuse one of these steps or the event,
+    /// fails for the same reason. The steps before the refusal have then run, and the event hasn't been applied. Each
+    /// error returns the event. Each reply is the device's, as for `call`.
     pub fn call_stepped<R: Wait>(
         &self,
         rt: &R,
@@ -148,7 +149,7 @@ impl<const VFS: u8, const FIFO: u16> Shared<VFS, FIFO> {
         ensures foreign { (result ≡ Err (CallFault.ForeignPass event))
             ↔ ¬ IsOwn self.now.bench self.now.passes pass.old }
         ensures nothing { ¬ IsOwn self.now.bench self.now.passes pass.old → pass.new ≡ pass.old }
-        // Some legal history is full for some limit, as for `call`.
+        // The clause says only that some legal history reaches some limit, as for `call`.
         ensures full { result ≡ Err (CallFault.HistoryFull event) → IsFull VFS FIFO }
         ensures back { IfErr result (λ fault. event_of fault ≡ event) }
         ensures during { OnErr result (StopsStepping queue pass.old pass.new) }

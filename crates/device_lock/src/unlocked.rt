@@ -10,8 +10,8 @@ use nic_device::{Device, Notes};
 use std::alloc::Global;
 use std::marker::Model;
 
-/// The data from under the lock of a device that is no longer shared: the device, and the history of its calls, with
-/// every entry separate. It can't be dropped, because the device can't.
+/// The data of a device that is no longer under a lock: the device, and the history of its calls with every entry
+/// separate. An `Unlocked` can't be dropped, because the device can't.
 pub struct Unlocked<const VFS: u8, const FIFO: u16> {
     pub(crate) device: Device,
     pub(crate) history: Vec<Entry>,
@@ -36,9 +36,9 @@ impl<const VFS: u8, const FIFO: u16> Model for Unlocked<VFS, FIFO> {
 }
 
 impl<const VFS: u8, const FIFO: u16> Unlocked<VFS, FIFO> {
-    /// Returns the calls so far, oldest first, at most as many as the limit. They are legal from a new device and lead
-    /// to the state of the device stored here. Their events are ones that a driver can cause, and their tags are below
-    /// 64.
+    /// Returns the calls so far, oldest first, at most as many as the limit. The history is legal from a new device and
+    /// leads to the state of the device stored here. Its events are ones that a driver can cause, and its tags are
+    /// below 64.
     pub fn history(&self) -> &[Entry]
         ensures entries { result.now ≡ self.now.history }
         ensures legal { IsLegal (new_state VFS FIFO) self.now.history }
@@ -50,14 +50,14 @@ impl<const VFS: u8, const FIFO: u16> Unlocked<VFS, FIFO> {
         self.history.as_slice()
     }
 
-    /// For each tag below 64, the number of its entries.
+    /// Returns the number of entries with each tag below 64.
     pub(crate) fn counts(&self) -> &Counts
         ensures { (tag : ℕ) → tag < 64 → slice_index result.now tag ≡ entries_of tag self.now.history }
     {
         &self.counts
     }
 
-    /// Converts this to the form stored under a lock.
+    /// Converts the data to the form that is stored under a lock.
     pub(crate) fn lock(self) -> Locked<VFS, FIFO>
         ensures { result ≡ self.entry }
     {

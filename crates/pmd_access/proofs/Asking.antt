@@ -1,4 +1,4 @@
--- Lemmas: successive driver calls through one `Nic`.
+-- Lemmas about successive driver calls through one `Nic`.
 use Rattle.std.proofs.Common.{◌≡◌, Option, None, Result, Ok, Err, IfSome, IfErr, refl, ◌∙◌}
 use Rattle.pmd_access.specs.Asks.{Asks, fault_in}
 use Rattle.pmd_access.specs.Begun.{BeganAs, Origin}
@@ -27,7 +27,7 @@ module _ {N : Type 0} {known : N → Origin → Type 0} {may : N → Refusals} w
     refusal = q.refusal;
   }
 
-  -- The next call may proceed after a fault.
+  -- After a fault, the facts still hold for the next call.
   pub asks_on : {f : Option PmdFault} {m n : N} → Asks known may f m n → Asks known may None m n
   asks_on p = record { began = p.began; refuses = p.refuses; refusal = tt }
 

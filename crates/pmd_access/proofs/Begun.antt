@@ -21,7 +21,7 @@ use Rattle.pmd_access.specs.Made.{InHand, StopsDuring, after_event, after_events
 use Rattle.pmd_access.specs.Scheduled.{Handled}
 use Rattle.pmd_access.specs.Stepped.{AtLock, StepsAndMakes, StopsStepping, with_calls}
 
--- The history stays legal with one more event.
+-- The history stays legal when one event is added.
 one_leads : (s : State) (h : List Entry) (device : State) (tag : ℕ) (e : Event Block) → LeadsTo s h device → IsEvent e
     → LeadsTo s (h ++ entry_of tag e (step_of device e).reply ∷ []) (step_of device e).state
 one_leads s h device tag e led is =
@@ -57,7 +57,7 @@ first_events (suc n) (e ∷ es) are = (are.0, first_events n es are.1)
 queue_events : (queue : ℕ) → queue < 65536 → AllEvents (steps_of_queue queue)
 queue_events queue lt = (lt, (lt, (lt, (tt, tt))))
 
--- The history stays legal with some of the steps, and with all steps followed by the event.
+-- The history stays legal when some of the steps run, and when all steps run, followed by the event.
 pub during_begins : (old new : InHand) → old.queue < 65536 → StopsDuring old new → BeganAs began_in_hand old new
 during_begins old new lt (made, is) o began =
     let steps = steps_of_queue old.queue in
@@ -75,7 +75,7 @@ call_begins (Err f) e old mid new is lt stepped made same o began =
     subst (λ (h : InHand). began_in_hand h o) (sym (same ∙ stepped))
     (events_begin (steps_of_queue old.queue) old (queue_events old.queue lt) o began)
 
--- The history of a device with foreign events in between stays legal.
+-- The history of a device stays legal when foreign events are applied between its calls.
 
 marked_more : (calls : List Call) (own : List Bool) (c : Call) (b : Bool) → length own ≡ length calls
     → marked_entries (calls ++ c ∷ []) (own ++ b ∷ []) ≡ marked_entries calls own ++ entry_by (tag_of b) c ∷ []
@@ -85,7 +85,7 @@ marked_more (x ∷ calls) [] c b long = absurd (omega (arith, long))
 marked_more (x ∷ calls) (a ∷ own) c b long =
     ap (λ (l : List Entry). entry_by (tag_of a) x ∷ l) (marked_more calls own c b (omega (arith, long)))
 
--- The history stays legal with one more call, own or foreign, given by its parts.
+-- The history stays legal when one call is added, own or foreign.
 one_begins : (h : Handled) (e : Event Block) (b : Bool) (foreign : List (Reply Block)) → length h.own ≡ length h.calls
     → IsEvent e
     → BeganAs began_handled h (record {

@@ -1,4 +1,4 @@
--- Lemma: blocks are returned to the arena one by one.
+-- A lemma about returning blocks to the arena, one block at a time.
 use Rattle.std.proofs.Common.{◌≡◌, ℕ, ◌+◌, length, ap, add-one, arith}
 use Rattle.std.proofs.lemmas.List.{nil_from_length}
 use Rattle.pmd_access.specs.Home.{Bringing, BringsOne, Brings, BringsAll}

@@ -1,4 +1,4 @@
--- Lemmas: copying the bytes of a packet, Buf by Buf.
+-- Lemmas about copying a packet's bytes, Buf by Buf.
 use Rattle.std.proofs.Common.{◌≡◌, ℕ, zero, suc, ◌+◌, ◌*◌, ◌-◌, ◌<◌, min, List, [], ◌∷◌, ◌++◌, length, get_or, take, refl, sym, ap, ◌∙◌, append_assoc, arith}
 use Rattle.std.proofs.lemmas.List.{append-nil, take_more, take_min, length-take}
 use Rattle.device_lock.specs.NicDevice.DmaArena.Block.{Block}

@@ -1,4 +1,4 @@
--- Lemmas: taking blocks from an arena and returning them.
+-- Lemmas about taking blocks from an arena and returning them.
 use Rattle.std.proofs.Common.{◌≡◌, ℕ, ◌+◌, true, false, List, [], ◌∷◌, ◌++◌, map, refl, sym, ap, ◌∙◌, subst, arith}
 use Rattle.std.proofs.lemmas.List.{length_push}
 use Rattle.device_lock.specs.NicDevice.DmaArena.Block.{Block, zero_block}

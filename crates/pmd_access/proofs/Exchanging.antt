@@ -1,10 +1,10 @@
--- Lemmas: exchanging blocks with the arena that they came from.
+-- Lemmas about exchanging blocks with the arena that they came from.
 use Rattle.std.proofs.Common.{ℕ, false, List, [], ◌∷◌, ◌++◌, arith}
 use Rattle.device_lock.specs.NicDevice.DmaArena.Numbers.{Numbers, with_free}
 use Rattle.pmd_access.specs.Home.{AreOut, IsDrawn, Exchanges}
 use Rattle.pmd_access.proofs.Outside.{times-append, all_drawn}
 
--- Two exchanges in a row are one exchange.
+-- Two successive exchanges are together one exchange.
 
 drawn_both : (a : Numbers) (m : List ℕ) (b : Numbers) (n : List ℕ) (d : Numbers) → IsDrawn a m b → IsDrawn b n d
     → IsDrawn a (m ++ n) d

@@ -1,4 +1,4 @@
--- Lemmas: the device steps of a pass.
+-- Lemmas about the device steps that a pass runs.
 use Rattle.std.proofs.Common.{◌≡◌, List, [], ◌∷◌, ◌++◌, take, sym, ap, ◌∙◌, subst, Result, Ok, Err, IfOk, IfErr, OnErr}
 use Rattle.device_lock.specs.NicDevice.DmaArena.Block.{Block}
 use Rattle.device_lock.specs.NicDevice.declared.event.Event.{Event}

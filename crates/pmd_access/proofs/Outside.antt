@@ -1,4 +1,4 @@
--- Lemmas: blocks that are out of their arena.
+-- Lemmas about blocks that are out of their arena.
 use Rattle.std.proofs.Common.{◌≡◌, ◌≢◌, ℕ, zero, suc, ◌+◌, ◌<◌, ◌≤◌, ◌⊎◌, inl, inr, Bool, true, false, cond, List, [], ◌∷◌, ◌++◌, length, get_or, eqb, refl, sym, subst, ◌∙◌, arith}
 use Rattle.std.proofs.lemmas.Bool.{cases_eq}
 use Rattle.std.proofs.lemmas.Bool.Decides.{nat_tests}
@@ -73,7 +73,7 @@ out_free a xs n out free =
     let was : 1 + times_in_hand xs n ≤ 1 = rw (free, own) at (out n) in
     omega (arith, was)
 
--- A block that is out.
+-- A block that is out isn't free, and is out only once.
 
 bounded : (f o : Bool) (t : ℕ) → cond f 1 0 + (1 + t) ≤ cond o 1 0 → (o ≡ true) × (f ≡ false) × (t ≡ 0)
 bounded true true t le = absurd (omega arith)

@@ -1,4 +1,4 @@
--- Lemmas: places around a driver's ring.
+-- Lemmas about positions around a driver's ring.
 use Rattle.std.proofs.Common.{◌≡◌, ◌≢◌, ℕ, ◌+◌, ◌<◌, arith}
 use Rattle.std.proofs.lemmas.Bool.Decides.{nat_tests}
 use Rattle.device_lock.specs.NicDevice.DmaRing.Ring.{next_of}

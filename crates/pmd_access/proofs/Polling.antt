@@ -1,4 +1,4 @@
--- Lemmas: polling a side until it shows the wanted state.
+-- Lemmas about polling a side until it shows the requested state.
 use Rattle.std.proofs.Common.{◌≡◌, ℕ, ◌+◌, ◌-◌, ◌<◌, ◌≤◌, Bool, true, false, not, List, [], ◌∷◌, ◌++◌, replicate, refl, sym, subst, arith}
 use Rattle.std.proofs.lemmas.List.{replicate-append-replicate}
 use Rattle.std.proofs.Math.Bool.{beq}
@@ -47,7 +47,7 @@ polled_here q old mid new side on shown misses polls below made seen same =
     (next_made q old mid new (missed side on misses) (Sees (enable_row side) on) made
     (subst (λ (b : Bool). IsSeen q mid new (enable_row side) b) (alike shown on same) seen))
 
--- Polling both sides in turn, the second with the polls that the first left.
+-- Both sides are polled in turn, the second side with the polls that remain after the first.
 pub polled_left : (q : AtPort) (old asked mid new : List Call) (xs : List Access) (on : Bool) (polls left last : ℕ)
     → 0 < left → left ≤ polls → 0 < last → last ≤ left → AreMade q old asked xs
     → AreMade q asked mid (polled Rx on (polls - left)) → AreMade q mid new (polled Tx on (left - last))

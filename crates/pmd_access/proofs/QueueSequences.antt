@@ -1,4 +1,4 @@
--- Lemmas: accesses made in order.
+-- Lemmas about accesses made in order.
 use Rattle.std.proofs.Common.{◌≡◌, ℕ, ◌+◌, ◌<◌, List, [], ◌∷◌, ◌++◌, length, get_or, take, drop, refl, sym, ap, ◌∙◌, subst, append_assoc}
 use Rattle.std.proofs.lemmas.List.{take_more, take-append-drop}
 use Rattle.device_lock.specs.declared.entry.Call.{Call}
@@ -6,7 +6,7 @@ use Rattle.pmd_access.specs.declared.fault.PmdFault.{PmdFault}
 use Rattle.pmd_access.specs.Named.{AtPort}
 use Rattle.pmd_access.specs.QueueMade.{Access, AreMade, IsMade, FailsBy, StopsBy}
 
--- Splits a list into the accesses before one, that access, and those after it.
+-- A list of accesses splits into the accesses before one of them, that access, and the later accesses.
 access_part : (all : List Access) (i : ℕ) (d : Access) → i < length all
     → all ≡ take i all ++ get_or all i d ∷ drop (i + 1) all
 access_part all i d below =
@@ -23,7 +23,7 @@ module _ (q : AtPort) where
   both_made old mid new [] ys first then = subst (λ (m : List Call). AreMade q m new ys) first then
   both_made old mid new (a ∷ xs) ys (next, one, rest) then = (next, one, both_made next mid new xs ys rest then)
 
-  -- One more access.
+  -- One more access is made.
   pub next_made : (old mid new : List Call) (xs : List Access) (a : Access) → AreMade q old mid xs → IsMade q mid new a
       → AreMade q old new (xs ++ a ∷ [])
   next_made old mid new xs a first then = both_made old mid new xs (a ∷ []) first (one_made mid new a then)
@@ -33,7 +33,7 @@ module _ (q : AtPort) where
       → AreMade q old mid xs → FailsBy f q mid new a → all ≡ xs ++ a ∷ rest → StopsBy f q old new all
   stops_here f old mid new xs rest all a first fails is = (xs, a, rest, mid, is, first, fails)
 
-  -- Another access in a list, and a list that stops at one of its accesses.
+  -- The next access in a list is made, or the list stops at that access.
   pub made_next : (old mid new : List Call) (all : List Access) (i : ℕ) (d : Access) → i < length all
       → AreMade q old mid (take i all) → IsMade q mid new (get_or all i d) → AreMade q old new (take (i + 1) all)
   made_next old mid new all i d below made then =

@@ -1,4 +1,4 @@
--- Lemmas: copying the bytes of Bufs, Buf by Buf.
+-- Lemmas about copying the bytes of Bufs, Buf by Buf.
 use Rattle.std.proofs.Common.{◌≡◌, ℕ, zero, suc, ◌+◌, ◌*◌, ◌-◌, ◌<◌, ◌≤◌, min, List, [], ◌∷◌, ◌++◌, All, length, get_or, take, drop, slice_get, slice_index, Option, Some, refl, sym, ap, ◌∙◌, subst, append_assoc, arith}
 use Rattle.std.proofs.Math.Seq.{drop-append-add, drop-cons, drop-nil, take-add}
 use Rattle.std.proofs.lemmas.List.{drop-append-le, drop-drop, length-append, length-drop, length-take, length-take-le, take-append-drop, take-append-le, take_all}
@@ -16,7 +16,7 @@ length_bytes (b ∷ bs) whole =
     let more = length_bytes bs (All-tail (λ (x : Block). IsBlock x) b bs whole) in
     omega (arith, one, more, length-append b.bytes (bytes_of bs))
 
--- A packet of `len` bytes keeps at most that many.
+-- A packet of `len` bytes keeps at most `len` bytes.
 pub length_taken : (len : ℕ) (xs : List ℕ) → length (take len xs) ≡ min len (length xs)
 length_taken len xs = length-take len xs
 
@@ -31,7 +31,7 @@ drop-bytes (b ∷ bs) whole (suc k) =
     drop-bytes bs (All-tail (λ (x : Block). IsBlock x) b bs whole) k
     ∙ sym (ap (λ (n : ℕ). drop n (b.bytes ++ bytes_of bs)) past ∙ drop-append-add b.bytes (bytes_of bs) (2048 * k))
 
--- The bytes copied from a Buf are the next ones of the whole.
+-- The bytes copied from a Buf are the next bytes to be copied.
 module _ (bs : List Block) (whole : All (λ (b : Block). IsBlock b) bs) (k : ℕ) (below : k < length bs) (b : Block)
     (is : b ≡ get_or bs k b) where
   within : (start more : ℕ) → start + more ≤ 2048

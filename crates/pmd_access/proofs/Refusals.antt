@@ -1,11 +1,11 @@
--- Lemmas: why calls are refused.
+-- Lemmas about why calls are refused.
 use Rattle.std.proofs.Common.{◌≡◌, Bool, true, IsTrue, refl, sym, ap, subst, Result, Ok, Err, IfErr, OnErr}
 use Rattle.device_lock.specs.declared.fault.CallFault.{CallFault}
 use Rattle.device_lock.specs.declared.fault.CallFault.TheVariants.{ForeignPass, HistoryFull, OutOfMemory}
 use Rattle.device_lock.specs.Fault.{event_of}
 use Rattle.pmd_access.specs.Refusals.{Refusals, CanRefuse}
 
--- A fact holds in particular if the result is an error.
+-- A fact that always holds also holds if the result is an error.
 pub on_err : {T E P : Type 0} (r : Result T E) → P → OnErr r P
 on_err (Ok x) p = tt
 on_err (Err e) p = p
@@ -16,7 +16,7 @@ pub memory_refuses : {A E : Type 0} (e : E) (r : Result A (CallFault E)) (way : 
 memory_refuses e (Ok x) way is = tt
 memory_refuses {E = E} e (Err f) way is = subst (λ (g : CallFault E). CanRefuse way g) (sym is) tt
 
--- A `Nic` that keeps a history may report a full history, and a foreign pass if its pass is one.
+-- A `Nic` that keeps a history may report a full history, and a foreign pass if its pass is foreign.
 pub lock_refuses : {A E : Type 0} (foreign : Bool) (e : E) (r : Result A (CallFault E))
     → (r ≡ Err (ForeignPass e) → IsTrue foreign) → IfErr r (λ f. event_of f ≡ e)
     → IfErr r (λ f. CanRefuse (record { foreign = foreign; full = true }) f)

@@ -1,4 +1,4 @@
--- Lemmas: the blocks of a driver's ring.
+-- Lemmas about the blocks of a driver's ring.
 use Rattle.std.proofs.Common.{◌≡◌, ◌≢◌, ℕ, zero, suc, ◌+◌, ◌-◌, ◌*◌, ◌/◌, ◌%◌, ◌↔◌, ◌<◌, ◌≤◌, inl, inr, Bool, true, false, ◌&&◌, cond, List, [], ◌∷◌, ◌++◌, length, refl, sym, ap, subst, ◌∙◌, append_assoc, arith}
 use Rattle.std.specs.Prelude.{◌==◌, nat_le, nat_lt}
 use Rattle.std.specs.List.{list_any, range_with_len}
@@ -15,7 +15,7 @@ use Rattle.pmd_access.proofs.Outside.{times_first, times_rest}
 pub some_blocks : (size : ℕ) → 0 < size → 0 < blocks_for size
 some_blocks size some = omega (arith, some)
 
--- Consecutive numbers, and one more at the end.
+-- Consecutive numbers with one more number at the end.
 
 range_last : (n a j : ℕ) → a + n ≡ j → range_with_len a (suc n) ≡ range_with_len a n ++ j ∷ []
 range_last zero a j e = ap (λ (i : ℕ). i ∷ []) (omega (arith, e))

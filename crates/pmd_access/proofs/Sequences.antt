@@ -1,4 +1,4 @@
--- Lemmas: writing registers in order.
+-- Lemmas about writing registers in order.
 use Rattle.std.proofs.Common.{◌≡◌, ℕ, zero, suc, ◌+◌, ◌-◌, ◌<◌, List, [], ◌∷◌, ◌++◌, length, get_or, take, drop, Result, Ok, Err, IfErr, refl, sym, ap, ◌∙◌, subst, append_assoc, add-zero, add-suc, add-one, arith}
 use Rattle.std.proofs.lemmas.List.{append-nil, take_more, take-append-drop}
 use Rattle.device_lock.specs.declared.entry.Call.{Call}
@@ -14,7 +14,7 @@ pub set_both : (old mid new : List Call) (ss ts : List Setting) → AreSet old m
 set_both old mid new [] ts a b = subst (λ (m : List Call). AreSet m new ts) a b
 set_both old mid new (s ∷ ss) ts (next, one, rest) b = (next, one, set_both next mid new ss ts rest b)
 
--- A list of settings stops within its first part or within its second.
+-- If writing stops within the first or the second of two lists, it stops within both lists taken together.
 pub stops_first : (f : PmdFault) (old new : List Call) (ss ts : List Setting) → StopsSetting f old new ss
     → StopsSetting f old new (ss ++ ts)
 stops_first f old new ss ts (done, s, rest, mid, is, set, fails) =
@@ -93,7 +93,7 @@ module _ (all : List Part) (i : ℕ) (d : Part) (below : i < length all) (old mi
       ∙ all-append (take i all) (get_or all i d ∷ [])
       ∙ ap (λ (l : List Setting). all_settings (take i all) ++ l) (append-nil (settings_in (get_or all i d)))
 
-  -- One more part.
+  -- One more part is written.
   pub part_set : AreSet mid new (settings_in (get_or all i d)) → AreSet old new (all_settings (take (i + 1) all))
   part_set one =
       subst (λ (l : List Setting). AreSet old new l) (sym up_to)

@@ -1,4 +1,4 @@
--- Lemmas: the places that contain a packet's Bufs.
+-- Lemmas about the places that contain a packet's Bufs.
 use Rattle.std.proofs.Common.{◌≡◌, ℕ, zero, suc, ◌+◌, ◌<◌, ◌≤◌, List, [], ◌∷◌, ◌++◌, length, get_or, set, drop, take, ◌-◌, Option, Some, None, refl, subst, sym, ap, ◌∙◌, arith}
 use Rattle.std.proofs.lemmas.List.{length_push}
 use Rattle.device_lock.specs.NicDevice.DmaArena.Block.{Block}

@@ -1,4 +1,4 @@
--- Lemmas: the steps of a device in hand.
+-- Lemmas about the device steps of a device in hand.
 use Rattle.std.proofs.Common.{◌≡◌, ℕ, zero, suc, List, [], ◌∷◌, ◌++◌, take, refl, sym, ap, ◌∙◌, append_assoc, Result, Ok, Err, IfOk, IfErr, OnOk, OnErr}
 use Rattle.std.proofs.lemmas.List.{append-nil}
 use Rattle.device_lock.specs.NicDevice.DmaArena.Block.{Block}
@@ -38,7 +38,7 @@ during_adds old new (made, is) =
     let some = events_add (take made (steps_of_queue old.queue)) old steps in
     (some.0, ap (λ (h : InHand). h.calls) is ∙ some.1, some.2)
 
--- The last event adds its call after the steps.
+-- The last event's call is added after the steps.
 last_adds : (es : List (Event Block)) (e : Event Block) (r : Reply Block) (old mid new : InHand) → AllSteps es
     → mid ≡ after_events old es → Adds mid.calls new.calls e r → Adds old.calls new.calls e r
 last_adds es e r old mid new steps is (before, adds, are) =
@@ -84,7 +84,7 @@ module _ (old start a b : InHand) (queue : ℕ) (begun : start ≡ old) (own : q
         ∙ ap (λ (n : ℕ). after_event (after_events old (take 2 (steps_of_queue old.queue))) (event.TxStep n)) own,
   )
 
--- The last event has its reply, or is refused.
+-- The last event gets its reply, or is refused.
 
 pub reply_adds : (es : List (Event Block)) (e : Event Block) (r : Result (Reply Block) (CallFault (Event Block)))
     (old mid new : InHand) → AllSteps es → mid ≡ after_events old es → OnOk r (new ≡ after_event mid e)

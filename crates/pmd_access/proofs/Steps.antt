@@ -1,4 +1,4 @@
--- Lemmas: device steps among calls with marks.
+-- Lemmas about device steps among marked calls.
 use Rattle.std.proofs.Common.{◌≡◌, Bool, false, List, [], ◌∷◌, ◌++◌, length, map, arith}
 use Rattle.std.specs.Prelude.{IsTrue, ⊤}
 use Rattle.device_lock.specs.NicDevice.DmaArena.Block.{Block}
@@ -30,7 +30,7 @@ module _ {D : Type 0} (other : D → Bool) where
   steps_last d own [] last mine steps = (λ is. mine_is (other own) mine is, tt)
   steps_last d own (c ∷ calls) last mine steps = (λ is. steps.0, steps_last d own calls last mine steps.1)
 
-  -- Two lists of calls with marks, one after the other.
+  -- Two successive lists of marked calls.
   pub steps_both : (ds es : List D) (ms ns : List Call) → length ds ≡ length ms → StepsWhere other ds ms
       → StepsWhere other es ns → StepsWhere other (ds ++ es) (ms ++ ns)
   steps_both [] es [] ns long first then = then

@@ -1,4 +1,4 @@
--- Lemmas: overwriting the bytes of Bufs, Buf by Buf.
+-- Lemmas about overwriting the bytes of Bufs, Buf by Buf.
 use Rattle.std.proofs.Common.{◌≡◌, ℕ, zero, suc, ◌+◌, ◌*◌, ◌-◌, ◌≤◌, min, List, [], ◌∷◌, ◌++◌, length, take, drop, refl, sym, ap, ◌∙◌, append_assoc, arith}
 use Rattle.std.proofs.lemmas.Grind.{common_steps}
 use Rattle.std.proofs.lemmas.List.{take_min, drop_min, length-drop}

@@ -18,7 +18,7 @@ IsWritten old new port number word true = Adds old new (event.Write port number 
 IsWritten old new port number word false =
     (seen : ℕ) × Adds old new (event.Write port number word) (reply.Stray seen)
 
--- The block was lent, or a block with its number was already lent and a block is returned.
+-- The block was lent, or a block with this number was already lent and a block was returned.
 abbrev pub IsLent : List Call → List Call → Block → Option Block → Type 0
 IsLent old new block None = Adds old new (event.Lend block) reply.Done
 IsLent old new block (Some back) = Adds old new (event.Lend block) (reply.Twice back)
@@ -28,13 +28,13 @@ abbrev pub IsTaken : List Call → List Call → ℕ → Option Block → Type 0
 IsTaken old new number (Some block) = Adds old new (event.Take number) (reply.Buf block)
 IsTaken old new number None = Adds old new (event.Take number) reply.NotLent
 
--- The 16 bytes were read, or they aren't lent, or the address isn't a multiple of 16.
+-- The 16 bytes were read, or these bytes aren't lent, or the address isn't a multiple of 16.
 abbrev pub IsPeeked : List Call → List Call → ℕ → Option (List ℕ) → Type 0
 IsPeeked old new address (Some bytes) = Adds old new (event.Peek16 address) (reply.Bytes bytes)
 IsPeeked old new address None =
     Adds old new (event.Peek16 address) reply.NotLent ⊎ Adds old new (event.Peek16 address) reply.Misaligned
 
--- The 16 bytes were written, or they aren't lent, or the address isn't a multiple of 16.
+-- The 16 bytes were written, or these bytes aren't lent, or the address isn't a multiple of 16.
 abbrev pub IsPoked : List Call → List Call → ℕ → List ℕ → Bool → Type 0
 IsPoked old new address bytes true = Adds old new (event.Poke16 address bytes) reply.Done
 IsPoked old new address bytes false =

@@ -1,4 +1,4 @@
--- What each driver call preserves of the `Nic` that it uses, regardless of the accesses that it makes.
+-- What each driver call leaves unchanged in the `Nic` that it uses, whatever accesses it makes.
 use Rattle.std.specs.Prelude.{◌≡◌, Option, Some, None, Result, Ok, Err, IfSome}
 use Rattle.pmd_access.specs.Begun.{BeganAs, Origin}
 use Rattle.pmd_access.specs.Refusals.{CanFail, Refusals}
@@ -14,8 +14,8 @@ abbrev pub refused_in : {A B : Type 0} → Result A (PmdFault × B) → Option P
 refused_in (Ok x) = None
 refused_in (Err x) = Some x.0
 
--- The `Nic` is unchanged in two ways: everything known about where its calls began is still known, and it may refuse
--- calls for the same reasons as before. If the call failed because the `Nic` refused it, the reason is one of these.
+-- Everything known about where the `Nic`'s calls began is still known, and the `Nic` may refuse calls for the same
+-- reasons as before. If the driver call failed because the `Nic` refused a call, the reason is one of these.
 pub record Asks {N : Type 0} (known : N → Origin → Type 0) (may : N → Refusals) (f : Option PmdFault) (n m : N) : Type 0
   where
     pub began : BeganAs known n m

@@ -15,13 +15,13 @@ both_quiet = quiet Rx ++ quiet Tx
 abbrev pub both_asked : Bool → List Access
 both_asked on = asked Rx on ++ asked Tx on
 
--- The driver requests that both sides be enabled or disabled, then polls the receive side: this many polls show the
--- other state, and the next one shows the wanted state.
+-- The driver requests that both sides be enabled or disabled, then polls the receive side: `misses` polls show the
+-- other state, and the next poll shows the requested state.
 abbrev pub receive_polled : Bool → (misses : ℕ) → List Access
 receive_polled on misses = both_asked on ++ polled Rx on misses
 
 -- The driver requested that both sides be enabled or disabled, then polled the receive side and the transmit side until
--- each was as wanted. Fewer polls than the limit showed the other state.
+-- each was in the requested state. Fewer polls than the limit showed the other state.
 abbrev pub IsSwitched : AtPort → List Call → List Call → Bool → ℕ → Type 0
 IsSwitched q old new on polls =
     (first : ℕ) × (second : ℕ) × (first + second < polls)

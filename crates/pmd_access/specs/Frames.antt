@@ -1,4 +1,4 @@
--- The length of a driver's frames, with their frame check sequence of 4 bytes.
+-- The length of a driver's frames, including the frame check sequence of 4 bytes.
 use Rattle.std.specs.Prelude.{ℕ, ◌+◌, ◌-◌, ◌/◌, ◌&&◌, Bool, nat_le}
 
 -- The smallest and the largest permitted limit, in bytes.
@@ -16,6 +16,6 @@ is_frame frame = nat_le shortest_frame frame && nat_le frame longest_frame
 abbrev pub packet_limit : ℕ → ℕ
 packet_limit frame = frame - 4
 
--- The maximum number of blocks in a packet of that length.
+-- The maximum number of blocks in a packet, given the maximum length of a frame.
 abbrev pub most_blocks : ℕ → ℕ
 most_blocks frame = (packet_limit frame + 2047) / 2048

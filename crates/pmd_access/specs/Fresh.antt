@@ -1,4 +1,4 @@
--- Fresh packets.
+-- Packets made from free blocks, filled with zeros.
 use Rattle.std.specs.Prelude.{◌≡◌, ℕ, ◌+◌, ◌/◌, max, List, length, map, Option, Some, None}
 use Rattle.device_lock.specs.NicDevice.DmaArena.Block.{Block, zero_block}
 use Rattle.device_lock.specs.NicDevice.DmaArena.Numbers.{Numbers}
@@ -10,7 +10,7 @@ use Rattle.pmd_access.specs.declared.packet.Packet.{Packet}
 abbrev pub bufs_for : ℕ → ℕ
 bufs_for len = max 1 ((len + 2047) / 2048)
 
--- These blocks were taken from the arena, `count` of them. Each was free before, and every byte in them is 0.
+-- These `count` blocks were taken from the arena. Each block was free before, and every byte in it is 0.
 pub record IsDrawnAs (count : ℕ) (a : Numbers) (bs : List Block) (b : Numbers) : Type 0 where
   pub drawn : IsDrawn a (numbers_of bs) b
   pub count_is : length bs ≡ count

@@ -15,24 +15,24 @@ abbrev pub AreSteps : List Call → Type 0
 AreSteps [] = ⊤
 AreSteps (c ∷ calls) = IsTrue (is_step c.event) × AreSteps calls
 
--- Some device steps, then this call, were added to the calls made.
+-- The calls gained some device steps, followed by this call.
 abbrev pub Adds : List Call → List Call → Event Block → Reply Block → Type 0
 Adds old new event reply =
     (before : List Call) × (new ≡ old ++ (before ++ call_of event reply ∷ [])) × AreSteps before
 
--- Only device steps were added to the calls made.
+-- The calls gained only device steps.
 abbrev pub AddsSome : List Call → List Call → Type 0
 AddsSome old new = (before : List Call) × (new ≡ old ++ before) × AreSteps before
 
--- Given marks for the calls, in order: calls that are marked as not own are device steps, and so are all calls after
--- the last mark.
+-- The calls have marks, in order. Calls whose mark says that they aren't own are device steps, and so are all calls
+-- after the last mark.
 abbrev pub StepsWhere : {D : Type 0} → (D → Bool) → List D → List Call → Type 0
 StepsWhere other [] calls = AreSteps calls
 StepsWhere other (d ∷ marks) [] = ⊤
 StepsWhere other (d ∷ marks) (c ∷ calls) =
     (IsTrue (other d) → IsTrue (is_step c.event)) × StepsWhere other marks calls
 
--- A device in hand, the queue that its steps belong to, and the calls made.
+-- A device in hand, the queue whose device steps run before each call, and the calls made.
 pub record InHand : Type 0 where
   pub device : State
   pub queue : ℕ
@@ -50,6 +50,6 @@ abbrev pub after_events : InHand → List (Event Block) → InHand
 after_events h [] = h
 after_events h (e ∷ es) = after_events (after_event h e) es
 
--- Only device steps of the queue ran: the first ones, possibly none.
+-- Only the first of the queue's device steps ran, possibly none.
 abbrev pub StopsDuring : InHand → InHand → Type 0
 StopsDuring old new = (made : ℕ) × (new ≡ after_events old (take made (steps_of_queue old.queue)))

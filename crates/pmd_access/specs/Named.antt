@@ -44,14 +44,14 @@ is_driven other = false
 abbrev pub IsDriven : RowId → Type 0
 IsDriven row = (is_driven row ≡ true) × (128 ≤ (row_of row).count)
 
--- The offset of a register in a virtual function's own queue. Each side of a queue takes 64 bytes, with its registers
--- as far apart as in the device's own map.
+-- The offset of a register that belongs to a virtual function's own queue. Each side of a queue takes 64 bytes, with
+-- its registers as far apart as in the physical function's address map.
 abbrev pub offset_of : RowId → ℕ → ℕ
 offset_of row queue =
     if is_receive row then 0x1000 + 0x40 * queue + distance Rdbal row else 0x2000 + 0x40 * queue + distance Tdbal row
 
--- The number of a queue's register at a port: the register's first address for the physical function, or its offset for
--- a virtual one.
+-- The number of a queue's register at a port: the register's first address for the physical function, or the register's
+-- offset for a virtual function.
 abbrev pub IsNumberOf : Port → RowId → ℕ → ℕ → Type 0
 IsNumberOf Pf row queue number = IsAddressOf number (record { row = row; index = queue })
 IsNumberOf (Vf v) row queue number = number ≡ offset_of row queue

@@ -1,4 +1,4 @@
--- Packets in hand.
+-- What a driver records about packets in hand.
 use Rattle.std.specs.Prelude.{ℕ, List, take}
 use Rattle.pmd_access.specs.Bufs.{bytes_of}
 use Rattle.pmd_access.specs.declared.packet.Packet.{Packet}

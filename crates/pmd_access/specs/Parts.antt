@@ -1,4 +1,4 @@
--- The parts of the setup, each with some registers.
+-- The parts of the setup, each of which writes some registers.
 use Rattle.std.specs.Prelude.{◌*◌, ◌<◌, ◌≤◌, ⊤, List, [], ◌∷◌, ◌++◌, length}
 use Rattle.device_lock.specs.NicDevice.RegTable.Rows.{row_of}
 use Rattle.pmd_access.specs.Setup.{packed, setting}
@@ -6,7 +6,7 @@ use Rattle.pmd_access.specs.declared.setup.Part.{Part}
 use Rattle.pmd_access.specs.declared.setup.Part.TheVariants.{Word, Bytes, Nothing}
 use Rattle.pmd_access.specs.declared.setup.Setting.{Setting}
 
--- The registers are in the table, and there are four bytes for each.
+-- The registers are in the table, and a part of bytes contains four bytes for each register.
 abbrev pub IsPart : Part → Type 0
 IsPart (Word row index word) = index < (row_of row).count
 IsPart (Bytes row count bytes) = (count ≤ (row_of row).count) × (4 * count ≤ length bytes.now)

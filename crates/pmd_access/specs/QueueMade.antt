@@ -47,7 +47,7 @@ abbrev pub IsMade : AtPort → List Call → List Call → Access → Type 0
 IsMade q old new (Sees row on) = IsSeen q old new row on
 IsMade q old new (Sets row word) = IsSet q old new row word
 
--- The access had another outcome: the read showed the opposite ENABLE or was stray, or the write was stray.
+-- The access had another result: the read showed ENABLE in the other state or was stray, or the write was stray.
 abbrev pub IsOtherwise : AtPort → List Call → List Call → Access → Type 0
 IsOtherwise q old new (Sees row on) = IsSeen q old new row (not on) ⊎ IsStrayRead q old new row
 IsOtherwise q old new (Sets row word) = IsStrayWrite q old new row word
@@ -57,7 +57,7 @@ abbrev pub AreMade : AtPort → List Call → List Call → List Access → Type
 AreMade q old new [] = new ≡ old
 AreMade q old new (a ∷ rest) = (mid : List Call) × IsMade q old mid a × AreMade q mid new rest
 
--- The access fails: it had another outcome (`DeviceFault`), or the call was refused (`Call`) and only device steps were
+-- The access fails: it had another result (`DeviceFault`), or the call was refused (`Call`) and only device steps were
 -- added.
 abbrev pub FailsBy : PmdFault → AtPort → List Call → List Call → Access → Type 0
 FailsBy BadSize q old new a = ⊥
@@ -67,7 +67,7 @@ FailsBy NoBuffer q old new a = ⊥
 FailsBy DeviceFault q old new a = IsOtherwise q old new a
 FailsBy (fault.Call refused) q old new a = AddsSome old new
 
--- Reading the register fails, whatever state was wanted: the read was stray (`DeviceFault`), or the call was refused
+-- Reading the register fails, whichever state was expected: the read was stray (`DeviceFault`), or the call was refused
 -- (`Call`) and only device steps were added.
 abbrev pub ReadFails : PmdFault → AtPort → List Call → List Call → RowId → Type 0
 ReadFails BadSize q old new row = ⊥
@@ -77,7 +77,7 @@ ReadFails NoBuffer q old new row = ⊥
 ReadFails DeviceFault q old new row = IsStrayRead q old new row
 ReadFails (fault.Call refused) q old new row = AddsSome old new
 
--- The first of the accesses were made, possibly none, and the next one fails.
+-- The first of these accesses, possibly none, were made, and the next access fails.
 abbrev pub StopsBy : PmdFault → AtPort → List Call → List Call → List Access → Type 0
 StopsBy f q old new all =
     (done : List Access) × (a : Access) × (rest : List Access) × (mid : List Call)

@@ -8,14 +8,14 @@ use Rattle.device_lock.specs.NicDevice.declared.event.Reply.{Reply}
 use Rattle.device_lock.specs.declared.entry.Call.{Call}
 use Rattle.device_lock.specs.Pass.{call_of}
 
--- A device, the calls made to it, whether each of them is own, and the replies to the foreign ones.
+-- A device, the calls made to it, whether each call is own, and the replies to the foreign calls.
 pub record Handled : Type 0 where
   pub device : State
   pub calls : List Call
   pub own : List Bool
   pub foreign : List (Reply Block)
 
--- The own calls among these.
+-- The calls that are marked as own.
 abbrev pub own_calls : List Call → List Bool → List Call
 own_calls [] own = []
 own_calls (c ∷ calls) [] = []
@@ -52,7 +52,7 @@ pub record Scheduled : Type 0 where
   pub handled : Handled
   pub lists : List (List (Event Block))
 
--- The foreign events to be applied before the next call; none if no list remains.
+-- The foreign events that are applied before the next call; none if no list remains.
 abbrev pub next_list : List (List (Event Block)) → List (Event Block)
 next_list [] = []
 next_list (es ∷ lists) = es
@@ -76,16 +76,16 @@ after_call s e = record {
   lists = later_lists s.lists;
 }
 
--- The first foreign events of this list were applied, possibly none; `rest` contains the others.
+-- The first foreign events of this list, possibly none, were applied; `rest` contains the later events.
 abbrev pub IsMadeTo : Handled → List (Event Block) → Handled → List (Event Block) → Type 0
 IsMadeTo old all new rest = (done : List (Event Block)) × (all ≡ done ++ rest) × (new ≡ after_list old done)
 
--- An event of the next list was refused. It stays first in its list, followed by the rest of the list.
+-- An event in the next list was refused. This event stays first in its list, followed by the later events.
 abbrev pub StopsInList : Scheduled → Scheduled → Type 0
 StopsInList old new =
     (refused : Event Block) × (rest : List (Event Block)) × (new.lists ≡ (refused ∷ rest) ∷ later_lists old.lists)
     × IsMadeTo old.handled (next_list old.lists) new.handled (refused ∷ rest)
 
--- Either an event of the next list was refused, or the whole list was applied and the call's own event was refused.
+-- Either an event in the next list was refused, or the whole list was applied and the call's own event was refused.
 abbrev pub StopsCall : Scheduled → Scheduled → Type 0
 StopsCall old new = StopsInList old new ⊎ (new ≡ with_list_made old)

@@ -25,7 +25,7 @@ use Rattle.pmd_access.specs.declared.setup.Setup.{Setup}
 abbrev pub IsInRow : Place → Type 0
 IsInRow p = p.index < (row_of p.row).count
 
--- The first address of a register. It names the register with all of its bits.
+-- The first address of a register, at which all of the register's bits can be accessed.
 pub record IsAddressOf (address : ℕ) (p : Place) : Type 0 where
   pub first : address_among runs p ≡ Some address
   pub names : place_among runs address ≡ Some p
@@ -52,7 +52,7 @@ SettingFails fault.ForeignBlock old new s = ⊥
 SettingFails fault.StartTimeout old new s = ⊥
 SettingFails fault.NoBuffer old new s = ⊥
 
--- The first of the registers were written, possibly none, and the next one wasn't.
+-- The first of these registers, possibly none, were written, and the next register wasn't.
 abbrev pub StopsSetting : PmdFault → List Call → List Call → List Setting → Type 0
 StopsSetting f old new ss =
     (done : List Setting) × (s : Setting) × (rest : List Setting) × (mid : List Call)
@@ -74,16 +74,16 @@ pools_word Pools16 = 1
 pools_word Pools32 = 1
 pools_word Pools64 = 1
 
--- The 32-bit value of four bytes, lowest first.
+-- The 32-bit value of four bytes, lowest byte first.
 abbrev pub word_in : List ℕ → ℕ → ℕ
 word_in bytes index = from_le_bytes w32 (slice_range bytes (4 * index) (4 * index + 4))
 
--- The first registers of a row, each with four of the bytes.
+-- The first registers of a row, each written with four of the bytes.
 unfoldable pub packed : RowId → List ℕ → ℕ → List Setting
 packed row bytes zero = []
 packed row bytes (suc count) = packed row bytes count ++ setting row count (word_in bytes count) ∷ []
 
--- FCTRL: which frames the device accepts.
+-- The value of FCTRL, which determines the frames that the device accepts.
 abbrev pub fctrl_word : Bool → ℕ
 fctrl_word promiscuous = if promiscuous then 0x700 else 0x400
 
@@ -96,8 +96,9 @@ maxfrs_settings frame = if nat_lt shortest_frame frame then setting Maxfrs 0 (65
 abbrev pub hlreg0_word : ℕ → ℕ
 hlreg0_word frame = if nat_lt shortest_frame frame then 0x407 else 0x403
 
--- All registers of the setup, in order: the pools, all of which receive and send; how a frame's queue is chosen; which
--- frames are accepted and how long they may be; then sending and receiving are enabled.
+-- All registers of the setup, in order. The first ones configure the pools, all of which receive and send. The next
+-- ones select how a frame's queue is chosen, which frames are accepted, and how long frames may be. The last ones
+-- enable sending and receiving.
 abbrev pub settings_of : Setup → List Setting
 settings_of s =
     setting GcrExt 0 (mode_word s.mode) ∷ setting VtCtl 0 (pools_word s.mode)

@@ -37,8 +37,8 @@ ring_words Tx ring size =
 abbrev pub asked : Dir → Bool → List Access
 asked side on = Sets (enable_row side) (enable_word on) ∷ []
 
--- Polls of a side that show the other state; and polls in which `misses` show the other state and the last one shows
--- the wanted state.
+-- Polls of a side that all show the other state. For `polled`: `misses` polls that show the other state, then one poll
+-- that shows the requested state.
 abbrev pub missed : Dir → Bool → ℕ → List Access
 missed side on polls = replicate polls (Sees (enable_row side) (not on))
 

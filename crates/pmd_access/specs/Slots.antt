@@ -6,7 +6,7 @@ use Rattle.std.specs.List.{range_with_len}
 abbrev pub wrapped : ℕ → ℕ → ℕ
 wrapped size at = if nat_lt at size then at else at - size
 
--- The bus address of a slot's descriptor, if the ring starts at block `ring`.
+-- The bus address of a slot's descriptor in a ring that starts at block `ring`.
 abbrev pub descriptor_in : ℕ → ℕ → ℕ
 descriptor_in ring slot = 2048 * ring + 16 * slot
 

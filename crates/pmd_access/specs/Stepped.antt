@@ -1,4 +1,4 @@
--- A pass to a shared device. The queue's device steps run before each call.
+-- A pass to a shared device, with a queue whose device steps run before each call.
 use Rattle.std.specs.Prelude.{◌≡◌, ◌==◌, ◌&&◌, ℕ, Bool, true, not, nat_lt, List, [], ◌∷◌, ◌++◌, take}
 use Rattle.device_lock.specs.NicDevice.DmaArena.Block.{Block}
 use Rattle.device_lock.specs.NicDevice.declared.event.Event.{Event}
@@ -9,8 +9,7 @@ use Rattle.device_lock.specs.Stepping.{steps_of_queue, events_in}
 use Rattle.device_lock.specs.Stepping as stepping
 use Rattle.pmd_access.specs.Refusals.{Refusals}
 
--- A pass, the number of the shared device's bench, the number of the device's passes, and the queue that the steps
--- belong to.
+-- A pass, the shared device's bench number and number of passes, and the queue whose device steps run before each call.
 pub record AtLock : Type 0 where
   pub bench : ℕ
   pub passes : ℕ
@@ -21,7 +20,7 @@ pub record AtLock : Type 0 where
 abbrev pub is_foreign : AtLock → Bool
 is_foreign t = not ((t.pass.bench == t.bench) && nat_lt t.pass.tag t.passes)
 
--- The reasons for which it may refuse calls: a full history, and a foreign pass if its pass is one.
+-- The reasons for which the device may refuse calls: a full history, and a foreign pass if the pass is foreign.
 abbrev pub refusals_of : AtLock → Refusals
 refusals_of t = record { foreign = is_foreign t; full = true }
 
@@ -29,12 +28,12 @@ refusals_of t = record { foreign = is_foreign t; full = true }
 abbrev pub with_calls : AtLock → List Call → AtLock
 with_calls t calls = record t { pass = stepping.with_calls t.pass calls }
 
--- The pass made these events, with any replies.
+-- The pass made these events, whatever the replies.
 abbrev pub AreStepped : AtLock → AtLock → List (Event Block) → Type 0
 AreStepped old new events =
     (steps : List Call) × (events_in steps ≡ events) × (new ≡ with_calls old steps)
 
--- Only device steps of the queue ran: the first ones, possibly none.
+-- Only the first of the queue's device steps ran, possibly none.
 abbrev pub StopsStepping : AtLock → AtLock → Type 0
 StopsStepping old new = (count : ℕ) × AreStepped old new (take count (steps_of_queue old.queue))
 

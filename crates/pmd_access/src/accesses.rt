@@ -54,8 +54,8 @@ pub fn write<N: Nic>(
     }
 }
 
-/// Lends a block. If a block with its number is already lent, the call returns a block with that number. A refused call
-/// returns the block with the error.
+/// Lends a block. If a block with this number is already lent, returns a block with that number; otherwise returns
+/// `None`. A refused call returns the block with the error.
 pub fn lend<N: Nic>(
     alloc: Global,
     nic: &mut N,
@@ -94,7 +94,7 @@ pub fn take<N: Nic>(alloc: Global, nic: &mut N, block: u32) -> Result<Option<Buf
     }
 }
 
-/// Reads the 16 bytes at a bus address. Returns `None` if they aren't lent or the address isn't a multiple of 16.
+/// Reads the 16 bytes at a bus address. Returns `None` if the bytes aren't lent or the address isn't a multiple of 16.
 pub fn peek<N: Nic>(
     alloc: Global,
     nic: &mut N,
@@ -114,7 +114,7 @@ pub fn peek<N: Nic>(
     }
 }
 
-/// Writes 16 bytes at a bus address. Returns whether they are lent and the address is a multiple of 16.
+/// Writes 16 bytes at a bus address. Returns false if the bytes aren't lent or the address isn't a multiple of 16.
 pub fn poke<N: Nic>(
     alloc: Global,
     nic: &mut N,

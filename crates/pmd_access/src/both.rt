@@ -15,10 +15,10 @@ use device_lock::Dir;
 use std::alloc::Global;
 
 impl Queue {
-    /// Disables both sides of the queue, the receive side first: checks that the side is off, writes "off", and checks
-    /// again.
+    /// Disables both sides of the queue, the receive side first. For each side, the call checks that the side is off,
+    /// writes "off", and checks again.
     ///
-    /// `DeviceFault` if a side is on or the port has no such register.
+    /// Fails with `DeviceFault` if a side is on or the port has no such register.
     pub fn disable_both<N: Nic>(&self, alloc: Global, nic: &mut N) -> Result<(), PmdFault>
         ensures made { OnOk result (AreMade self.now (N.made nic.old) (N.made nic.new) both_quiet) }
         ensures failed { IfErr result (λ f. StopsBy f self.now (N.made nic.old) (N.made nic.new) both_quiet) }
@@ -29,10 +29,11 @@ impl Queue {
         self.make_all(alloc, nic, &both_quiet())
     }
 
-    /// Enables or disables both sides of the queue, then polls until they have switched, the receive side first. The
-    /// two sides share a limit of `POLLS` polls; only polls that show the other state count.
+    /// Enables or disables both sides of the queue, then polls until both sides have switched, the receive side first.
+    /// The two sides share a limit of `POLLS` polls; only polls that show the other state count.
     ///
-    /// `StartTimeout` if that many polls show the other state, `DeviceFault` if the port has no such register.
+    /// Fails with `StartTimeout` if that many polls show the other state, and with `DeviceFault` if the port has no
+    /// such register.
     pub fn switch_both<N: Nic>(&self, alloc: Global, nic: &mut N, on: bool) -> Result<(), PmdFault>
         ensures switched { OnOk result (IsSwitched self.now (N.made nic.old) (N.made nic.new) on 1000) }
         ensures failed { IfErr result (λ f. SwitchFails f self.now (N.made nic.old) (N.made nic.new) on 1000) }
@@ -47,7 +48,7 @@ impl Queue {
     }
 }
 
-/// Checks that each side is off, writes "off", and checks again.
+/// The accesses that check that each side is off, write "off", and check again.
 fn both_quiet() -> [Access; 6]
     ensures accesses { result ≡ both_quiet }
     ensures known { All IsKnown result }
@@ -57,7 +58,7 @@ fn both_quiet() -> [Access; 6]
     [seen, off, still, seen_too, off_too, still_too]
 }
 
-/// Requests that both sides be enabled or disabled.
+/// The accesses that request that both sides be enabled or disabled.
 fn both_asked(on: bool) -> [Access; 2]
     ensures accesses { result ≡ both_asked on }
     ensures known { All IsKnown result }

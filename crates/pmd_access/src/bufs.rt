@@ -52,7 +52,7 @@ impl Bufs {
         }
     }
 
-    /// The number of Bufs.
+    /// Returns the number of Bufs.
     pub fn count(&self) -> usize
         ensures count { result ≡ length self.now }
         // At most 5.
@@ -61,7 +61,7 @@ impl Bufs {
         self.count
     }
 
-    /// The Buf at this index, from 0.
+    /// Returns the Buf at this index, counted from 0.
     pub fn get(&self, number: usize) -> &Buf
         requires { number < length self.now }
         ensures { result.now ≡ slice_index_or self.now number result.now }
@@ -96,7 +96,7 @@ impl Bufs {
         }
     }
 
-    /// Removes and returns the first Buf. Returns `None` if the list is empty.
+    /// Removes and returns the first Buf, or returns `None` if the list is empty.
     pub fn take_first(&mut self) -> Option<Buf>
         ensures first { self.old ≡ option_to_list result ++ self.new }
         ensures none { IfNone result (self.old ≡ []) }
@@ -107,8 +107,9 @@ impl Bufs {
         Some(first)
     }
 
-    /// Overwrites bytes starting at index `at`, across Bufs; index 0 is the first byte of the first Buf. Block numbers
-    /// stay the same. If the bytes would extend past the last Buf, it writes nothing and returns false.
+    /// Overwrites bytes starting at index `at`, continuing from one Buf to the next; index 0 is the first byte of the
+    /// first Buf. The block numbers are unchanged. If the bytes would extend past the last Buf, writes nothing and
+    /// returns false.
     pub fn write_at(&mut self, at: usize, bytes: &[u8]) -> bool
         ensures fits { (result ≡ true) ↔ (at + length bytes.now ≤ 2048 * length self.old) }
         ensures written { result ≡ true → bytes_of self.new ≡ put_bytes (bytes_of self.old) at bytes.now }
@@ -139,8 +140,9 @@ impl Bufs {
         true
     }
 
-    /// Copies bytes starting at index `at` into `to`, across Bufs, until `to` is full; index 0 is the first byte of the
-    /// first Buf. If the range would extend past the last Buf, it copies nothing and returns false.
+    /// Copies bytes starting at index `at` into `to` until `to` is full, continuing from one Buf to the next; index 0
+    /// is the first byte of the first Buf. If the range would extend past the last Buf, copies nothing and returns
+    /// false.
     #[tactic(auto, using(crate::proofs::Reading::length_bytes))]
     pub fn read_at(&self, at: usize, to: &mut [u8]) -> bool
         ensures fits { (result ≡ true) ↔ (at + length to.old ≤ length (bytes_of self.now)) }
@@ -163,7 +165,7 @@ impl Bufs {
     }
 }
 
-/// Consumes an array of empty places.
+/// Consumes an array in which each place is empty.
 fn end_all(places: [Option<Buf>; 5])
     requires { blocks_in places ≡ [] }
 {
@@ -185,7 +187,7 @@ fn empty(place: Option<Buf>)
     }
 }
 
-/// The total number of bytes in these Bufs.
+/// Returns the total number of bytes in these Bufs.
 pub fn bytes_in(bufs: &Bufs) -> usize
     ensures sum { result ≡ 2048 * length bufs.now }
     // Every Buf is a 2,048-byte block.
@@ -198,7 +200,7 @@ pub fn bytes_in(bufs: &Bufs) -> usize
     sum
 }
 
-/// Fills `to` with bytes of the Bufs starting at index `at`, across Bufs.
+/// Fills `to` with the Bufs' bytes starting at index `at`, continuing from one Buf to the next.
 fn copy_out(bufs: &Bufs, at: usize, to: &mut [u8])
     requires whole { All (λ b. IsBlock b) bufs.now }
     requires fits { at + length to.old ≤ 2048 * length bufs.now }

@@ -13,8 +13,8 @@ use device_lock::{CallFault, Calls, Device, Dir, Event, OutOfMemory, Reply};
 use std::alloc::Global;
 use std::marker::Model;
 
-/// A device in hand. Before each call it runs the queue's device steps: both sides of the queue switch, the queue
-/// sends, and the device receives. It can't be dropped, because the device can't.
+/// A device in hand. Before each call, the device steps of one queue run: both sides of the queue switch, the queue
+/// sends, and the device receives. A `Direct` can't be dropped, because the device can't.
 pub struct Direct {
     device: Device,
     queue: u16,
@@ -34,7 +34,7 @@ impl Model for Direct {
 }
 
 impl Direct {
-    /// Wraps a device that runs the steps of this queue before each call. No calls have been made yet.
+    /// Wraps a device so that this queue's device steps run before each call. No calls have been made yet.
     pub fn new(alloc: Global, device: Device, queue: u16) -> Direct
         ensures opened { result ≡ record { device = device; queue = queue; calls = [] } }
         ensures began { began_in_hand result (From device) }
@@ -46,14 +46,14 @@ impl Direct {
         }
     }
 
-    /// The calls made so far, with their replies, oldest first.
+    /// Returns the calls made so far, with their replies, oldest first.
     pub fn calls(&self) -> &Calls
         ensures { result.now ≡ self.now.calls }
     {
         &self.calls
     }
 
-    /// Returns the device, and the calls made with their replies.
+    /// Returns the device, and the calls made so far with their replies.
     pub fn finish(self) -> (Device, Calls)
         ensures device { result.0 ≡ self.device }
         ensures calls { result.1 ≡ self.calls }
@@ -82,7 +82,7 @@ impl Direct {
 }
 
 impl Direct {
-    /// Runs the device steps of its queue. If the queue is at rest and there is memory, all of them are idle and
+    /// Runs the queue's device steps. If the queue is at rest and there is memory, all of these steps are idle and
     /// recorded together. Otherwise they run one after the other.
     fn step_on(&mut self, alloc: Global, queue: u16) -> Result<(), CallFault<()>>
         requires { queue ≡ self.old.queue }
@@ -100,7 +100,7 @@ impl Direct {
         Ok(())
     }
 
-    /// Runs one device step. The recorded call contains its reply.
+    /// Runs one device step. The recorded call contains the step's reply.
     fn make_step(&mut self, alloc: Global, step: Event) -> Result<(), CallFault<()>>
         requires { is_step step ≡ true }
         ensures made { OnOk result (self.new ≡ after_event self.old step) }
@@ -123,11 +123,11 @@ impl Direct {
 }
 
 impl Direct {
-    /// Runs the device steps of its queue, then applies the event. The steps switch both sides, then send, then
+    /// Runs the queue's device steps, then applies the event. The steps switch both sides of the queue, then send, then
     /// receive. `Nic::call` calls this function, but promises only what the clauses of `Nic` say.
     ///
-    /// `OutOfMemory` if there is no memory to apply or record a step or the event. Then the earlier steps have run, and
-    /// the event hasn't been applied.
+    /// Fails with `OutOfMemory` if there is no memory to apply or record a step or the event. The earlier steps have
+    /// then run, and the event hasn't been applied.
     pub fn step_and_make(&mut self, alloc: Global, event: Event) -> Result<Reply, CallFault>
         ensures exact { OnOk result
             (self.new ≡ after_event (after_events self.old (steps_of_queue self.old.queue)) event) }

@@ -10,23 +10,24 @@ use device_lock::{Buf, CallFault};
 /// Why a driver call failed.
 #[derive(Debug, Drop)]
 pub enum PmdFault {
-    /// A ring's size isn't a multiple of 8 from 8 to 1,024; the limit on a frame's length isn't from 1,518 to 9,728; or
-    /// a packet's length is 0, above the frame limit less the check sequence, or above the capacity of its Bufs.
+    /// A size is wrong. A ring's size must be a multiple of 8 from 8 to 1,024. The limit on a frame's length must be
+    /// 1,518 to 9,728. A packet's length must not be 0, above the frame limit less the check sequence, or above the
+    /// capacity of its Bufs.
     BadSize,
-    /// A block of a packet can't return to the driver's arena.
+    /// One of the packet's blocks can't return to the driver's arena.
     ForeignBlock,
     /// The queue wasn't enabled or disabled within the permitted polls.
     StartTimeout,
     /// Too few blocks are free.
     NoBuffer,
-    /// The device sent a reply that is impossible for a healthy queue that nobody else touches.
+    /// The device sent a reply that it can't send for a healthy queue that nobody else touches.
     DeviceFault,
     /// The device's `Nic` refused a call.
     Call(CallFault<()>),
 }
 
-/// Removes the event from a refusal if the event contains no block. A `Nic` that may refuse with the event may also
-/// refuse without it.
+/// Removes the event, which contains no block, from a refusal. If a `Nic` may refuse for this reason with the event in
+/// the refusal, it may also do so without the event.
 pub fn without_event(fault: CallFault) -> CallFault<()>
     requires { lent_block (event_of fault) ≡ None }
     ensures fault { result ≡ fault_with fault tt }
@@ -39,7 +40,7 @@ pub fn without_event(fault: CallFault) -> CallFault<()>
     }
 }
 
-/// Splits a refusal into one without its event, and the block that the event would have lent.
+/// Splits a refusal into the same refusal without its event, and the block that the event would have lent.
 pub(crate) fn with_block(fault: CallFault) -> (CallFault<()>, Buf)
     requires { is_some (lent_block (event_of fault)) ≡ true }
     ensures fault { result.0 ≡ fault_with fault tt }

@@ -1,4 +1,4 @@
-//! The length of a driver's frames, with their frame check sequence of 4 bytes.
+//! The length of a driver's frames, including the frame check sequence of 4 bytes.
 
 ghost use Rattle.std.specs.Prelude.{◌≡◌, ◌≤◌, true};
 ghost use Rattle.pmd_access.specs.Frames.{is_frame, longest_frame, most_blocks, packet_limit, shortest_frame};
@@ -16,7 +16,7 @@ pub fn is_frame(frame: u16) -> bool
     SHORTEST_FRAME <= frame && frame <= LONGEST_FRAME
 }
 
-/// The maximum length of a packet in bytes, if a frame is at most `frame` bytes long with its check sequence.
+/// Returns the maximum length of a packet in bytes, if a frame is at most `frame` bytes long with its check sequence.
 pub fn packet_limit(frame: u16) -> u16
     requires { is_frame frame ≡ true }
     ensures limit { result ≡ packet_limit frame }
@@ -26,7 +26,7 @@ pub fn packet_limit(frame: u16) -> u16
     frame - 4
 }
 
-/// The maximum number of blocks in a packet of that length.
+/// Returns the maximum number of blocks in a packet, if a frame is at most `frame` bytes long with its check sequence.
 pub fn most_blocks(frame: u16) -> u16
     requires { is_frame frame ≡ true }
     ensures most { result ≡ most_blocks frame }

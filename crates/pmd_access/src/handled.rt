@@ -1,4 +1,4 @@
-//! An owned device, with what a driver did to it.
+//! A device in hand, with the calls made to it.
 
 ghost use Rattle.std.specs.Prelude.{◌≡◌, ◌<◌, [], ◌∷◌, ◌++◌, length, IfOk, IfErr, OnOk, OnErr, true};
 ghost use Rattle.device_lock.specs.NicDevice.Answering.{may_answer};
@@ -12,7 +12,7 @@ use std::alloc::Global;
 use std::collections::VecDeque;
 use std::marker::Model;
 
-/// A device, the calls made to it, which of them are own, and the replies to the foreign ones.
+/// A device, the calls made to it, which calls are own, and the replies to the foreign calls.
 pub(crate) struct Handled {
     pub(crate) device: Device,
     pub(crate) calls: Calls,
@@ -41,7 +41,7 @@ impl Model for Handled {
 }
 
 impl Handled {
-    /// For each call, in order, whether it is own.
+    /// Returns, for each call in order, whether the call is own.
     pub(crate) fn own(&self) -> &[bool]
         ensures own { result.now ≡ self.now.own }
         ensures each { length result.now ≡ length self.now.calls }
@@ -72,7 +72,7 @@ impl Handled {
         }
     }
 
-    /// Applies a foreign event and keeps its reply.
+    /// Applies a foreign event and keeps the reply.
     fn make_foreign(&mut self, alloc: Global, event: Event) -> Result<(), OutOfMemory<Event>>
         ensures made { OnOk result (self.new ≡ after_foreign self.old event) }
         ensures none { OnOk result (made_of self.new ≡ made_of self.old) }
@@ -90,7 +90,8 @@ impl Handled {
         Ok(())
     }
 
-    /// Applies foreign events in order, up to the first one refused. The rest stay in the list.
+    /// Applies foreign events in order, up to the first event that is refused. The refused event and the later ones
+    /// stay in the list.
     pub(crate) fn make_list(
         &mut self,
         alloc: Global,

@@ -1,4 +1,4 @@
-//! The calls on an owned device, as a history of the device.
+//! The calls made to a device in hand, as a history of the device.
 
 ghost use Rattle.std.specs.Prelude.{◌≡◌, IfOk, IfErr, if◌then◌else◌};
 ghost use Rattle.pmd_access.specs.Begun.{entries_in, entry_by, marked_entries, tag_of};
@@ -6,12 +6,12 @@ ghost use Rattle.pmd_access.specs.Begun.{entries_in, entry_by, marked_entries, t
 use device_lock::{Call, Entry};
 use std::alloc::Global;
 
-/// The pass of own calls, then the pass of foreign calls.
+/// The tag that own calls get in the history; foreign calls get the next tag.
 const OWN: u8 = 0;
 
 const FOREIGN: u8 = 1;
 
-/// The history entry of a call made by this pass.
+/// Returns the history entry for a call made by the pass with this tag.
 fn entry_by(pass: u8, call: Call) -> Entry
     ensures { result ≡ entry_by pass call }
 {
@@ -19,8 +19,8 @@ fn entry_by(pass: u8, call: Call) -> Entry
     Entry { pass, event, reply }
 }
 
-/// Turns the calls made through a `Direct` into a history in which each call is of pass 0. If there is no memory for
-/// it, returns the calls.
+/// Turns the calls made through a `Direct` into a history in which each call belongs to pass 0. If there is no memory
+/// for the history, returns the calls.
 pub fn history_of(alloc: Global, calls: Vec<Call>) -> Result<Vec<Entry>, Vec<Call>>
     ensures entries { IfOk result (λ history. history.items ≡ entries_in calls.items) }
     ensures back { IfErr result (λ back. back.items ≡ calls.items) }
@@ -34,8 +34,8 @@ pub fn history_of(alloc: Global, calls: Vec<Call>) -> Result<Vec<Entry>, Vec<Cal
     Ok(history)
 }
 
-/// Turns the calls made through an `Interleaved` into a history: calls marked as own are of pass 0, foreign ones of
-/// pass 1. The history ends at the last mark. If there is no memory for it, returns the calls.
+/// Turns the calls made through an `Interleaved` into a history. Calls marked as own belong to pass 0, and foreign
+/// calls to pass 1. The history ends at the last mark. If there is no memory for the history, returns the calls.
 pub fn marked_history(
     alloc: Global,
     calls: Vec<Call>,

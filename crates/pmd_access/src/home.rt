@@ -14,8 +14,8 @@ use std::alloc::{AllocError, Global};
 use std::collections::VecDeque;
 use std::marker::Model;
 
-/// Blocks that are being returned to their arena: the numbers of those still lent, and the number of blocks that the
-/// device no longer had.
+/// Blocks that are being returned to their arena: the numbers of the blocks still lent, and a count of the blocks that
+/// the device no longer had.
 #[derive(Debug, Drop)]
 pub struct Reclaim {
     lent: VecDeque<u32>,
@@ -34,7 +34,7 @@ impl Model for Reclaim {
 }
 
 impl Reclaim {
-    /// Creates a `Reclaim` with no blocks to return and none lost.
+    /// Creates a `Reclaim` with no blocks to return and no lost blocks.
     pub fn new(alloc: Global) -> Reclaim
         ensures { result ≡ record { lent = []; lost = 0 } }
     {
@@ -52,7 +52,7 @@ impl Reclaim {
         Reclaim { lent, lost: 0 }
     }
 
-    /// Adds the number of a lent block. Adds nothing if there is no memory.
+    /// Adds the number of a lent block. If there is no memory, adds nothing.
     pub fn add(&mut self, block: u32) -> Result<(), AllocError>
         requires { self.old.lost + length self.old.lent + 1 < 4294967296 }
         ensures added { OnOk result (self.new ≡ record self.old { lent = self.old.lent ++ block ∷ [] }) }
@@ -70,7 +70,7 @@ impl Reclaim {
         self.lent.iter().filter(|lent| **lent == block).count() > 0
     }
 
-    /// The number of blocks that the device no longer had when the driver tried to take them back.
+    /// Returns the number of blocks that the device no longer had when the driver tried to take them back.
     pub fn lost(&self) -> u32
         ensures { result ≡ self.now.lost }
     {
@@ -80,7 +80,7 @@ impl Reclaim {
     /// Takes the blocks back in order and returns them to the arena. A block that the device no longer has counts as
     /// lost.
     ///
-    /// If a call is refused, the remaining blocks are kept, so you can try again.
+    /// If a call is refused, the `Reclaim` keeps the remaining blocks, so you can try again.
     pub fn bring<N: Nic>(
         &mut self,
         alloc: Global,
@@ -105,14 +105,14 @@ impl Reclaim {
         Ok(())
     }
 
-    /// The number of blocks still to be returned.
+    /// Returns the number of blocks still to be returned.
     fn waiting(&self) -> usize
         ensures { result ≡ length self.now.lent }
     {
         self.lent.len()
     }
 
-    /// Takes the first of these blocks back from the device and returns it to the arena.
+    /// Takes the first of the remaining blocks back from the device and returns it to the arena, or counts it as lost.
     fn bring_one<N: Nic>(
         &mut self,
         alloc: Global,

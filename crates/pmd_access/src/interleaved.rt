@@ -1,4 +1,4 @@
-//! Access to a device with foreign events in between.
+//! Access to a device to which foreign events are applied between a driver's calls.
 
 ghost use Rattle.std.specs.Prelude.{◌≡◌, [], length, map, true, IfOk, IfErr, OnOk, OnErr};
 ghost use Rattle.device_lock.specs.Fault.{event_of};
@@ -18,8 +18,8 @@ use std::alloc::Global;
 use std::collections::VecDeque;
 use std::marker::Model;
 
-/// A device in hand with lists of foreign events. Before each call, the events of the next list are applied, if any
-/// list remains. It can't be dropped, because the device can't.
+/// A device in hand with lists of foreign events. Before each call, the events in the next list are applied, if a list
+/// remains. An `Interleaved` can't be dropped, because the device can't.
 pub struct Interleaved {
     handled: Handled,
     schedule: VecDeque<Vec<Event>>,
@@ -44,7 +44,7 @@ pub struct Finished {
     pub device: Device,
     /// All calls made, foreign and own, with their replies, oldest first.
     pub calls: Calls,
-    /// For each of these calls, in order, whether it is own. `marked_history` expects these marks.
+    /// For each of these calls, in order, whether the call is own. `marked_history` expects these marks.
     pub own: Vec<bool>,
     /// The replies to the foreign events, oldest first. They may contain blocks.
     pub foreign: Vec<Reply>,
@@ -81,7 +81,7 @@ impl Interleaved {
         &self.handled.calls
     }
 
-    /// For each of these calls, in order, whether it is own: made by `Nic::call` for its caller.
+    /// Returns, for each of these calls in order, whether the call is own, that is, made by `Nic::call` for its caller.
     pub fn own(&self) -> &[bool]
         ensures own { result.now ≡ self.now.handled.own }
         ensures each { length result.now ≡ length self.now.handled.calls }
@@ -89,12 +89,12 @@ impl Interleaved {
         self.handled.own()
     }
 
-    /// Returns its contents: the device, the calls with their marks, the foreign replies, and the lists not yet
+    /// Returns the contents: the device, the calls with their marks, the foreign replies, and the lists not yet
     /// applied. With these marks, the calls are a history that leads from the initial state to the device.
     pub fn finish(self) -> Finished
         ensures device { result.device ≡ self.handled.device }
         ensures calls { result.calls ≡ self.handled.calls }
-        // For each call, whether it is own.
+        // For each call, whether the call is own.
         ensures own { result.own.items ≡ self.handled.own }
         // Each call has a mark.
         ensures each { length result.own.items ≡ length result.calls }
@@ -121,7 +121,7 @@ impl Interleaved {
         }
     }
 
-    /// Applies the next list. If an event is refused, it stays first in its list, with the events after it.
+    /// Applies the next list. If an event is refused, that event stays first in its list, followed by the later events.
     fn make_next_list(&mut self, alloc: Global) -> Result<(), OutOfMemory<()>>
         ensures made { OnOk result (self.new ≡ with_list_made self.old) }
         ensures none { made_of self.new.handled ≡ made_of self.old.handled }
@@ -154,9 +154,10 @@ impl Nic for Interleaved {
 
     /// Applies the next list of foreign events, then the event.
     ///
-    /// `OutOfMemory` if there is no memory to apply or record one of these events. Then the earlier ones have been
-    /// applied, and the call's own event hasn't. A refused foreign event stays first in its list, followed by the rest
-    /// of the list, and the next call applies them. A list is removed when all its events have been applied.
+    /// Fails with `OutOfMemory` if there is no memory to apply or record one of these events. The earlier events have
+    /// then been applied, and the call's own event hasn't. A refused foreign event stays first in its list, followed by
+    /// the later events in the list, and the next call applies them. A list is removed when all its events have been
+    /// applied.
     fn call(&mut self, alloc: Global, event: Event) -> Result<Reply, CallFault>
         ensures made { IfOk result (λ reply. Adds (made_of self.old.handled) (made_of self.new.handled) event reply) }
         ensures fits { IfOk result (λ reply. may_answer event reply ≡ true) }

@@ -1,14 +1,14 @@
 //! How the driver reaches the device.
 //!
-//! `Nic` is a way to access the device: each call first applies some events, then its own. There are three ways.
-//! `Direct` drives an owned device, and `ThroughLock` uses a pass to a shared one; both step the driver's queue before
-//! a call. `Interleaved` applies given lists of foreign events instead. Contracts see the applied events as the list of
-//! its calls.
+//! The trait `Nic` is a driver's access to the device: each call first applies some events, then the caller's event.
+//! Three types implement `Nic`. `Direct` uses a device in hand, and `ThroughLock` uses a pass to a shared device; both
+//! run the device steps of the driver's queue before a call. `Interleaved` applies given lists of foreign events
+//! instead. In contracts, the events applied through a `Nic` are its list of calls.
 //!
-//! The rest builds on it: the accesses that a driver makes, each with the replies that it can get (`accesses.rt`), the
-//! setup of the whole device (`pf_setup`), a queue with the numbers of its registers at a port, whose sides are
-//! prepared, enabled and disabled (`Queue`), the slots of a ring (`slots.rt`), the Bufs of a packet (`Bufs`), and the
-//! return of blocks to their arena (`Reclaim`).
+//! The other modules build on `Nic`. `accesses.rt` contains the accesses that a driver makes, each with the replies
+//! that it can get. `pf_setup` sets up the whole device. A `Queue` knows the numbers of its registers at a port, and
+//! prepares, enables and disables its sides. `slots.rt` is about the slots of a ring, and `Bufs` are a packet's Bufs. A
+//! `Reclaim` returns blocks to their arena.
 #![tactic(auto)]
 
 mod accesses;

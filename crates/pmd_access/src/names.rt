@@ -35,9 +35,9 @@ impl Model for Queue {
 }
 
 impl Queue {
-    /// The queue with this number at a port: one of the device's 128 queues through the physical function, or one of
-    /// the function's own through a virtual function. Returns `None` if the port can't address it: 128 or more at the
-    /// physical function, 64 or more at a virtual one.
+    /// Returns the queue with this number at a port. Through the physical function, this is one of the device's 128
+    /// queues; through a virtual function, one of the function's own queues. Returns `None` if the port can't address
+    /// the queue, because the number is 128 or more at the physical function, or 64 or more at a virtual function.
     pub fn new(port: Port, queue: u16) -> Option<Queue>
         ensures some { IfSome result (λ q. q ≡ record { port = port; queue = queue }) }
         ensures none { IsNone result ↔ ¬ CanName (record { port = port; queue = queue }) }
@@ -53,21 +53,21 @@ impl Queue {
         }
     }
 
-    /// The port that reaches the queue: the physical function or a virtual one.
+    /// Returns the port through which the queue is reached: the physical function or a virtual function.
     pub fn port(&self) -> Port
         ensures { result ≡ self.now.port }
     {
         self.port
     }
 
-    /// The queue's number at the port.
+    /// Returns the queue's number at the port.
     pub fn queue(&self) -> u16
         ensures { result ≡ self.now.queue }
     {
         self.queue
     }
 
-    /// The number of a side's tail register at the port.
+    /// Returns the number of a side's tail register at the port.
     pub fn tail_number(&self, side: Dir) -> u32
         ensures { IsNumberOf self.now.port (tail_row side) self.now.queue result }
     {
@@ -77,7 +77,7 @@ impl Queue {
         }
     }
 
-    /// The number of one of the queue's registers at the port.
+    /// Returns the number of one of the queue's registers at the port.
     pub(crate) fn number_of(&self, row: RowId) -> u32
         requires { IsDriven row }
         ensures { IsNumberOf self.now.port row self.now.queue result }
@@ -92,7 +92,7 @@ impl Queue {
     }
 }
 
-/// The offset of a register in a virtual function's own queue.
+/// Returns the offset of a register that belongs to a virtual function's own queue.
 #[rattlefmt::skip]
 fn offset_of(row: RowId, queue: u16) -> u32
     requires driven { is_driven row ≡ true }

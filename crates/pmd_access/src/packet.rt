@@ -16,25 +16,25 @@ use std::marker::Model;
 
 /// A packet in hand. Its bytes are the first `len` bytes of its Bufs, in order.
 pub struct Packet {
-    /// The Bufs that contain it.
+    /// The Bufs that contain the packet.
     pub bufs: Bufs,
-    /// Its length in bytes.
+    /// The packet's length in bytes.
     pub len: u16,
-    /// Its RSS type.
+    /// The packet's RSS type.
     pub rss: u8,
-    /// Its RSS hash; 0 if none was reported.
+    /// The packet's RSS hash; 0 if none was reported.
     pub hash: u32,
 }
 
-/// The number of Bufs that a packet of `len` bytes needs: at least one.
+/// Returns the number of Bufs that a packet of `len` bytes needs: at least one.
 fn bufs_for(len: u16) -> u32
     ensures { result ≡ bufs_for len }
 {
     ((u32::from(len) + 2047) / 2048).max(1)
 }
 
-/// Creates a packet of `len` zero bytes in free blocks of the arena, with RSS type and hash 0. Returns `None` and takes
-/// nothing if too few blocks are free or the length is above 10,240.
+/// Creates a packet of `len` zero bytes in free blocks of the arena, with RSS type and hash 0. If too few blocks are
+/// free or `len` is above 10,240, returns `None` and takes no block.
 pub fn fresh_packet(arena: &mut Arena, len: u16) -> Option<Packet>
     ensures none { IsNone result ↔ ((10240 < len) ⊎ (free_count arena.old < bufs_for len)) }
     ensures made { IsFresh arena.old len result arena.new }
@@ -99,7 +99,7 @@ pub fn give_bufs(arena: &mut Arena, bufs: Bufs)
     left.finish()
 }
 
-/// What the driver keeps about a packet that it received or accepted.
+/// What the driver keeps about a packet that the driver received or accepted.
 #[derive(Debug, Drop)]
 pub struct Record {
     /// The packet's bytes, without the frame check sequence.
@@ -119,16 +119,17 @@ impl Model for Record {
 }
 
 impl Packet {
-    /// The number of bytes that a record of the packet keeps: the packet's length, at most the capacity of its Bufs.
+    /// Returns the number of bytes that a record of the packet keeps: the packet's length, at most the capacity of its
+    /// Bufs.
     pub fn record_room(&self) -> usize
         ensures { result ≡ min self.now.len (2048 * length self.now.bufs) }
     {
         usize::from(self.len).min(BLOCK_BYTES * self.bufs.count())
     }
 
-    /// Overwrites the packet's bytes starting at index `at`, across its Bufs; the packet's first byte has index 0.
-    /// Block numbers stay the same. If the bytes would extend past its `len` bytes or past its last Buf, it writes
-    /// nothing and returns false.
+    /// Overwrites the packet's bytes starting at index `at`, continuing from one Buf to the next; the packet's first
+    /// byte has index 0. The block numbers are unchanged. If the bytes would extend past the packet's `len` bytes or
+    /// past its last Buf, writes nothing and returns false.
     pub fn write_at(&mut self, at: usize, bytes: &[u8]) -> bool
         ensures fits { (result ≡ true) ↔ (at + length bytes.now ≤ min self.old.len (2048 * length self.old.bufs)) }
         ensures written { result ≡ true → bytes_of self.new.bufs ≡ put_bytes (bytes_of self.old.bufs) at bytes.now }
@@ -140,8 +141,9 @@ impl Packet {
         at.saturating_add(bytes.len()) <= usize::from(self.len) && self.bufs.write_at(at, bytes)
     }
 
-    /// Fills `to` with the packet's bytes starting at index `at`, across its Bufs; the packet's first byte has index 0.
-    /// If the range would extend past its `len` bytes or past its last Buf, it copies nothing and returns false.
+    /// Fills `to` with the packet's bytes starting at index `at`, continuing from one Buf to the next; the packet's
+    /// first byte has index 0. If the range would extend past the packet's `len` bytes or past its last Buf, copies
+    /// nothing and returns false.
     #[tactic(auto, using(crate::proofs::Reading::reading))]
     pub fn read_at(&self, at: usize, to: &mut [u8]) -> bool
         ensures fits { (result ≡ true) ↔ (at + length to.old ≤ length (kept_of self.now).bytes) }
@@ -151,7 +153,7 @@ impl Packet {
         at.saturating_add(to.len()) <= usize::from(self.len) && self.bufs.read_at(at, to)
     }
 
-    /// The packet's byte at an index, from 0. Returns `None` if `read_at` can't read a byte there.
+    /// Returns the packet's byte at an index, counted from 0, or `None` if `read_at` can't read a byte there.
     #[tactic(auto, using(crate::proofs::Reading::reading, std::proofs::lemmas::Option::slice_get_past))]
     pub fn byte(&self, at: usize) -> Option<u8>
         ensures { result ≡ slice_get (kept_of self.now).bytes at }
@@ -164,7 +166,7 @@ impl Packet {
         }
     }
 
-    /// Copies all bytes of the packet that `read_at` can read.
+    /// Returns a copy of all bytes of the packet that `read_at` can read.
     pub fn to_vec(&self, alloc: Global) -> Result<Vec<u8>, AllocError>
         ensures { IfOk result (λ copy. copy.items ≡ (kept_of self.now).bytes) }
     {
@@ -179,7 +181,7 @@ impl Packet {
 }
 
 impl Record {
-    /// Creates the record of a packet, copying its bytes into a vector with room for them.
+    /// Creates the record of a packet. It copies the packet's bytes into `room`, a vector with room for them.
     pub fn of(packet: &Packet, room: Vec<u8>) -> Record
         requires empty { room.items ≡ [] }
         requires room { min packet.now.len (2048 * length packet.now.bufs) ≤ vec_capacity room }
@@ -214,7 +216,7 @@ impl Record {
     }
 }
 
-/// Copies the first `len` bytes of some Bufs, or fewer if the Bufs end first, into a vector with room for them.
+/// Copies the first `len` bytes of some Bufs, or all their bytes if there are fewer, into a vector with room for them.
 fn copied(bufs: &Bufs, len: usize, room: Vec<u8>) -> Vec<u8>
     requires empty { room.items ≡ [] }
     requires len { len < 65536 }

@@ -1,4 +1,4 @@
-//! The registers of a queue, accessed one by one.
+//! Accesses to a queue's registers.
 
 ghost use Rattle.std.specs.Prelude.{◌≡◌, All, IfOk, IfErr, OnOk};
 ghost use Rattle.device_lock.specs.NicDevice.RegisterFile.Bits.{has_bit};
@@ -24,10 +24,10 @@ pub enum Access {
 }
 
 impl Queue {
-    /// Accesses the queue's registers in order.
+    /// Makes these accesses to the queue's registers, in order.
     ///
-    /// `DeviceFault` if ENABLE isn't as required, or the port has no such register. The earlier accesses have been
-    /// made.
+    /// Fails with `DeviceFault` if ENABLE isn't as required, or the port has no such register. The earlier accesses
+    /// have then been made.
     pub(crate) fn make_all<N: Nic>(
         &self,
         alloc: Global,
@@ -73,7 +73,7 @@ impl Queue {
 
     /// Returns whether ENABLE is set in a register of the queue.
     ///
-    /// `DeviceFault` if the port has no such register.
+    /// Fails with `DeviceFault` if the port has no such register.
     pub(crate) fn shows<N: Nic>(
         &self,
         alloc: Global,
@@ -94,7 +94,7 @@ impl Queue {
     }
 }
 
-/// Returns whether ENABLE is set in a value of RXDCTL or TXDCTL; it is the same bit in both.
+/// Returns whether ENABLE is set in a value of RXDCTL or TXDCTL. ENABLE is the same bit in both registers.
 fn is_enabled(word: u32) -> bool
     ensures { result ≡ has_bit 25 word }
 {

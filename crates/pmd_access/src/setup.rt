@@ -20,13 +20,13 @@ use device_lock::{Mode, Place, Port, RowId, addr_of};
 use reg_table::{Dmatxctl, Fctrl, Hlreg0, Rxcsum, Rxctrl, VtCtl};
 use std::alloc::Global;
 
-/// VFRE, VFTE: every pool of the register is on.
+/// The value of VFRE and VFTE with every pool of the register enabled.
 const ALL_POOLS: u32 = 0xFFFF_FFFF;
 
-/// FCTRL: accept frames to any address.
+/// The value of FCTRL with which the device accepts frames to any address.
 const PROMISCUOUS: u32 = Fctrl::MPE.0 | Fctrl::UPE.0 | Fctrl::BAM.0;
 
-/// HLREG0: add and strip the frame check sequence, and pad short frames.
+/// The value of HLREG0 with which the device adds and strips the frame check sequence and pads short frames.
 const PAD_AND_CHECK: u32 = Hlreg0::TXCRCEN.0 | Hlreg0::RXCRCSTRP.0 | Hlreg0::TXPADEN.0;
 
 /// The settings of the whole device.
@@ -58,13 +58,13 @@ pub struct Setting {
 enum Part<'a> {
     /// Writes a value to one register of a row.
     Word(RowId, u16, u32),
-    /// Writes bytes to the first registers of a row: four bytes each, lowest first.
+    /// Writes bytes to the first registers of a row: four bytes to each register, lowest byte first.
     Bytes(RowId, u16, &'a [u8]),
     /// Writes no register.
     Nothing,
 }
 
-/// The code of the mode in GCR_EXT.VT_Mode, bits 1 and 0.
+/// Returns the code of the mode in GCR_EXT.VT_Mode, bits 1 and 0.
 fn mode_word(mode: Mode) -> u32
     ensures { result ≡ mode_word mode }
 {
@@ -76,7 +76,7 @@ fn mode_word(mode: Mode) -> u32
     }
 }
 
-/// VT_CTL: pools are on in every mode except `Off`.
+/// Returns the value of VT_CTL: pools are enabled in every mode except `Off`.
 fn pools_word(mode: Mode) -> u32
     ensures { result ≡ pools_word mode }
 {
@@ -88,7 +88,7 @@ fn pools_word(mode: Mode) -> u32
 
 /// Writes one register through the physical function.
 ///
-/// `DeviceFault` if the device has no such register, `Call` if the write was refused.
+/// Fails with `DeviceFault` if the device has no such register, and with `Call` if the write was refused.
 pub fn set<N: Nic>(alloc: Global, nic: &mut N, setting: Setting) -> Result<(), PmdFault>
     requires { IsInRow setting.place }
     ensures set { OnOk result (AreSet (N.made nic.old) (N.made nic.new) (setting ∷ [])) }
@@ -105,7 +105,7 @@ pub fn set<N: Nic>(alloc: Global, nic: &mut N, setting: Setting) -> Result<(), P
     }
 }
 
-/// The 32-bit value of the four bytes starting at `4 * index`, lowest first.
+/// Returns the 32-bit value of the four bytes starting at `4 * index`, lowest byte first.
 fn word_in(bytes: &[u8], index: usize) -> u32
     requires { 4 * index + 4 ≤ length bytes.now }
     ensures { result ≡ word_in bytes.now index }
@@ -113,7 +113,7 @@ fn word_in(bytes: &[u8], index: usize) -> u32
     LittleEndian::read_u32(&bytes[4 * index..4 * index + 4])
 }
 
-/// Writes four of the bytes to each register of a row.
+/// Writes the bytes to the first `count` registers of a row, four bytes to each register.
 #[tactic(auto, unfolding(crate::specs::Setup::packed))]
 fn set_packed<N: Nic>(
     alloc: Global,
@@ -137,7 +137,7 @@ fn set_packed<N: Nic>(
     Ok(())
 }
 
-/// FCTRL: which frames the device accepts.
+/// Returns the value of FCTRL, which determines the frames that the device accepts.
 fn fctrl_word(promiscuous: bool) -> u32
     ensures { result ≡ fctrl_word promiscuous }
 {
@@ -148,7 +148,7 @@ fn fctrl_word(promiscuous: bool) -> u32
     }
 }
 
-/// HLREG0: the maximum frame length is 1,518 bytes, or the one in MAXFRS.
+/// Returns the value of HLREG0: the maximum frame length is 1,518 bytes, or the value in MAXFRS if `frame` is longer.
 fn hlreg0_word(frame: u16) -> u32
     ensures { result ≡ hlreg0_word frame }
 {
@@ -159,7 +159,7 @@ fn hlreg0_word(frame: u16) -> u32
     }
 }
 
-/// MAXFRS: the maximum frame length, if above 1,518 bytes.
+/// Returns the part that writes MAXFRS, if the maximum frame length is above 1,518 bytes.
 fn maxfrs(frame: u16) -> Part<'static>
     ensures settings { settings_in result ≡ maxfrs_settings frame }
     ensures known { IsPart result }
@@ -171,8 +171,9 @@ fn maxfrs(frame: u16) -> Part<'static>
     }
 }
 
-/// The whole setup, part by part: the pools, all of which receive and send; how a frame's queue is chosen; which frames
-/// are accepted and how long they may be; then transmission and reception are enabled.
+/// Returns all parts of the setup, in order. The first parts configure the pools, all of which receive and send. The
+/// next ones select how a frame's queue is chosen, which frames are accepted, and how long frames may be. The last ones
+/// enable transmission and reception.
 fn parts_of(setup: &Setup) -> [Part<'_>; 15]
     ensures settings { all_settings result ≡ settings_of setup.now }
     ensures known { All IsPart result }
@@ -196,7 +197,7 @@ fn parts_of(setup: &Setup) -> [Part<'_>; 15]
     ]
 }
 
-/// Writes the registers of a part.
+/// Writes the registers that a part names.
 fn set_part<N: Nic>(alloc: Global, nic: &mut N, part: Part<'_>) -> Result<(), PmdFault>
     requires { IsPart part }
     ensures set { OnOk result (AreSet (N.made nic.old) (N.made nic.new) (settings_in part.entry)) }
@@ -216,8 +217,8 @@ fn set_part<N: Nic>(alloc: Global, nic: &mut N, part: Part<'_>) -> Result<(), Pm
 /// Sets up the whole device through the physical function. Writes, in this order, GCR_EXT, VT_CTL, VFRE, VFTE, MRQC,
 /// RSSRK, RETA, RXCSUM, FCTRL, MAXFRS if frames may exceed 1,518 bytes, HLREG0, DMATXCTL and RXCTRL.
 ///
-/// `BadSize` if `frame` isn't from 1,518 to 9,728; nothing is written. `DeviceFault` if the device lacks one of the
-/// registers, `Call` if a write was refused. The earlier writes have been made.
+/// Fails with `BadSize` if `frame` isn't from 1,518 to 9,728; nothing is then written. Fails with `DeviceFault` if the
+/// device lacks one of the registers, and with `Call` if a write was refused. The earlier writes have then been made.
 pub fn pf_setup<N: Nic>(alloc: Global, nic: &mut N, setup: &Setup) -> Result<(), PmdFault>
     ensures set { OnOk result (AreSet (N.made nic.old) (N.made nic.new) (settings_of setup.now)) }
     ensures bad { IsFalse (is_frame setup.now.frame)

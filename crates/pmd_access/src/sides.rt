@@ -16,19 +16,19 @@ use device_lock::{Dir, RowId};
 use reg_table::Rxdctl;
 use std::alloc::Global;
 
-/// The maximum number of polls that don't show ENABLE as wanted.
+/// The maximum number of polls that show ENABLE in the other state than requested.
 pub const POLLS: u16 = 1000;
 
-/// SRRCTL.DESCTYPE: the descriptor type, three bits; this is the lowest one.
+/// The lowest bit of SRRCTL.DESCTYPE, the descriptor type, which has three bits.
 const DESCTYPE: u32 = 25;
 
-/// SRRCTL: advanced descriptors with one buffer (DESCTYPE) of 2 KiB (BSIZEPACKET, in the lowest bits).
+/// The value of SRRCTL for advanced descriptors with one buffer (DESCTYPE) of 2 KiB (BSIZEPACKET, in the lowest bits).
 const ONE_BUFFER: u32 = (1 << DESCTYPE) | 2;
 
 impl Queue {
     /// Returns whether a side of the queue is on.
     ///
-    /// `DeviceFault` if the port has no such register.
+    /// Fails with `DeviceFault` if the port has no such register.
     pub fn is_on<N: Nic>(&self, alloc: Global, nic: &mut N, side: Dir) -> Result<bool, PmdFault>
         ensures seen { IfOk result (λ on. IsSeen self.now (N.made nic.old) (N.made nic.new) (enable_row side) on) }
         ensures failed { IfErr result (λ f. ReadFails f self.now (N.made nic.old) (N.made nic.new) (enable_row side)) }
@@ -39,9 +39,9 @@ impl Queue {
         self.shows(alloc, nic, enable_row(side))
     }
 
-    /// Disables a side of the queue: checks that it is off, writes "off", and checks again.
+    /// Disables a side of the queue: checks that the side is off, writes "off", and checks again.
     ///
-    /// `DeviceFault` if it is on or the port has no such register.
+    /// Fails with `DeviceFault` if the side is on or the port has no such register.
     pub fn disable<N: Nic>(&self, alloc: Global, nic: &mut N, side: Dir) -> Result<(), PmdFault>
         ensures made { OnOk result (AreMade self.now (N.made nic.old) (N.made nic.new) (quiet side)) }
         ensures failed { IfErr result (λ f. StopsBy f self.now (N.made nic.old) (N.made nic.new) (quiet side)) }
@@ -54,7 +54,7 @@ impl Queue {
 
     /// Writes the registers of an empty ring of `size` descriptors, at most 1,024, that starts at block `ring`.
     ///
-    /// `DeviceFault` if the port has no such register.
+    /// Fails with `DeviceFault` if the port has no such register.
     pub fn lay_out<N: Nic>(
         &self,
         alloc: Global,
@@ -77,7 +77,7 @@ impl Queue {
 
     /// Requests that a side of the queue be enabled or disabled.
     ///
-    /// `DeviceFault` if the port has no such register.
+    /// Fails with `DeviceFault` if the port has no such register.
     pub fn ask<N: Nic>(
         &self,
         alloc: Global,
@@ -94,10 +94,11 @@ impl Queue {
         self.make_all(alloc, nic, &asked(side, on))
     }
 
-    /// Polls until a side of the queue is on or off as wanted, at most `polls` times. Only polls that show the other
+    /// Polls until a side of the queue is on or off as requested, at most `polls` times. Only polls that show the other
     /// state count. Returns the number of polls remaining.
     ///
-    /// `StartTimeout` if all of them show the other state, `DeviceFault` if the port has no such register.
+    /// Fails with `StartTimeout` if all of these polls show the other state, and with `DeviceFault` if the port has no
+    /// such register.
     pub fn poll<N: Nic>(
         &self,
         alloc: Global,
@@ -123,7 +124,7 @@ impl Queue {
     }
 }
 
-/// The register that enables a side.
+/// Returns the register that enables a side.
 fn enable_row(side: Dir) -> RowId
     ensures row { result ≡ enable_row side }
     ensures driven { IsDriven result }
@@ -134,7 +135,7 @@ fn enable_row(side: Dir) -> RowId
     }
 }
 
-/// The value of RXDCTL or TXDCTL that enables or disables a side. ENABLE is the same bit in both.
+/// Returns the value of RXDCTL or TXDCTL that enables or disables a side. ENABLE is the same bit in both registers.
 fn enable_word(on: bool) -> u32
     ensures { result ≡ enable_word on }
 {
@@ -144,7 +145,7 @@ fn enable_word(on: bool) -> u32
     Rxdctl::ENABLE.0
 }
 
-/// Checks that a side is off, writes "off", and checks again.
+/// The accesses that check that a side is off, write "off", and check again.
 pub(crate) fn quiet(side: Dir) -> [Access; 3]
     ensures accesses { result ≡ quiet side }
     ensures known { All IsKnown result }
@@ -157,7 +158,7 @@ pub(crate) fn quiet(side: Dir) -> [Access; 3]
     ]
 }
 
-/// Requests that a side be enabled or disabled.
+/// The access that requests that a side be enabled or disabled.
 pub(crate) fn asked(side: Dir, on: bool) -> [Access; 1]
     ensures accesses { result ≡ asked side on }
     ensures known { All IsKnown result }
@@ -165,7 +166,7 @@ pub(crate) fn asked(side: Dir, on: bool) -> [Access; 1]
     [Access::Sets(enable_row(side), enable_word(on))]
 }
 
-/// The register values of an empty ring.
+/// The writes that set up the registers of an empty ring.
 fn ring_words(side: Dir, ring: u32, size: u16) -> [Access; 6]
     requires ring { ring < 65536 }
     requires size { size ≤ 1024 }

@@ -4,7 +4,7 @@ ghost use Rattle.std.specs.Prelude.{◌≡◌, ◌<◌, ◌≤◌, ◌+◌};
 ghost use Rattle.device_lock.specs.NicDevice.DmaRing.Ring.{next_of};
 ghost use Rattle.pmd_access.specs.Slots.{wrapped, descriptor_in, blocks_for, is_ring_block};
 
-/// The slot after `slot` in a ring of `size` slots; it wraps to 0 after the last.
+/// Returns the slot after `slot` in a ring of `size` slots; after the last slot, this is slot 0.
 pub fn next_slot(size: u16, slot: u16) -> u16
     requires { slot < size }
     ensures { result ≡ next_of size slot }
@@ -12,7 +12,7 @@ pub fn next_slot(size: u16, slot: u16) -> u16
     if slot + 1 == size { 0 } else { slot + 1 }
 }
 
-/// The slot `after` places past `slot` in a ring of `size` slots, at most 1,024.
+/// Returns the slot that is `after` slots past `slot` in a ring of `size` slots, at most 1,024.
 pub fn slot_after(size: u16, slot: u16, after: u16) -> u16
     requires few { size ≤ 1024 }
     requires slot { slot < size }
@@ -23,7 +23,7 @@ pub fn slot_after(size: u16, slot: u16, after: u16) -> u16
     if at < size { at } else { at - size }
 }
 
-/// The bus address of a slot's descriptor, if the ring starts at block `ring`.
+/// Returns the bus address of a slot's descriptor in a ring that starts at block `ring`.
 pub fn descriptor_address(ring: u32, slot: u16) -> u32
     requires { ring < 65536 }
     ensures { result ≡ descriptor_in ring slot }
@@ -31,7 +31,7 @@ pub fn descriptor_address(ring: u32, slot: u16) -> u32
     2048 * ring + 16 * u32::from(slot)
 }
 
-/// The number of blocks in a ring of `size` slots, at most 1,024. A block contains 128 descriptors.
+/// Returns the number of blocks in a ring of `size` slots, at most 1,024. A block contains 128 descriptors.
 pub fn blocks_for(size: u16) -> u32
     requires { size ≤ 1024 }
     ensures blocks { result ≡ blocks_for size }

@@ -13,8 +13,8 @@ use std::alloc::Global;
 use std::marker::Model;
 use std::sync::Wait;
 
-/// A pass to a shared device, used under the device's lock. Before each call it runs the queue's device steps: both
-/// sides of the queue switch, the queue sends, and the device receives. It holds the lock throughout.
+/// A pass to a shared device, used under the device's lock. Before each call, the device steps of one queue run: both
+/// sides of the queue switch, the queue sends, and the device receives. The lock is held during the steps and the call.
 pub struct ThroughLock<'a, R: Wait, const VFS: u8, const FIFO: u16> {
     rt: &'a R,
     shared: &'a Shared<VFS, FIFO>,
@@ -33,7 +33,7 @@ impl<'a, R: Wait, const VFS: u8, const FIFO: u16> Model for ThroughLock<'a, R, V
 }
 
 impl<'a, R: Wait, const VFS: u8, const FIFO: u16> ThroughLock<'a, R, VFS, FIFO> {
-    /// Creates a `Nic` for the shared device from this pass. It runs the device steps of this queue before each call.
+    /// Creates a `Nic` for the shared device from this pass. The device steps of this queue run before each call.
     pub fn new(rt: &'a R, shared: &'a Shared<VFS, FIFO>, pass: Pass, queue: u16) -> Self
         ensures { result
             ≡ record { bench = shared.now.bench; passes = shared.now.passes; queue = queue; pass = pass } }
@@ -46,14 +46,14 @@ impl<'a, R: Wait, const VFS: u8, const FIFO: u16> ThroughLock<'a, R, VFS, FIFO> 
         }
     }
 
-    /// The calls made by the pass, with their replies, oldest first.
+    /// Returns the calls made by the pass, with their replies, oldest first.
     pub fn calls(&self) -> &Calls
         ensures { result.now ≡ self.now.pass.calls }
     {
         self.pass.calls()
     }
 
-    /// Returns the pass, with the calls it made.
+    /// Returns the pass, with the calls that it made.
     pub fn finish(self) -> Pass
         ensures { result ≡ self.entry.pass }
     {
@@ -66,12 +66,12 @@ impl<'a, R: Wait, const VFS: u8, const FIFO: u16> ThroughLock<'a, R, VFS, FIFO> 
         pass
     }
 
-    /// Runs the device steps, then applies the event, under the lock, which it acquires once. `Nic::call` calls this
-    /// function, but doesn't promise that a foreign pass is refused.
+    /// Acquires the lock once, runs the device steps, then applies the event. `Nic::call` calls this function, but
+    /// doesn't promise that a foreign pass is refused.
     ///
-    /// `ForeignPass` exactly if the pass belongs to another bench or its tag isn't one of this device's; then nothing
-    /// is done. Otherwise, it fails for any reason for which `Shared::call` refuses a step or the event. Then the
-    /// earlier steps have run, and the event hasn't been applied.
+    /// Fails with `ForeignPass` exactly if the pass belongs to another bench or its tag isn't one of this device's;
+    /// nothing is then done. Otherwise, if `Shared::call` would refuse a step or the event, fails for the same reason.
+    /// The earlier steps have then run, and the event hasn't been applied.
     pub fn step_and_make(&mut self, alloc: Global, event: Event) -> Result<Reply, CallFault>
         ensures exact { IfOk result (λ reply. StepsAndMakes self.old self.new event reply) }
         ensures fits { IfOk result (λ reply. may_answer event reply ≡ true) }

@@ -1,4 +1,4 @@
--- What a device and a driver that sends on one of its queues agree on.
+-- What a device and a driver that sends on one of the device's queues agree on.
 use Rattle.std.specs.Prelude.{[], if◌then◌else◌, ◌*◌, ◌++◌, ◌<◌, ◌∷◌, ◌≡◌, ◌≢◌, ◌≤◌, ◌⊎◌, IsFalse, IsTrue, List, None}
 use Rattle.std.specs.Prelude.{drop, false, length, map, true, ℕ}
 use Rattle.ring_laws.specs.Prelude.{IsSound, Memory, Register, State, Tdt, TransmitQueue, done_descriptor}
@@ -18,20 +18,20 @@ staged_with staged s = if s.part.last then [] else staged ++ s.part.bytes
 abbrev pub frame_ended : List ℕ → Segment → List (List ℕ)
 frame_ended staged s = if s.part.last then (staged ++ s.part.bytes) ∷ [] else []
 
--- The frames that segments become, given the bytes already staged.
+-- The frames that the segments become, given the bytes already staged.
 abbrev pub frames_from : List ℕ → List Segment → List (List ℕ)
 frames_from staged [] = []
 frames_from staged (s ∷ segments) = frame_ended staged s ++ frames_from (staged_with staged s) segments
 
--- After the staged bytes, segments continue their packet, contain further packets, and end the last one. Each packet is
--- 60 to `limit` bytes long.
+-- The segments continue the packet of the staged bytes, contain further packets, and end the last packet. Each packet
+-- is 60 to `limit` bytes long.
 abbrev pub ArePackets : ℕ → List ℕ → List Segment → Type 0
 ArePackets limit staged [] = staged ≡ []
 ArePackets limit staged (s ∷ segments) =
     (length (staged ++ s.part.bytes) ≤ limit) × (s.part.last ≡ true → 60 ≤ length (staged ++ s.part.bytes))
     × ArePackets limit (staged_with staged s) segments
 
--- A descriptor requests the segment's transmission; `IsDone`: a descriptor that did so is done.
+-- A descriptor requests the segment's transmission. `IsDone`: a descriptor that requested it is done.
 abbrev pub IsPosted : Memory → ℕ → Segment → Type 0
 IsPosted m address s = read_at m address 16 ≡ asking s
 
@@ -54,9 +54,9 @@ pub record IsBased (s : State) (queue : ℕ) (l : Layout) : Type 0 where
   pub tail : named s l.port l.tail ≡ Register (place Tdt queue) 0xFFFFFFFF
   pub limit : frame_limit s.registers ≡ l.limit
 
--- The transmit side is the driver's, with this many of the outstanding segments posted and this many fetched. Its ring
--- begins with the driver's block. Its head is the slot of the first segment that wasn't fetched, its tail the slot of
--- the first segment that isn't posted, and there is no head write-back. The side may be on or off.
+-- The transmit side is set up for the driver, with `posted` of the outstanding segments posted and `fetched` of them
+-- fetched. The ring begins with the driver's block. The head is the slot of the first segment that wasn't fetched. The
+-- tail is the slot of the first segment that isn't posted. The side has no head write-back, and may be on or off.
 pub record IsSetUp (side : TransmitQueue) (l : Layout) (posted fetched : ℕ) : Type 0 where
   pub base : side.ring.base ≡ 2048 * l.ring
   pub length : side.ring.length ≡ 16 * l.size
@@ -64,8 +64,8 @@ pub record IsSetUp (side : TransmitQueue) (l : Layout) (posted fetched : ℕ) : 
   pub tail : side.ring.tail ≡ slot_at l posted
   pub writeback : side.writeback ≡ None
 
--- A segment can be sent: its block is lent, isn't a block of the ring of `size` slots that begins with block `ring`,
--- and begins with the segment's bytes.
+-- A segment can be sent: its block is lent, isn't one of the blocks of the ring of `size` slots that begins with block
+-- `ring`, and begins with the segment's bytes.
 pub record IsReady (m : Memory) (ring size : ℕ) (s : Segment) : Type 0 where
   pub short : length s.part.bytes ≤ 2048
   pub whole : s.part.whole ≤ 10240
@@ -73,9 +73,9 @@ pub record IsReady (m : Memory) (ring size : ℕ) (s : Segment) : Type 0 where
   pub apart : is_ring_block ring size s.block ≡ false
   pub bytes : read_at m (2048 * s.block) (length s.part.bytes) ≡ s.part.bytes
 
--- The segments take a slot each, and one slot is vacant. Done segments were fetched, fetched segments are posted,
--- posted segments have a written descriptor, and segments with a written descriptor have a lent block. No two segments
--- are in one block.
+-- Each segment takes one slot, and at least one slot is vacant. Done segments were fetched, fetched segments are
+-- posted, posted segments have a written descriptor, and segments with a written descriptor have a lent block. No two
+-- segments are in one block.
 pub record IsCounted (v : Sender) (fetched : ℕ) : Type 0 where
   pub room : length v.outstanding < v.layout.size
   pub done_fetched : v.done ≤ fetched
@@ -85,8 +85,8 @@ pub record IsCounted (v : Sender) (fetched : ℕ) : Type 0 where
   pub lent_known : v.lent ≤ length v.outstanding
   pub apart : (i j : ℕ) → i < v.lent → j < v.lent → i ≢ j → (segment_at v i).block ≢ (segment_at v j).block
 
--- Memory contains the ring and the segments. Of the fetched segments, the last one of each packet has a done
--- descriptor. Each other segment with a written descriptor waits for its transmission.
+-- Memory contains the ring and the segments. Among the fetched segments, the last segment of each packet has a done
+-- descriptor. Each segment that has a written descriptor and wasn't fetched waits for its transmission.
 pub record Shows (m : Memory) (v : Sender) (fetched : ℕ) : Type 0 where
   pub ring : EachRingBlock v.layout.ring v.layout.size (λ n. IsTrue (has_block m n))
   pub ready : (k : ℕ) → k < v.lent → IsReady m v.layout.ring v.layout.size (segment_at v k)
@@ -95,14 +95,14 @@ pub record Shows (m : Memory) (v : Sender) (fetched : ℕ) : Type 0 where
       → IsDone m (descriptor_at v.layout k) (segment_at v k)
   pub waits : (k : ℕ) → fetched ≤ k → k < v.poked → IsPosted m (descriptor_at v.layout k) (segment_at v k)
 
--- The staged bytes and the remaining segments are whole packets. The frames sent are the frames of all accepted packets
--- except these.
+-- The staged bytes and the remaining segments form whole packets. The frames sent are the frames of all accepted
+-- packets except these packets.
 pub record IsInTurn (limit : ℕ) (staged : List ℕ) (sent : List (List ℕ)) (left : List Segment) (accepted : List Kept) :
     Type 0 where
   pub packets : ArePackets limit staged left
   pub in_order : bytes_of accepted ≡ sent ++ frames_from staged left
 
--- The side was disabled during a packet, and no enable request is in effect: not all accepted packets are sent.
+-- The side was disabled during a packet, and no enable request is in effect. Not all accepted packets were sent.
 pub record IsCutOff (side : TransmitQueue) (sent : List (List ℕ)) (left : List Segment) (accepted : List Kept) : Type 0
   where
     pub off : IsFalse side.on
@@ -118,7 +118,7 @@ SendsInOrder s queue sent limit left accepted =
     IsInTurn limit (staged_by s queue) sent left accepted
     ⊎ IsCutOff (transmit_queue_of s.registers queue) sent left accepted
 
--- `fetched` of the outstanding segments were fetched.
+-- The agreement, if `fetched` of the outstanding segments were fetched.
 pub record AgreesAt (s : State) (queue : ℕ) (sent : List (List ℕ)) (v : Sender) (fetched : ℕ) : Type 0 where
   pub based : IsBased s queue v.layout
   pub set_up : IsSetUp (transmit_queue_of s.registers queue) v.layout v.posted fetched
@@ -127,6 +127,6 @@ pub record AgreesAt (s : State) (queue : ℕ) (sent : List (List ℕ)) (v : Send
   pub sends : SendsInOrder s queue sent v.layout.limit (drop fetched v.outstanding) v.accepted
 
 -- The agreement, for some number of fetched segments. Every event that is the driver's own or spares the driver keeps
--- it.
+-- the agreement.
 abbrev pub Agrees : State → ℕ → List (List ℕ) → Sender → Type 0
 Agrees s queue sent v = (fetched : ℕ) × AgreesAt s queue sent v fetched

@@ -4,16 +4,16 @@ use Rattle.ring_laws.specs.Prelude.{Blocks, Entry, EntryLeavesAlone, Off, State,
 use Rattle.ring_laws.specs.Prelude.{lent_by, mode_in}
 use Rattle.device_lock.specs.NicDevice.EepromImage.Image.{blank}
 
--- A history that begins in any state of a sound device leaves the queue of a pass alone. Each entry after the pass's
--- first does so, with the queues separated as the device says at that entry, and spares all blocks that the pass lends
--- in the history.
+-- A history that begins in this state leaves the queue of a pass alone. Each entry after the pass's first entry leaves
+-- the queue alone, with the queues separated as the device has them at that entry. Each such entry also spares all
+-- blocks that the pass lends in the history.
 abbrev pub LeavesAloneFrom : Watched → State → List Entry → Type 0
 LeavesAloneFrom w s h =
     (before : List Entry) (e : Entry) (after : List Entry) → h ≡ before ++ e ∷ after → IsTrue (has_begun w.pass before)
     → EntryLeavesAlone w (lent_by w.pass h) (mode_in (leads_to s before).registers) e
 
--- A device with a mode that follows from later entries alone: a reset makes no writes of an installed EEPROM image, and
--- the queues aren't separated into pools. A new device is such a device.
+-- A device whose mode can be computed from later entries alone. A reset makes no writes from an installed EEPROM image,
+-- and the queues aren't separated into pools. A new device is such a device.
 pub record IsPlain (w : Watched) (s : State) : Type 0 where
   pub image : s.image ≡ blank
   pub mode : mode_in s.registers ≡ Off

@@ -1,5 +1,5 @@
--- The entry from which a history counts for a driver, and how the queues are separated among pools at an entry, by
--- addresses and bits.
+-- The entry from which a history counts for a driver, and how the queues are separated into pools at an entry. Both are
+-- stated by addresses and bits.
 use Rattle.std.specs.Prelude.{◌≡◌, ◌/◌, ◌%◌, ◌==◌, ◌||◌, ℕ, Bool, true, false, List, [], ◌∷◌, Some, None}
 use Rattle.device_lock.specs.NicDevice.RegTable.declared.rows.RowId.TheVariants as row
 use Rattle.device_lock.specs.NicDevice.VfMap.declared.mode.Mode.TheVariants.{Off, Pools16, Pools32, Pools64}
@@ -7,7 +7,7 @@ use Rattle.device_lock.specs.NicDevice.declared.event.Event.TheVariants as event
 use Rattle.ring_laws.specs.LocksPrelude.{Block, Done, Entry, Event, Mode, Pf, Place, Port, RowId}
 use Rattle.ring_laws.specs.LocksPrelude.{has_begun, mode_through, place_at}
 
--- A driver has begun with the first entry of its pass, whatever that is, including a read or a device step.
+-- A driver begins with the first entry of its pass, whatever the event is, including a read or a device step.
 pub record DriverBegins (pass : ℕ) (e : Entry) (h : List Entry) : Type 0 where
   pub none : has_begun pass [] ≡ false
   pub one : has_begun pass (e ∷ h) ≡ ((e.pass == pass) || has_begun pass h)
@@ -15,7 +15,7 @@ pub record DriverBegins (pass : ℕ) (e : Entry) (h : List Entry) : Type 0 where
 abbrev pub DriversBegin : Type 0
 DriversBegin = (pass : ℕ) (e : Entry) (h : List Entry) → DriverBegins pass e h
 
--- A write of a pass with the reply `Done`.
+-- The entry for a write by a pass, with the reply `Done`.
 abbrev pub written : ℕ → Port → (number word : ℕ) → Entry
 written pass port number word = record { pass = pass; event = event.Write port number word; reply = Done }
 
@@ -37,8 +37,8 @@ pub record PoolsAreSet (vfs : ℕ) (mode : Mode) (pass word : ℕ) (h : List Ent
   pub by_32 : word % 4 ≡ 2 → mode_through vfs mode (written pass Pf 0x11050 word ∷ h) ≡ mode_through vfs Pools32 h
   pub by_64 : word % 4 ≡ 3 → mode_through vfs mode (written pass Pf 0x11050 word ∷ h) ≡ mode_through vfs Pools64 h
 
--- After a write to CTRL, at this address, that sets bit 3 or bit 26, they aren't separated; after any other write to
--- it, they are as before.
+-- After a write to CTRL, at this address, that sets bit 3 or bit 26, the queues aren't separated. After any other write
+-- to CTRL, they are separated as before.
 pub record PoolsAreReset (vfs : ℕ) (mode : Mode) (pass number word : ℕ) (h : List Entry) : Type 0 where
   pub bit_3 : word / 8 % 2 ≡ 1 → mode_through vfs mode (written pass Pf number word ∷ h) ≡ mode_through vfs Off h
   pub bit_26 : word / 8 % 2 ≡ 0 → word / 0x4000000 % 2 ≡ 1 →
@@ -46,7 +46,7 @@ pub record PoolsAreReset (vfs : ℕ) (mode : Mode) (pass number word : ℕ) (h :
   pub neither : word / 8 % 2 ≡ 0 → word / 0x4000000 % 2 ≡ 0 →
       mode_through vfs mode (written pass Pf number word ∷ h) ≡ mode_through vfs mode h
 
--- No other write or event changes this.
+-- No other write or event changes how the queues are separated.
 pub record PoolsAreLeft (vfs : ℕ) (mode : Mode) (e : Entry) (h : List Entry) : Type 0 where
   pub none : mode_through vfs mode [] ≡ mode
   pub nowhere : (pass : ℕ) (port : Port) (number word : ℕ) → place_at mode vfs port number ≡ None →

@@ -13,9 +13,10 @@ NeverGoesOn queue s (e ∷ es) = IsFalse (goes_on queue s e.event) × NeverGoesO
 abbrev pub IsEndOf : List (List ℕ) → List (List ℕ) → Type 0
 IsEndOf xs ys = (before : List (List ℕ)) × (ys ≡ before ++ xs)
 
--- If the side is never enabled, everything sent is counted, after what was counted before. If it is enabled, everything
--- sent after the last time is counted. The count over two consecutive histories continues over the second. It is a
--- suffix of everything counted before and sent, and each entry adds at most one frame.
+-- If the side is never enabled, all frames sent are counted, after the frames counted before. If the side is enabled,
+-- all frames sent after the last time are counted. Over two consecutive histories, the count continues from the first
+-- into the second. The counted frames are a suffix of the frames counted before and those sent. Each entry adds at most
+-- one frame.
 pub record SentIsCounted : Type 0 where
   pub never :
       (queue : ℕ) (s : State) (sent : List (List ℕ)) (h : List Entry) → NeverGoesOn queue s h
@@ -34,13 +35,13 @@ pub record SentIsCounted : Type 0 where
       (queue : ℕ) (s : State) (sent : List (List ℕ)) (h : List Entry)
       → length (sent_since queue s sent h) ≤ length sent + length h
 
--- The length of the frame that a reply reports as sent on a queue, if it does.
+-- The length of the frame that a reply reports as sent on a queue, if it reports one.
 abbrev pub reported_lengths : ℕ → Reply Block → List ℕ
 reported_lengths queue (Sent on len back) = if on == queue then len ∷ [] else []
 reported_lengths queue other = []
 
--- The frames that a legal history of a sound device sends on a queue are those that its replies report, by their
--- lengths.
+-- The frames that a legal history of a sound device sends on a queue have the lengths that the history's replies
+-- report.
 abbrev pub SentIsReported : Type 0
 SentIsReported =
     (queue : ℕ) (s : State) (h : List Entry) → IsSound s → AreEvents h → IsLegal s h →

@@ -1,4 +1,4 @@
--- What a history delivers on a queue.
+-- The packets that a history delivers on a queue.
 use Rattle.std.specs.Prelude.{[], if◌then◌else◌, ◌&&◌, ◌++◌, ◌∷◌, ◌≡◌, Bool, List, None, Option, Some, not, option_map}
 use Rattle.std.specs.Prelude.{ℕ}
 use Rattle.ring_laws.specs.Prelude.{Entry, Rx, State, after, is_on}
@@ -14,11 +14,11 @@ pieces_in queue s (e ∷ es) = pieces queue s e.event ++ pieces_in queue (after 
 abbrev pub goes_on : ℕ → State → State → Bool
 goes_on queue s t = not (is_on s.registers Rx queue) && is_on t.registers Rx queue
 
--- The pieces so far after one more event: none yet if it enables the side.
+-- The pieces so far after one more event: none yet if the event enables the side.
 abbrev pub gathered : ℕ → State → State → List Piece → Option (List Piece) → Option (List Piece)
 gathered queue s t ps so_far = if goes_on queue s t then Some [] else option_map (λ qs. qs ++ ps) so_far
 
--- The pieces since the side was last enabled; `None` if it wasn't enabled.
+-- The pieces since the side was last enabled; `None` if the side wasn't enabled.
 abbrev pub pieces_since : ℕ → State → Option (List Piece) → List Entry → Option (List Piece)
 pieces_since queue s so_far [] = so_far
 pieces_since queue s so_far (e ∷ es) =

@@ -1,4 +1,4 @@
--- How a history is closed with the returned passes, and where the entries of a pass are.
+-- How a history is closed with the returned passes, and where a pass's entries are.
 use Rattle.std.specs.Prelude.{◌≡◌, ◌≢◌, ◌↔◌, ◌<◌, ◌≤◌, ◌==◌, ◌&&◌, ℕ, Bool, true, false, List, length, Contains, AllPairs}
 use Rattle.std.specs.Prelude.{count_by, slice_get, Option, Some, None}
 use Rattle.std.specs.List.{list_any}
@@ -12,8 +12,8 @@ abbrev pub is_there : ℕ → ℕ → List PassValue → Bool
 is_there bench tag passes = list_any (λ p. p.bench == bench && p.tag == tag) passes
 
 -- The lowest tag that no pass has is reported, whatever else is wrong: passes of other benches, a pass that is returned
--- twice, or calls that the history doesn't contain. If each tag has a pass, a pass of another bench, or a pass without
--- a tag of this bench, is reported.
+-- twice, or calls that the history doesn't contain. If each tag has a pass, a pass of another bench, or a pass whose
+-- tag isn't one of this bench's, is reported.
 pub record ClosingTells (bench count : ℕ) (h : List Entry) (passes : List PassValue) (answer : Option CloseFault) :
     Type 0 where
   pub missing : (tag : ℕ) → tag < count → is_there bench tag passes ≡ false →
@@ -23,7 +23,7 @@ pub record ClosingTells (bench count : ℕ) (h : List Entry) (passes : List Pass
   pub untagged : ((tag : ℕ) → tag < count → is_there bench tag passes ≡ true) → (p : PassValue) →
       Contains passes p → count ≤ p.tag → answer ≡ Some ForeignPass
 
--- If each tag has a pass, a tag with two passes is reported too. Calls of a pass that differ from the history's are
+-- If each tag has a pass, a tag with two passes is reported too. If a pass's calls differ from the history's, this is
 -- noticed, the lowest tag first.
 pub record ClosingCompares (bench count : ℕ) (h : List Entry) (passes : List PassValue) (answer : Option CloseFault) :
     Type 0 where

@@ -1,4 +1,4 @@
--- Frames of several pieces: each fits as many slots as the driver takes for a packet.
+-- Frames of several pieces, each of which fits as many slots as the driver takes for a packet.
 use Rattle.std.specs.Prelude.{[], if◌then◌else◌, ◌*◌, ◌++◌, ◌==◌, ◌∷◌, ◌≡◌, ◌≤◌, All, IsFalse, IsTrue, List, length, ℕ}
 use Rattle.std.specs.Prelude.{⊤}
 use Rattle.ring_laws.specs.Prelude.{Block, Event, IsSound, Place, Register, Rx, State, Waiting, WritesNoSetting}
@@ -8,17 +8,17 @@ use Rattle.ring_laws.specs.Pieces.{AllFit, Piece, open_after, pieces}
 use Rattle.ring_laws.specs.{Joint.Agree, ReceiveUp.IsUp}
 use Rattle.pmd_access.specs.NicDevice.declared.event.Event.TheVariants as event
 
--- A frame fits `most` blocks, if it waits for this queue.
+-- If a frame waits for this queue, it fits `most` blocks.
 abbrev pub FitsBlocks : ℕ → ℕ → Waiting → Type 0
 FitsBlocks queue most w = w.queue ≡ queue → length w.frame ≤ 2048 * most
 
--- How many bytes of the oldest waiting frame are written, if it is this queue's; otherwise 0.
+-- How many bytes of the oldest waiting frame were written, if the frame is for this queue; otherwise 0.
 abbrev pub partial_on : ℕ → List Waiting → ℕ
 partial_on queue [] = 0
 partial_on queue (w ∷ others) = if w.queue == queue then w.offset else 0
 
--- The frames that wait for the queue fit, and longer ones aren't accepted. The packets of the written pieces fit too.
--- The written bytes of a packet that doesn't end yet are as many as its pieces fill.
+-- The frames that wait for the queue fit, and longer frames aren't accepted. The packets of the written pieces fit too.
+-- As many bytes of the oldest waiting frame were written as fill the pieces of the unfinished packet.
 pub record AreFitting (queue most : ℕ) (s : State) (out : List Piece) : Type 0 where
   pub limit : frame_limit s.registers ≤ 2048 * most
   pub waiting : All (FitsBlocks queue most) s.waiting
@@ -32,15 +32,15 @@ ResetsNoPool queue s (event.Write port number word) =
     → IsFalse (has_queue (mode_in s.registers) p.index queue)
 ResetsNoPool queue s other = ⊤
 
--- If the device and the driver agree and the side is up, this stays true through every event that writes no setting and
--- doesn't reset the queue's pool.
+-- If the device and the driver agree and the side is up, `AreFitting` stays true through every event that writes no
+-- setting and doesn't reset the queue's pool.
 abbrev pub FramesStayFitting : Type 0
 FramesStayFitting =
     (queue most : ℕ) (s : State) (out : List Piece) (v : Receive) (e : Event Block) → IsSound s →
     Agree queue s out v → IsUp queue s → AreFitting queue most s out → WritesNoSetting s e → ResetsNoPool queue s e →
     AreFitting queue most (after s e) (out ++ pieces queue s e)
 
--- While the side is off, nothing is written of a frame that waits for the queue.
+-- While the side is off, no byte of a frame that waits for the queue has been written.
 abbrev pub NoneBegunWhileOff : Type 0
 NoneBegunWhileOff =
     (queue : ℕ) (s : State) → IsSound s → IsFalse (is_on s.registers Rx queue) → partial_on queue s.waiting ≡ 0

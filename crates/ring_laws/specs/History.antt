@@ -11,7 +11,7 @@ ModeIsReported =
     (vfs fifo : ℕ) (h : List Entry) → IsSound (new_state vfs fifo) → AreEvents h →
     mode_through vfs Off h ≡ mode_in (leads_to (new_state vfs fifo) h).registers
 
--- That mode and the frame limit together are the device's too.
+-- The mode and the frame limit computed from the entries are both the device's.
 abbrev pub SettingsAreReported : Type 0
 SettingsAreReported =
     (vfs fifo : ℕ) (h : List Entry) → IsSound (new_state vfs fifo) → AreEvents h →
@@ -19,8 +19,8 @@ SettingsAreReported =
     let s = leads_to (new_state vfs fifo) h in
     (reported.mode ≡ mode_in s.registers) × (limit_of reported.frames ≡ frame_limit s.registers)
 
--- So if a device's mode follows from the entries alone, a history that begins with that device and leaves a queue alone
--- by that mode leaves it alone.
+-- So suppose that a device's mode can be computed from later entries alone. If a history that begins with that device
+-- leaves a queue alone according to the computed mode, it leaves the queue alone.
 abbrev pub PlainIsLeftAlone : Type 0
 PlainIsLeftAlone =
     (w : Watched) (s : State) (h : List Entry) → IsSound s → IsPlain w s → AreEvents h → LeavesAlone w h →
@@ -30,20 +30,20 @@ PlainIsLeftAlone =
 abbrev pub NewIsPlain : Type 0
 NewIsPlain = (w : Watched) (fifo : ℕ) → IsPlain w (new_state w.vfs fifo)
 
--- A history that leaves a queue alone does so entry by entry, starting at any place after the pass's first entry.
+-- If a history leaves a queue alone, each entry does, starting at any point after the pass's first entry.
 abbrev pub AloneByEntries : Type 0
 AloneByEntries =
     (w : Watched) (s : State) (before rest : List Entry) → LeavesAloneFrom w s (before ++ rest) →
     IsTrue (has_begun w.pass before) →
     AllAlone w (lent_by w.pass (before ++ rest)) (leads_to s before) rest
 
--- Each initial part of a history that leaves a queue alone leaves it alone.
+-- Each initial part of a history that leaves a queue alone leaves the queue alone.
 abbrev pub BeginningIsAlone : Type 0
 BeginningIsAlone =
     (w : Watched) (s : State) (beginning rest : List Entry) → LeavesAloneFrom w s (beginning ++ rest) →
     LeavesAloneFrom w s beginning
 
--- The rest does too, starting in the state that the initial part leads to.
+-- The remaining part leaves the queue alone too, starting in the state that the initial part leads to.
 abbrev pub RestIsAlone : Type 0
 RestIsAlone =
     (w : Watched) (s : State) (before rest : List Entry) → LeavesAloneFrom w s (before ++ rest) →

@@ -13,13 +13,13 @@ use Rattle.pmd_rx.specs.declared.ring.Stage.TheVariants.{Owes}
 use Rattle.pmd_access.specs.Bufs.{bytes_of}
 use Rattle.ring_laws.specs.Pieces.{Piece, open_after, packets_after, packets_of, piece_at}
 
--- A waiting descriptor: it names its block, and isn't done.
+-- A waiting descriptor: it names its block, which is lent, and isn't done.
 pub record IsPosted (m : Memory) (a block : ℕ) : Type 0 where
   pub buffer : first_half (read_at m a 16) ≡ 2048 * block
   pub waits : IsFalse (is_done (second_half (read_at m a 16)))
   pub there : IsTrue (has_block m block)
 
--- A descriptor that was written back for a piece, which is at the start of the block.
+-- A descriptor that was written back for a piece. The piece is at the start of the block.
 pub record IsFilled (m : Memory) (a block : ℕ) (p : Piece) : Type 0 where
   pub done : IsTrue (is_done (second_half (read_at m a 16)))
   pub end : ends_packet (second_half (read_at m a 16)) ≡ p.end
@@ -40,7 +40,7 @@ pub record IsRing (l : Layout) : Type 0 where
   pub not_ring : (k : ℕ) → k < length l.blocks → is_ring_block l.ring l.size (block_at l k) ≡ false
   pub apart : (i j : ℕ) → i < length l.blocks → j < length l.blocks → i ≢ j → block_at l i ≢ block_at l j
 
--- The queue's receive side is the driver's, with one 2,048-byte buffer for each descriptor. This many of its slots are
+-- The queue's receive side is set up for the driver, with one 2,048-byte buffer for each descriptor. `filled` slots are
 -- filled and not consumed. The side may be on or off.
 pub record IsSetUp (q : ReceiveQueue) (l : Layout) (filled : ℕ) : Type 0 where
   pub one_buffer : descriptor_type_of q.control ≡ 1
@@ -50,7 +50,7 @@ pub record IsSetUp (q : ReceiveQueue) (l : Layout) (filled : ℕ) : Type 0 where
   pub head : q.ring.head ≡ slot_at l filled
   pub tail : q.ring.tail ≡ slot_at l (vacant l)
 
--- The driver's number for the tail names the queue's, at the driver's port.
+-- The driver's number for the tail names the queue's tail register, at the driver's port.
 pub record IsNamed (s : State) (queue : ℕ) (l : Layout) : Type 0 where
   pub low : queue < 128
   pub tail : named s l.port l.tail ≡ Register (place Rdt queue) 0xFFFFFFFF
@@ -67,15 +67,15 @@ abbrev pub StageHolds : Memory → Layout → Stage → Type 0
 StageHolds m l (Lent b) = IsLoose m l b
 StageHolds m l other = ⊤
 
--- The slots with a block, starting at the next one: the first are filled with these pieces, and those after them wait.
--- The other slots, which are consumed or vacant, aren't constrained.
+-- The slots that have a block, starting at the next slot: the first of them are filled with these pieces, and the later
+-- ones wait. Nothing is said about the other slots, which are consumed or vacant.
 pub record HasSlots (m : Memory) (l : Layout) (here : List Piece) : Type 0 where
   pub there : EachRingBlock l.ring l.size (λ b. IsTrue (has_block m b))
   pub within : length here ≤ length l.blocks
   pub filled : (k : ℕ) → k < length here → IsFilled m (descriptor_at l k) (block_at l k) (piece_at here k)
   pub posted : (k : ℕ) → length here ≤ k → k < length l.blocks → IsPosted m (descriptor_at l k) (block_at l k)
 
--- What the driver saw of the first pieces in slots.
+-- What the driver saw of a piece in a slot.
 pub record Saw (t : Reported) (p : Piece) : Type 0 where
   pub first_is : t.first ≡ p.first
   pub len_is : bytes_in t.second ≡ length p.bytes
@@ -95,37 +95,37 @@ abbrev pub AreOpen : List Reported → Type 0
 AreOpen [] = ⊤
 AreOpen (t ∷ ts) = IsOpen t × AreOpen ts
 
--- The last parts of a packet, possibly none; only the last of them ends it.
+-- The last parts of a packet, possibly none. Only the last part ends the packet.
 abbrev pub EndLast : List Reported → Type 0
 EndLast [] = ⊤
 EndLast (t ∷ []) = ends_packet t.second ≡ true
 EndLast (t ∷ u ∷ ts) = IsOpen t × EndLast (u ∷ ts)
 
--- While the driver polls, it holds nothing and hasn't seen the packet's end; otherwise, it has seen where the packet
--- ends.
+-- While the driver polls, it holds no part of a packet and hasn't seen the packet's end. At any other stage, the driver
+-- has seen where the packet ends.
 abbrev pub IsAt : Stage → List Reported → Packet → Type 0
 IsAt Looks seen held = (held ≡ no_packet) × AreOpen seen
 IsAt Takes seen held = EndLast seen
 IsAt Owes seen held = EndLast seen
 IsAt (Lent b) seen held = EndLast seen
 
--- The packet that the driver holds while parts of it are still to be taken; otherwise none.
+-- The packet that the driver holds while parts of the packet are still to be taken; otherwise an empty packet.
 abbrev pub still_held : Receive → Packet
 still_held v = left_of v.seen v.held
 
--- The packets that the driver returned, the complete ones, and the one with its last part taken.
+-- The packets that the driver returned, the complete packets, and the packet whose last part was taken.
 abbrev pub packets_had : Receive → List Kept
 packets_had v = v.handed ++ records_of (v.whole ++ ended_of v.seen v.held)
 
--- The consumed pieces are these packets and the parts of a held packet: later pieces are cut into packets as if they
+-- The consumed pieces are these packets and the parts of a held packet. Later pieces are cut into packets as if they
 -- followed these parts.
 abbrev pub AreCut : List Piece → Receive → Type 0
 AreCut gone v =
     (rest : List Piece)
     → packets_of (gone ++ rest) ≡ packets_had v ++ packets_after (kept_of (still_held v)).bytes rest
 
--- The pieces written on the queue since its side was enabled: the consumed ones, followed by those in slots, the first
--- of which the driver saw. A packet that isn't complete fills its blocks.
+-- The pieces written on the queue since its receive side was enabled: the consumed pieces, followed by the pieces in
+-- slots. The driver saw the first pieces in slots. A packet that isn't complete fills its blocks.
 pub record InOrder (out : List Piece) (v : Receive) (gone here : List Piece) : Type 0 where
   pub cut : AreCut gone v
   pub parts : open_after 0 gone ≡ length (still_held v).bufs
@@ -134,8 +134,8 @@ pub record InOrder (out : List Piece) (v : Receive) (gone here : List Piece) : T
   pub stage : IsAt v.stage v.seen v.held
   pub order : out ≡ gone ++ here
 
--- The device and the driver agree, with these pieces consumed and these in slots. Slots after the tail that have a
--- block named by their descriptor wait as posted ones do, and none of them is filled.
+-- The device and the driver agree, with the pieces `gone` consumed and the pieces `here` in slots. Slots after the tail
+-- whose descriptor names a block wait as posted slots do, and none of them is filled.
 pub record Holds (queue : ℕ) (s : State) (out : List Piece) (v : Receive) (gone here : List Piece) : Type 0 where
   pub named : IsNamed s queue v.layout
   pub ring : IsRing (reach v)

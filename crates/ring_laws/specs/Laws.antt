@@ -41,13 +41,13 @@ SentIsPrefix =
     (s : State) (queue : ℕ) (sent : List (List ℕ)) (v : Sender) → Agrees s queue sent v →
     IsPrefixOf sent (bytes_of v.accepted)
 
--- If none is outstanding, the frames sent are all frames that the driver accepted.
+-- If no packet is outstanding, the frames sent are all frames that the driver accepted.
 abbrev pub IdleIsAllSent : Type 0
 IdleIsAllSent =
     (s : State) (queue : ℕ) (sent : List (List ℕ)) (v : Sender) → Agrees s queue sent v → v.outstanding ≡ [] →
     bytes_of v.accepted ≡ sent
 
--- In a given state, a poll of the end of the oldest outstanding packet would find it not done.
+-- In this state, a poll of the last descriptor of the oldest outstanding packet would find it not done.
 pub record FindsWaiting (s : State) (v : Sender) : Type 0 where
   pub bytes : List ℕ
   pub posted : first_end v.outstanding < v.posted

@@ -1,5 +1,5 @@
--- Which events of other passes leave a driver's queue alone, by the names of registers and the bits of the values
--- written.
+-- Which events of other passes leave a driver's queue alone, stated by the names of registers and the bits of the
+-- values written.
 use Rattle.std.specs.Prelude.{◌≡◌, ◌≢◌, ◌↔◌, ◌+◌, ◌/◌, ◌%◌, ◌<◌, ◌≤◌, ◌==◌, ◌||◌, ℕ, Bool, true, false}
 use Rattle.std.specs.Prelude.{List, [], ◌∷◌, ◌++◌, ◌&&◌, nat_lt, Some, None}
 use Rattle.device_lock.specs.NicDevice.RegTable.declared.rows.RowId.TheVariants as row
@@ -11,7 +11,7 @@ use Rattle.ring_laws.specs.LocksPrelude.{Place, RowId, Mode, Block, Event, Port,
 use Rattle.ring_laws.specs.LocksPrelude.{Blocks, LeavesAlone, LeavesBlocks, LeavesRegisters, WritesOutside, lent_by}
 use Rattle.ring_laws.specs.LocksPrelude.{has_begun, mode_through, place_at, Watched, Entry}
 
--- The registers of the whole device that a driver's queue relies on.
+-- The device-wide registers that a driver's queue relies on.
 abbrev pub is_setting : RowId → Bool
 is_setting row.Ctrl = true
 is_setting row.Hlreg0 = true
@@ -64,7 +64,7 @@ pub record WriteLeaves (w : Watched) (mode : Mode) (write : Event Block) (p : Pl
   pub no_reset : is_reset p.row ≡ true → word / 0x4000000 % 2 ≡ 0 → LeavesRegisters w mode write
   pub other : (is_setting p.row || (is_ring p.row || is_reset p.row)) ≡ false → LeavesRegisters w mode write
 
--- A write leaves the queue alone if it reaches no register; otherwise, the register decides.
+-- A write leaves the queue alone if it reaches no register. Otherwise, this depends on the register.
 pub record WritesLeave (w : Watched) (mode : Mode) (port : Port) (number word : ℕ) : Type 0 where
   pub register : (p : Place) → place_at mode w.vfs port number ≡ Some p →
       WriteLeaves w mode (event.Write port number word) p word
@@ -95,8 +95,8 @@ pub record BlocksLeave (w : Watched) (mode : Mode) (mine : Blocks) : Type 0 wher
       LeavesBlocks mine (event.Poke16 address bytes) ↔ (mine (address / 2048) ≡ false)
   pub write : (port : Port) (number word : ℕ) → LeavesBlocks mine (event.Write port number word)
 
--- What a step of another queue wrote, as its reply reports, is in none of the driver's blocks: the piece of a frame,
--- the 16 bytes of its descriptor, and the reported head.
+-- Whatever a step of another queue wrote, as its reply reports, is in none of the driver's blocks: the piece of a
+-- frame, the 16 bytes of its descriptor, and the reported head.
 pub record StepsLeave (queue : ℕ) (mine : Blocks) : Type 0 where
   pub piece : (q slot desc at len : ℕ) (end : Bool) → q ≢ queue →
       WritesOutside queue mine (Wrote q slot end desc at len)
@@ -114,8 +114,8 @@ pub record StepsLeave (queue : ℕ) (mine : Blocks) : Type 0 where
 abbrev pub Leaves : Watched → Mode → Blocks → Event Block → Type 0
 Leaves w mode mine e = LeavesRegisters w mode e × LeavesBlocks mine e
 
--- Lending, taking and poking touch no register. Apart from these and a write, no event touches anything, for example a
--- read, a peek at a block, or a device step. For a device step, only the reply counts.
+-- Lending, taking and poking touch no register. All events other than these and a write touch neither registers nor
+-- blocks, for example a read, a peek at a block, or a device step. For a device step, only the reply counts.
 pub record EventsLeave (w : Watched) (mode : Mode) (mine : Blocks) : Type 0 where
   pub lend : (block : Block) → LeavesRegisters w mode (event.Lend block)
   pub take : (number : ℕ) → LeavesRegisters w mode (event.Take number)
@@ -131,7 +131,7 @@ pub record EventsLeave (w : Watched) (mode : Mode) (mine : Blocks) : Type 0 wher
   pub link : (up : Bool) → Leaves w mode mine (event.Link up)
   pub collect : Leaves w mode mine event.Collect
 
--- No other reply reports that a block was written into, for any queue.
+-- No other reply reports a write into a block, for any queue.
 pub record RepliesLeave (queue : ℕ) (mine : Blocks) : Type 0 where
   pub word : (word : ℕ) → WritesOutside queue mine (reply.Word word)
   pub stray : (word : ℕ) → WritesOutside queue mine (reply.Stray word)
@@ -157,7 +157,7 @@ abbrev pub NothingElseCounts : Type 0
 NothingElseCounts =
     (w : Watched) (mode : Mode) (mine : Blocks) → EventsLeave w mode mine × RepliesLeave w.queue mine
 
--- Whether an event lends a block: it requests this, and the reply is `Done`.
+-- Whether an event lends a block: the event requests this, and the reply is `Done`.
 abbrev pub lends_one : Event Block → Reply Block → ℕ → Bool
 lends_one (event.Lend block) Done number = block.number == number
 lends_one event reply number = false
@@ -177,16 +177,16 @@ pub record EntrySpares (w : Watched) (h before : List Entry) (e : Entry) : Type 
   pub blocks : e.pass ≢ w.pass → LeavesBlocks (lent_by w.pass h) e.event
   pub step : WritesOutside w.queue (lent_by w.pass h) e.reply
 
--- A history leaves the queue alone if each entry after the first entry of the driver's pass does so.
+-- A history leaves the queue alone if each entry after the first entry of the driver's pass leaves the queue alone.
 abbrev pub SparingIsEnough : Type 0
 SparingIsEnough =
     (w : Watched) (h : List Entry) →
     ((before : List Entry) (e : Entry) (after : List Entry) → h ≡ before ++ e ∷ after →
     has_begun w.pass before ≡ true → EntrySpares w h before e) → LeavesAlone w h
 
--- Only entries after the first of the driver's pass count. A single entry of another pass that doesn't leave the
--- queue's registers or the pass's blocks alone is enough to violate this. So is a single entry of any pass with a step
--- of another queue that writes into these blocks.
+-- Only entries after the first entry of the driver's pass count. A single entry of another pass that doesn't leave the
+-- queue's registers or the pass's blocks alone is enough to violate this. A single entry of any pass is also enough if
+-- a step of another queue writes into these blocks.
 pub record HistoriesLeave (w : Watched) (h : List Entry) (e : Entry) : Type 0 where
   pub before : has_begun w.pass h ≡ false → LeavesAlone w (h ++ e ∷ [])
   pub register : (after : List Entry) → has_begun w.pass h ≡ true → e.pass ≢ w.pass →

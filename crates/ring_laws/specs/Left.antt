@@ -24,7 +24,7 @@ pub record IsLeft (w : Watched) (mine : Blocks) (s : State) (e : Event Block) : 
   pub steps : WritesOutside w.queue mine (reply_to s e)
 
 -- Whether an event is a device step of a side of this queue: a receive step for any queue, or a transmit step for this
--- one. `is_switch_of`: whether it is a step that enables or disables the side.
+-- queue. `is_switch_of`: whether the event is a step that enables or disables the side.
 abbrev pub is_step_of : Dir → ℕ → Event Block → Bool
 is_step_of Rx queue event.RxStep = true
 is_step_of Tx queue (event.TxStep on) = on == queue
@@ -92,7 +92,7 @@ abbrev pub MeetsFault : Dir → ℕ → State → Type 0
 MeetsFault Rx queue s = CannotFill queue s
 MeetsFault Tx queue s = CannotFetch queue s
 
--- An event took the slot at the head of a side, after trying it.
+-- An event tried the slot at the head of a side and took it.
 pub record Takes (dir : Dir) (queue : ℕ) (s : State) (e : Event Block) : Type 0 where
   pub tried : IsTried (side_of dir queue s)
   pub staged : List ℕ
@@ -105,7 +105,7 @@ pub record Shuts (dir : Dir) (queue : ℕ) (s : State) (e : Event Block) : Type 
   pub side : side_of dir queue (after s e) ≡ shut (side_of dir queue s)
   pub fault : MeetsFault dir queue s
 
--- Nothing was sent on a queue: a transmit step on it wrote no memory.
+-- Nothing was sent on a queue, and a transmit step on the queue wrote no memory.
 pub record SendsNone (queue : ℕ) (s : State) (e : Event Block) : Type 0 where
   pub sent : sent_by queue s e ≡ []
   pub memory : IsTrue (is_step_of Tx queue e) → LeavesMemory s (after s e)
@@ -115,7 +115,7 @@ abbrev pub IsSilent : Dir → ℕ → State → Event Block → Type 0
 IsSilent Rx queue s e = pieces queue s e ≡ []
 IsSilent Tx queue s e = SendsNone queue s e
 
--- What else an event can do to a side: do nothing to it, shut it, or put it into its requested state.
+-- What else an event can do to a side: leave the side unchanged, shut it, or put it into its requested state.
 pub data Rests (dir : Dir) (queue : ℕ) (s : State) (e : Event Block) : Type 0 where
   Nothing : LeavesSide dir queue s (after s e) → Rests dir queue s e
   Shut : Shuts dir queue s e → Rests dir queue s e
@@ -126,7 +126,7 @@ pub data Deed (dir : Dir) (queue : ℕ) (s : State) (e : Event Block) : Type 0 w
   Took : Takes dir queue s e → Deed dir queue s e
   Rested : IsSilent dir queue s e → Rests dir queue s e → Deed dir queue s e
 
--- What an event does to a queue and blocks that it leaves alone.
+-- What an event does to a queue and to blocks that the event leaves alone.
 pub record Did (queue : ℕ) (mine : Blocks) (s : State) (e : Event Block) : Type 0 where
   pub receive : Deed Rx queue s e
   pub transmit : Deed Tx queue s e
@@ -147,7 +147,7 @@ SidesDo =
     (IsFalse (is_step_of dir queue e) → IsFalse (is_switch_of dir queue e) → LeavesSide dir queue s (after s e)) →
     Deed dir queue s e
 
--- A descriptor's range, and a range of this many bytes if there are any, are outside a block.
+-- A descriptor's range is outside a block, and so is a range of `len` bytes unless it is empty.
 pub record IsOutside (desc at len b : ℕ) : Type 0 where
   pub descriptor : Avoids b desc 16
   pub bytes : 0 < len → Avoids b at len

@@ -4,11 +4,11 @@ use Rattle.ring_laws.specs.Prelude.{Block, Blocks, Done, Event, Memory, Reply, S
 use Rattle.device_lock.specs.NicDevice.declared.event.Reply.TheVariants.{Buf}
 use Rattle.device_lock.specs.NicDevice.declared.event.Event.TheVariants as event
 
--- Of these numbers, for example an arena's, only those are lent that its driver knows to be lent.
+-- Each block with one of these numbers, for example an arena's, that is lent is known to its driver to be lent.
 abbrev pub OnlyLent : Blocks → Blocks → Memory → Type 0
 OnlyLent own known m = (number : ℕ) → IsTrue (own number) → IsTrue (has_block m number) → IsTrue (known number)
 
--- An event lends none of these numbers.
+-- An event lends no block with one of these numbers.
 abbrev pub LendsNone : Blocks → Event Block → Type 0
 LendsNone own (event.Lend block) = IsFalse (own block.number)
 LendsNone own other = ⊤
@@ -22,26 +22,25 @@ LendsAgain s other = ⊤
 abbrev pub either : Blocks → Blocks → Blocks
 either xs ys number = xs number || ys number
 
--- An event lends at most one of these numbers, which others haven't lent.
+-- If an event lends a block, the block has one of these numbers, and others haven't lent it.
 abbrev pub LendsOwn : Blocks → Blocks → Event Block → Type 0
 LendsOwn own others (event.Lend block) = IsTrue (own block.number) × IsFalse (others block.number)
 LendsOwn own others other = ⊤
 
--- A lent block is one of these.
+-- If an event lends a block, the block is one of these.
 abbrev pub LendsOneOf : Blocks → Event Block → Reply Block → Type 0
 LendsOneOf mine (event.Lend block) Done = IsTrue (mine block.number)
 LendsOneOf mine e other = ⊤
 
--- The lent blocks with a newly lent one; and the lent blocks without one that was taken back.
+-- The lent blocks with a newly lent block. `without`: the lent blocks without a block that was taken back.
 abbrev pub with_lent : Blocks → ℕ → Blocks
 with_lent known taken number = number == taken || known number
 
 abbrev pub without : Blocks → ℕ → Blocks
 without known taken number = not (number == taken) && known number
 
--- An event that lends none of the numbers keeps the property that only known ones are lent. So does lending a block,
--- which is then known, and taking one back, which is then no longer known. A block that isn't known isn't lent yet when
--- it is to be lent.
+-- An event that lends none of these blocks keeps the property that each lent block is known. So does lending a block,
+-- which is then known, and taking a block back, which is then no longer known. A block that isn't known isn't lent yet.
 pub record OnlyLentStays : Type 0 where
   pub others :
       (own known : Blocks) (s : State) (e : Event Block) → LendsNone own e → OnlyLent own known s.memory

@@ -1,4 +1,4 @@
--- A queue with its transmit side off and no enable request pending.
+-- A queue whose transmit side is off, with no enable request in effect.
 use Rattle.std.specs.Prelude.{[], ◌<◌, ◌∷◌, ◌≡◌, IsFalse, List, ℕ, ⊤}
 use Rattle.ring_laws.specs.Prelude.{Block, Entry, Event, IsEvent, IsSound, LeavesTransmit, Port, Register, State, Tx}
 use Rattle.ring_laws.specs.Prelude.{Txdctl, after, has_bit, leads_to, named, place, reply_to}
@@ -8,7 +8,7 @@ use Rattle.pmd_access.specs.NicDevice.declared.event.Event.TheVariants as event
 use Rattle.pmd_access.specs.NicDevice.declared.event.Reply.TheVariants as reply
 use Rattle.ring_laws.specs.Sides as sides
 
--- No enable request is in effect for the side; for `IsOff`, it is off too.
+-- No enable request is in effect for the side. `IsOff`: the side is also off.
 abbrev pub IsUnwanted : ℕ → State → Type 0
 IsUnwanted queue s = sides.IsUnwanted (side_of Tx queue s)
 
@@ -21,12 +21,13 @@ pub record LeavesSide (queue : ℕ) (s : State) (e : Event Block) : Type 0 where
   pub made : IsEvent e
   pub side : IsFalse (is_transmit_of queue e) → IsFalse (is_switch_of queue e) → LeavesTransmit queue s (after s e)
 
--- Each event of a history does so.
+-- Each event of a history is one of the side's own steps, or leaves the side unchanged.
 abbrev pub AllLeaveSide : ℕ → State → List Entry → Type 0
 AllLeaveSide queue s [] = ⊤
 AllLeaveSide queue s (e ∷ es) = LeavesSide queue s e.event × AllLeaveSide queue (after s e.event) es
 
--- If no enable request is in effect for a side, this stays so. A side that is also off stays off and sends nothing.
+-- If no enable request is in effect for a side, none is in effect later. A side that is also off stays off and sends
+-- nothing.
 pub record OffStays : Type 0 where
   pub unwanted :
       (queue : ℕ) (s : State) (e : Event Block) → queue < 128 → LeavesSide queue s e → IsUnwanted queue s
@@ -42,8 +43,8 @@ pub record OffStays : Type 0 where
 abbrev pub NamesEnable : ℕ → State → Port → ℕ → Type 0
 NamesEnable queue s port number = named s port number ≡ Register (place Txdctl queue) 0xFFFFFFFF
 
--- After a write to the enable register with bit 25 clear, no enable request is in effect for the side. If none is in
--- effect and a read of the register returns bit 25 as 0, the side is disabled.
+-- After a write to the enable register with bit 25 clear, no enable request is in effect for the side. If no enable
+-- request is in effect and a read of the register returns bit 25 as 0, the side is disabled.
 pub record GuardIsOff : Type 0 where
   pub written :
       (queue : ℕ) (s : State) (port : Port) (number word : ℕ) → queue < 128 → IsSound s

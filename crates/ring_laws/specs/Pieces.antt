@@ -4,12 +4,12 @@ use Rattle.std.specs.Prelude.{[], if◌then◌else◌, ◌++◌, ◌+◌, ◌<�
 use Rattle.ring_laws.specs.ReceivePrelude.{Kept}
 use Rattle.pmd_access.specs.NicDevice.DmaRing.Driver.{hash_in, rss_in}
 
--- A packet with these bytes, and with what the first half of its descriptor reports.
+-- A packet with these bytes, and with the RSS type and hash that the first half of its descriptor reports.
 abbrev pub reported_packet : List ℕ → ℕ → Kept
 reported_packet bytes first = record { bytes = bytes; rss = rss_in first; hash = hash_in first }
 
--- Pieces cut into packets, after each piece that ends a frame, following the bytes of earlier pieces. Trailing pieces
--- that don't end a frame are left out.
+-- The packets into which pieces are cut, after each piece that ends a frame. The first packet starts with the bytes
+-- `front` of earlier pieces. Trailing pieces that don't end a frame are left out.
 abbrev pub packets_after : List ℕ → List Piece → List Kept
 packets_after front [] = []
 packets_after front (p ∷ ps) =
@@ -19,13 +19,13 @@ packets_after front (p ∷ ps) =
 abbrev pub packets_of : List Piece → List Kept
 packets_of ps = packets_after [] ps
 
--- The number of pieces so far of a packet that doesn't end yet, after `n` of its pieces and these.
+-- The number of pieces so far of a packet that hasn't ended, after `n` of its pieces followed by these pieces.
 abbrev pub open_after : ℕ → List Piece → ℕ
 open_after n [] = n
 open_after n (p ∷ ps) = open_after (if p.end then 0 else n + 1) ps
 
--- A packet has at most `most` pieces, and each except its last is 2,048 bytes long. This piece comes after `before` of
--- them.
+-- This piece, which comes after `before` pieces of its packet, fits. A packet has at most `most` pieces, and each piece
+-- except the last is 2,048 bytes long.
 pub record Fits (most before : ℕ) (p : Piece) : Type 0 where
   pub full : p.end ≡ false → length p.bytes ≡ 2048
   pub more : p.end ≡ false → before + 1 < most

@@ -1,4 +1,4 @@
--- Re-exports the names of the device that the laws on histories and on both sides use most. Declares nothing.
+-- Re-exports the device's names that the laws of histories and of both sides use most. Declares nothing.
 unfoldable pub use Rattle.device_lock.specs.NicDevice.{DmaArena.Memory.write_at, Step.step_of}
 pub use Rattle.device_lock.specs.NicDevice.DmaArena.Memory.{AreApart, Avoids, IsWhole, LiesIn, Memory, has_block}
 pub use Rattle.device_lock.specs.NicDevice.DmaArena.Memory.{is_lent, read_at}

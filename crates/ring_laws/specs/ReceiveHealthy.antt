@@ -1,4 +1,4 @@
--- The replies to the driver's own events are those of a healthy queue, wherever the device and the driver agree.
+-- If the device and the driver agree, the replies to the driver's own events are those of a healthy queue.
 use Rattle.std.specs.Prelude.{IsTrue, List, ℕ}
 use Rattle.ring_laws.specs.Prelude.{Block, Event, State, reply_to}
 use Rattle.ring_laws.specs.ReceivePrelude.{IsOwn, LendsAgain, Receive}

@@ -1,4 +1,4 @@
--- Re-exports the names that the laws on receiving use most. Declares nothing.
+-- Re-exports the names that the laws of receiving use most. Declares nothing.
 pub use Rattle.pmd_access.specs.Packet.{Kept, kept_of}
 pub use Rattle.pmd_access.specs.Slots.{EachRingBlock, blocks_for, is_ring_block, wrapped}
 pub use Rattle.pmd_access.specs.declared.packet.Packet.{Packet}

@@ -1,4 +1,4 @@
--- A queue with its receive side on and no request to disable it pending.
+-- A queue whose receive side is on, with no request to disable the side pending.
 use Rattle.std.specs.Prelude.{◌≡◌, ◌≢◌, ◌⊎◌, IsTrue, List, ℕ}
 use Rattle.ring_laws.specs.Prelude.{Block, Blocks, Entry, EntryLeavesAlone, Event, IsSound, LeavesReceive, Mode, Rx}
 use Rattle.ring_laws.specs.Prelude.{State, Watched, after}
@@ -11,15 +11,15 @@ use Rattle.ring_laws.specs.Sides as sides
 abbrev pub IsUp : ℕ → State → Type 0
 IsUp queue s = sides.IsUp (side_of Rx queue s)
 
--- It stays up if an event leaves the side unchanged, and a step that switches the side changes nothing.
+-- The side stays up if an event leaves it unchanged. A step that switches the side changes nothing.
 abbrev pub LeavingStaysUp : Type 0
 LeavingStaysUp = (queue : ℕ) (s t : State) → LeavesReceive queue s t → IsUp queue s → IsUp queue t
 
 abbrev pub EnableStepChangesNothing : Type 0
 EnableStepChangesNothing = (queue : ℕ) (s : State) → IsUp queue s → after s (event.QueueStep Rx queue) ≡ s
 
--- If device and driver agree, it stays up through each receive step, of any queue, and through each of the driver's own
--- events.
+-- If the device and the driver agree, the side stays up through each receive step, for any queue, and through each of
+-- the driver's own events.
 
 abbrev pub ReceiveStepStaysUp : Type 0
 ReceiveStepStaysUp =
@@ -31,7 +31,7 @@ OwnEventStaysUp =
     (queue : ℕ) (s : State) (out : List Piece) (v : Receive) (e : Event Block) → IsSound s → Agree queue s out v →
     IsOwn v e → IsUp queue s → IsUp queue (after s e)
 
--- It also stays up through an entry of another pass, or a device step of any pass, that leaves the queue alone.
+-- The side also stays up through an entry of another pass, or a device step of any pass, that leaves the queue alone.
 abbrev pub EntryStaysUp : Type 0
 EntryStaysUp =
     (w : Watched) (mine : Blocks) (mode : Mode) (s : State) (out : List Piece) (v : Receive) (e : Entry) →

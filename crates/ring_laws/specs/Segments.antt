@@ -1,11 +1,12 @@
--- What an event writes on a queue, piece by piece, and the frames that it sends on it.
+-- The pieces that an event writes on a queue, and the frames that an event sends on a queue.
 use Rattle.std.specs.Prelude.{[], if◌then◌else◌, ◌==◌, ◌∷◌, Bool, List, drop, false, length, map, take, ℕ}
 use Rattle.ring_laws.specs.Prelude.{Block, Event, Filled, Reply, Rest, State, Waiting, Wrote, after, piece_of}
 use Rattle.ring_laws.specs.Prelude.{reply_to}
 use Rattle.device_lock.specs.NicDevice.{DmaRing.Receive.reported_of, Receive.packet_of}
 use Rattle.device_lock.specs.NicDevice.declared.event.Event.TheVariants as event
 
--- What one step writes on a queue: the bytes, the first half of the descriptor, and whether the frame ends with it.
+-- What one step writes on a queue: the bytes, the first half of the descriptor, and whether the frame ends with this
+-- piece.
 pub record Piece : Type 0 where
   pub bytes : List ℕ
   pub first : ℕ
@@ -14,7 +15,7 @@ pub record Piece : Type 0 where
 abbrev pub no_piece : Piece
 no_piece = record { bytes = []; first = 0; end = false }
 
--- The piece of the rest that a filled slot takes.
+-- The piece of the remaining frame that a filled slot takes.
 abbrev pub piece_in : Rest → Filled → Piece
 piece_in rest f = record { bytes = take f.len rest.bytes; first = rest.first; end = f.end }
 

@@ -12,11 +12,12 @@ sent_in queue s (e ∷ es) = sent_by queue s e.event ++ sent_in queue (after s e
 abbrev pub goes_on : ℕ → State → Event Block → Bool
 goes_on queue s e = not (is_on s.registers Tx queue) && is_on (after s e).registers Tx queue
 
--- What is counted after an event: the count starts fresh if the event enables the side.
+-- The frames that are counted after an event: the count starts fresh if the event enables the side.
 abbrev pub counted_by : ℕ → State → Event Block → List (List ℕ) → List (List ℕ)
 counted_by queue s e sent = if goes_on queue s e then [] else sent ++ sent_by queue s e
 
--- The frames that a history sends, counted since the side was last enabled, with those counted before it.
+-- The frames that a history sends, counted since the side was last enabled. If the history doesn't enable the side, the
+-- frames counted before the history are included.
 abbrev pub sent_since : ℕ → State → List (List ℕ) → List Entry → List (List ℕ)
 sent_since queue s sent [] = sent
 sent_since queue s sent (e ∷ es) = sent_since queue (after s e.event) (counted_by queue s e.event sent) es

@@ -3,8 +3,9 @@ use Rattle.std.specs.Prelude.{[], if◌then◌else◌, ◌≡◌, Bool, IsFalse,
 use Rattle.ring_laws.specs.Prelude.{Dir, ReceiveQueue, Ring, Rx, State, TransmitQueue, Tx, is_empty, moved_on}
 use Rattle.ring_laws.specs.Prelude.{receive_queue_of, staged_by, transmit_queue_of}
 
--- Its ring, its control word, its head write-back address, its staged bytes, and whether it is on and an enable request
--- is in effect. A receive side has no head write-back and stages nothing. The control word of a transmit side is 0.
+-- A side's ring, control word, head write-back address and staged bytes, whether the side is on, and whether an enable
+-- request is in effect. A receive side has no head write-back and stages nothing. The control word of a transmit side
+-- is 0.
 pub record Side : Type 0 where
   pub ring : Ring
   pub control : ℕ
@@ -29,12 +30,12 @@ side_of Tx queue s = transmit_side (transmit_queue_of s.registers queue) (staged
 abbrev pub LeavesSide : Dir → ℕ → State → State → Type 0
 LeavesSide dir queue old new = side_of dir queue new ≡ side_of dir queue old
 
--- A side is on, with no request to disable it pending.
+-- A side is on, with no request to disable the side pending.
 pub record IsUp (x : Side) : Type 0 where
   pub on : IsTrue x.on
   pub wanted : IsTrue x.wanted
 
--- No enable request is in effect for a side; for `IsOff`, it is off too.
+-- No enable request is in effect for a side. `IsOff`: the side is also off.
 abbrev pub IsUnwanted : Side → Type 0
 IsUnwanted x = IsFalse x.wanted
 

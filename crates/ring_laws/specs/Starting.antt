@@ -1,4 +1,4 @@
--- The state after a start of the driver, when the receive side of its queue becomes enabled.
+-- The state after the driver has started, when the receive side of its queue becomes enabled.
 use Rattle.std.specs.Prelude.{[], ◌*◌, ◌+◌, ◌<◌, ◌≡◌, ◌≤◌, IsTrue, ℕ}
 use Rattle.ring_laws.specs.Prelude.{Port, ReceiveQueue, State, buffer_size_of, descriptor_type_of, has_block}
 use Rattle.ring_laws.specs.Prelude.{receive_queue_of}
@@ -6,8 +6,8 @@ use Rattle.ring_laws.specs.ReceivePrelude.{EachRingBlock, blocks_for}
 use Rattle.pmd_rx.specs.Receive.{at_start}
 use Rattle.ring_laws.specs.Joint.{Agree, IsNamed}
 
--- The side has a ring with this many slots that starts at the start of a block, none of them posted, and one 2,048-byte
--- buffer for each descriptor.
+-- The side has a ring of `size` slots that starts at the start of block `ring`. None of the slots is posted, and each
+-- descriptor has one 2,048-byte buffer.
 pub record IsFreshSide (q : ReceiveQueue) (ring size : ℕ) : Type 0 where
   pub one_buffer : descriptor_type_of q.control ≡ 1
   pub buffer_size : buffer_size_of q.control ≡ 2048
@@ -16,7 +16,7 @@ pub record IsFreshSide (q : ReceiveQueue) (ring size : ℕ) : Type 0 where
   pub head : q.ring.head ≡ 0
   pub tail : q.ring.tail ≡ 0
 
--- The ring is lent, its registers are written, and the driver's number names the queue's tail.
+-- The ring is lent, its registers are written, and the driver's number for the tail names the queue's tail register.
 pub record IsReady (queue : ℕ) (port : Port) (tail ring size most : ℕ) (s : State) : Type 0 where
   pub some : 0 < size
   pub few : size ≤ 1024

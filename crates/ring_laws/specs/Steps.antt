@@ -11,7 +11,7 @@ use Rattle.pmd_rx.specs.Keeping.{has_lent}
 use Rattle.ring_laws.specs.{Joint.Agree, Joint.Holds, Pieces.Piece, Pieces.piece_at, Pieces.pieces}
 use Rattle.pmd_access.specs.NicDevice.declared.event.Event.TheVariants as event
 
--- What a read of a slot returns: its descriptor is done exactly if the slot is filled, and then reports the slot's
+-- What a read of a slot returns: the descriptor is done exactly if the slot is filled, and then reports the slot's
 -- piece.
 pub record TellsSlot (here : List Piece) (k : ℕ) (d : List ℕ) : Type 0 where
   pub done : IsTrue (is_done (second_half d)) ↔ (k < length here)
@@ -25,7 +25,7 @@ LookTellsSlot =
     Holds queue s out v gone here → k < length v.layout.blocks → (d : List ℕ) →
     reply_to s (event.Peek16 (descriptor_at v.layout k)) ≡ Bytes d → TellsSlot here k d
 
--- `P` holds for the lent block that isn't named yet, if there is one.
+-- `P` holds for the lent block that no descriptor names yet, if the driver has such a block.
 abbrev pub IfFresh : Stage → (ℕ → Type 0) → Type 0
 IfFresh (Lent b) P = P b
 IfFresh other P = ⊤
@@ -42,18 +42,18 @@ pub record Leaves (queue : ℕ) (v : Receive) (old new : State) : Type 0 where
   pub vfs : new.vfs ≡ old.vfs
   pub blocks : Each v (λ b. LeavesBlock b old new)
 
--- What a step wrote on another queue is in none of the driver's blocks.
+-- Whatever a step wrote on another queue is in none of the driver's blocks.
 abbrev pub SparesBlocks : ℕ → Receive → Reply Block → Type 0
 SparesBlocks queue v (Wrote on slot end desc at len) = on ≢ queue → Each v (λ b. IsOutside desc at len b)
 SparesBlocks queue v other = ⊤
 
--- What the queue's own transmit side reports is in none of the blocks that the driver has lent for receiving.
+-- What the queue's own transmit side writes back is in none of the blocks that the driver has lent for receiving.
 abbrev pub OwnReportsSpare : ℕ → Receive → State → Type 0
 OwnReportsSpare queue v s =
     (back : ℕ) → reported_address (reply_to s (event.TxStep queue)) ≡ Some back → Each v (λ b. b ≢ back / 2048)
 
--- The device on which an entry is made that isn't the driver's own: it is sound, and its queues are separated by this
--- mode.
+-- The state of the device before an entry that isn't the driver's own: the device is sound, and this mode separates its
+-- queues.
 pub record IsMetBy (w : Watched) (mode : Mode) (s : State) (e : Entry) : Type 0 where
   pub sound : IsSound s
   pub vfs : w.vfs ≡ s.vfs
@@ -61,8 +61,9 @@ pub record IsMetBy (w : Watched) (mode : Mode) (s : State) (e : Entry) : Type 0 
   pub reply : e.reply ≡ reply_to s e.event
   pub event : IsEvent e.event
 
--- An entry of another pass, or a device step of any pass, keeps the agreement under two conditions: it leaves alone the
--- queue and all blocks that the driver has lent, and the queue's own transmit side reports into none of these.
+-- An entry of another pass, or a device step of any pass, keeps the agreement under two conditions. The entry or step
+-- must leave alone the queue and all blocks that the driver has lent. And the queue's own transmit side must report
+-- into none of these blocks.
 abbrev pub EntryKeeps : Type 0
 EntryKeeps =
     (w : Watched) (mine : Blocks) (mode : Mode) (s : State) (out : List Piece) (v : Receive) (e : Entry) →
@@ -70,8 +71,8 @@ EntryKeeps =
     EntryLeavesAlone w mine mode e → (e.pass ≢ w.pass) ⊎ IsTrue (is_step e.event) →
     Agree w.queue (after s e.event) (out ++ pieces w.queue s e.event) v
 
--- A receive step of any queue keeps the agreement if what it writes on another queue is in none of the driver's blocks.
--- On the driver's queue, its first posted slot becomes the last filled one, or nothing changes.
+-- A receive step that serves any queue keeps the agreement if what the step writes for another queue is in none of the
+-- driver's blocks. On the driver's queue, the first posted slot becomes the last filled slot, or nothing changes.
 abbrev pub ReceiveStepKeeps : Type 0
 ReceiveStepKeeps =
     (queue : ℕ) (s : State) (out : List Piece) (v : Receive) → IsSound s → Agree queue s out v →
@@ -92,7 +93,7 @@ SwitchingKeeps =
     (queue : ℕ) (s t : State) (out : List Piece) (v : Receive) → LeavesButOn queue v s t → Agree queue s out v →
     Agree queue t out v
 
--- So does a step that enables or disables the queue's receive side.
+-- A step that enables or disables the queue's receive side keeps the agreement too.
 abbrev pub EnableStepKeeps : Type 0
 EnableStepKeeps =
     (queue : ℕ) (s : State) (out : List Piece) (v : Receive) → IsSound s → Agree queue s out v →
@@ -104,7 +105,7 @@ LeavingKeeps =
     (queue : ℕ) (s t : State) (out : List Piece) (v : Receive) → Leaves queue v s t → Agree queue s out v →
     Agree queue t out v
 
--- Each of the driver's own events keeps the agreement, with the driver's state after it.
+-- Each of the driver's own events keeps the agreement, with the driver's state after the event.
 abbrev pub OwnEventKeeps : Type 0
 OwnEventKeeps =
     (queue : ℕ) (s : State) (out : List Piece) (v : Receive) (e : Event Block) → IsSound s → Agree queue s out v →

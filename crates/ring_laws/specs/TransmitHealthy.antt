@@ -1,4 +1,4 @@
--- The replies to the driver's own moves are those of a healthy queue, wherever device and driver agree.
+-- If the device and the driver agree, the replies to the driver's own moves are those of a healthy queue.
 use Rattle.std.specs.Prelude.{IsFalse, IsTrue, List, ℕ, ⊤}
 use Rattle.ring_laws.specs.Prelude.{Block, Event, State, has_block, reply_to}
 use Rattle.ring_laws.specs.TransmitPrelude.{Elsewhere, IsOwn, Move, Sender}
@@ -12,7 +12,8 @@ LendsAgain s Elsewhere e = ⊤
 LendsAgain s m (event.Lend b) = IsFalse (has_block s.memory b.number)
 LendsAgain s m other = ⊤
 
--- If device and driver agree and a block to lend isn't lent yet, each of the driver's own moves gets a healthy reply.
+-- If the device and the driver agree and a block to be lent isn't lent yet, each of the driver's own moves gets a
+-- healthy reply.
 abbrev pub OwnRepliesAreHealthy : Type 0
 OwnRepliesAreHealthy =
     (s : State) (queue : ℕ) (sent : List (List ℕ)) (v : Sender) (m : Move) (e : Event Block) → Agrees s queue sent v →

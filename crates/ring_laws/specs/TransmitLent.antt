@@ -1,17 +1,18 @@
--- Of an arena's blocks, only those that its driver has lent are lent.
+-- Each lent block of an arena was lent by its driver.
 use Rattle.std.specs.Prelude.{⊤}
 use Rattle.ring_laws.specs.Prelude.{Block, Blocks, Event, State, after, reply_to}
 use Rattle.ring_laws.specs.TransmitPrelude.{Elsewhere, IsOwn, Move, Sender, has_lent, moved}
 use Rattle.ring_laws.specs.Lent.{LendsNone, LendsOwn, OnlyLent, either}
 use Rattle.ring_laws.specs.TransmitHealthy.{LendsAgain}
 
--- A call that isn't the sender's lends none of these numbers.
+-- A call that isn't the sender's lends no block with one of these numbers.
 abbrev pub SparesNumbers : Blocks → Move → Event Block → Type 0
 SparesNumbers own Elsewhere e = LendsNone own e
 SparesNumbers own other e = ⊤
 
--- Suppose that, of some block numbers, only those are lent that the sender has lent, or that others have lent. Each of
--- the driver's own moves keeps this. A block of these numbers that it lends, and others haven't lent, isn't lent yet.
+-- Given some block numbers, suppose that each of these blocks that is lent was lent by the sender, or by others. Each
+-- of the driver's own moves keeps this true. If a move lends one of these blocks, which others haven't lent, the block
+-- isn't lent yet.
 pub record OwnLendsAreKnown : Type 0 where
   pub kept :
       (own others : Blocks) (s : State) (v : Sender) (m : Move) (e : Event Block)

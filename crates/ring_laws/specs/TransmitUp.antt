@@ -1,4 +1,4 @@
--- A queue with its transmit side on and no request to disable it pending.
+-- A queue whose transmit side is on, with no request to disable the side pending.
 use Rattle.std.specs.Prelude.{List, ℕ}
 use Rattle.ring_laws.specs.Prelude.{Block, Event, State, Tx, after}
 use Rattle.ring_laws.specs.TransmitPrelude.{Move, Sender, side_of}
@@ -8,8 +8,8 @@ use Rattle.ring_laws.specs.Sides as sides
 abbrev pub IsUp : ℕ → State → Type 0
 IsUp queue s = sides.IsUp (side_of Tx queue s)
 
--- If device and driver agree, it stays up through each of the driver's moves and through every event that spares the
--- driver.
+-- If the device and the driver agree, the side stays up through each of the driver's moves and through every event that
+-- spares the driver.
 abbrev pub UpStays : Type 0
 UpStays =
     (s : State) (queue : ℕ) (sent : List (List ℕ)) (v : Sender) (e : Event Block) (m : Move) → Agrees s queue sent v →

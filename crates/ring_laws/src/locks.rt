@@ -1,6 +1,6 @@
 //! The lock's definitions, a second time: which events leave a queue alone, in which order closing a history finds
-//! faults, and where the entries of a pass are. They are written by hand and independently of the definitions that the
-//! contracts cite.
+//! faults, and where the entries of a pass are. These definitions are written by hand, independently of the definitions
+//! that the contracts cite.
 //!
 //! Each law is the contract of a function that does nothing.
 
@@ -10,7 +10,8 @@ ghost use Rattle.ring_laws.specs.Leaving.{AddressesLeaveQueues, BlocksAreOfTheir
 
 /// A write by another pass leaves a driver's queue alone, with these exceptions: a write to CTRL, HLREG0, MAXFRS or
 /// GCR_EXT, whatever the value; a write to a register of the queue's own rings; and a write to PVFCTRL[v] that sets bit
-/// 26, if pool v contains the queue. Writes to all other registers, for example FCTRL, at 0x05080, leave it alone.
+/// 26, if pool v contains the queue. Writes to all other registers, for example FCTRL, at 0x05080, leave the queue
+/// alone.
 #[tactic(auto, using(crate::proofs::Writes::writes_leave))]
 pub fn writes_leave_queues_alone()
     ensures register { WritesLeaveQueues }
@@ -18,35 +19,37 @@ pub fn writes_leave_queues_alone()
 {}
 
 /// Lending, taking or poking a block leaves a driver's queue alone exactly if the driver's pass doesn't lend that
-/// block. A step of another queue does so exactly if what it wrote, as its reply reports, is in none of the blocks that
-/// the pass lends. Every other event except a write leaves it alone, for example a read, a peek at a block, an arriving
-/// frame or a change of the link. So does a step with any other reply, for example a fault.
+/// block. A step of another queue leaves the driver's queue alone exactly if what the step wrote, as its reply reports,
+/// is in none of the blocks that the pass lends. Every other event except a write leaves the queue alone, for example a
+/// read, a peek at a block, an arriving frame or a link change. So does a step with any other reply, for example a
+/// fault.
 #[tactic(auto, using(crate::proofs::Others::others_leave, crate::proofs::Others::nothing_else))]
 pub fn other_events_leave_queues_alone()
     ensures others { OthersLeaveQueues }
     ensures nothing_else { NothingElseCounts }
 {}
 
-/// A history up to the first entry of a driver's pass leaves its queue alone. After that entry, a single entry is
-/// enough to violate this. It may be a write of another pass, or another pass's access to a block, that doesn't leave
-/// the queue alone. It may also be a step of another queue, by any pass, that writes into a block of the driver's pass.
-/// A history with none of these leaves the queue alone.
+/// A history up to the first entry of a driver's pass leaves the driver's queue alone. After that first entry, a single
+/// entry is enough to violate this. This entry may be a write by another pass, or another pass's access to a block,
+/// that doesn't leave the queue alone. It may also be a step of another queue, by any pass, that writes into a block of
+/// the driver's pass. A history without such entries leaves the queue alone.
 #[tactic(auto, using(crate::proofs::Others::histories_leave, crate::proofs::Others::sparing_suffices))]
 pub fn histories_leave_queues_alone()
     ensures history { HistoriesLeaveQueues }
     ensures enough { SparingIsEnough }
 {}
 
-/// A driver has begun with the first entry of its pass, whatever that event is, for example a read or a device step.
+/// A driver begins with the first entry of its pass, whatever the event in that entry is, for example a read or a
+/// device step.
 #[tactic(auto, using(crate::proofs::Beginning::begin))]
 pub fn drivers_begin_with_their_first_entry()
     ensures { DriversBegin }
 {}
 
-/// The last write to GCR_EXT, by any pass, sets the pools by bits 1 to 0 of its value. The pools determine which of
-/// them a history's later writes to PVFCTRL reset. Before the first write to GCR_EXT, the pools are as given. After a
-/// write to CTRL that sets bit 3 or bit 26, there are none. No other write or event changes the pools. All these writes
-/// get the reply `Done`.
+/// Bits 1 to 0 of the value in the last write to GCR_EXT, by any pass, set the pools. The history's later writes to
+/// PVFCTRL reset pools according to this setting. Before the first write to GCR_EXT, the pools are as given. After a
+/// write to CTRL that sets bit 3 or bit 26, the device has no pools. No other write or event changes the pools. All
+/// these writes get the reply `Done`.
 #[tactic(auto, using(crate::proofs::Beginning::stay))]
 pub fn pools_are_the_last_that_were_set()
     ensures set { PoolsAreFollowed }
@@ -61,17 +64,17 @@ pub fn blocks_are_of_their_pass()
 {}
 
 /// Closing reports the lowest tag that no pass of the bench has, whatever else is wrong with the passes. If each tag
-/// has a pass, it reports a pass of another bench, a pass without a tag of this bench, or two passes with the same tag.
-/// It notices each pass whose calls differ from the calls that the history has for its tag. It doesn't report a pass of
-/// this kind if another one has a lower tag.
+/// has a pass, closing reports a pass of another bench, a pass whose tag isn't one of this bench's, or two passes with
+/// the same tag. Closing notices each pass whose calls differ from the calls that the history records for its tag. If
+/// closing reports such a pass, no pass with a lower tag differs in this way.
 #[tactic(auto, using(crate::proofs::Ending::closing_tells, crate::proofs::Ending::closing_is_compared))]
 pub fn closing_has_an_order()
     ensures order { ClosingHasAnOrder }
     ensures compared { ClosingIsCompared }
 {}
 
-/// A position is listed for a pass exactly if the entry at it, counted from 0, has the pass's tag. The positions
-/// ascend.
+/// A position is listed for a pass exactly if the entry at this position, counted from 0, has the pass's tag. The
+/// positions ascend.
 pub fn positions_are_exact()
     ensures { PositionsAreExact }
 {}

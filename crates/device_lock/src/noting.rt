@@ -11,7 +11,7 @@ use std::alloc::{AllocError, Global};
 use std::mem;
 
 /// Allocates what a list of calls needs for the next event: room for one more entry, the event's note, and a spare
-/// vector with room for the note of the reply.
+/// vector with room for the reply's note.
 pub(crate) fn ready<T>(
     alloc: Global,
     device: &Device,

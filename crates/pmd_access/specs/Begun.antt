@@ -8,8 +8,8 @@ use Rattle.pmd_access.specs.Made.{InHand}
 use Rattle.pmd_access.specs.Scheduled.{Handled, Scheduled}
 use Rattle.pmd_access.specs.Stepped.{AtLock}
 
--- Either the calls belong to a pass, given by the number of its bench and its tag, or they were made to a device in
--- hand, which was in this state before the first call.
+-- Either the calls belong to the pass with this bench number and this tag. Or they were made to a device in hand, which
+-- was in this state before the first call.
 pub data Origin : Type 0 where
   OfPass : ℕ → ℕ → Origin
   From : State → Origin

@@ -1,4 +1,4 @@
--- Which addresses leave a queue alone.
+-- Which writes, given by their addresses, leave a queue alone.
 use Rattle.std.proofs.Common.{refl, sym}
 use Rattle.std.proofs.lemmas.Bool.{true≢false}
 use Rattle.device_lock.specs.NicDevice.RegTable.Runs.{runs}

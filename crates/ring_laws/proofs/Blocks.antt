@@ -1,5 +1,5 @@
--- A ring in memory, for either half of a driver: its descriptors, the other blocks, and what stays unchanged of both.
--- Also the ring of a driver that sends, after a posted slot is fetched.
+-- A ring in memory, for either half of a driver: its descriptors, the other blocks, and which of their bytes stay
+-- unchanged. Also the ring of a driver that sends, after a posted slot is fetched.
 use Rattle.ring_laws.specs.Prelude.{Fetched, IsWhole, LiesIn, Memory, Ring, State, TransmitQueue, done_descriptor}
 use Rattle.ring_laws.specs.Prelude.{first_half, gives, has_block, is_empty, is_lent, is_outside, read_at, reply_to}
 use Rattle.ring_laws.specs.Prelude.{second_half, sending_of, step_of, transmit_queue_of, write_at}
@@ -32,7 +32,7 @@ use Rattle.std.{proofs.lemmas.List.length-take-le, specs.Prelude.⊤, specs.Prel
 use Rattle.pmd_access.specs.NicDevice.declared.event.Event.TheVariants as event
 use Rattle.std.specs.FinMap as map
 
--- The ranges of descriptors and of blocks' bytes.
+-- The ranges that descriptors and the bytes in blocks occupy.
 
 pub aligned : (ring slot : ℕ) → (descriptor_in ring slot % 16 == 0) ≡ true
 aligned ring slot = let e : descriptor_in ring slot % 16 ≡ 0 = omega arith in rw e refl
@@ -44,8 +44,8 @@ pub buffer_and_slot : (b n ring size slot : ℕ) → is_ring_block ring size b �
     → AreApart (2048 * b) n (descriptor_in ring slot) 16
 buffer_and_slot b n ring size slot other h l = grind arith
 
--- A ring whose head and tail are slots of it, `first` and `last` slots after the next one. It isn't outside memory, its
--- head is a descriptor, and if it isn't empty, the head is before the tail.
+-- A ring whose head and tail are `first` and `last` slots after its next slot. The ring isn't outside memory, and its
+-- head is a descriptor. If the ring isn't empty, the head is before the tail.
 
 pub record IsRingAt (r : Ring) (ring size next first last : ℕ) : Type 0 where
   pub inside : is_outside r ≡ false
@@ -94,7 +94,7 @@ pub record Stays (ring size : ℕ) (m n : Memory) (slots blocks : ℕ → Type 0
       → read_at n (2048 * b) len ≡ read_at m (2048 * b) len
   pub there : (b : ℕ) → blocks b → has_block n b ≡ has_block m b
 
--- Everything is the same in two memories if the ring's blocks are.
+-- Everything is the same in two memories if the ring's blocks are the same.
 pub same_stays : (ring size : ℕ) (m n : Memory) → EachRingBlock ring size (λ b. map.get n b ≡ map.get m b)
     → Stays ring size m n (λ j. ⊤) (λ b. map.get n b ≡ map.get m b)
 same_stays ring size m n same = record {
@@ -106,7 +106,7 @@ same_stays ring size m n same = record {
   there = λ b is. ap (λ (o : _). is_some o) is;
 }
 
--- Everything is the same except a written descriptor, which then contains these bytes.
+-- Everything is the same except the written descriptor, which then contains these bytes.
 module _ (ring size slot : ℕ) (below : slot < size) (m : Memory) (bytes : List ℕ) (long : length bytes ≡ 16) where
   pub written_stays : Stays ring size m (write_at m (descriptor_in ring slot) bytes) (λ j. j ≢ slot) (λ b. ⊤)
   written_stays = grind (arith, SameLent-write_at, read_at-write_at_apart)
@@ -143,7 +143,7 @@ module _ (l : Layout) (is : IsLayout l) where
   pub later-layout : IsLayout (record l { next = next_of l.size l.next })
   later-layout = record { some = is.some; few = is.few; next = next_below l.size l.next is.next; limit = is.limit }
 
--- The blocks of a driver that sends, and where its descriptors and segments are in them.
+-- The blocks of a driver that sends, and where the descriptors and segments are in these blocks.
 
 pub has_lent-ring : (v : Sender) (k : ℕ) → k < blocks_for v.layout.size → has_lent v (v.layout.ring + k) ≡ true
 has_lent-ring v k below = grind arith
@@ -170,7 +170,8 @@ module _ (m n : Memory) (v : Sender) (f : ℕ) (l : IsLayout v.layout) (c : IsCo
     pub shows-same : Shows n v f
     shows-same = grind (arith, stays, has_lent-segment)
 
--- A posted slot that is fetched: its segment is staged, the packet is sent if it ends, and the descriptor is done.
+-- A posted slot that is fetched: its segment is staged, the packet is sent if the segment ends it, and the descriptor
+-- is done.
 
 abbrev word_of : Segment → ℕ
 word_of x = data_word (length x.part.bytes) x.part.last x.part.whole
@@ -188,7 +189,7 @@ module _ (x : Segment) (short : length x.part.bytes ≤ 2048) (whole : x.part.wh
   buffer-asking : x.block < 65536 → buffer_in (asking x) ≡ 2048 * x.block
   buffer-asking low = (halves_come_back (2048 * x.block) (word_of x)).first (omega arith)
 
-  -- A posted descriptor doesn't report its segment as sent, and a done one does.
+  -- A posted descriptor doesn't report its segment as sent, and a done descriptor does.
   pub asking-waits : is_sent (asking x) ≡ false
   asking-waits = rw second-asking word-asked.waits
 
@@ -286,7 +287,7 @@ module _ {s : State} {queue : ℕ} {sent : List (List ℕ)} {v : Sender} {f : �
         (tests_in_order s.memory staged side.ring tx).sent full can
         ∙ ap (data_outcome s.memory staged side.ring tx) asks ∙ (grind (arith, append-nil))
 
-    -- The memory after the fetch: at the end of a packet its descriptor is done, and the rest is unchanged.
+    -- The memory after the fetch: at the end of a packet, the descriptor is done, and everything else is unchanged.
 
     abbrev new : Memory
     new = write_at s.memory (descriptor_at v.layout f) (done_descriptor (asking x))

@@ -21,7 +21,7 @@ use Rattle.std.{proofs.lemmas.Grind.common_steps, proofs.lemmas.List.get_or-set_
 use Rattle.device_lock.specs.NicDevice.Receive as receive
 use Rattle.device_lock.specs.NicDevice.declared.event.Event.TheVariants as event
 
--- A receive step, by its conditions: a slot is tried only if a queue is on and the slot is the device's.
+-- The cases of a receive step: a slot is tried only if its queue is on and the slot belongs to the device.
 
 pub record Receives (P : Outcome → Type 0) (s : State) : Type 0 where
   pub idle : P (gives Idle s)
@@ -65,7 +65,7 @@ module _ (queue : ℕ) (s : State) (sound : IsSound s) where
         ];
       }) refl
 
--- A transmit step, by its condition: a slot is fetched only if the queue isn't silent.
+-- The cases of a transmit step: a slot is fetched only if the queue isn't silent.
 
 pub added-none : (out : List (ℕ × List ℕ)) → frames_added out out ≡ []
 added-none out = grind (arith, common_steps)

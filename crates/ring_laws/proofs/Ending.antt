@@ -1,4 +1,4 @@
--- How a history is closed, and where the entries of a pass are.
+-- How a history is closed, and where a pass's entries are.
 use Rattle.std.proofs.Common.{◌≡◌, ℕ, zero, suc, ◌+◌, ◌<◌, ◌&&◌, Bool, true, false, cond, eqb, List, [], ◌∷◌, get_or}
 use Rattle.std.proofs.Common.{Option, Some, None, refl, ap, sym, ◌∙◌, subst, inl, inr, arith}
 use Rattle.std.specs.List.{slice_get, Contains, AllPairs, All}
@@ -15,7 +15,7 @@ use Rattle.ring_laws.specs.Ending.{is_there, ClosingTells, ClosingCompares, Clos
 use Rattle.ring_laws.specs.Ending.{PositionsAre, PositionsAreExact}
 use Rattle.ring_laws.specs.LocksPrelude.{PassValue, Entry, CloseFault, MissingPass, ForeignPass, Mismatch}
 
--- The number of passes with the tag, counted one by one.
+-- The number of passes with the tag, as a recursive count.
 how_many : (bench tag : ℕ) → List PassValue → ℕ
 how_many bench tag [] = 0
 how_many bench tag (p ∷ ps) =
@@ -62,7 +62,7 @@ module _ (bench count : ℕ) (h : List Entry) (ps : List PassValue) where
   missing (Some (Mismatch t)) a tag below none lowest = absurd (omega (arith, absent tag none, a.0.once tag below))
   missing (Some OutOfMemory) a tag below none lowest = absurd a
 
-  -- The passes aren't the bench's passes, one for each tag.
+  -- The passes aren't exactly the bench's passes, one for each tag.
   surplus : (answer : Option CloseFault) → Answers bench count h ps answer →
       ((tag : ℕ) → tag < count → is_there bench tag ps ≡ true) → (AreAll bench count ps → ⊥) →
       answer ≡ Some ForeignPass
@@ -103,7 +103,8 @@ closing_tells bench count h ps answer a = closing_tells_one bench count h ps ans
 pub closing_is_compared : ClosingIsCompared
 closing_is_compared bench count h ps answer a = closing_compares bench count h ps answer a
 
--- A listed position, counted from `at`: it is `place` after `at`, and entry `place` of the history has the tag.
+-- A listed position, counted from `at`: the position is `at` plus `place`, and entry `place` of the history has the
+-- tag.
 pub record IsListed (at tag q : ℕ) (h : List Entry) : Type 0 where
   pub place : ℕ
   pub is : q ≡ at + place

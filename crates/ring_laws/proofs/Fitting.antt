@@ -1,4 +1,4 @@
--- The frames that wait for a queue are as short as the driver's packets, and so are the written pieces.
+-- The frames that wait for a queue are as short as the driver's packets, and the written pieces fit too.
 use Rattle.ring_laws.specs.Prelude.{Block, Filled, Memory, WritesNoSetting, buffer_size_of}
 use Rattle.ring_laws.specs.Prelude.{IsSound, Rx, Waiting, after, is_on, mode_in, piece_of, receive_queue_of, step_of}
 use Rattle.ring_laws.{proofs.Deeds.step_cases, specs.Prelude.Event, specs.Prelude.Outcome, specs.Prelude.frame_limit}
@@ -23,7 +23,7 @@ use Rattle.std.proofs.lemmas.{Bool.and_parts, Bool.both_ways, Bool.cond_both, Bo
 use Rattle.pmd_access.specs.NicDevice.declared.event.Event.TheVariants as event
 use Rattle.pmd_access.specs.NicDevice.Receive as receive
 
--- What holds for each waiting frame at any offset still holds after an event, if it holds for an accepted one.
+-- If a property holds for each waiting frame at any offset and for each accepted frame, it still holds after an event.
 
 module _ (P : Waiting → Type 0) (moved : (w : Waiting) (n : ℕ) → P w → P (record w { offset = n })) (s : State)
     (h : All P s.waiting) where
@@ -140,7 +140,8 @@ module _ (queue n : ℕ) where
         → Has (after s e).waiting
     still_begun e spared step = waiting_changed Has s has e (begun_changes e spared step)
 
--- If nothing is written, this stays so through each event that writes no piece on the queue.
+-- If no byte was written of a frame for the queue, this stays true through each event that writes no piece on the
+-- queue.
 
 none_received : (queue : ℕ) (s : State) → IsSound s → partial_on queue s.waiting ≡ 0
     → pieces queue s event.RxStep ≡ [] → partial_on queue (after s event.RxStep).waiting ≡ 0
@@ -169,7 +170,7 @@ fit-push : (most n : ℕ) (ps : List Piece) (p : Piece) → AllFit most n ps →
 fit-push most n [] p all fits = (fits, tt)
 fit-push most n (q ∷ ps) p all fits = (all.0, fit-push most (cond q.end 0 (n + 1)) ps p all.1 fits)
 
--- The rest of a frame that doesn't end in a block.
+-- The remaining part of a frame that doesn't end in this block.
 more_left : (len rest frame offset n most : ℕ) → len ≡ min 2048 rest → len ≢ rest → rest ≡ frame - offset
     → offset ≡ 2048 * n → frame ≤ 2048 * most → (len ≡ 2048) × (n + 1 < most)
 more_left len rest frame offset n most is part left begun short = grind arith
@@ -188,7 +189,7 @@ module _ (queue most : ℕ) (s : State) (out : List Piece) (v : Receive) (gone_b
   none_written : (ws : List Waiting) → Has queue (2048 * n) ws → Goes ws []
   none_written ws has = rw (append-nil out) (has, fit.pieces)
 
-  -- A receive step, by the oldest waiting frame.
+  -- The cases of a receive step, given the oldest waiting frame.
   module _ (w : Waiting) (others : List Waiting) (e : s.waiting ≡ w ∷ others) where
     are : AreWaiting (w ∷ others)
     are = subst AreWaiting e sound.waiting
@@ -211,7 +212,7 @@ module _ (queue most : ℕ) (s : State) (out : List Piece) (v : Receive) (gone_b
         let room = (ring_is h).more open_ring in
         absurd (no_fault h room (rest_of w) fault (rw own at is)))
 
-    -- A piece of a frame of the queue is written.
+    -- A piece of a frame for the queue is written.
     module _ (f : Filled) (is : (filled_by s w).answer ≡ Ok f) (own : w.queue ≡ queue) where
       begun : w.offset ≡ 2048 * n
       begun = rw (eq-eqb w.queue queue own) at has
@@ -222,7 +223,7 @@ module _ (queue most : ℕ) (s : State) (out : List Piece) (v : Receive) (gone_b
           h.side.buffer_size in
           (takes_piece s.memory _ _ (rest_of w) f is).len ∙ ap (λ (k : ℕ). min k (length (drop w.offset w.frame))) room
 
-      -- A piece that doesn't end its frame fills its block, and one more fits.
+      -- A piece that doesn't end its frame fills its block, and one more piece fits.
       goes_on : f.end ≡ false → (f.len ≡ 2048) × (n + 1 < most)
       goes_on on =
           more_left f.len (length (drop w.offset w.frame)) (length w.frame) w.offset n most taken

@@ -1,5 +1,5 @@
--- Filling a slot of the driver's ring, and other events that aren't the driver's own: there is no fault, they keep the
--- agreement, with the written piece, and a side that is up stays up.
+-- Filling a slot of the driver's ring, and other events that aren't the driver's own. They meet no fault and keep the
+-- agreement, with the written piece. A side that is up stays up.
 use Rattle.device_laws.proofs.{Delivered.reported-lt, KeptSettings.settings_stand, Standing.stays_within}
 use Rattle.ring_laws.proofs.{Reports.IsSparedBy, Deeds.left_deed, Deeds.left_did, Deeds.side_did, Left.left-side}
 use Rattle.{ring_laws.proofs.Reports.reported_elsewhere, device_laws.proofs.StandingQueues.switching_rest}
@@ -52,8 +52,8 @@ slots_more m n l here p ring h low filled stays = record {
   posted = (grind (arith, common_steps));
 }
 
--- A receive step on the driver's queue turns its first posted slot into its last filled one; on another queue, it
--- leaves the driver's queue alone.
+-- A receive step on the driver's queue turns the first posted slot into the last filled slot. On another queue, the
+-- step leaves the driver's queue alone.
 
 -- The head of the queue is the first slot that isn't filled.
 module _ {queue : ℕ} {s : State} {out : List Piece} {v : Receive} {gone here : List Piece}
@@ -92,7 +92,7 @@ module _ {queue : ℕ} {s : State} {out : List Piece} {v : Receive} {gone here :
   pub no_fault : HasRoom → (rest : Rest) (fault : RingFault) → (fill_on s queue rest).answer ≡ Err fault → ⊥
   no_fault room rest fault is = grind (arith, fill_healthy, healthy)
 
-  -- Only the slot and its block changed: they got a piece.
+  -- Only the slot and its block changed: a piece was written to them.
   pub fills_here : HasRoom → IsWhole s.memory → (rest : Rest) (f : Filled) → rest.first < 2 ^ 64
       → (fill_on s queue rest).answer ≡ Ok f
       → IsFilled (fill_on s queue rest).memory (descriptor_at l (length here)) (block_at l (length here))
@@ -171,7 +171,7 @@ pub no_registers : (w : Watched) (mode : Mode) (mine : Blocks) (e : Event Block)
     → LeavesRegisters w mode e × LeavesBlocks mine e
 no_registers w mode mine e is = grind arith
 
--- What an event does to the queue's receive side keeps the agreement, with the piece that it writes, if any.
+-- Whatever an event does to the queue's receive side keeps the agreement, with the piece that the event writes, if any.
 
 module _ (queue : ℕ) (s : State) (out : List Piece) (v : Receive) (sound : IsSound s) (j : Agree queue s out v)
     (e : Event Block) (none : WritesNoSetting s e) where
@@ -237,7 +237,8 @@ enable_keeps queue s out v sound j =
     rested queue s out v sound j (event.QueueStep Rx queue) tt (switching_did queue s sound j.2.named.low Rx)
     (λ b lent. ap (λ (m : Memory). map.get m b) (switching_rest s Rx queue).memory)
 
--- A receive side that is on, with no request to disable it pending, stays so, if device and driver agree.
+-- If the device and the driver agree, a receive side that is on, with no request to disable it pending, stays on with
+-- none pending.
 
 pub left_up : LeavingStaysUp
 left_up queue s t left up = subst sides.IsUp (sym (receive_left queue s t left)) up
@@ -264,7 +265,7 @@ pub alone_stays_up : (w : Watched) (s : State) (out : List Piece) (v : Receive) 
     → IsUp w.queue (after s e)
 alone_stays_up w s out v e vfs sound j registers up = search (arith, deed_up, side_did, left-side)
 
--- Entries that aren't the driver's own and leave its queue alone keep the agreement.
+-- Entries that aren't the driver's own and leave the driver's queue alone keep the agreement.
 
 module _ (queue : ℕ) (mine : Blocks) (s : State) (v : Receive) (sound : IsSound s)
     (m : Each v (λ b. IsTrue (mine b))) (spare : OwnReportsSpare queue v s) where
@@ -282,7 +283,7 @@ left_keeps w mine s out v e x j m spare =
     deed_keeps w.queue s out v x.sound j e (left-setting w s x.vfs e x.registers) did.receive
     (λ none. spared w.queue mine s v x.sound m spare e did none did.transmit)
 
--- An entry of another pass that leaves them alone is one of these events, as is a step of any pass.
+-- An entry of another pass that leaves the queue and these blocks alone is such an event, and so is a step of any pass.
 entry_left : (w : Watched) (mine : Blocks) (mode : Mode) (s : State) (e : Entry) → IsMetBy w mode s e → w.queue < 128
     → EntryLeavesAlone w mine mode e → (e.pass ≢ w.pass) ⊎ IsTrue (is_step e.event) → IsLeft w mine s e.event
 entry_left w mine mode s e met small alone who = grind arith

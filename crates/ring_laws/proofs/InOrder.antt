@@ -1,5 +1,5 @@
--- What the agreement implies for packets handed out and frames sent, how both are counted over a history, and the
--- definitions on small examples.
+-- What the agreement implies for packets handed out and frames sent, and how both are counted over a history. Small
+-- examples show the definitions at work.
 pub use Rattle.ring_laws.proofs.Limits.{lent_after}
 use Rattle.pmd_access.specs.DeviceLock.History.{call_in}
 use Rattle.device_laws.proofs.{RepliesOut.frames_out, StandingQueues.receiving_blocks}
@@ -46,7 +46,7 @@ none_whole front [] (p ∷ here) opens are all = absurd (omega (arith, all))
 none_whole front (t ∷ ts) (p ∷ here) opens are all =
     grind (arith, none_whole (front ++ p.bytes) ts here opens.1 are.1 (omega (arith, all)))
 
--- If a poll of the slot after those seen finds it not done, everything delivered was taken.
+-- If a poll of the slot after the seen slots finds the descriptor not done, every delivered packet was taken.
 pub all_taken : NoneIsAllTaken
 all_taken queue s out v (gone, here, h) f =
     let k = length v.seen in
@@ -54,7 +54,7 @@ all_taken queue s out v (gone, here, h) f =
     let all : length here ≤ k = (grind (arith, common_steps)) in
     (grind (arith, common_steps, none_of, none_whole))
 
--- If no packet is complete, everything delivered was handed out.
+-- If no complete packet waits for the tail, every delivered packet was handed out.
 pub drained : NoneIsAll
 drained queue s out v j f = all_taken queue s out v j f.shows ∙ rw f.none_whole (append-nil v.handed)
 
@@ -81,7 +81,7 @@ pub vfs_stays : (s : State) (h : List Entry) → (leads_to s h).vfs ≡ s.vfs
 vfs_stays s [] = refl
 vfs_stays s (e ∷ h) = vfs_stays (after s e.event) h ∙ (step_leads s e.event).stays.vfs
 
--- What is delivered stays delivered.
+-- Delivered packets stay delivered.
 
 pub grows : (front : List ℕ) (xs ys : List Piece)
     → IsPrefixOf (packets_after front xs) (packets_after front (xs ++ ys))
@@ -108,7 +108,7 @@ between hs ds ks h1 h2 h3 = grind (arith, common_steps, no_rest)
 
 -- An event that leaves blocks alone leaves the blocks of a sending driver alone.
 
--- What is received, as the reply reports it.
+-- The bytes received, as the reply reports them.
 received_outside : (queue : ℕ) (mine : Blocks) (v : Sender) (r : Reply Block) (b : ℕ) → IsTrue (has_lent v b)
     → IsTrue (mine b) → WritesOutside queue mine r → ReceiveOwes queue v r → ReceivesOutside r b
 received_outside queue mine v (Wrote on slot end desc at len) b lent is outside owes = elim (cases_eq on queue) [
@@ -141,11 +141,11 @@ first_sent s queue sent v (f, h) = elim h.sends [
 -- Lemmas about the segments that remain to be sent.
 module _ (s : State) (queue : ℕ) (sent : List (List ℕ)) (limit : ℕ) (left : List Segment) (ks : List Kept)
     (sends : SendsInOrder s queue sent limit left ks) where
-  -- If no segment remains, everything accepted is sent.
+  -- If no segment remains, all accepted frames were sent.
   all_sent : left ≡ [] → bytes_of ks ≡ sent
   all_sent none = grind (arith, common_steps, append-nil)
 
-  -- If the end of a packet remains, not everything is sent.
+  -- If the end of a packet remains, not all accepted frames were sent.
   some_unsent : (k : ℕ) → k < length left → (slice_index_or left k no_segment).part.last ≡ true
       → length sent < length (bytes_of ks)
   some_unsent k below end = grind (arith, common_steps, length-append, frame_of_end)
@@ -155,8 +155,8 @@ idle-all s queue sent v (f, h) none =
     all_sent s queue sent _ _ v.accepted h.sends (rw none (drop_all f [] (omega arith)))
 
 module _ {s : State} {queue : ℕ} {sent : List (List ℕ)} {v : Sender} {f : ℕ} (h : AgreesAt s queue sent v f) where
-  -- While the end of the oldest packet remains to be sent, not everything is sent, and it wasn't when less had been
-  -- sent.
+  -- While the end of the oldest packet remains to be sent, not all accepted frames were sent, nor were they when less
+  -- had been sent.
   left-over : (xs more : List (List ℕ)) → sent ≡ xs ++ more → first_end v.outstanding < v.posted
       → f ≤ first_end v.outstanding → bytes_of v.accepted ≢ xs
   left-over xs more split posted rest same =
@@ -173,8 +173,8 @@ pub sent_in-append : (queue : ℕ) (s : State) (g h : List Entry)
 sent_in-append queue s [] h = refl
 sent_in-append queue s (e ∷ g) h = grind (arith, common_steps, sent_in-append queue (after s e.event) g h)
 
--- If a poll finds the end of the oldest packet not done, it isn't fetched. So more was accepted than was sent at that
--- time or at any earlier time.
+-- If a poll finds the end of the oldest packet not done, that end wasn't fetched. So more frames were accepted than
+-- were sent at that time or at any earlier time.
 pub waiting-left : WaitingIsNotAllSent
 waiting-left s queue sent v (f, h) finds xs more split same =
     let end = first_end v.outstanding in
@@ -237,7 +237,7 @@ event_reported : (queue : ℕ) (s : State) (e : Event Block) (r : Reply Block) �
     → out_after e r s (after s e) → map length (sent_by queue s e) ≡ reported_lengths queue r
 event_reported queue s e r fits out = grind (arith, common_steps)
 
--- For a history.
+-- The same for a history.
 
 pub sent_is_reported : SentIsReported
 sent_is_reported queue s [] sound events legal = refl
@@ -254,14 +254,14 @@ ending bytes first = record { bytes = bytes; first = first; end = true }
 abbrev going_on : List ℕ → Piece
 going_on bytes = record { bytes = bytes; first = 0; end = false }
 
--- Two pieces of one frame form a packet, with the RSS type and hash of the last. The third is left out because its
--- frame has no end yet.
+-- Two pieces of one frame form a packet, with the RSS type and hash of the last piece. The third piece is left out
+-- because its frame hasn't ended.
 two_pieces_are_a_packet :
     packets_of (going_on (1 ∷ 2 ∷ []) ∷ ending (3 ∷ []) 0x700000002 ∷ going_on (4 ∷ []) ∷ [])
     ≡ record { bytes = 1 ∷ 2 ∷ 3 ∷ []; rss = 2; hash = 7 } ∷ []
 two_pieces_are_a_packet = refl
 
--- Of two transmitted frames, of queues 3 and 5, the second was added.
+-- Two frames were transmitted, on queues 3 and 5; the second frame was added.
 one_added : frames_added ((3, 1 ∷ []) ∷ []) ((3, 1 ∷ []) ∷ (5, 7 ∷ 8 ∷ []) ∷ []) ≡ (7 ∷ 8 ∷ []) ∷ []
 one_added = refl
 

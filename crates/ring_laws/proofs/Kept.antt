@@ -1,5 +1,5 @@
--- The ring of a receiving driver: its places, its blocks, and what is unchanged if memory is. Also, the parts of
--- packets that it saw, and how pieces are cut after the consumed ones.
+-- The ring of a receiving driver: its positions, its blocks, and what is unchanged if memory is unchanged. Also, the
+-- parts of packets that the driver saw, and how pieces are cut into packets after the consumed pieces.
 use Rattle.ring_laws.specs.Prelude.{Block, Memory, ends_packet}
 use Rattle.ring_laws.{proofs.Left.named-same, specs.Prelude.State, specs.Prelude.bytes_in, specs.Prelude.mode_in}
 use Rattle.pmd_access.proofs.{Copying.bytes-more, Rings.each_ring_block, Rings.ring_block_among}
@@ -16,7 +16,7 @@ use Rattle.std.proofs.Common.{List, [], length, length-append, refl, suc, sym, �
 use Rattle.std.{proofs.Math.Seq.take-append-add, proofs.lemmas.Bool.or_cases, specs.List.list_any, specs.Prelude.◌++◌}
 use Rattle.std.{proofs.lemmas.Grind.common_steps, proofs.lemmas.List.get_or_append_left, specs.Prelude.◌||◌}
 
--- The first place around a ring.
+-- The first position around a ring.
 
 pub first_place : (n : ℕ) → 0 < n → 0 ≡ wrapped n (0 + 0)
 first_place n h = grind arith
@@ -26,15 +26,15 @@ first_place n h = grind arith
 pub reach_long : (v : Receive) → length (reach v).blocks ≡ length v.layout.blocks + length v.named
 reach_long v = length-append v.layout.blocks v.named
 
--- The posted slots are the first of this part.
+-- The posted slots are the first slots of this part.
 pub posted_in : (v : Receive) (k : ℕ) → k ≤ length v.layout.blocks → k ≤ length (reach v).blocks
 posted_in v k is = omega (arith, is, reach_long v)
 
 pub posted_block : (v : Receive) (k : ℕ) → k < length v.layout.blocks → block_at (reach v) k ≡ block_at v.layout k
 posted_block v k is = get_or_append_left v.layout.blocks v.named 0 k is
 
--- Facts about each block that the driver has lent for receiving: the blocks of the ring itself, the blocks of its slots
--- up to the last named one, and a fresh block.
+-- Facts about each block that the driver has lent for receiving. These are the blocks of the ring itself, the blocks of
+-- its slots up to the last named slot, and a fresh block.
 
 abbrev pub among : List ℕ → ℕ → Bool
 among xs n = list_any (λ b. n == b) xs
@@ -48,7 +48,7 @@ any_place (x ∷ xs) n is = elim (or_cases (n == x) (among xs n) is) [
 ]
 
 module _ (v : Receive) where
-  -- The driver has lent a block, by its place.
+  -- The blocks that the driver has lent, by where they are.
   pub parted : (n : ℕ) → has_lent v n
       ≡ (among (reach v).blocks n || (among (fresh_block v.stage) n || is_ring_block v.layout.ring v.layout.size n))
   parted n = grind (arith, common_steps, ring_block_among)
@@ -106,7 +106,7 @@ pub named_kept : (s t : State) (queue : ℕ) (l : Layout) → mode_in t.register
     → IsNamed s queue l → IsNamed t queue l
 named_kept s t queue l mode vfs h = assumption (named-same s t mode vfs l.port l.tail ∙ h.tail)
 
--- What was seen stays seen when one more piece is written.
+-- What the driver saw is still true when one more piece is written.
 pub seen_longer : (seen : List Reported) (here : List Piece) (p : Piece) → AreSeen seen here →
     AreSeen seen (here ++ p ∷ [])
 seen_longer [] here p is = tt
@@ -136,7 +136,7 @@ end_more [] t is end = end
 end_more (u ∷ []) t is end = (is.0, end)
 end_more (u ∷ w ∷ ts) t is end = (is.0, end_more (w ∷ ts) t is.1 end)
 
--- If nothing is held, no packet has ended and no part remains, whatever was seen.
+-- If the driver holds no packet, no packet has ended and no part remains, whatever was seen.
 pub none_of : (seen : List Reported) → (ended_of seen no_packet ≡ []) × (left_of seen no_packet ≡ no_packet)
 none_of [] = (refl, refl)
 none_of (t ∷ ts) = (refl, refl)
@@ -147,14 +147,14 @@ pub open_pushed : (n : ℕ) (ps : List Piece) (p : Piece)
 open_pushed n [] p = refl
 open_pushed n (q ∷ ps) p = open_pushed (cond q.end 0 (n + 1)) ps p
 
--- A driver that has yet to take the parts that it saw.
+-- A driver that hasn't taken the parts that it saw yet.
 abbrev pub taking : Receive → Reported → List Reported → Receive
 taking v t ts = record v { seen = t ∷ ts; stage = Takes }
 
 -- The part of the next slot is taken.
 module _ (out gone ps : List Piece) (v : Receive) (p : Piece) (t : Reported) (b : Block)
     (bytes : take (bytes_in t.second) b.bytes ≡ p.bytes) (whole : length b.bytes ≡ 2048) where
-  -- The pieces stay in order when the part of the next slot is taken, by what was seen.
+  -- The pieces stay in order when the part of the next slot is taken, according to what was seen.
   module _ (cut : (rest : List Piece)
       → packets_of (gone ++ rest)
       ≡ (v.handed ++ records_of (v.whole ++ [])) ++ packets_after (kept_of v.held).bytes rest)
@@ -172,12 +172,12 @@ pub order_on : (out gone here : List Piece) (v : Receive) (t : Reported) (ts : L
 order_on out gone [] v t ts b o some bytes whole = absurd (omega (arith, some))
 order_on out gone (p ∷ ps) v t ts b o some bytes whole = search (arith, taken)
 
--- If the same packets are complete and the same parts held, the rest of the driver's state may change.
+-- If the same packets are complete and the same parts are held, the other fields of the driver's state may change.
 pub order_same : (out gone here : List Piece) (v w : Receive) → InOrder out v gone here → packets_had v ≡ packets_had w
     → still_held v ≡ still_held w → AreSeen w.seen here → IsAt w.stage w.seen w.held → InOrder out w gone here
 order_same out gone here v w o had still seen stage = grind arith
 
--- While nothing is held, what is seen may change.
+-- While the driver holds no packet, what it has seen may change.
 pub none_held : (out gone here : List Piece) (v : Receive) (seen : List Reported) (stage : Stage) →
     InOrder out v gone here
     → v.held ≡ no_packet → AreSeen seen here → IsAt stage seen v.held

@@ -1,4 +1,5 @@
--- Where the agreement begins. Events that leave the receive side alone, and the driver's own polls and lends, keep it.
+-- Where the agreement begins. Events that leave the receive side alone, and the driver's own polls and lends, keep the
+-- agreement.
 use Rattle.ring_laws.specs.Prelude.{Memory, Outcome, State, bytes_in, ends_packet, has_block, is_done, read_at}
 use Rattle.ring_laws.specs.Prelude.{receive_queue_of, second_half, step_of}
 use Rattle.ring_laws.{proofs.Lent.again_is_done, specs.Prelude.Block, specs.Prelude.Event, specs.Prelude.IsSound}
@@ -45,7 +46,7 @@ switching_keeps queue s t out v l (gone, here, h) = (gone, here, switching_holds
 pub leaving_keeps : LeavingKeeps
 leaving_keeps queue s t out v l (gone, here, h) = (gone, here, leaving_holds h l)
 
--- What a driver reads of its next slot, and what it knows from that.
+-- What a driver reads from its next slot, and what the driver knows from this read.
 
 pub tells_bytes : (m : Memory) (l : Layout) (here : List Piece) (k : ℕ) → HasSlots m l here → k < length l.blocks
     → TellsSlot here k (read_at m (descriptor_at l k) 16)
@@ -57,7 +58,7 @@ look_tells queue s out v gone here k h some d is =
     rw (slot_as_reported v.layout.ring v.layout.size (slot_at v.layout k) below s d h.slots.there is)
     (tells_bytes s.memory (reach v) here k h.slots (posted_in v (suc k) some))
 
--- The pieces in slots fit, as all do, and so does the one after those seen.
+-- The pieces in slots fit, because all pieces fit, and so does the piece after the seen pieces.
 
 fit-last : (most n : ℕ) (gone here : List Piece) → AllFit most n (gone ++ here) → AllFit most (open_after n gone) here
 fit-last most n [] here all = all
@@ -108,9 +109,9 @@ module _ {queue : ℕ} {s : State} {out : List Piece} {v : Receive} {gone here :
       part_is v.layout.most (length v.seen) (second_half d) (piece_at here (length v.seen)) _ refl (tells.end some)
       (tells.len some) (h.slots.filled (length v.seen) some).short fits
 
--- The effect of one of the driver's own events, by its outcome. A sound device still agrees with the driver in its next
--- state, a side that is up stays up, and the reply is a healthy queue's, if the pieces fit and a block to lend isn't
--- lent yet.
+-- The effect of one of the driver's own events, given the step's outcome. A sound device still agrees with the driver
+-- in the device's next state, and a side that is up stays up. The reply is a healthy queue's if the pieces fit and a
+-- block to be lent isn't lent yet.
 pub record Does (queue : ℕ) (s : State) (out : List Piece) (v : Receive) (e : Event Block) (o : Outcome) : Type 0 where
   pub agree : IsSound s → Agree queue o.state out (drive v e o.reply)
   pub up : IsSound s → IsUp queue s → IsUp queue o.state
@@ -119,14 +120,14 @@ pub record Does (queue : ℕ) (s : State) (out : List Piece) (v : Receive) (e : 
 abbrev pub Driven : ℕ → State → List Piece → Receive → Event Block → Type 0
 Driven queue s out v e = Does queue s out v e (step_of s e)
 
--- The same, for an event given as an equal one.
+-- The same, for an event that is given as an equal event.
 pub by_outcome : (queue : ℕ) (s : State) (out : List Piece) (v : Receive) (e d : Event Block) (o : Outcome) → e ≡ d
     → step_of s d ≡ o → (IsSound s → Agree queue o.state out (drive v d o.reply))
     → (IsSound s → IsUp queue s → IsUp queue o.state)
     → (AllFit v.layout.most 0 out → LendsAgain s d → is_healthy v d o.reply ≡ true) → Driven queue s out v e
 by_outcome queue s out v e d o same is agree up healthy = grind arith
 
--- The driver's poll of the slot after those that it saw.
+-- The driver polls the slot after the slots that it saw.
 pub look_keeps : (queue : ℕ) (s : State) (out : List Piece) (v : Receive) (a : ℕ) → Agree queue s out v → PeeksNext v a
     → Driven queue s out v (event.Peek16 a)
 look_keeps queue s out v a (gone, here, h) own =

@@ -1,4 +1,5 @@
--- An event that leaves a queue alone writes no setting, and leaves unchanged each side of it that it isn't a step of.
+-- An event that leaves a queue alone writes no setting, and leaves each side of the queue unchanged unless it is a step
+-- of that side.
 use Rattle.device_laws.proofs.StandingQueues.{switching_rest, transmitting_rest}
 use Rattle.device_laws.proofs.StandingRest.{arrival_rest, collecting_rest, eeprom_rest, link_rest, message_rest}
 use Rattle.device_laws.proofs.{Standing.leaves_missed, Standing.memory_rest, StandingAccesses.read_rest}
@@ -19,9 +20,9 @@ use Rattle.std.proofs.lemmas.{Bool.cases_Bool, Bool.eqb-true, Grind.common_steps
 use Rattle.device_lock.specs.NicDevice.RegisterFile.declared.owner.Owner.TheVariants as owner
 use Rattle.device_lock.specs.NicDevice.declared.event.Event.TheVariants as event
 
--- A side of a queue, and the records of its direction.
+-- A side of a queue, and the records for its direction.
 
--- A side among the sides of its direction.
+-- A side as a record for its direction.
 abbrev pub receive_of : Side → ReceiveQueue
 receive_of x = record { ring = x.ring; control = x.control; on = x.on; wanted = x.wanted }
 
@@ -38,10 +39,10 @@ module _ (queue : ℕ) (s t : State) where
   pub left_transmit : LeavesSide Tx queue s t → LeavesTransmit queue s t
   left_transmit left = grind arith
 
--- Writes of registers that a queue doesn't rely on, and the register that each address or offset names, if no setting
--- is written.
+-- Writes to registers that a queue doesn't rely on, and the register that each address or offset names if no setting is
+-- written.
 
--- A pool that doesn't contain the queue contains nothing of its sides.
+-- A pool that doesn't contain the queue contains no register of the queue's sides.
 
 pool_none : (b : Bank) (dir : Dir) (mode : Mode) (v index queue : ℕ) → has_queue mode v queue ≡ false
     → is_owner (owner.Side dir queue) (owner_in b index) ≡ true → is_of_pool_by b mode v index ≡ false
@@ -57,12 +58,13 @@ pub named-same : (s t : State) → mode_in t.registers ≡ mode_in s.registers �
     → named t port n ≡ named s port n
 named-same s t mode vfs port n = grind arith
 
--- A write of a register that isn't a setting.
+-- A write to a register that isn't a setting.
 pub plain-write : (s : State) (port : Port) (n word : ℕ) (q : Place) (view : ℕ) → named s port n ≡ Register q view
     → is_setting q.row ≡ false → WritesNoSetting s (event.Write port n word)
 plain-write s port n word q view names plain p seen there = grind (arith, common_steps, plain)
 
--- An event that leaves a queue alone writes no setting, and leaves unchanged each side of it that it isn't a step of.
+-- An event that leaves a queue alone writes no setting, and leaves each side of the queue unchanged unless it is a step
+-- of that side.
 
 abbrev pub step_event : Dir → ℕ → Event Block
 step_event Rx queue = event.RxStep
@@ -81,7 +83,7 @@ module _ (w : Watched) (s : State) (functions : w.vfs ≡ s.vfs) where
   left-setting e h1 = grind (arith, common_steps, place_named, place_in)
 
   module _ (dir : Dir) where
-    -- A write of a register that the queue doesn't rely on doesn't change a side of it.
+    -- A write to a register that the queue doesn't rely on changes neither side of the queue.
     spared_written : (port : Port) (n word : ℕ) (p : Place) (view : ℕ) → named s port n ≡ Register p view
         → Spares w.queue (mode_in s.registers) p word → LeavesSide dir w.queue s (after s (event.Write port n word))
     spared_written port n word p view is spares =
@@ -101,7 +103,8 @@ module _ (w : Watched) (s : State) (functions : w.vfs ≡ s.vfs) where
     unfolding step_of
     written_side port n word left = grind (arith, place_named s port n, spared_written port n word)
 
-    -- An event that leaves a queue alone leaves each side of it unchanged, unless it is a step of that side.
+    -- An event that leaves a queue alone leaves each side of the queue unchanged, unless the event is a step of that
+    -- side.
     pub left-side : (e : Event Block) → LeavesRegisters w (mode_in s.registers) e → is_step_of dir w.queue e ≡ false
         → is_switch_of dir w.queue e ≡ false → LeavesSide dir w.queue s (after s e)
     left-side (event.Write port n word) left other apart = written_side port n word left

@@ -49,8 +49,8 @@ only_lent_stays = record {
 pub not_so : (b c : Bool) → (b ≡ true → c ≡ true) → c ≡ false → b ≡ false
 not_so b c so none = grind arith
 
--- What one half of a driver has lent after one of its own events, by the reply and what it had lent. A block that it
--- lends is added, a returned block may be removed, and all other blocks stay.
+-- The blocks that one half of a driver has lent after one of its own events, computed from the reply and the blocks
+-- lent before. A block that the event lends is added, a returned block may be removed, and all other blocks stay.
 abbrev pub Follows : Blocks → Blocks → Event Block → Reply Block → ℕ → Type 0
 Follows had has (event.Lend b) Done n = has n ≡ (n == b.number || had n)
 Follows had has (event.Take t) (Buf b) n = (n ≢ t → had n ≡ true → has n ≡ true) × (has n ≡ true → had n ≡ true)
@@ -59,7 +59,7 @@ Follows had has e r n = has n ≡ had n
 abbrev pub AllFollow : Blocks → (Reply Block → Blocks) → Event Block → Type 0
 AllFollow had has e = (r : Reply Block) (n : ℕ) → Follows had (has r) e r n
 
--- Of some numbers, still only those are lent that the half or others have lent.
+-- Given some block numbers, each of these blocks that is lent was still lent by the half or by others.
 module _ (own others : Blocks) (s : State) (had : Blocks) (only : OnlyLent own (either had others) s.memory) where
   -- After an event that neither lends nor takes, still only known blocks are lent.
   pub still_known : (e : Event Block) (has : Blocks) → LendsNone own e → ((k : ℕ) → had k ≡ true → has k ≡ true)
@@ -74,7 +74,7 @@ module _ (own others : Blocks) (s : State) (had : Blocks) (only : OnlyLent own (
       let follows = f (reply_to s e) k in
       grind (arith, only k is, keeps_blocks s e, get-insert_other, get-remove_same, get-remove_other)
 
--- The blocks that a half has lent stay among some numbers, if a block that it lends is one of them.
+-- The blocks that a half has lent stay among some numbers, if each block that the half lends has one of these numbers.
 pub follows_in : (mine had : Blocks) → ((n : ℕ) → had n ≡ true → mine n ≡ true) → (e : Event Block)
     → (has : Reply Block → Blocks) → AllFollow had has e → (r : Reply Block) → LendsOneOf mine e r
     → (n : ℕ) → has r n ≡ true → mine n ≡ true
@@ -82,15 +82,15 @@ follows_in mine had all e has f r is n there = let follows = f r n in grind (ari
 
 -- The frames that wait after an event.
 
--- Those of a pool's queues are gone after a reset of the pool, and all after a reset of the device.
+-- After a reset of a pool, the frames for its queues are gone; after a reset of the device, all frames are gone.
 pub record Resets (P : List Waiting → Type 0) (s : State) (p : Place) (word : ℕ) : Type 0 where
   pub device : asks_reset (row_of p.row).kind word ≡ true → P []
   pub pool :
       asks_pool_reset (row_of p.row).kind word ≡ true
       → P (filter (λ (w : Waiting). not (has_queue (mode_in s.registers) p.index w.queue)) s.waiting)
 
--- The changes that an event can make to these frames: in addition, a frame of at most the limit may be accepted, and a
--- receive side that becomes disabled removes its partly written frame.
+-- The changes that an event can make to these frames. In addition to resets, a frame of at most the limit may be
+-- accepted, and a receive side that becomes disabled removes its partly written frame.
 abbrev pub Changes : (List Waiting → Type 0) → State → Event Block → Type 0
 Changes P s event.RxStep = P (after s event.RxStep).waiting
 Changes P s (event.Write port n word) =

@@ -1,6 +1,6 @@
--- The settings that the entries of a history report are the device's: how the queues are separated among pools, and how
--- long frames may be. Then histories in two parts: soundness along them, what a pass lends and begins in each, and how
--- they leave a queue alone.
+-- The settings that a history's entries report are the device's: how the queues are separated into pools, and how long
+-- frames may be. The other lemmas are about histories in two parts. They say that devices stay sound, what a pass lends
+-- in each part, whether it has begun, and how the parts leave a queue alone.
 use Rattle.device_laws.proofs.Settings.{IsSetting, setting_stands}
 use Rattle.device_lock.specs.{Alone.LeavesAlone, Alone.is_setting, Reported.limit_of, declared.reported.Settings.Settings}
 use Rattle.device_lock.specs.{Alone.mode_written, Reported.frames_written, Reported.settings_after, Reported.settings_through}
@@ -32,7 +32,7 @@ use Rattle.device_lock.specs.NicDevice.declared.event.Event.TheVariants as event
 reported_setting : (row : RowId) → is_setting row ≡ true → row ≢ Ctrl → IsSetting row
 reported_setting row own other = grind arith
 
--- The settings, by the words of these registers.
+-- The settings, computed from the values of these registers.
 
 abbrev settings_in : State → Settings
 settings_in s = record {
@@ -43,12 +43,12 @@ settings_in s = record {
 new_settings : (vfs fifo : ℕ) → settings_in (new_state vfs fifo) ≡ first_settings
 new_settings vfs fifo = simp (word_at-reset, le_refl)
 
--- A write through a view that shows the low bits sets the mode, and bit 2.
+-- A write through a view that shows the low bits sets the mode and bit 2.
 low_bits : (view old new : ℕ) → ShowsLow view → let m = merged (bit_and 0xFFFFFFFF view) old new in
     (mode_of m ≡ mode_of new) × (has_bit 2 m ≡ has_bit 2 new)
 low_bits view old new shows = let same = low_shown view old new shows in grind arith
 
--- What a write reports about them is true of the device after it.
+-- What a write reports about the settings is true of the device after the write.
 
 module _ (s : State) (port : Port) (n word : ℕ) where
   abbrev t : State
@@ -65,7 +65,7 @@ module _ (s : State) (port : Port) (n word : ℕ) where
   left_by m found = ap (λ x. (named_written s x word).state) found
 
   module _ (p : Place) (view : ℕ) (found : named s port n ≡ Register p view) where
-    -- A write of another register that requests no reset leaves one of these unchanged.
+    -- A write to another register that requests no reset leaves each of these registers unchanged.
     stays : (row : RowId) → is_setting row ≡ true → row ≢ Ctrl → p.row ≢ row
         → asks_reset (row_of p.row).kind word ≡ false → word_of t.registers row 0 ≡ word_of s.registers row 0
     stays row own other ne none =
@@ -81,14 +81,14 @@ module _ (s : State) (port : Port) (n word : ℕ) where
         ))
 
     module _ (sound : IsSound s) (image : s.image ≡ blank) (real : IsReal p view) where
-      -- A reset of the device resets them.
+      -- A device reset resets the settings.
       reset_reported : asks_reset (row_of p.row).kind word ≡ true → first_settings ≡ settings_in t
       reset_reported asks =
           sym (ap settings_in (left_by (Register p view) found ∙ cond-true _ _ _ asks)
           ∙ ap (λ ts. settings_in (with_triples (cleared s) ts)) (ap triples_of image ∙ triples_of-blank)
           ∙ new_settings s.vfs s.fifo)
 
-      -- Its own register is the only one of its row.
+      -- The register is the only one in its row.
       put_there : (row_of p.row).count ≡ 1 → (row_of p.row).kind ≡ Rw
           → word_of t.registers p.row 0 ≡ word_after s.registers (place p.row 0) view word
       put_there one plain =
@@ -142,7 +142,8 @@ histories_sound s [] sound events = sound
 histories_sound s (e ∷ es) sound events =
     histories_sound (after s e.event) es (keeps_sound s sound e.event events.0) events.1
 
--- A pass lends in a whole history what it lends in a part, and has begun in the whole if it has begun in a part.
+-- A pass lends in a whole history what it lends in a part, and has begun in the whole history if it has begun in a
+-- part.
 
 lent_both : (pass n : ℕ) (g h : List Entry) → lent_by pass (g ++ h) n ≡ (lent_by pass g n || lent_by pass h n)
 lent_both pass n [] h = refl
@@ -163,14 +164,14 @@ entry_left : (mine less : Blocks) → ((n : ℕ) → IsFalse (mine n) → IsFals
     (e : Entry) → EntryLeavesAlone w mine mode e → EntryLeavesAlone w less mode e
 entry_left mine less fewer w mode e h = grind (arith, common_steps)
 
--- The beginning of a history that leaves a queue alone leaves it alone, and so does the rest: neither part lends more
--- than the whole.
+-- If a history leaves a queue alone, so do its first part and its second part, because neither part lends more than the
+-- whole history.
 
 pub beginning_alone : BeginningIsAlone
 beginning_alone w s g h alone before e after split begun =
     grind (arith, common_steps, entry_left, not_so, lent_before, append_assoc)
 
--- An entry after a beginning of a history.
+-- An entry after the first part of a history.
 later : (w : Watched) (s : State) (g h : List Entry) → LeavesAloneFrom w s (g ++ h) → (before : List Entry) (e : Entry)
     (after : List Entry) → h ≡ before ++ e ∷ after → IsTrue (has_begun w.pass (g ++ before))
     → EntryLeavesAlone w (lent_by w.pass (g ++ h)) (mode_in (leads_to (leads_to s g) before).registers) e
@@ -181,7 +182,7 @@ pub rest_alone : RestIsAlone
 rest_alone w s g h alone before e after split begun =
     grind (arith, later w s g h alone before e after split, entry_left, not_so, lent_after, begun_both, or_right)
 
--- A history that leaves a queue alone does so entry by entry.
+-- If a history leaves a queue alone, each of its entries does.
 
 each_alone : (w : Watched) (mine : Blocks) (s : State) (rest : List Entry)
     → ((before : List Entry) (e : Entry) (after : List Entry) → rest ≡ before ++ e ∷ after
@@ -196,8 +197,8 @@ alone_by_entries w s before rest leaves begun =
     each_alone w (lent_by w.pass (before ++ rest)) (leads_to s before) rest
     (λ b e a split. later w s before rest leaves b e a split (begun_both w.pass before b ∙ or_left _ _ begun))
 
--- If the mode follows from the entries alone, a history that leaves a queue alone by that mode leaves it alone from the
--- device's state on.
+-- If the mode can be computed from the entries alone, a history that leaves a queue alone according to the computed
+-- mode leaves it alone, starting in the device's state.
 pub plain_is_left_alone : PlainIsLeftAlone
 plain_is_left_alone w s h sound plain events leaves before e after split begun =
     let reported = λ (made : AreEvents before). (reported_from s before sound plain.image made).1 in

@@ -11,7 +11,7 @@ use Rattle.std.specs.FinMap as map
 use Rattle.pmd_access.specs.NicDevice.declared.event.Event.TheVariants as event
 use Rattle.ring_laws.specs.Sides as sides
 
--- A word written to the enable register of the driver's transmit side keeps what the two agree on.
+-- A write to the enable register of the driver's transmit side keeps the agreement between the device and the driver.
 
 pub enable_words_keep : EnableWordsKeep
 enable_words_keep s queue sent v port n word made names rests (f, h) =
@@ -22,8 +22,8 @@ enable_words_keep s queue sent v port n word made names rests (f, h) =
     (grind (arith, length-drop)) h.sends)
     (λ number is. ap (λ (m : Memory). map.get m number) (write_memory s port n word))
 
--- If no enable request is in effect for a transmit side, this stays so; a side that is also off stays off, and sends
--- nothing.
+-- If no enable request is in effect for a transmit side, none is in effect later. A side that is also off stays off and
+-- sends nothing.
 
 did : (queue : ℕ) (s : State) (e : Event Block) → queue < 128 → LeavesSide queue s e → Deed Tx queue s e
 did queue s e small x =
@@ -46,7 +46,8 @@ off_stays = record {
   silent = λ queue s h small all is. (off_history queue s h small all is).1;
 }
 
--- What a driver does with the enable word: it requests that the side be enabled or disabled, and sees the side off.
+-- What a driver does with the enable register: it requests that the side be enabled or disabled, and reads that the
+-- side is off.
 
 pub guard_is_off : GuardIsOff
 guard_is_off = record {

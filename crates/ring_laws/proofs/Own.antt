@@ -28,8 +28,8 @@ use Rattle.pmd_access.specs.NicDevice.declared.event.Event.TheVariants as event
 use Rattle.pmd_access.specs.NicDevice.declared.event.Reply.TheVariants as reply
 use Rattle.std.specs.FinMap as map
 
--- The descriptor at the first slot without a block names the lent block: the ring has one more slot, and a packet may
--- be complete.
+-- The descriptor at the first slot without a block now names the lent block. One more slot has a block, and a packet
+-- may be complete.
 
 module _ (m : Memory) (l : Layout) (here : List Piece) (ring : IsRing l) (h : HasSlots m l here) (whole : IsWhole m)
     (b : ℕ) (loose : IsLoose m l b) where
@@ -80,13 +80,13 @@ name_keeps queue s out v a bytes (gone, here, h) own =
       ),
     )) (λ i up. up) (λ all again. refl)
 
--- The tail advances over slots that name blocks: these are posted, and complete packets handed out.
+-- The tail advances over slots that name blocks: these slots become posted, and complete packets are handed out.
 
--- This many named slots, or all if there are fewer.
+-- This many named slots, or all named slots if there are fewer.
 abbrev many : Receive → ℕ → ℕ
 many v blocks = length (take blocks v.named)
 
--- The tail advances over them, and this many packets are handed out.
+-- The tail advances over these slots, and this many packets are handed out.
 module _ (v : Receive) (blocks packets : ℕ) where
   abbrev w : Receive
   w = posts v blocks packets
@@ -116,7 +116,7 @@ module _ (v : Receive) (blocks packets : ℕ) where
               ∙ simp (append_assoc, map-append)) refl h.order.seen h.order.stage;
         }
 
--- How far a written word advances the tail, and which packets are thereby handed out.
+-- How far a written value advances the tail, and which packets are handed out when the tail advances.
 record IsMoved (v : Receive) (word : ℕ) (w : Receive) : Type 0 where
   pub blocks : ℕ
   pub packets : ℕ
@@ -159,13 +159,13 @@ module _ (m : Memory) (l : Layout) (here : List Piece) (ring : IsRing l) (h : Ha
       (grind (arith, get-remove_other)) in
       ((grind arith), (grind (arith, common_steps)))
 
--- The queue's side, by the posted slots.
+-- The queue's side, given the posted slots.
 set_up_on : (q : ReceiveQueue) (l : Layout) (here : List Piece) → l.next < l.size → length l.blocks < l.size
     → length here ≤ length l.blocks → 0 < length here → IsSetUp q l (length here)
     → IsSetUp q (consumed l) (length (drop 1 here))
 set_up_on q l here next room within some up = grind arith
 
--- The block of the next slot is taken: its piece is the oldest that was written and not consumed.
+-- The block of the next slot is taken: its piece is the oldest piece that was written and not consumed.
 
 -- The bytes of the packet are those at the start of the block.
 packet_bytes : (m : Memory) (b : ℕ) (bytes : List ℕ) (a : ℕ) (p : Piece) (len : ℕ) → map.get m b ≡ Some bytes

@@ -1,4 +1,5 @@
--- Each of the driver's moves keeps what it and the device agree on, and its replies are those of a healthy queue.
+-- Each of the driver's moves keeps the agreement between the driver and the device, and gets the reply of a healthy
+-- queue.
 use Rattle.ring_laws.specs.Prelude.{Block, Event, State, Tdt, WritesNoSetting, after_write, place, reply_to, ring_of}
 use Rattle.ring_laws.specs.Prelude.{Memory, named_written, step_of, transmit_queue_of}
 use Rattle.ring_laws.{proofs.Left.plain-write, proofs.Lent.taken_is, specs.Prelude.gives, specs.Prelude.write_at}
@@ -42,7 +43,7 @@ module _ (v : Sender) (g : ℕ) (l : IsLayout v.layout) (c : IsCounted v (g + 1)
   pub dropped : drop (g + 1) v.outstanding ≡ drop g (drop 1 v.outstanding)
   dropped = grind arith
 
-  -- Memory without its block.
+  -- Memory without the segment's block.
 
   module _ (m : Memory) (h : Shows m v (g + 1)) where
     abbrev pub without : Memory
@@ -56,7 +57,7 @@ module _ (v : Sender) (g : ℕ) (l : IsLayout v.layout) (c : IsCounted v (g + 1)
     pub shows-reaped : Shows without (reaped v) g
     shows-reaped = grind (arith, kept, after, get-remove_other, descriptor-later)
 
--- The driver's own moves keep what it and the device agree on.
+-- The driver's own moves keep the agreement between the driver and the device.
 
 pub end-last : (ss : List Segment) → first_end ss < length ss
     → (slice_index_or ss (first_end ss) no_segment).part.last ≡ true
@@ -75,7 +76,7 @@ module _ {s : State} {queue : ℕ} {sent : List (List ℕ)} {v : Sender} {f : �
       ≡ record (transmit_queue_of s.registers queue) { ring = record (ring_of s.registers Tx queue) { tail = slot } }
   side_moved = grind (arith, transmit-tail)
 
-  -- A move by its outcome, for an event that is given as an equal one and writes no setting.
+  -- A move, given the step's outcome, for an event that is given as an equal event and writes no setting.
 
   abbrev pub Moves : Move → Event Block → Type 0
   Moves m e = Does queue s sent v m e (step_of s e)
@@ -148,7 +149,7 @@ module _ {s : State} {queue : ℕ} {sent : List (List ℕ)} {v : Sender} {f : �
     pub look-fetched : end < f → is_sent descriptor ≡ true
     look-fetched before = grind (arith, small_of_lent, end-last, done-sent)
 
-    -- Those that are reported done were fetched.
+    -- The segments that are reported done were fetched.
     done_tells : (b : Bool) → is_sent descriptor ≡ b → (if b then end + 1 else 0) ≤ f
     done_tells b is = grind (arith, asking-waits)
 
@@ -162,7 +163,7 @@ module _ {s : State} {queue : ℕ} {sent : List (List ℕ)} {v : Sender} {f : �
   fetched_known : f ≤ length v.outstanding
   fetched_known = let c = h.counted in omega (arith, c.fetched_posted, c.posted_poked, c.poked_lent, c.lent_known)
 
-  -- A block is lent for the next of these segments, which begin with the lent ones.
+  -- A block is lent for the next of these segments, which begin with the segments whose blocks are lent.
   lent_agrees : (x : Segment) (b : Block) → MayLend v x b → (ss : List Segment) (ks : List Kept)
       → ((k : ℕ) → k < v.lent → slice_index_or ss k no_segment ≡ segment_at v k)
       → slice_index_or ss v.lent no_segment ≡ x → length ss < v.layout.size → v.lent < length ss
@@ -241,7 +242,7 @@ own_silent : (queue : ℕ) (s : State) (v : Sender) (m : Move) (e : Event Block)
     → sent_by queue s e ≡ []
 own_silent queue s v m e own ne = grind arith
 
--- The two still agree, with the frame that the event sends, if any.
+-- The device and the driver still agree, with the frame that the event sends, if any.
 pub moves_keep : MovesKeep
 moves_keep s queue sent v e Elsewhere j may = sparing_events_keep s queue sent v e j may
 moves_keep s queue sent v e m (f, h) may =

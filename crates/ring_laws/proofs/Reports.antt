@@ -16,9 +16,9 @@ use Rattle.std.specs.Prelude.{IsFalse, IsTrue, ⊤}
 use Rattle.device_lock.specs.NicDevice.declared.event.Event.TheVariants as event
 use Rattle.std.specs.FinMap as map
 
--- What a transmit step reports is inside the block where it begins, because rings are aligned.
+-- The bytes that a transmit step reports are inside the block in which they begin, because rings are aligned.
 
--- What is reported is where the queue reports.
+-- The reported address is the address where the queue reports.
 pub reported : (own : ℕ) (r : Reply Block) (s t : State) → sent_tells own r s t → (back : ℕ)
     → reported_address r ≡ Some back → back ≡ report_of s.registers own
 reported own r s t tells back is = grind arith
@@ -29,9 +29,9 @@ reports_lie s sound queue back reported =
     let aligned = rings_aligned s.registers sound.registers Tx queue in
     grind (arith, reported)
 
--- Blocks into which a receive step writes nothing, even if it writes no byte of a frame.
+-- Blocks into which a receive step writes nothing, even if the step writes no byte of a frame.
 
--- What a reply reports as received is outside a block.
+-- The bytes that a reply reports as received are outside a block.
 abbrev pub IsSparedBy : Reply Block → ℕ → Type 0
 IsSparedBy (Wrote on slot end desc at len) b = IsOutside desc at len b
 IsSparedBy other b = ⊤
@@ -55,7 +55,7 @@ spared_block s b =
 pub clear_avoids : (mine : Blocks) (at len b : ℕ) → IsClear mine at len → IsTrue (mine b) → 0 < len → Avoids b at len
 clear_avoids mine at len b clear is some = grind (arith, common_steps, clear at, clear (2048 * b))
 
--- What a step writes on another queue is outside them.
+-- The bytes that a step writes on another queue are outside these blocks.
 pub clear_outside : (mine : Blocks) (desc at len b : ℕ) → IsClear mine at len × IsClear mine desc 16 → IsTrue (mine b)
     → IsOutside desc at len b
 clear_outside mine desc at len b clear is =
@@ -68,7 +68,7 @@ spared_reply queue mine ws (Wrote on slot end desc at len) b is none outside =
     search (clear_outside mine, outside (grind (arith, common_steps, eq-eqb)))
 spared_reply queue mine ws other b is none outside = tt
 
--- A transmit step that reports in another block leaves this one unchanged.
+-- A transmit step that reports in another block leaves this block unchanged.
 pub reported_elsewhere : (s : State) → IsSound s → (on b : ℕ)
     → ((back : ℕ) → reported_address (reply_to s (event.TxStep on)) ≡ Some back → b ≢ back / 2048)
     → LeavesBlock b s (after s (event.TxStep on))

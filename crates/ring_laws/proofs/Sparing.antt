@@ -1,4 +1,5 @@
--- Steps of the driver's own queue, and events that spare the driver, keep what it and the device agree on.
+-- Steps of the driver's own queue, and events that spare the driver, keep the agreement between the driver and the
+-- device.
 use Rattle.{ring_laws.proofs.Deeds.added-none, ring_laws.proofs.Deeds.side_did}
 use Rattle.{device_laws.proofs.KeptSettings.settings_stand}
 use Rattle.{device_laws.proofs.Standing.stays_within, ring_laws.proofs.Left.named-same}
@@ -48,8 +49,9 @@ based-after s queue l e b made none =
       stays.limit ∙ b.limit,
     )
 
--- The effect of one of the driver's moves, by its outcome. If the event can be made, the two still agree, a side that
--- is up stays up, and the reply is a healthy queue's, if a block to lend isn't lent yet.
+-- The effect of one of the driver's moves, given the step's outcome. If the event can be made, the device and the
+-- driver still agree, and a side that is up stays up. The reply is a healthy queue's if a block to be lent isn't lent
+-- yet.
 pub record Does (queue : ℕ) (s : State) (sent : List (List ℕ)) (v : Sender) (m : Move) (e : Event Block) (o : Outcome) :
     Type 0 where
   pub agree : IsEvent e → Agrees o.state queue sent (moved v m o.reply)
@@ -110,9 +112,9 @@ module _ {s : State} {queue : ℕ} {sent : List (List ℕ)} {v : Sender} {f : �
       },
     )
 
--- An event that spares a driver keeps what it and the device agree on.
+-- An event that spares a driver keeps the agreement between the driver and the device.
 
--- The remaining segments are sent as before if the staged bytes are unchanged, and a side that was cut off still is.
+-- If the staged bytes are unchanged, the remaining segments are sent as before, and a side that was cut off still is.
 pub sends_on : (s t : State) (queue : ℕ) (sent : List (List ℕ)) (limit : ℕ) (left : List Segment) (ks : List Kept)
     → staged_by t queue ≡ staged_by s queue
     → (IsCutOff (transmit_queue_of s.registers queue) sent left ks
@@ -132,7 +134,8 @@ module _ {s : State} {queue : ℕ} {sent : List (List ℕ)} {v : Sender} {f : �
     abbrev Sends : State → Type 0
     Sends u = SendsInOrder u queue sent v.layout.limit left v.accepted
 
-    -- The two agree, with no further frame, if the side's ring is unchanged and no block of the driver's changes.
+    -- The device and the driver agree, with no further frame, if the side's ring is unchanged and none of the driver's
+    -- blocks changes.
     pub still-agrees : IsEvent e → WritesNoSetting s e
         → IsSetUp (transmit_queue_of t.registers queue) v.layout v.posted f → Sends t
         → ((number : ℕ) → IsTrue (has_lent v number) → LeavesBlock number s t) → Agrees t queue sent v
@@ -144,7 +147,7 @@ module _ {s : State} {queue : ℕ} {sent : List (List ℕ)} {v : Sender} {f : �
       ),
     )
 
-    -- A side that gets its requested state, and so is disabled during a packet, is cut off.
+    -- A side that gets its requested state, and is thereby disabled during a packet, is cut off.
 
     -- The staged bytes are unchanged.
     same_sends : staged_by t queue ≡ staged_by s queue
@@ -188,7 +191,7 @@ module _ {s : State} {queue : ℕ} {sent : List (List ℕ)} {v : Sender} {f : �
 pub sparing_events_keep : SparingEventsKeep
 sparing_events_keep s queue sent v e (f, h) x = by_deed h e x (spared_did h e x)
 
--- A transmit step of the driver's own queue spares it.
+-- A transmit step of the driver's own queue spares the driver.
 pub step_of_queue_keeps : StepsOfQueueKeep
 step_of_queue_keeps s queue sent v (f, h) =
     let own : (queue == queue) ≡ true = eq-eqb queue queue refl in

@@ -1,4 +1,5 @@
--- A side of a queue, whatever the device does to it, and when a driver requests that it be enabled or disabled.
+-- Properties of a queue's side that stay true whatever the device does to the side, or when a driver requests that it
+-- be enabled or disabled.
 use Rattle.device_laws.proofs.StandingAccesses.{read_rest, write_rest}
 use Rattle.ring_laws.specs.Prelude.{Port, Register, State, after, has_bit, named, place, reply_to, step_of}
 use Rattle.ring_laws.specs.Sides.{IsOff, IsTried, IsUnwanted, IsUp, LeavesSide, Side, as_wanted, shut, side_of}
@@ -10,7 +11,7 @@ use Rattle.std.proofs.Common.{Bool, List, [], arith, false, not, true, ℕ, ◌&
 use Rattle.std.{proofs.lemmas.Grind.common_steps, specs.Prelude.IsFalse, specs.Prelude.IsTrue}
 use Rattle.device_lock.specs.NicDevice.declared.event.Event.TheVariants as event
 
--- What stays true of a side whatever the device does to it.
+-- Properties of a side that stay true whatever the device does to the side.
 
 -- A property that stays true when the side's slot is taken, when the side is shut, and when it gets its requested
 -- state.
@@ -19,7 +20,7 @@ pub record IsSteady (P : Side → Type 0) : Type 0 where
   pub shuts : (x : Side) → IsTried x → P x → P (shut x)
   pub switches : (x : Side) → P x → P (as_wanted x)
 
--- A property of sides with no slot tried that stays true when the side gets its requested state.
+-- A property of sides whose slot isn't tried. It stays true when the side gets its requested state.
 pub record IsIdle (P : Side → Type 0) : Type 0 where
   pub idle : (x : Side) → P x → IsTried x → ⊥
   pub switches : (x : Side) → P x → P (as_wanted x)
@@ -52,7 +53,7 @@ module _ (dir : Dir) (queue : ℕ) (s : State) (e : Event Block) where
       → IsUp (side_of dir queue (after s e))
   up_kept up never did = grind arith
 
--- If no enable request is in effect for a side, this stays so, and a side that is also off stays off.
+-- If no enable request is in effect for a side, none is in effect later, and a side that is also off stays off.
 
 pub unwanted_steady : IsSteady IsUnwanted
 unwanted_steady = grind arith
@@ -68,7 +69,7 @@ off_steady = idle_steady IsOff off_idle
 abbrev pub IsSettled : Side → Type 0
 IsSettled x = IsTrue x.on ⊎ IsUnwanted x
 
--- A side that is still settled and wasn't enabled.
+-- A side that is still settled and didn't become enabled.
 pub record Settles (x y : Side) : Type 0 where
   pub settled : IsSettled y
   pub never : (not x.on && y.on) ≡ false
@@ -89,7 +90,7 @@ pub deed_settles : (dir : Dir) (queue : ℕ) (s : State) (e : Event Block) → D
 deed_settles dir queue s e did is = grind arith
 
 -- A value written to the enable register of a queue's side only requests that the side be enabled or disabled. A read
--- shows whether it is on.
+-- shows whether the side is on.
 
 -- A number at a port names the enable register of a side, with all its bits.
 abbrev pub NamesEnable : Dir → ℕ → State → Port → ℕ → Type 0

@@ -21,7 +21,7 @@ use Rattle.std.specs.FinMap as fin
 use Rattle.pmd_access.specs.NicDevice.declared.event.Reply.TheVariants as reply
 use Rattle.pmd_access.specs.NicDevice.declared.event.Event.TheVariants as event
 
--- Segments of whole packets, after what is staged, and the frames that they become.
+-- Segments of whole packets, after the staged bytes, and the frames that these segments become.
 
 length-parts : (whole : ℕ) (bs bytes : List ℕ) → length (paired bs (parts_in whole (length bs) bytes)) ≡ length bs
 length-parts whole [] bytes = refl
@@ -53,7 +53,7 @@ module _ (limit whole : ℕ) where
       (omega (arith, both, cut, ap length all)) (omega (arith, both, cut, ap length all)) in
       (grind (arith, common_steps))
 
--- Packets after packets, and their frames.
+-- Packets appended to other packets, and their frames.
 
 pub packets-append : (limit : ℕ) (staged : List ℕ) (xs ys : List Segment) → ArePackets limit staged xs
     → ArePackets limit [] ys → ArePackets limit staged (xs ++ ys)
@@ -83,7 +83,8 @@ frame_of_end staged (x ∷ ss) zero below end = rw end (omega arith)
 frame_of_end staged (x ∷ ss) (suc k) below end =
     grind (arith, frame_of_end (staged_with staged x) ss k (omega arith) end)
 
--- A block that is lent for a segment: the first of a packet, which is thereby accepted, or the next of a packet.
+-- A block that is lent for a segment. If the segment is a packet's first, this accepts the packet; otherwise, the
+-- segment is the packet's next.
 
 -- A segment's block, among segments that begin with the lent ones and continue with it.
 module _ (m : Memory) (v : Sender) (f : ℕ) (l : IsLayout v.layout) (c : IsCounted v f) (h : Shows m v f) (x : Segment)
@@ -97,7 +98,7 @@ module _ (m : Memory) (v : Sender) (f : ℕ) (l : IsLayout v.layout) (c : IsCoun
     abbrev pub lent : Memory
     lent = fin.insert m b.number b.bytes
 
-    -- The new segment's block isn't one of the driver's.
+    -- The new segment's block isn't one of the driver's blocks.
     new : (k : ℕ) → k < v.lent → (segment_at v k).block ≢ x.block
     new k below = unlike v x.block (segment_at v k).block may.away (has_lent-segment v k c.lent_known below)
 
@@ -123,7 +124,7 @@ module _ (m : Memory) (v : Sender) (f : ℕ) (l : IsLayout v.layout) (c : IsCoun
     pub lent_holds : length ss < v.layout.size → v.lent < length ss → IsCounted w f × Shows lent w f
     lent_holds room known = (grind (arith, new), grind (arith, stays, ready))
 
--- An accepted packet is placed after the others.
+-- An accepted packet is placed after the other packets.
 module _ (v : Sender) (p : Outgoing) (b : Block) (may : MayAccept v p b) where
   pub early-accepted : (k : ℕ) → k < v.lent → segment_at (accepted_by v p) k ≡ segment_at v k
   early-accepted k below = get_or_append_left v.outstanding (segments_of p) no_segment k (omega (arith, may.lent))
@@ -167,7 +168,7 @@ first_at v p lent = grind (arith, common_steps)
 -- What a move that lends a block adds.
 
 module _ (v : Sender) (n : ℕ) where
-  -- One more segment has its block lent: the next of these.
+  -- The block of one more segment is lent: the next of these segments.
   next_lent : (ss : List Segment) (ks : List Kept) (b : ℕ) → take v.lent ss ≡ take v.lent v.outstanding
       → v.lent < length ss → b ≡ (slice_index_or ss v.lent no_segment).block
       → has_lent (record v { outstanding = ss; lent = v.lent + 1; accepted = ks }) n ≡ (n == b || has_lent v n)
@@ -190,8 +191,8 @@ module _ (v : Sender) where
   follows Elsewhere e may ne r n = absurd (ne refl)
   follows m e may ne r n = grind arith
 
--- Every block that the driver has lent is one of these. This stays true through its moves, if a move lends at most one
--- of them.
+-- Every block that the driver has lent is one of these blocks. This stays true through the driver's moves if each block
+-- that a move lends is one of these.
 abbrev pub AreMine : Blocks → Sender → Type 0
 AreMine mine v = (number : ℕ) → IsTrue (has_lent v number) → IsTrue (mine number)
 
@@ -201,7 +202,7 @@ mine-moved mine v all Elsewhere e r may has = all
 mine-moved mine v all m e r may has =
     follows_in mine (has_lent v) all e (λ r. has_lent (moved v m r)) (follows v m e may (λ is. cc)) r has
 
--- Of some numbers, only known ones stay lent over the driver's own moves.
+-- Given some block numbers, each of these blocks that is lent stays known through the driver's own moves.
 
 module _ (own others : Blocks) (s : State) (v : Sender)
     (only : OnlyLent own (either (has_lent v) others) s.memory)

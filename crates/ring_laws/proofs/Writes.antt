@@ -28,7 +28,7 @@ resets : (r : RowId) (word : ℕ) → is_reset r ≡ true →
 resets row.Pvfctrl word h = refl
 resets other word h = absurd (true≢false (sym h))
 
--- PVFCTRL isn't one of the others.
+-- PVFCTRL is neither a setting nor a register of a ring.
 apart : (r : RowId) → is_reset r ≡ true → (is_setting r ≡ false) × (is_ring r ≡ false)
 apart row.Pvfctrl h = (refl, refl)
 apart other h = absurd (true≢false (sym h))

@@ -1,4 +1,4 @@
--- What a number at a port names, and the low bits of the words written to it.
+-- What a number at a port names, and the low bits of the values written to that register.
 use Rattle.device_lock.specs.Alone.{place_at}
 use Rattle.ring_laws.specs.Prelude.{Maxfrs, Named, Nothing, Place, Port, Rdt, Register, Registers, State, Tdt}
 use Rattle.ring_laws.specs.Prelude.{after_write, mode_in, named, place, receive_queue_of, row_of, transmit_queue_of}
@@ -13,7 +13,7 @@ use Rattle.std.proofs.lemmas.{Bool.and_parts, Bool.cases_Bool, Bool.eq-eqb, Grin
 use Rattle.std.proofs.{Common.◌^◌, Common.◌∙◌, Common.◌∷◌, Common.◌≡◌, Common.◌⊎◌, Math.Nat.mod-eq_of_lt}
 use Rattle.std.specs.{List.list_all, Prelude.bit_and, Prelude.bit_or, Prelude.⊤, Prelude.◌==◌}
 
--- Low bits that are written through a view that shows them.
+-- Low bits of a value that is written through a view that shows these bits.
 
 none_or : (x : ℕ) → bit_or 0 x ≡ x
 none_or x = grind arith
@@ -37,7 +37,7 @@ merged_high old new =
     simp (or_shr (bit_and old 0xFFFF) (bit_and new 0xFFFF0000) 16, and_shr old 0xFFFF 16, no_bits, none_or)
     (and_shr new 0xFFFF0000 16 ∙ and_mask (new / 2 ^ 16) 16)
 
--- An address shows the low 16 bits, or all.
+-- An address shows the low 16 bits, or all bits.
 abbrev pub ShowsLow : ℕ → Type 0
 ShowsLow view = (view ≡ 0xFFFF) ⊎ (view ≡ 0xFFFFFFFF)
 
@@ -45,7 +45,7 @@ pub shows_low : (rs : List Run) (a : ℕ) → ShowsLow (view_among rs a)
 shows_low [] a = inr refl
 shows_low (r ∷ rs) a = grind (arith, common_steps, shows_low rs a)
 
--- A word written to an address that shows the low bits has these bits.
+-- After a write to an address that shows the low bits, the register has the written value's low bits.
 pub low_shown : (view old new : ℕ) → ShowsLow view → merged (bit_and 0xFFFFFFFF view) old new % 2 ^ 16 ≡ new % 2 ^ 16
 low_shown view old new shows = grind (arith, common_steps, merged_low, merged_all)
 
@@ -67,7 +67,7 @@ pub place_named : (s : State) (port : Port) (number : ℕ)
     → place_at (mode_in s.registers) s.vfs port number ≡ place_in (named s port number)
 place_named s port number = grind (arith, common_steps)
 
--- A named register is in its row, and its low bits are shown; for MAXFRS, all are.
+-- A named register is in its row, and its low bits are shown; for MAXFRS, all bits are shown.
 
 pub record IsReal (p : Place) (view : ℕ) : Type 0 where
   pub inside : p.index < (row_of p.row).count
@@ -87,7 +87,7 @@ real_placed a (Some p) e =
 pub real : (s : State) (port : Port) (number : ℕ) → AreReal (named s port number)
 real s port number = grind (arith, common_steps, located_in_range, real_placed)
 
--- A 16-bit word written to a side's tail register is the tail, and the rest of the side stays unchanged.
+-- A 16-bit value written to a side's tail register becomes the tail, and everything else in the side is unchanged.
 
 module _ (r : Registers) (queue word : ℕ) (h : HasShape r) (b : queue < 128) (small : word < 65536) where
   pub receive-tail : receive_queue_of (after_write r (place Rdt queue) 0xFFFFFFFF word) queue

@@ -45,8 +45,8 @@ pub record IsLayout (l : Layout) : Type 0 where
   pub next : l.next < l.size
   pub limit : l.limit ≤ 10240
 
--- What an event that writes no setting preserves: the device is sound, the driver's number of its tail register names
--- the queue's TDT, and the device's frame limit is the driver's packet limit.
+-- What an event that writes no setting preserves. The device is sound. The driver's number for its tail register names
+-- the queue's TDT. The device's frame limit is the driver's packet limit.
 pub record IsBased (s : State) (queue : ℕ) (l : Layout) : Type 0 where
   pub sound : IsSound s
   pub small : queue < 128
@@ -64,8 +64,8 @@ pub record IsSetUp (side : TransmitQueue) (l : Layout) (posted fetched : ℕ) : 
   pub tail : side.ring.tail ≡ slot_at l posted
   pub writeback : side.writeback ≡ None
 
--- A segment can be sent: its block is lent, isn't one of the blocks of the ring of `size` slots that begins with block
--- `ring`, and begins with the segment's bytes.
+-- A segment can be sent: its block is lent, isn't one of the ring's blocks, and begins with the segment's bytes. The
+-- ring has `size` slots and begins with block `ring`.
 pub record IsReady (m : Memory) (ring size : ℕ) (s : Segment) : Type 0 where
   pub short : length s.part.bytes ≤ 2048
   pub whole : s.part.whole ≤ 10240

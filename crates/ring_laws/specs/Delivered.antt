@@ -29,8 +29,9 @@ abbrev pub packets_if_any : Option (List Piece) → List Kept
 packets_if_any None = []
 packets_if_any (Some ps) = packets_of ps
 
--- The packets that a history delivers on a queue, counted since the queue's receive side was last enabled: the bytes
--- written, in order, cut after each piece that ends a frame. Trailing pieces that don't end a frame are left out.
+-- The packets that a history delivers on a queue, counted since the queue's receive side was last enabled. The bytes
+-- written, in order, are cut into packets after each piece that ends a frame. Trailing pieces that don't end a frame
+-- are left out.
 abbrev pub delivered : ℕ → State → List Entry → List Kept
 delivered queue s h = packets_if_any (pieces_since queue s None h)
 

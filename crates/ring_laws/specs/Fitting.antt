@@ -18,7 +18,7 @@ partial_on queue [] = 0
 partial_on queue (w ∷ others) = if w.queue == queue then w.offset else 0
 
 -- The frames that wait for the queue fit, and longer frames aren't accepted. The packets of the written pieces fit too.
--- As many bytes of the oldest waiting frame were written as fill the pieces of the unfinished packet.
+-- The bytes written so far of a packet that hasn't ended fill all its pieces.
 pub record AreFitting (queue most : ℕ) (s : State) (out : List Piece) : Type 0 where
   pub limit : frame_limit s.registers ≤ 2048 * most
   pub waiting : All (FitsBlocks queue most) s.waiting

@@ -52,8 +52,8 @@ pool_has Pools32 v q = q / 4 == v
 pool_has Pools64 v q = q / 2 == v
 
 -- A write that reaches a register doesn't leave the queue alone in three cases. The register is CTRL, HLREG0, MAXFRS or
--- GCR_EXT; it belongs to the queue's own rings; or it is the PVFCTRL of the queue's pool and bit 26 of the value is 1.
--- Any other write leaves the queue alone.
+-- GCR_EXT. Or it belongs to the queue's own rings. Or it is the PVFCTRL of the queue's pool, and bit 26 of the value is
+-- 1. Any other write leaves the queue alone.
 pub record WriteLeaves (w : Watched) (mode : Mode) (write : Event Block) (p : Place) (word : ℕ) : Type 0 where
   pub setting : is_setting p.row ≡ true → LeavesRegisters w mode write → ⊥
   pub own_ring : is_ring p.row ≡ true → p.index ≡ w.queue → LeavesRegisters w mode write → ⊥
@@ -95,8 +95,8 @@ pub record BlocksLeave (w : Watched) (mode : Mode) (mine : Blocks) : Type 0 wher
       LeavesBlocks mine (event.Poke16 address bytes) ↔ (mine (address / 2048) ≡ false)
   pub write : (port : Port) (number word : ℕ) → LeavesBlocks mine (event.Write port number word)
 
--- Whatever a step of another queue wrote, as its reply reports, is in none of the driver's blocks: the piece of a
--- frame, the 16 bytes of its descriptor, and the reported head.
+-- Whatever a step of another queue wrote, as its reply reports, is in none of the driver's blocks. This applies to the
+-- piece of a frame, the 16 bytes of its descriptor, and the reported head.
 pub record StepsLeave (queue : ℕ) (mine : Blocks) : Type 0 where
   pub piece : (q slot desc at len : ℕ) (end : Bool) → q ≢ queue →
       WritesOutside queue mine (Wrote q slot end desc at len)

@@ -52,8 +52,8 @@ pub fn only_known_blocks_are_lent()
 {}
 
 /// An event that leaves a queue and some blocks alone does one of four things to each side of the queue. It takes the
-/// slot at the head of the side's ring: a receive slot gets a piece of the oldest frame in the receive list, and a
-/// transmit slot is fetched. It shuts the side because of a fault. It enables or disables the side as requested. Or it
+/// slot at the head of the side's ring: it fills a receive slot with a piece of the receive list's oldest frame, or
+/// fetches a transmit slot. It shuts the side because of a fault. It enables or disables the side as requested. Or it
 /// does nothing to the side. If the event takes no slot of a side, nothing is received or sent on that side. If it
 /// takes no slot of either side, it leaves each of the blocks unchanged. The frame limit, and how the queues are
 /// separated, are unchanged. For a sound device, a weaker premise is enough. If the event leaves one side unchanged or

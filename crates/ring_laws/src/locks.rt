@@ -8,10 +8,10 @@ ghost use Rattle.ring_laws.specs.Begun.{DriversBegin, PoolsAreFollowed, PoolsSta
 ghost use Rattle.ring_laws.specs.Ending.{ClosingHasAnOrder, ClosingIsCompared, PositionsAreExact};
 ghost use Rattle.ring_laws.specs.Leaving.{AddressesLeaveQueues, BlocksAreOfTheirPass, HistoriesLeaveQueues, NothingElseCounts, OthersLeaveQueues, SparingIsEnough, WritesLeaveQueues};
 
-/// A write by another pass leaves a driver's queue alone, with these exceptions: a write to CTRL, HLREG0, MAXFRS or
-/// GCR_EXT, whatever the value; a write to a register of the queue's own rings; and a write to PVFCTRL[v] that sets bit
-/// 26, if pool v contains the queue. Writes to all other registers, for example FCTRL, at 0x05080, leave the queue
-/// alone.
+/// A write by another pass leaves a driver's queue alone, with three exceptions. The first is a write to CTRL, HLREG0,
+/// MAXFRS or GCR_EXT, whatever the value. The second is a write to a register of the queue's own rings. The third is a
+/// write to PVFCTRL[v] that sets bit 26, if pool v contains the queue. Writes to all other registers, for example
+/// FCTRL, at 0x05080, leave the queue alone.
 #[tactic(auto, using(crate::proofs::Writes::writes_leave))]
 pub fn writes_leave_queues_alone()
     ensures register { WritesLeaveQueues }

@@ -15,9 +15,9 @@ ghost use Rattle.ring_laws.specs.Starting.{StartAgrees};
 ghost use Rattle.ring_laws.specs.Steps.{LookTellsSlot, ReceiveStepKeeps, EnableStepKeeps, LeavingKeeps, SwitchingKeeps, OwnEventKeeps, EntryKeeps};
 ghost use Rattle.ring_laws.specs.ReceiveUp.{LeavingStaysUp, EnableStepChangesNothing, ReceiveStepStaysUp, OwnEventStaysUp, EntryStaysUp};
 
-/// If the device and the driver agree, a read of a slot that has a block and is before the tail finds the descriptor
-/// done exactly if the slot is filled. The descriptor then reports the slot's piece: the piece's length, whether the
-/// piece ends the packet, and the descriptor's first half.
+/// Suppose that the device and the driver agree. Then a read of a slot that has a block and is before the tail finds
+/// the descriptor done exactly if the slot is filled. The descriptor then reports the slot's piece: the piece's length,
+/// whether the piece ends the packet, and the descriptor's first half.
 pub fn look_tells_the_slot()
     ensures { LookTellsSlot }
 {}

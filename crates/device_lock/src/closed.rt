@@ -164,7 +164,8 @@ impl<const VFS: u8, const FIFO: u16> Shared<VFS, FIFO> {
             ↔ IsMissing self.entry.bench self.entry.passes passes.items tag }
         ensures foreign { IsErrAnd result (λ refused. refused.fault ≡ CloseFault.ForeignPass)
             ↔ IsSurplus self.entry.bench self.entry.passes passes.items }
-        // In some legal history, this tag is the lowest whose entries aren't the calls of its pass.
+        // In some legal history, this is the lowest tag for which the entries aren't the calls of its pass, or which
+        // has entries but no pass.
         ensures mismatch { (tag : ℕ) → IsErrAnd result (λ refused. refused.fault ≡ CloseFault.Mismatch tag)
             → AreAll self.entry.bench self.entry.passes passes.items × Differs VFS FIFO passes.items tag }
         // Closing never fails for lack of memory.

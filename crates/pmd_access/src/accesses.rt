@@ -114,7 +114,8 @@ pub fn peek<N: Nic>(
     }
 }
 
-/// Writes 16 bytes at a bus address. Returns false if the bytes aren't lent or the address isn't a multiple of 16.
+/// Writes 16 bytes at a bus address. Returns true, or false if the bytes aren't lent or the address isn't a multiple of
+/// 16.
 pub fn poke<N: Nic>(
     alloc: Global,
     nic: &mut N,

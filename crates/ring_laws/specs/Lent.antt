@@ -4,7 +4,7 @@ use Rattle.ring_laws.specs.Prelude.{Block, Blocks, Done, Event, Memory, Reply, S
 use Rattle.device_lock.specs.NicDevice.declared.event.Reply.TheVariants.{Buf}
 use Rattle.device_lock.specs.NicDevice.declared.event.Event.TheVariants as event
 
--- Each block with one of these numbers, for example an arena's, that is lent is known to its driver to be lent.
+-- Whenever a block with one of these numbers, for example an arena's, is lent, its driver knows that it is lent.
 abbrev pub OnlyLent : Blocks → Blocks → Memory → Type 0
 OnlyLent own known m = (number : ℕ) → IsTrue (own number) → IsTrue (has_block m number) → IsTrue (known number)
 

@@ -41,10 +41,10 @@ pub fn reports_lie_in_their_blocks()
     ensures { ReportsLieInBlocks }
 {}
 
-/// Given some block numbers, suppose that the driver knows each of these blocks that is lent to be lent. This stays
-/// true through three kinds of events. The first lends none of these blocks. The second lends a block, which the driver
-/// then knows to be lent. The third takes a block back, which the driver then no longer counts as lent. If the driver
-/// doesn't know one of these blocks to be lent, lending that block succeeds.
+/// Given some block numbers, suppose that whenever one of these blocks is lent, the driver knows that it is lent. This
+/// stays true through three kinds of events. The first lends none of these blocks. The second lends a block, which the
+/// driver then knows to be lent. The third takes a block back, which the driver then no longer counts as lent. If the
+/// driver doesn't know one of these blocks to be lent, lending that block succeeds.
 #[tactic(auto, using(crate::proofs::Lent::only_lent_stays, crate::proofs::Lent::again_is_done))]
 pub fn only_known_blocks_are_lent()
     ensures stays { OnlyLentStays }

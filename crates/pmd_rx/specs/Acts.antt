@@ -1,4 +1,4 @@
--- The effect of one driver call, in one record: the calls made, and the ring and arena before and after.
+-- The effect of one driver function as one record: the calls that it made, and the ring and the arena before and after.
 use Rattle.std.specs.Prelude.{◌≡◌, ◌≢◌, ◌≤◌, List, [], length, Option, Some, IfSome}
 use Rattle.pmd_access.specs.NicDevice.DmaArena.Numbers.{Numbers}
 use Rattle.pmd_access.specs.DeviceLock.declared.entry.Call.{Call}
@@ -9,14 +9,15 @@ use Rattle.pmd_rx.specs.Plays.{PlaysFrom}
 use Rattle.pmd_rx.specs.Receive.{Receive}
 use Rattle.pmd_rx.specs.Wrong.{FailsBy}
 
--- Calls were made, some of them the driver's own. They lead from ring `v` to ring `w`, with arenas `a` and `b`. A fault
--- follows from the last of them or from the refused one.
+-- Calls were made, some of them the driver's own. They take the driver from ring `v` and arena `a` to ring `w` and
+-- arena `b`. A fault follows from the last of these calls or from the refused call.
 pub record Acts (f : Option PmdFault) (old : List Call) (a : Numbers) (v : Receive) (new : List Call) (b : Numbers)
     (w : Receive) : Type 0 where
   pub plays : PlaysFrom a old v new w
   pub fails : IfSome f (λ f. FailsBy f old a v new b w)
 
--- No packet was handed out: no block is lost, the records are unchanged, and at least as many packets are complete.
+-- No packet was handed out: no block is lost, the records are unchanged, and at least as many packets are complete as
+-- before.
 pub record Gathers (f : Option PmdFault) (old : List Call) (a : Numbers) (v : Receive) (new : List Call) (b : Numbers)
     (w : Receive) : Type 0 where
   pub acts : Acts f old a v new b w

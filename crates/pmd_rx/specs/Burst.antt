@@ -6,7 +6,7 @@ use Rattle.pmd_access.specs.declared.packet.Packet.{Packet}
 use Rattle.pmd_rx.specs.Keeping.{Keeps, numbers_of_all}
 use Rattle.pmd_rx.specs.Receive.{Receive, records_of}
 
--- A packet occupies at least one Buf.
+-- The packet occupies at least one `Buf`.
 abbrev pub HasPart : Packet → Type 0
 HasPart p = 0 < length p.bufs
 

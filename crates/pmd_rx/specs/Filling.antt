@@ -1,4 +1,4 @@
--- Filling a receive ring: free blocks of an arena are posted one after the other.
+-- Filling a receive ring: free blocks from an arena are posted one after the other.
 use Rattle.std.specs.Prelude.{ℕ, ◌≡◌, ◌+◌, ◌<◌, List, ◌++◌, length}
 use Rattle.pmd_access.specs.NicDevice.DmaArena.Numbers.{Numbers, free_count}
 use Rattle.pmd_access.specs.DeviceLock.declared.entry.Call.{Call}
@@ -9,7 +9,7 @@ use Rattle.pmd_rx.specs.Plays.{Plays, PlaysFrom, AllLendFree}
 use Rattle.pmd_rx.specs.Receive.{Receive}
 use Rattle.pmd_rx.specs.Wrong.{FailsBy}
 
--- This many free blocks of the arena were posted, and nothing else changed.
+-- `count` free blocks from the arena were posted, and nothing else changed.
 pub record PostsSome (count : ℕ) (a : Numbers) (v : Receive) (b : Numbers) (w : Receive) : Type 0 where
   pub blocks : List ℕ
   pub drawn : IsDrawn a blocks b
@@ -20,8 +20,8 @@ pub record PostsSome (count : ℕ) (a : Numbers) (v : Receive) (b : Numbers) (w 
 abbrev pub Fills : Numbers → Receive → Numbers → Receive → Type 0
 Fills a v b w = (count : ℕ) × (count + 1 ≡ v.layout.size) × PostsSome count a v b w
 
--- Fewer blocks were posted, and this fault prevented the next one from being posted. Every call made is the driver's or
--- a device step.
+-- Fewer blocks were posted than filling requires, because fault `f` prevented the next block from being posted. Every
+-- call made is the driver's own or a device step.
 pub record StopsFilling (f : PmdFault) (old : List Call) (a : Numbers) (v : Receive) (new : List Call) (b : Numbers)
     (w : Receive) : Type 0 where
   pub count : ℕ

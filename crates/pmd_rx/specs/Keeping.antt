@@ -18,30 +18,30 @@ fresh_block Takes = []
 fresh_block Owes = []
 fresh_block (Lent b) = b ∷ []
 
--- The blocks of a packet, if there is one.
+-- The packet's blocks, or none if there is no packet.
 abbrev pub numbers_in : Option Packet → List ℕ
 numbers_in None = []
 numbers_in (Some p) = numbers_of p.bufs
 
--- The blocks of these packets.
+-- The blocks of all these packets.
 abbrev pub numbers_of_all : List Packet → List ℕ
 numbers_of_all [] = []
 numbers_of_all (p ∷ ps) = numbers_of p.bufs ++ numbers_of_all ps
 
--- The blocks that the driver has lent: those in the ring's slots or named after its tail, a fresh one, and those that
--- the ring occupies.
+-- The blocks that the driver has lent: the blocks in the ring's slots or named after its tail, a fresh block if there
+-- is one, and the blocks that the ring occupies.
 abbrev pub lent_at : Layout → Stage → List ℕ
 lent_at l s = l.blocks ++ (fresh_block s ++ ring_blocks l.ring l.size)
 
 abbrev pub lent_of : Receive → List ℕ
 lent_of v = lent_at (reach v) v.stage
 
--- Whether the driver has lent this block: it is one that the ring occupies, one in its slots or named after its tail,
--- or a fresh one.
+-- Whether the driver has lent this block: the ring occupies the block, the block is in a slot or named after the tail,
+-- or it is the fresh block.
 abbrev pub has_lent : Receive → ℕ → Bool
 has_lent v number = list_any (λ b. number == b) (lent_of v)
 
--- The blocks of the packets in the driver: the complete ones, and the one with some parts taken.
+-- The blocks of the packets that the driver keeps: the complete packets, and the packet with some parts taken.
 abbrev pub blocks_held : Receive → List ℕ
 blocks_held v = numbers_of_all v.whole ++ numbers_of v.held.bufs
 
@@ -54,7 +54,7 @@ abbrev pub handed_blocks : Result (Option Packet) PmdFault → List ℕ
 handed_blocks (Ok o) = numbers_in o
 handed_blocks (Err fault) = []
 
--- The number of vacant slots in addition to the one that is always vacant.
+-- The number of vacant slots, not counting the one that is always vacant.
 abbrev pub vacated : Stage → ℕ
 vacated Looks = 0
 vacated Takes = 0
@@ -69,8 +69,8 @@ IsDuring v Takes = 0 < length v.seen
 IsDuring v Owes = 0 < length v.held.bufs
 IsDuring v (Lent b) = 0 < length v.held.bufs
 
--- The driver has started. All slots except one have a block, or all except two if one must be refilled. The number of
--- blocks that are named but not posted, including a block still owed, equals the number of blocks of the held and
+-- The driver has started. All slots except one contain a block, or all except two if a slot must be refilled. The
+-- number of blocks that are named but not posted, plus a block still owed, equals the number of blocks in the held and
 -- complete packets.
 pub record IsRunning (v : Receive) : Type 0 where
   pub part : 0 < v.layout.most
@@ -87,14 +87,14 @@ pub record IsSameRing (l m : Layout) : Type 0 where
   pub size : m.size ≡ l.size
   pub most : m.most ≡ l.most
 
--- With the blocks that the call hands out, the blocks that are out are those that were out before, together with some
--- that were free in the arena. The ring is the same, and a started driver stays started.
+-- No block is lost. The blocks handed out and the blocks outside the arena afterwards are the blocks that were outside
+-- before, plus some that were free in the arena. The ring is the same, and a started driver stays started.
 pub record Keeps (a : Numbers) (v : Receive) (b : Numbers) (w : Receive) (out : List ℕ) : Type 0 where
   pub arena : Exchanges a (blocks_out v) b (out ++ blocks_out w)
   pub ring : IsSameRing v.layout w.layout
   pub running : IsRunning v → IsRunning w
 
--- A free block of the arena was posted, and nothing else changed.
+-- A free block from the arena was posted, and nothing else changed.
 abbrev pub Posts : Numbers → Receive → Numbers → Receive → Type 0
 Posts a v b w =
     (block : ℕ) × (is_free a block ≡ true) × (b ≡ with_free a block false)

@@ -12,17 +12,18 @@ use Rattle.pmd_access.specs.Made.{Adds, StepsWhere}
 use Rattle.pmd_rx.specs.Receive.{Receive, IsOwn, drive, descriptor_at, no_packet}
 use Rattle.pmd_rx.specs.declared.ring.Stage.TheVariants.{Looks}
 
--- The driver after one call, if the call is its own.
+-- The driver's state after one call; only the driver's own call changes it.
 abbrev pub after_call : Receive → Bool → Call → Receive
 after_call v mark n = if mark then drive v n.event n.reply else v
 
--- The driver after its own calls among these: all that its code knows.
+-- The driver's state after its own calls among these calls. The driver's code knows nothing more.
 abbrev pub played_by : Receive → List Bool → List Call → Receive
 played_by v [] calls = v
 played_by v (m ∷ marks) [] = v
 played_by v (m ∷ marks) (n ∷ calls) = played_by (after_call v m n) marks calls
 
--- Each marked call is one that the driver may make in that state.
+-- `OwnCall`: if the call is marked, the driver may make it in this state. `AllOwn`: this holds for each call in its
+-- turn.
 abbrev pub OwnCall : Bool → Receive → Call → Type 0
 OwnCall true v n = IsOwn v n.event
 OwnCall false v n = ⊤
@@ -37,8 +38,8 @@ AllOwn v (m ∷ marks) (n ∷ calls) = OwnCall m v n × AllOwn (after_call v m n
 abbrev pub OthersStep : List Bool → List Call → Type 0
 OthersStep marks calls = StepsWhere not marks calls
 
--- Some calls were made. The marked ones are the driver's and lead it from one state to the other; the rest are device
--- steps.
+-- Some calls were made. The marked calls are the driver's own and take it from state `v` to state `w`; the unmarked
+-- calls are device steps.
 abbrev pub Plays : List Call → Receive → List Call → Receive → Type 0
 Plays old v new w =
     (marks : List Bool) × (since : List Call) × (new ≡ old ++ since) × AllOwn v marks since
@@ -49,20 +50,20 @@ abbrev pub LendsFree : Numbers → Bool → Event Block → Type 0
 LendsFree a true (event.Lend b) = is_free a b.number ≡ true
 LendsFree a mark e = ⊤
 
--- This holds for each call.
+-- Each marked call that lends a block lends one that is free in this arena.
 abbrev pub AllLendFree : Numbers → List Bool → List Call → Type 0
 AllLendFree a [] calls = ⊤
 AllLendFree a (m ∷ marks) [] = ⊤
 AllLendFree a (m ∷ marks) (n ∷ calls) = LendsFree a m n.event × AllLendFree a marks calls
 
--- The calls made are the driver's own, which lead it from its old state to the new one, and device steps. Each block
+-- The calls made are device steps and the driver's own calls, which take it from state `v` to state `w`. Each block
 -- that the driver lent was free in the arena.
 pub record PlaysFrom (a : Numbers) (old : List Call) (v : Receive) (new : List Call) (w : Receive) : Type 0 where
   pub plays : Plays old v new w
   pub free : AllLendFree a plays.0 plays.1
 
--- The driver looked at the slots of a packet, starting at the next slot; the slot after those it has seen isn't done.
--- It holds no packet and no named block, and nothing else changed.
+-- The driver looked at a packet's slots, starting at the next slot, and the slot after those it has seen isn't done. It
+-- holds no packet and no named block, and only what it has seen changed.
 pub record LooksInVain (old : List Call) (v : Receive) (new : List Call) (w : Receive) : Type 0 where
   pub mid : List Call
   pub looks : Plays old v mid w

@@ -1,4 +1,4 @@
--- What a driver knows about its receive ring, and how this follows from its own calls.
+-- What a driver knows about its receive ring, and how this knowledge follows from the driver's own calls.
 use Rattle.std.specs.Prelude.{ℕ, ◌≡◌, ◌≢◌, ◌+◌, ◌*◌, ◌<◌, ◌==◌, ◌&&◌, Bool, false, nat_le, nat_lt, List, [], ◌∷◌, ◌++◌, ◌⊎◌, ◌≤◌, length, take, drop, map, slice_index, if◌then◌else◌, ⊤}
 use Rattle.pmd_access.specs.NicDevice.DmaArena.Block.{Block}
 use Rattle.pmd_access.specs.NicDevice.DmaRing.Descriptor.{second_half, first_half, of_halves}
@@ -18,7 +18,7 @@ use Rattle.pmd_rx.specs.declared.ring.Stage.TheVariants.{Looks, Takes, Owes, Len
 use Rattle.pmd_rx.specs.declared.ring.Reported.{Reported}
 
 -- The ring: its port, the number of the tail register at that port, its first block, its number of slots, the maximum
--- number of slots that a packet takes, the slot to look at next, and the blocks of the slots from there to the tail.
+-- number of slots that a packet takes, the next slot, and the blocks in the slots from there to the tail.
 pub record Layout : Type 0 where
   pub port : Port
   pub tail : ℕ
@@ -28,9 +28,10 @@ pub record Layout : Type 0 where
   pub next : ℕ
   pub blocks : List ℕ
 
--- The ring; the packets handed out; what the descriptors reported, starting at the next slot; the packet with some
--- parts taken; the complete packets; the blocks named after the tail; and the stage. The named blocks replace those of
--- the complete packets. When the tail advances, named blocks are posted and complete packets handed out.
+-- The driver's state: the ring, the packets handed out, and what the descriptors reported, starting at the next slot.
+-- Then follow the packet with some parts taken, the complete packets, the blocks named after the tail, and the stage.
+-- The named blocks replace the blocks of the complete packets. When the tail advances, named blocks are posted and
+-- complete packets are handed out.
 pub record Receive : Type 0 where
   pub layout : Layout
   pub handed : List Kept
@@ -40,7 +41,7 @@ pub record Receive : Type 0 where
   pub named : List ℕ
   pub stage : Stage
 
--- The slot `k` places past the next one, the address of its descriptor, and its block.
+-- The slot `k` positions past the next slot, the address of its descriptor, and its block.
 abbrev pub slot_at : Layout → ℕ → ℕ
 slot_at l k = wrapped l.size (l.next + k)
 
@@ -54,8 +55,8 @@ block_at l k = slice_index l.blocks k
 abbrev pub vacant : Layout → ℕ
 vacant l = length l.blocks
 
--- The ring with these blocks after the tail; and the ring as far as its slots have a block, with the named ones
--- included.
+-- `extended`: the ring with these blocks added after the tail. `reach`: the ring with all blocks in its slots,
+-- including the named ones.
 abbrev pub extended : Layout → List ℕ → Layout
 extended l bs = record l { blocks = l.blocks ++ bs }
 
@@ -66,7 +67,7 @@ reach v = extended v.layout v.named
 abbrev pub no_packet : Packet
 no_packet = record { bufs = []; len = 0; rss = 0; hash = 0 }
 
--- A packet with another part, in this block. The last part's descriptor reports the RSS type and hash.
+-- The packet with another part added, which is in this block. The last part's descriptor reports the RSS type and hash.
 abbrev pub joined : Packet → Block → Reported → Packet
 joined p b t = record {
   bufs = p.bufs ++ b ∷ [];
@@ -79,8 +80,8 @@ joined p b t = record {
 abbrev pub reported_by : List ℕ → Reported
 reported_by d = record { first = first_half d; second = second_half d }
 
--- Whether a done descriptor reports a valid part of a packet after `before` others. It isn't longer than a block. If it
--- doesn't end the packet, it fills its block, and the packet may have further parts.
+-- Whether a done descriptor reports a valid part of a packet, after `before` earlier parts. A valid part isn't longer
+-- than a block. If the part doesn't end the packet, it fills its block, and the packet may have further parts.
 abbrev pub is_part : ℕ → ℕ → ℕ → Bool
 is_part most before second =
     if ends_packet second then nat_le (bytes_in second) 2048
@@ -97,10 +98,10 @@ fresh_of (Lent b) = b
 abbrev pub naming : ℕ → List ℕ
 naming block = of_halves (posted (2048 * block)) 0
 
--- The driver after each of its calls.
+-- The driver's state after each of its calls.
 
--- A look. If the slot contains a part, the driver has seen it; if the packet ends there, the driver takes its blocks
--- next.
+-- After a look: if the slot contains a part, the driver has seen this part. If the packet ends with this part, the
+-- driver takes the packet's blocks next.
 abbrev pub saw : Receive → List ℕ → Receive
 saw v d = record v {
   seen = v.seen ++ reported_by d ∷ [];
@@ -111,7 +112,7 @@ abbrev pub looked : Receive → List ℕ → Receive
 looked v d =
     if is_done (second_half d) && is_part v.layout.most (length v.seen) (second_half d) then saw v d else v
 
--- The slot is consumed, and its part joins the packet being held.
+-- The next slot is consumed, and its part joins the packet being held.
 abbrev pub consumed : Layout → Layout
 consumed l = record l { next = next_of l.size l.next; blocks = drop 1 l.blocks }
 
@@ -127,7 +128,7 @@ took v (t ∷ seen) b = record v {
 abbrev pub lent_one : Receive → ℕ → Receive
 lent_one v b = record v { stage = Lent b }
 
--- The packet being held, if none of its parts is left to take; the list is empty if no packet is held.
+-- The packet being held, if none of its parts remains to be taken. The list is empty if no packet is held.
 abbrev pub if_any : List Block → Packet → List Packet
 if_any [] p = []
 if_any (b ∷ bs) p = p ∷ []
@@ -136,7 +137,7 @@ abbrev pub ended_of : List Reported → Packet → List Packet
 ended_of [] p = if_any p.bufs p
 ended_of (t ∷ seen) p = []
 
--- The packet still being held afterwards.
+-- The packet that is still held after a block is named, and the stage then.
 abbrev pub left_of : List Reported → Packet → Packet
 left_of [] p = no_packet
 left_of (t ∷ seen) p = p
@@ -145,7 +146,8 @@ abbrev pub next_stage : List Reported → Stage
 next_stage [] = Looks
 next_stage (t ∷ seen) = Takes
 
--- The first vacant slot names the lent block. After its last part a packet is complete.
+-- The first vacant slot's descriptor names the lent block. If this block replaces a packet's last part, the packet is
+-- complete.
 abbrev pub names : Receive → Receive
 names v = record v {
   named = v.named ++ fresh_of v.stage ∷ [];
@@ -183,7 +185,7 @@ posts_one v = posts v (parts_first v.whole) 1
 abbrev pub posts_all : Receive → Receive
 posts_all v = posts v (length v.named) (length v.whole)
 
--- The value written to the tail decides which of the two it is.
+-- The value written to the tail decides whether `posts_one` or `posts_all` applies.
 abbrev pub moved : Receive → ℕ → Receive
 moved v word = if word == tail_after v.layout (parts_first v.whole) then posts_one v else posts_all v
 
@@ -247,7 +249,7 @@ pub record MovesOne (v : Receive) (word : ℕ) : Type 0 where
   pub few : parts_first v.whole ≤ length v.named
   pub word_is : word ≡ tail_after v.layout (parts_first v.whole)
 
--- The driver advances the tail over these blocks or over all named blocks.
+-- The driver advances the tail over the blocks that replace the oldest complete packet, or over all named blocks.
 pub record MovesNext (v : Receive) (port : Port) (number word : ℕ) : Type 0 where
   pub some : 0 < length v.named
   pub port_is : port ≡ v.layout.port
@@ -262,7 +264,7 @@ IsOwn v (event.Poke16 a bytes) = NamesNext v a bytes
 IsOwn v (event.Write port number word) = MovesNext v port number word
 IsOwn v e = ⊥
 
--- A driver when its queue is enabled: no slot is posted.
+-- The driver's state when its queue is enabled: no slot is posted.
 abbrev pub at_start : Port → ℕ → ℕ → ℕ → ℕ → Receive
 at_start port tail ring size most = record {
   layout = record { port = port; tail = tail; ring = ring; size = size; most = most; next = 0; blocks = [] };

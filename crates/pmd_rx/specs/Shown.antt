@@ -1,4 +1,4 @@
--- The driver's receive ring as its code keeps it.
+-- The receive ring as the driver's code keeps it.
 use Rattle.std.specs.Prelude.{ℕ, ◌≡◌, ◌+◌, ◌*◌, ◌<◌, ◌≤◌, List, Bool, true, false, IsFalse, Option, IfSome, length, drop, All, ⊤, [], ◌∷◌, ◌++◌}
 use Rattle.pmd_access.specs.NicDevice.DmaArena.Numbers.{Numbers, free_count}
 use Rattle.pmd_access.specs.NicDevice.DmaRing.Descriptor.{second_half}
@@ -35,7 +35,7 @@ pub record IsLaidOut (l : Layout) : Type 0 where
   pub room : length l.blocks < l.size
 
 -- In stage `Looks`, the driver holds no packet and has seen fewer slots than a packet may take. In `Takes`, it has seen
--- a part to take. In `Lent`, there is a slot for the block and one more stays vacant.
+-- a part to take. In `Lent`, the ring has a slot for the block, and one more slot stays vacant.
 abbrev pub StandsAt : Stage → Layout → List Reported → Packet → Type 0
 StandsAt Looks l seen held = (held ≡ no_packet) × (length seen < l.most)
 StandsAt Takes l seen held = 0 < length seen
@@ -46,9 +46,9 @@ StandsAt (Lent b) l seen held = (length l.blocks + 1 < l.size) × (b < 65536)
 abbrev pub FitsBlock : Reported → Type 0
 FitsBlock t = bytes_in t.second ≤ 2048
 
--- The parts held and seen are no more than a packet may have. The seen parts are in posted slots, which are the first
--- of those that have a block. Every complete packet has a part. A block is named after the posted ones for each part of
--- a complete packet, and for each held part, except one that is still owed.
+-- The parts held and seen are together at most as many as a packet may have. The seen parts are in posted slots, which
+-- come first among the slots that contain a block. Every complete packet has a part. After the posted blocks, a block
+-- is named for each part of a complete packet and for each held part, except one block that may still be owed.
 pub record IsInStep (l : Layout) (posted : ℕ) (seen : List Reported) (held : Packet) (whole : List Packet) (s : Stage)
     : Type 0 where
   pub stage : StandsAt s l seen held
@@ -60,17 +60,16 @@ pub record IsInStep (l : Layout) (posted : ℕ) (seen : List Reported) (held : P
   pub replaced : posted + length (numbers_of_all whole) ≤ length l.blocks
   pub taken : posted + (length (numbers_of_all whole) + length held.bufs) ≤ length l.blocks + vacated s
 
--- The first `handed` records belong to packets handed out; the rest belong to the complete packets.
+-- The first `handed` records belong to packets handed out; the remaining records belong to the complete packets.
 pub record AreRecords (handed : ℕ) (records : List Kept) (whole : List Packet) : Type 0 where
   pub few : handed ≤ length records
   pub after : drop handed records ≡ records_of whole
 
--- The ring as far as its slots have a block, the number of posted slots, and the rest of the driver's state are
--- consistent.
+-- The ring with all blocks in its slots, the number of posted slots, and the other fields of the driver are consistent.
 abbrev pub IsSteady : Layout → ℕ → List Reported → Packet → List Packet → Stage → Type 0
 IsSteady l posted seen held whole s = IsLaidOut l × IsInStep l posted seen held whole s
 
--- The first vacant slot was written to name the lent block, or the ring is no longer lent.
+-- The first vacant slot's descriptor was written and names the lent block, or (`known` is false) the ring isn't lent.
 abbrev pub IsNamed : List Call → List Call → Receive → Bool → Type 0
 IsNamed old new v known = IsPoked old new (descriptor_at v.layout (vacant (reach v))) (naming (fresh_of v.stage)) known
 
@@ -83,11 +82,11 @@ IsUnnamed fault.ForeignBlock old new v = ⊥
 IsUnnamed fault.StartTimeout old new v = ⊥
 IsUnnamed fault.NoBuffer old new v = ⊥
 
--- The receive ring's tail advanced by `more` slots, or the port has no such register.
+-- The receive ring's tail advanced by `more` slots, or (`known` is false) the port has no register with its number.
 abbrev pub IsTailWritten : List Call → List Call → Layout → ℕ → Bool → Type 0
 IsTailWritten old new l more known = IsWritten old new l.port l.tail (tail_after l more) known
 
--- Why the tail isn't written: the port has no such register (`DeviceFault`), or a call was refused (`Call`).
+-- Why the tail isn't written: the port has no register with its number (`DeviceFault`), or a call was refused (`Call`).
 abbrev pub IsUnwritten : PmdFault → List Call → List Call → Layout → ℕ → Type 0
 IsUnwritten fault.DeviceFault old new l more = IsTailWritten old new l more false
 IsUnwritten (fault.Call refusal) old new l more = AddsSome old new
@@ -133,7 +132,7 @@ IsRefused fault.ForeignBlock old new = ⊥
 IsRefused fault.StartTimeout old new = ⊥
 IsRefused fault.NoBuffer old new = ⊥
 
--- The number of fresh blocks that must still be posted until the packet is fully taken.
+-- The number of fresh blocks that must still be named before the packet is complete.
 abbrev pub rounds : Receive → ℕ
 rounds v = length v.seen + vacated v.stage
 
@@ -141,7 +140,7 @@ rounds v = length v.seen + vacated v.stage
 abbrev pub OneMore : Receive → Receive → Type 0
 OneMore v w = (p : Packet) × (w.whole ≡ v.whole ++ p ∷ [])
 
--- The packet is still waiting. If enough blocks were free for it before, enough are still free.
+-- The packet is still waiting. If enough blocks were free to complete it before, enough are still free.
 pub record WaitsStill (a : Numbers) (v : Receive) (b : Numbers) (w : Receive) : Type 0 where
   pub stage : PacketWaits w.stage
   pub whole : w.whole ≡ v.whole
@@ -154,7 +153,7 @@ pub record IsOneLess (a : Numbers) (v : Receive) (b : Numbers) (w : Receive) : T
   pub waits : 0 < rounds w → WaitsStill a v b w
   pub more : rounds w ≡ 0 → OneMore v w
 
--- A fresh block was lent, and named in the first vacant slot.
+-- A fresh block was lent and then named in the first vacant slot.
 abbrev pub refilled : Receive → ℕ → Receive
 refilled v n = names (lent_one v n)
 

@@ -21,7 +21,7 @@ use Rattle.pmd_rx.specs.declared.ring.Stage.TheVariants.{Looks, Takes, Owes, Len
 abbrev pub is_whole : Receive → List ℕ → Bool
 is_whole v d = not (is_done (second_half d)) || is_part v.layout.most (length v.seen) (second_half d)
 
--- The replies to the driver's events that a healthy queue sends.
+-- Whether a healthy queue may send this reply to the driver's event.
 abbrev pub is_healthy : Receive → Event Block → Reply Block → Bool
 is_healthy v (event.Peek16 address) (reply.Bytes d) = is_whole v d
 is_healthy v (event.Take number) (reply.Buf block) = true
@@ -31,7 +31,7 @@ is_healthy v (event.Write port number word) reply.Done = true
 is_healthy v e r = false
 
 -- The last call was the driver's own, and its reply isn't one that a healthy queue sends. The call left the driver
--- unchanged. Each block that was lent before it, or that it was to lend, was free in the arena.
+-- unchanged. Each block that the driver lent before this call, or that this call was to lend, was free in the arena.
 abbrev pub EndsWrong : Numbers → List Call → Receive → List Call → Receive → Type 0
 EndsWrong a old v new w =
     (mid : List Call) × (e : Event Block) × (r : Reply Block)
@@ -44,7 +44,8 @@ PacketWaits Takes = ⊤
 PacketWaits Owes = ⊤
 PacketWaits (Lent b) = ⊤
 
--- The number of free blocks needed: one for each part seen, and one if a block must be lent.
+-- `wanted`: the number of free blocks needed, one for each part seen, plus `owed`. `owed`: 1 if a block must be lent as
+-- well.
 abbrev pub owed : Stage → ℕ
 owed Looks = 1
 owed Takes = 0
@@ -69,8 +70,8 @@ pub record IsShort (a : Numbers) (v : Receive) (b : Numbers) (w : Receive) : Typ
 abbrev pub AsksNext : Numbers → Receive → Type 0
 AsksNext a w = (e : Event Block) × IsOwn w e × LendsFree a true e
 
--- After these calls, which led from driver `v` to driver `w`, the device sent a wrong reply (`DeviceFault`) or the
--- driver's next event was refused (`Call`).
+-- After these calls, which took the driver from state `v` to state `w`, the device sent a wrong reply (`DeviceFault`)
+-- or the driver's next event was refused (`Call`).
 abbrev pub IsFault : PmdFault → Numbers → List Call → Receive → List Call → Receive → Type 0
 IsFault fault.DeviceFault a old v new w = EndsWrong a old v new w
 IsFault (fault.Call refusal) a old v new w = AsksNext a w

@@ -1,4 +1,4 @@
-//! Receives packets one by one, or several with one tail write.
+//! Receives packets one at a time, or several with one tail write.
 
 ghost use Rattle.std.specs.Prelude.{ℕ, ◌≡◌, ◌≢◌, ◌<◌, ◌≤◌, ◌+◌, ◌++◌, ◌∷◌, [], length, true, false, Ok, Err, IfOk, IfErr, IfSome, IfNone, OnErr, None};
 ghost use Rattle.pmd_access.specs.NicDevice.DmaArena.Numbers.{Numbers};
@@ -20,7 +20,8 @@ use std::alloc::Global;
 use std::collections::VecDeque;
 
 impl ReceiveRing {
-    /// Takes the next received packet, which becomes complete. Returns whether the posted slots contain one.
+    /// Takes the next received packet, which is then complete. Returns whether the posted slots contained such a
+    /// packet.
     fn take_next<N: Nic>(
         &mut self,
         alloc: Global,
@@ -47,8 +48,8 @@ impl ReceiveRing {
         }
     }
 
-    /// Takes at most `most` further packets. It stops early if no packet is left or a call fails; the next call meets
-    /// that fault again.
+    /// Takes at most `most` further packets. Stops early if no packet remains or a call fails; the next call then meets
+    /// the same fault.
     fn take_more<N: Nic>(&mut self, alloc: Global, nic: &mut N, arena: &mut Arena, most: u16)
         requires running { IsRunning self.old }
         requires home { AreOut arena.old (blocks_out self.old) }
@@ -64,8 +65,8 @@ impl ReceiveRing {
         }
     }
 
-    /// Takes at least one and at most `most` packets, unless a complete one is already waiting. Returns whether a
-    /// complete packet is then waiting.
+    /// Takes packets, at least one and at most `most`, unless a complete packet is already waiting. Returns whether a
+    /// complete packet is waiting afterwards.
     fn gather<N: Nic>(
         &mut self,
         alloc: Global,
@@ -96,7 +97,7 @@ impl ReceiveRing {
         }
     }
 
-    /// Returns whether there is a complete packet.
+    /// Returns whether the driver keeps a complete packet.
     fn has_whole(&self) -> bool
         ensures yes { result ≡ true → 0 < length self.now.whole }
         ensures no { result ≡ false → self.now.whole ≡ [] }
@@ -106,17 +107,18 @@ impl ReceiveRing {
 }
 
 impl ReceiveRing {
-    /// Receives the next packet, in order; fresh blocks of the arena replace its blocks. Returns `None` if the slot
-    /// after those already seen isn't done.
+    /// Receives the next packet, in order; fresh blocks from the arena replace the packet's blocks. Returns `None` if
+    /// the slot after those already seen isn't done.
     ///
-    /// If some parts of a packet are already taken, because a later call was refused, it finishes only this packet and
-    /// looks at no slot. If packets are complete, because a tail write was refused, it returns the oldest and only
-    /// writes the tail. It isn't promised that it then looks at no slot, or that it causes no other event.
+    /// If a refused call left a packet with only some of its parts taken, `receive` finishes only this packet and looks
+    /// at no slot. If packets are already complete, because a tail write was refused, `receive` returns the oldest and
+    /// only writes the tail. The contract doesn't promise that `receive` then looks at no slot, or that it causes no
+    /// other event.
     ///
     /// `NoBuffer` only if a packet is waiting and too few blocks are free; the driver is unchanged except for what it
     /// has seen. `DeviceFault` if a reply is one that a healthy queue never sends. `Call` if a call was refused, or if
-    /// there was no memory for what it saw or for the packet's record; the driver keeps its place, and the next call
-    /// continues.
+    /// there was no memory to keep what the driver saw or the packet's record; the driver keeps its position, and the
+    /// next call continues from there.
     pub fn receive<N: Nic>(
         &mut self,
         alloc: Global,
@@ -149,18 +151,18 @@ impl ReceiveRing {
         }
     }
 
-    /// Receives up to `most` packets, the next ones in order. Fresh blocks of the arena replace their blocks and are
-    /// posted with one tail write. Appends the packets to `out` and returns their number; it is 0 only if `most` is 0
-    /// or the slot after those already seen isn't done. Three facts aren't promised: how many packets from 1 to `most`
-    /// it returns, that one tail write posts all of the blocks, and when it looks at no slot.
+    /// Receives the next packets in order, up to `most`. Fresh blocks from the arena replace the packets' blocks and
+    /// are posted with one tail write. Appends the packets to `out` and returns their number. This number is 0 only if
+    /// `most` is 0 or the slot after those already seen isn't done. Three facts aren't promised: how many packets from
+    /// 1 to `most` the call returns, that one tail write posts all the blocks, and when the call looks at no slot.
     ///
-    /// It stops early, with the packets received so far, if a slot isn't done, no posted slot is left, or a call fails;
-    /// the next call continues from there. If packets are complete, because a tail write was refused, it looks at no
-    /// slot and returns them. It returns only the oldest if there are more than `most`, or if parts of another packet
-    /// are already taken.
+    /// If a slot isn't done, no posted slot remains, or a call fails, it stops early and returns the packets received
+    /// so far; the next call continues from there. If packets are already complete, because a tail write was refused,
+    /// it looks at no slot and returns these packets. If more than `most` packets are complete, or parts of another
+    /// packet are already taken, it returns only the oldest.
     ///
     /// It fails for the same reasons as `receive`, and only if it returns no packet; `out` is then unchanged. It also
-    /// returns `Call` if `out` can't grow for the packets; they stay complete, and the next call returns them.
+    /// returns `Call` if `out` can't grow for the packets; the packets stay complete, and the next call returns them.
     pub fn receive_burst<N: Nic>(
         &mut self,
         alloc: Global,
@@ -191,10 +193,11 @@ impl ReceiveRing {
         }
     }
 
-    /// Hands out all complete packets with one tail write, appending them to `out`, if there are at most `most` and no
-    /// part of another packet is taken. Otherwise it hands out the oldest. Returns their number.
+    /// Appends complete packets to `out` with one tail write, and returns their number. It hands out all of them if
+    /// they are at most `most` and no part of another packet is taken. Otherwise it hands out the oldest.
     ///
-    /// `DeviceFault` if the port has no such register. It also returns `Call` if `out` can't grow for the packets.
+    /// `DeviceFault` if the port has no register with the tail's number. `Call` also if `out` can't grow for the
+    /// packets.
     fn post_most<N: Nic>(
         &mut self,
         alloc: Global,

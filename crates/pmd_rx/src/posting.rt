@@ -1,4 +1,5 @@
-//! Posts blocks to the receive ring and receives from it: sequences of calls, any of which may be the last one made.
+//! Posts blocks to the receive ring and takes packets from it. Each function makes a sequence of calls, which may end
+//! after any of them.
 
 ghost use Rattle.std.specs.Prelude.{ℕ, ◌≡◌, ◌≢◌, ◌<◌, ◌≤◌, ◌+◌, [], length, true, false, Ok, Err, IfErr, OnOk, OnErr};
 ghost use Rattle.pmd_access.specs.NicDevice.DmaArena.Numbers.{Numbers, free_count, is_free, with_free};
@@ -22,7 +23,7 @@ use std::alloc::Global;
 use std::collections::VecDeque;
 
 impl ReceiveRing {
-    /// Lends a fresh block of the arena and names it in a descriptor.
+    /// Lends a fresh block from the arena and names it in a descriptor.
     ///
     /// `NoBuffer` if no block is free; nothing is done.
     fn lend_and_name<N: Nic>(
@@ -49,9 +50,9 @@ impl ReceiveRing {
 }
 
 impl ReceiveRing {
-    /// Looks at the posted slots of a packet until it sees the packet's last part. Returns whether it saw it.
+    /// Looks at a packet's posted slots until it sees the packet's last part. Returns whether it saw the last part.
     ///
-    /// `DeviceFault` if a slot shows something that a healthy queue never writes.
+    /// `DeviceFault` if a slot contains something that a healthy queue never writes.
     pub(crate) fn look_whole<N: Nic>(
         &mut self,
         alloc: Global,
@@ -89,7 +90,7 @@ impl ReceiveRing {
         self.most
     }
 
-    /// Returns whether a packet is waiting.
+    /// Returns whether a packet is waiting: its end was seen, or some of its parts are taken.
     fn waits(&self) -> bool
         ensures yes { result ≡ true → PacketWaits self.now.stage }
         ensures no { result ≡ false → self.now.stage ≡ stage.Looks }
@@ -109,8 +110,8 @@ impl ReceiveRing {
         self.seen.len() < usize::from(self.posted)
     }
 
-    /// Runs the next step of a refill: takes the next part, unless an earlier call did, and names a fresh block in its
-    /// place. After its last part the packet is complete.
+    /// Performs the next step of a refill: takes the next part, unless an earlier call took it, and names a fresh block
+    /// in its place. After the step for its last part, the packet is complete.
     fn refill_next<N: Nic>(
         &mut self,
         alloc: Global,
@@ -138,10 +139,10 @@ impl ReceiveRing {
         }
     }
 
-    /// Takes the parts of a packet that was fully seen, and names fresh blocks in their places. The packet is then
+    /// Takes the parts of a packet whose last part was seen, and names fresh blocks in their place. The packet is then
     /// complete.
     ///
-    /// `NoBuffer` if too few blocks are free to replace them; nothing is done.
+    /// `NoBuffer` if too few blocks are free to replace the parts; nothing is done.
     pub(crate) fn take_whole<N: Nic>(
         &mut self,
         alloc: Global,
@@ -169,7 +170,7 @@ impl ReceiveRing {
         Ok(())
     }
 
-    /// The number of free blocks needed.
+    /// The number of free blocks needed to complete the waiting packet.
     fn wanted(&self) -> usize
         requires { PacketWaits self.now.stage }
         ensures { result ≡ wanted self.now }
@@ -180,7 +181,7 @@ impl ReceiveRing {
         }
     }
 
-    /// The number of fresh blocks still to post.
+    /// The number of fresh blocks that must still be named before the packet is complete.
     fn rounds(&self) -> usize
         ensures { result ≡ rounds self.now }
     {
@@ -192,11 +193,12 @@ impl ReceiveRing {
 }
 
 impl ReceiveRing {
-    /// Posts a fresh block of the arena in the first vacant slot, handing it to the device. One slot always stays
-    /// vacant.
+    /// Posts a fresh block from the arena in the first vacant slot, which hands the block to the device. One slot
+    /// always stays vacant.
     ///
     /// `NoBuffer` if no block is free; none is posted. `DeviceFault` if the block is already lent, the ring isn't lent,
-    /// or the port has no such register. `Call` if a call was refused. Completed steps are kept.
+    /// or the port has no register with the tail's number. `Call` if a call was refused. Steps completed before a fault
+    /// are kept.
     pub fn post<N: Nic>(
         &mut self,
         alloc: Global,
@@ -239,7 +241,7 @@ impl ReceiveRing {
         answer
     }
 
-    /// Posts fresh blocks of the arena in all slots except one. No slot may be posted yet.
+    /// Posts fresh blocks from the arena in all slots except one. No slot may be posted yet.
     ///
     /// It fails for the same reasons as `post`, but with `NoBuffer` only if fewer blocks are free than it must post.
     /// Blocks already posted stay posted.
@@ -257,7 +259,7 @@ impl ReceiveRing {
         ensures plays { PlaysFrom arena.old (N.made nic.old) self.old (N.made nic.new) self.new }
         ensures filled { OnOk result (Fills arena.old self.old arena.new self.new) }
         ensures running { OnOk result (IsRunning self.new) }
-        // The packets handed out so far are unchanged.
+        // The list of packets handed out so far is unchanged.
         ensures handed { self.new.handed ≡ self.old.handed }
         ensures fails { IfErr result (λ f.
             StopsFilling f (N.made nic.old) arena.old self.old (N.made nic.new) arena.new self.new) }

@@ -1,4 +1,5 @@
-//! The receive side of the driver: one step for each of its calls, from one stage to the next.
+//! The driver's receive side: one step for each call that the driver makes. Each step takes the driver from one stage
+//! to the next.
 
 ghost use Rattle.std.specs.Prelude.{ℕ, ◌≡◌, ◌<◌, ◌≤◌, ◌+◌, ◌*◌, ◌++◌, length, IsFalse, if◌then◌else◌, Ok, Err, true, false, IfOk, IfErr, OnOk, OnErr, OnSome, IfSome, [], min, vec_len};
 ghost use Rattle.std.specs.Vec.{vec_capacity};
@@ -35,8 +36,8 @@ pub enum Look {
     Wrong,
 }
 
-/// Classifies a part by the second half of its descriptor. `before` parts of the packet precede it; a packet has at
-/// most `most`.
+/// Classifies a slot by the second half of its descriptor. `before` parts of the packet precede this slot's part; a
+/// packet has at most `most` parts.
 fn look_reported(most: u16, before: usize, second: u64) -> Look
     requires { before < 65536 }
     ensures nothing { result ≡ Look.Nothing → IsFalse (is_done second) }
@@ -56,7 +57,7 @@ fn look_reported(most: u16, before: usize, second: u64) -> Look
 }
 
 impl ReceiveRing {
-    /// The bus address of the descriptor after those already seen.
+    /// Returns the bus address of the descriptor after those already seen.
     fn next_descriptor(&self) -> u32
         requires { length self.now.seen < length self.now.layout.blocks }
         ensures { result ≡ descriptor_at self.now.layout (length self.now.seen) }
@@ -66,7 +67,7 @@ impl ReceiveRing {
 
     /// Looks at the slot after those already seen.
     ///
-    /// `Call` if a call was refused, or if there was no memory to keep what it saw.
+    /// `Call` if a call was refused, or if there was no memory to keep what the driver saw.
     pub(crate) fn look<N: Nic>(&mut self, alloc: Global, nic: &mut N) -> Result<Look, PmdFault>
         requires some { length self.old.seen < length self.old.layout.blocks }
         requires stage { self.old.stage ≡ stage.Looks }
@@ -97,7 +98,7 @@ impl ReceiveRing {
         }
     }
 
-    /// Takes the block of the next slot; its part joins the packet being held.
+    /// Takes the block in the next slot; the slot's part joins the packet being held.
     ///
     /// `DeviceFault` if the block is no longer lent.
     pub(crate) fn take_part<N: Nic>(&mut self, alloc: Global, nic: &mut N) -> Result<(), PmdFault>
@@ -120,7 +121,7 @@ impl ReceiveRing {
         }
     }
 
-    /// The block of the next slot.
+    /// Returns the block in the next slot.
     fn next_block(&self) -> u32
         requires { 0 < length self.now.seen }
         ensures block { result ≡ block_at self.now.layout 0 }
@@ -129,7 +130,7 @@ impl ReceiveRing {
         self.slots[0]
     }
 
-    /// Consumes the next slot. Its part, in `buf`, joins the packet being held.
+    /// Consumes the next slot. The slot's part, which is in `buf`, joins the packet being held.
     fn hold(&mut self, buf: Buf)
         requires stage { self.old.stage ≡ stage.Takes }
         requires some { 0 < length self.old.seen }
@@ -148,7 +149,7 @@ impl ReceiveRing {
         self.stage = Stage::Owes;
     }
 
-    /// The slot `after` places past the next one.
+    /// Returns the slot that is `after` positions past the next slot.
     pub(crate) fn slot(&self, after: u16) -> u16
         requires { after ≤ self.now.layout.size }
         ensures { result ≡ slot_at self.now.layout after }
@@ -156,7 +157,7 @@ impl ReceiveRing {
         slot_after(self.size, self.next, after)
     }
 
-    /// Lends a fresh block of the arena.
+    /// Lends a fresh block from the arena.
     ///
     /// `NoBuffer` if no block is free; nothing is done. `DeviceFault` if a block with its number is already lent.
     pub(crate) fn lend_fresh<N: Nic>(
@@ -206,8 +207,8 @@ impl ReceiveRing {
         self.stage = Stage::Lent(block);
     }
 
-    /// Names the fresh block in the descriptor of the first vacant slot. If no part of the held packet is left to take,
-    /// the packet is then complete.
+    /// Names the fresh block in the descriptor of the first vacant slot. If no part of the packet being held remains to
+    /// be taken, that packet is then complete.
     ///
     /// `DeviceFault` if the ring is no longer lent. `Call` if a call was refused, or if there was no memory for the
     /// block's number or the packet's record.
@@ -257,7 +258,8 @@ impl ReceiveRing {
         descriptor_address(self.ring, self.slot(self.slots.len() as u16))
     }
 
-    /// The number of bytes that the record of the held packet needs, if no part of the packet is left to take.
+    /// Returns the number of bytes that the record of the packet being held needs, if no part of this packet remains to
+    /// be taken.
     fn record_room(&self) -> usize
         ensures { length self.now.seen ≡ 0 → min self.now.held.len (2048 * length self.now.held.bufs) ≤ result }
     {
@@ -269,8 +271,8 @@ impl ReceiveRing {
     }
 }
 
-/// Makes room for a block's number, a complete packet, its record, and the record's bytes. Returns `None` if there is
-/// no memory.
+/// Makes room for a block's number, a complete packet, its record, and the record's bytes. Returns the empty buffer for
+/// these bytes, or `None` if there is no memory.
 fn room_for_one(
     alloc: Global,
     slots: &mut VecDeque<u32>,
@@ -299,7 +301,7 @@ fn room_for_one(
     Vec::with_capacity(alloc, bytes).ok()
 }
 
-/// The descriptor that names a block.
+/// Returns the descriptor that names this block.
 fn naming(block: u32) -> [u8; 16]
     requires { block < 65536 }
     ensures { result ≡ naming block }
@@ -307,7 +309,7 @@ fn naming(block: u32) -> [u8; 16]
     of_halves(posted_word(2048 * u64::from(block)), 0)
 }
 
-/// The stage after a look that found a part of a packet, given the second half of the descriptor.
+/// Returns the stage after a look that found a part of a packet; `second` is the second half of the descriptor.
 fn stage_after(second: u64) -> Stage
     ensures { result ≡ (if ends_packet second then stage.Takes else stage.Looks) }
 {
@@ -318,7 +320,7 @@ fn stage_after(second: u64) -> Stage
     }
 }
 
-/// Keeps a complete packet and its record, if it has any parts.
+/// Keeps a complete packet and its record. A packet without parts isn't kept.
 fn keep_whole(
     packet: Packet,
     whole: &mut VecDeque<Packet>,

@@ -20,13 +20,13 @@ use std::marker::Model;
 /// The driver's stage between two of its calls.
 #[derive(Clone, Copy)]
 pub enum Stage {
-    /// It looks at the slots of a packet, one after the other.
+    /// The driver looks at a packet's slots, one after the other.
     Looks,
-    /// It has seen the end of the packet, and takes the block of the next slot.
+    /// The driver has seen the end of the packet, and will take the block in the next slot.
     Takes,
-    /// It has taken the slot's block and must lend a fresh one.
+    /// The driver has taken the slot's block and must lend a fresh one.
     Owes,
-    /// It has lent this block.
+    /// The driver has lent this block, but no descriptor names it yet.
     Lent(u32),
 }
 
@@ -41,9 +41,9 @@ pub struct Reported {
 
 /// A driver's receive ring and the packets it handed out.
 ///
-/// The first blocks of `slots` are posted, starting at the next slot. The blocks after them are named in descriptors.
-/// They are posted when the tail advances, and the complete packets that they replace are then handed out. `records`
-/// lists the packets handed out, followed by the complete packets.
+/// The first `posted` blocks in `slots` are posted, starting at the next slot. The blocks after them are named in
+/// descriptors. When the tail advances, these blocks are posted, and the complete packets that they replace are handed
+/// out. `records` lists the packets handed out, followed by the complete packets.
 pub struct ReceiveRing {
     pub(crate) port: Port,
     pub(crate) tail: u32,
@@ -98,7 +98,7 @@ impl Model for ReceiveRing {
 }
 
 impl ReceiveRing {
-    /// Creates a ring of 8 to 1,024 slots for a queue that is being enabled; nothing is posted. The ring occupies lent
+    /// Creates a ring of 8 to 1,024 slots for a queue that is being enabled; no slot is posted. The ring occupies lent
     /// blocks, starting at block `ring`. `tail` is the number of the tail register at the port; `most` is the maximum
     /// number of slots that a packet takes.
     pub fn new(alloc: Global, port: Port, tail: u32, ring: u32, size: u16, most: u16) -> ReceiveRing
@@ -126,7 +126,7 @@ impl ReceiveRing {
         }
     }
 
-    /// The packets handed out so far, oldest first.
+    /// Returns the records of the packets handed out so far, oldest first.
     pub fn handed(&self) -> &[Record]
         ensures { result.now ≡ self.now.handed }
     {
@@ -147,9 +147,9 @@ pub(crate) fn no_packet() -> Packet
 }
 
 impl ReceiveRing {
-    /// Returns whether the ring owns the block with this number. It owns the blocks that the ring occupies, those in
-    /// its slots or named after its tail, a fresh block that is lent, and the blocks of held parts and complete
-    /// packets.
+    /// Returns whether the ring owns the block with this number. It owns the blocks that its descriptors occupy, the
+    /// blocks in its slots or named after its tail, a fresh block that is lent, and the blocks of held parts and
+    /// complete packets.
     pub fn has(&self, block: u32) -> bool
         ensures { (result ≡ true) ↔ (0 < times_in_hand (blocks_out self.now) block) }
     {
@@ -207,8 +207,8 @@ impl ReceiveRing {
 
 impl ReceiveRing {
     /// Closes the ring. Returns its lent blocks, which must still be taken back, and the records of the packets handed
-    /// out. The blocks of complete packets and of the held one return to the arena. If there is no memory, returns the
-    /// unchanged ring.
+    /// out. The blocks of the complete packets and of the packet being held return to the arena. If there is no memory,
+    /// returns the unchanged ring.
     pub fn close(self, arena: &mut Arena) -> Result<(Reclaim, Vec<Record>), ReceiveRing>
         requires { AreOut arena.old (blocks_out self) }
         ensures way { IfOk result (λ ends. ends.0 ≡ record { lent = lent_of self; lost = 0 }) }
@@ -248,7 +248,7 @@ impl ReceiveRing {
         Ok((Reclaim::of(lent), records))
     }
 
-    /// The block that is lent but not yet named.
+    /// Returns the block that is lent but not yet named.
     fn fresh(&self) -> Option<u32>
         ensures { option_to_list result ≡ fresh_block self.now.stage }
     {
@@ -274,8 +274,8 @@ fn give_packets(arena: &mut Arena, packets: VecDeque<Packet>)
     left.destroy_empty()
 }
 
-/// Collects the blocks in a ring's slots, a fresh one, and the `many` blocks that the ring occupies, starting at
-/// `ring`. The queue already has room for them.
+/// Collects the blocks in a ring's slots, the fresh block if there is one, and the `many` blocks that the ring
+/// occupies, starting at block `ring`. `blocks` already has room for all of them.
 fn with_ring(blocks: VecDeque<u32>, fresh: Option<u32>, ring: u32, many: u32) -> VecDeque<u32>
     requires many { many ≤ 8 }
     requires ring { ring + many ≤ 65536 }
@@ -290,7 +290,7 @@ fn with_ring(blocks: VecDeque<u32>, fresh: Option<u32>, ring: u32, many: u32) ->
     lent
 }
 
-/// Collects the blocks in a ring's slots and a fresh one. The queue already has room for it.
+/// Collects the blocks in a ring's slots and the fresh block, if there is one. `blocks` already has room for it.
 fn with_fresh(blocks: VecDeque<u32>, fresh: Option<u32>) -> VecDeque<u32>
     requires { deque_len blocks < deque_capacity blocks }
     ensures items { result.items ≡ blocks.items ++ option_to_list fresh }

@@ -1,4 +1,4 @@
-//! The receive ring's tail. When it advances, named blocks are posted and complete packets handed out.
+//! The receive ring's tail. When the tail advances, named blocks are posted and complete packets are handed out.
 
 ghost use Rattle.std.specs.Prelude.{◌≡◌, ◌<◌, ◌≤◌, ◌+◌, ◌++◌, ◌∷◌, [], length, take, true, All, OnOk, OnErr, IfOk, IfErr};
 ghost use Rattle.std.specs.VecDeque.{deque_len, deque_capacity};
@@ -17,7 +17,7 @@ use std::collections::VecDeque;
 impl ReceiveRing {
     /// Advances the tail by `more` slots.
     ///
-    /// `DeviceFault` if the port has no such register.
+    /// `DeviceFault` if the port has no register with the tail's number.
     fn write_tail<N: Nic>(&self, alloc: Global, nic: &mut N, more: u16) -> Result<(), PmdFault>
         requires { length self.now.layout.blocks + more ≤ self.now.layout.size }
         ensures asks { Asks N.began N.refuses (fault_in result) nic.old nic.new }
@@ -35,7 +35,7 @@ impl ReceiveRing {
 
     /// Advances the tail over the blocks that replace the oldest complete packet, and hands that packet out.
     ///
-    /// `DeviceFault` if the port has no such register.
+    /// `DeviceFault` if the port has no register with the tail's number.
     pub(crate) fn post_one<N: Nic>(
         &mut self,
         alloc: Global,
@@ -54,7 +54,7 @@ impl ReceiveRing {
         }
     }
 
-    /// The number of parts of the oldest complete packet.
+    /// Returns the number of parts in the oldest complete packet.
     fn first_parts(&self) -> u16
         requires { 0 < length self.now.whole }
         ensures parts { result ≡ parts_first self.now.whole }
@@ -66,7 +66,7 @@ impl ReceiveRing {
         self.whole[0].bufs.count() as u16
     }
 
-    /// Hands out the oldest complete packet after the blocks in its place were posted.
+    /// Hands out the oldest complete packet after the blocks that replace it were posted.
     fn hand_one(&mut self) -> Packet
         requires { 0 < length self.old.whole }
         ensures left { self.new ≡ posts_one self.old }
@@ -80,10 +80,10 @@ impl ReceiveRing {
         packet
     }
 
-    /// Advances the tail over all named blocks; no part of a packet may be held. Appends the complete packets to `out`,
-    /// which has room for them.
+    /// Advances the tail over all named blocks. The driver may not hold part of a packet. Appends the complete packets
+    /// to `out`, which has room for them.
     ///
-    /// `DeviceFault` if the port has no such register.
+    /// `DeviceFault` if the port has no register with the tail's number.
     pub(crate) fn post_all<N: Nic>(
         &mut self,
         alloc: Global,
@@ -111,7 +111,7 @@ impl ReceiveRing {
         }
     }
 
-    /// The number of blocks named after the tail.
+    /// Returns the number of blocks named after the tail.
     fn named(&self) -> u16
         ensures named { result ≡ length self.now.named }
         ensures room { length self.now.layout.blocks + result < self.now.layout.size }

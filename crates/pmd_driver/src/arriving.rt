@@ -10,16 +10,16 @@ ghost use Rattle.pmd_driver.specs.Arriving.{Arrives, IsRefusal};
 use pmd_access::{CallFault, Event, Nic, Octets, PmdFault, Reply, Why, without_event};
 use std::alloc::Global;
 
-/// The outcome for a frame that arrived.
+/// What the device did with a frame that arrived.
 #[derive(Clone, Copy, PartialEq, Eq, Debug)]
 pub enum Arrived {
-    /// The device accepted it; it waits in the receive list.
+    /// The device accepted the frame, which waits in the receive list.
     Taken,
-    /// The device dropped it.
+    /// The device dropped the frame.
     Dropped(Why),
 }
 
-/// Delivers a frame from the link to the device: these bytes, without its frame check sequence.
+/// Delivers a frame from the link to the device. `frame` contains its bytes without the frame check sequence.
 ///
 /// `Call` if the call was refused, or if there was no memory for a copy of the bytes; then no frame arrived.
 pub fn arrive<N: Nic>(alloc: Global, nic: &mut N, frame: &[u8]) -> Result<Arrived, PmdFault>

@@ -16,23 +16,23 @@ use pmd_tx::{TxAnswer, TxFault};
 use std::alloc::Global;
 use std::collections::VecDeque;
 
-/// The number of packets queued, and the fault that stopped the burst, if any: that of the next packet, or that of the
-/// last packet queued.
+/// The number of packets queued, and the fault that stopped the burst, if any. The next packet or the last packet
+/// queued met this fault.
 pub(crate) struct Queued {
     pub(crate) sent: u16,
     pub(crate) met: Option<PmdFault>,
 }
 
 impl Running {
-    /// Sends packets from the front of the list, as many as fit, with one tail write after the last. If fewer than
-    /// `vacant` slots of the ring are vacant, it first frees the blocks of sent packets, as `reap` does. It never does
-    /// this if `vacant` is 0, and always if `vacant` is above 1,023. It stops at the first packet that doesn't fit, is
-    /// refused, or meets a fault. Returns the number of packets accepted; these are removed from the list, and the
-    /// others stay in order.
+    /// Sends packets from the front of the list, as many as fit, with one tail write after the last packet. If fewer
+    /// than `vacant` slots in the ring are vacant, it first frees the blocks of sent packets, as `reap` does. It never
+    /// frees blocks first if `vacant` is 0, and always does if `vacant` is above 1,023. It stops at the first packet
+    /// that doesn't fit, is refused, or meets a fault. Returns the number of packets accepted. These packets are
+    /// removed from the list, and the others stay in order.
     ///
-    /// If no packet was accepted, it returns the fault, if there is one: the fault of reaping, or the one that `tx`
-    /// would return for the first packet. It also returns a fault if it accepted packets but couldn't write the tail
-    /// after them. These packets are no longer in the list; the next call continues with them.
+    /// If no packet was accepted, it returns the fault that prevented this, if any: the fault met while reaping, or the
+    /// fault that `tx` would return for the first packet. It also returns a fault if it accepted packets but couldn't
+    /// write the tail after them. These packets are no longer in the list; the next call continues with them.
     pub fn tx_burst<N: Nic>(
         &mut self,
         alloc: Global,
@@ -41,12 +41,12 @@ impl Running {
         packets: &mut VecDeque<Packet>,
     ) -> Result<u16, PmdFault>
         ensures drives { DrivesRings (N.made nic.old) self.old (N.made nic.new) self.new }
-        // The first packets of the list, as many as reported, were accepted in order and removed. The others are
-        // unchanged, with one exception: if lending the first of them got a wrong reply, it may be in other blocks with
-        // the same numbers. The tail is advanced only after all accepted packets are queued. Without a fault, the tail
-        // has passed everything outstanding. The burst stops only if no packet is left, the ring has no room for the
-        // next packet, that packet is refused before any event, or a call met a fault during its events. If the first
-        // packet is refused, no event occurs after room was made.
+        // As many packets as reported were accepted in order from the front of the list, and removed. The others are
+        // unchanged, with one exception: if lending the first remaining packet got a wrong reply, that packet may be in
+        // other blocks with the same numbers. The tail is advanced only after all accepted packets are queued. Without
+        // a fault, the tail has passed everything outstanding. The burst stops only if no packet remains, the ring has
+        // no room for the next packet, the next packet is refused before any event, or a call met a fault during its
+        // events. If the first packet is refused, no event occurs after room was made.
         ensures sent { IsSendBurst vacant packets.old.items packets.new.items result (N.made nic.old) self.old
             (N.made nic.new) self.new }
         ensures blocks { KeepsUp self.old (numbers_of_all packets.old.items) self.new
@@ -75,8 +75,8 @@ impl Running {
         }
     }
 
-    /// Accepts packets from the front while slots are vacant, then advances the tail once. `tx_burst` calls it after
-    /// reaping.
+    /// Accepts packets from the front of the list while slots are vacant, then advances the tail once. `tx_burst` calls
+    /// this function after reaping.
     fn send_burst<N: Nic>(
         &mut self,
         alloc: Global,
@@ -97,7 +97,8 @@ impl Running {
         }
     }
 
-    /// Queues packets from the front of the list, up to the first that doesn't fit, is refused, or meets a fault.
+    /// Queues packets from the front of the list, up to the first packet that doesn't fit, is refused, or meets a
+    /// fault.
     fn queue_burst<N: Nic>(
         &mut self,
         alloc: Global,
@@ -120,7 +121,7 @@ impl Running {
         Queued { sent, met: None }
     }
 
-    /// Queues the first packet of the list. Returns whether the burst ends with it.
+    /// Queues the first packet in the list. Returns whether the burst ends with this packet.
     fn queue_first<N: Nic>(
         &mut self,
         alloc: Global,
@@ -159,7 +160,7 @@ impl Running {
     }
 }
 
-/// The fault that a burst met, if it belongs to the first packet.
+/// Returns the fault that the burst met, if the first packet met it.
 fn at_first(sent: u16, met: Option<PmdFault>) -> Option<PmdFault>
     ensures { result ≡ (if sent == 0 then met else None) }
 {

@@ -6,7 +6,7 @@ ghost use Rattle.pmd_access.specs.Bufs.{bytes_of, numbers_of};
 
 use pmd_access::Packet;
 
-/// Overwrites the first bytes of a packet with these. They must fit.
+/// Overwrites the first bytes of a packet with `bytes`, which must fit.
 pub(crate) fn with_bytes(packet: Packet, bytes: &[u8]) -> Packet
     requires { length bytes.now ≤ min packet.len (2048 * length packet.bufs) }
     ensures bytes { bytes_of result.bufs ≡ put_bytes (bytes_of packet.bufs) 0 bytes.now }

@@ -39,7 +39,7 @@ pub(crate) enum Rings {
     Down(Halted),
 }
 
-/// The driver of one queue. It can't be dropped; `stop` ends it.
+/// The driver of one queue. A `Pmd` can't be dropped; `stop` ends it.
 pub struct Pmd {
     queue: Queue,
     rings: Rings,
@@ -53,23 +53,23 @@ impl Model for Pmd {
     ghost view = { λ p. record { queue = p.queue; rings = p.rings } };
 }
 
-/// A refused stop.
+/// A stop that was refused.
 pub struct StopRefused {
-    /// Why it was refused.
+    /// Why the stop was refused.
     pub fault: PmdFault,
     /// The driver, which is no longer running. You can call `stop` again.
     pub pmd: Pmd,
 }
 
 impl Pmd {
-    /// Creates the driver of this queue with these rings.
+    /// Creates the driver for this queue with these rings.
     pub(crate) fn of(queue: Queue, rings: Rings) -> Pmd
         ensures { result ≡ record { queue = queue; rings = rings } }
     {
         Pmd { queue, rings }
     }
 
-    /// The packets handed out so far, oldest first.
+    /// Returns the records of the packets handed out so far, oldest first.
     pub fn handed(&self) -> &[Record]
         ensures { result.now ≡ handed_of self.now.rings }
     {
@@ -79,7 +79,7 @@ impl Pmd {
         }
     }
 
-    /// The packets accepted so far, oldest first.
+    /// Returns the records of the packets accepted so far, oldest first.
     pub fn accepted(&self) -> &[Record]
         ensures { result.now ≡ accepted_of self.now.rings }
     {
@@ -89,7 +89,7 @@ impl Pmd {
         }
     }
 
-    /// The number of free blocks in the driver's arena.
+    /// Returns the number of free blocks in the driver's arena.
     pub fn free_blocks(&self) -> u32
         ensures { result ≡ free_count (arena_of self.now.rings) }
     {
@@ -99,8 +99,8 @@ impl Pmd {
         }
     }
 
-    /// The number of transmit descriptors that can still be filled. A packet takes one for every 2,048 bytes or part
-    /// thereof. 0 if the driver isn't running.
+    /// Returns the number of transmit descriptors that can still be filled, or 0 if the driver isn't running. A packet
+    /// takes one descriptor for every 2,048 bytes or part of them.
     pub fn vacant(&self) -> u16
         ensures { result ≡ vacant_of self.now.rings }
     {
@@ -110,7 +110,7 @@ impl Pmd {
         }
     }
 
-    /// The number of packets accepted but not yet reaped. 0 if the driver isn't running.
+    /// Returns the number of packets accepted but not yet reaped, or 0 if the driver isn't running.
     pub fn outstanding(&self) -> u16
         ensures { result ≡ outstanding_of self.now.rings }
     {
@@ -126,8 +126,8 @@ impl Pmd {
     ///
     /// `NoBuffer` if a packet is waiting and too few blocks are free for it; `DeviceFault` if a reply is one that a
     /// healthy queue never sends; `Call` if a call was refused, or if there was no memory for the packet's record. The
-    /// driver keeps its place, and the next call continues. If the driver isn't running, it returns `DeviceFault`
-    /// without any event.
+    /// driver keeps its position, and the next call continues from there. If the driver isn't running, `rx` returns
+    /// `DeviceFault` without causing any event.
     pub fn rx<N: Nic>(&mut self, alloc: Global, nic: &mut N) -> Result<Option<Packet>, PmdFault>
         ensures drives { RunsOn (N.made nic.old) self.old.rings (N.made nic.new) self.new.rings }
         ensures received { WhereUp self.old.rings self.new.rings (λ r s.
@@ -150,17 +150,18 @@ impl Pmd {
         }
     }
 
-    /// Sends a packet, zero-padded to 60 bytes if it is shorter, with one descriptor for each Buf that contains bytes
-    /// of it.
+    /// Sends a packet, zero-padded to 60 bytes if it is shorter. It fills one descriptor for each `Buf` that contains
+    /// bytes of the packet.
     ///
-    /// It checks the packet before any event. `BadSize` if its length is 0, above the frame limit less 4, or above the
-    /// capacity of its Bufs; `ForeignBlock` if `release` would return it; `RingFull` if the outstanding descriptors and
-    /// the packet's together would take more than all but one of the ring's slots.
+    /// It checks the packet before any event. `BadSize` if the packet's length is 0, above the frame limit less 4, or
+    /// above the capacity of its Bufs; `ForeignBlock` if `release` would return the packet; `RingFull` if the
+    /// outstanding descriptors and the packet's descriptors together would leave no slot of the ring vacant.
     ///
     /// After that, `DeviceFault` if the device sends a reply that a healthy queue can't send; `Call` if a call was
-    /// refused, or if there was no memory for the record. If none of its blocks was lent yet, the packet is returned;
-    /// after `DeviceFault`, its blocks have the same numbers. Otherwise it is accepted, and the next call continues
-    /// with it. If the driver isn't running, it returns `DeviceFault` and the packet without any event.
+    /// refused, or if there was no memory for the record. If none of the packet's blocks was lent yet, the packet is
+    /// returned; after `DeviceFault`, its blocks have the same numbers. Otherwise the packet is accepted, and the next
+    /// call continues with it. If the driver isn't running, `tx` returns `DeviceFault` and the packet without causing
+    /// any event.
     pub fn tx<N: Nic>(
         &mut self,
         alloc: Global,
@@ -191,11 +192,11 @@ impl Pmd {
     }
 
     /// Frees the blocks of sent packets, oldest first. It first continues with a packet that has waited since an
-    /// earlier call. Its clauses promise that, if it returns without a fault, the tail has passed both the freed
-    /// packets and the oldest remaining one.
+    /// earlier call. If `reap` returns without a fault, its clauses promise that the tail has passed both the freed
+    /// packets and the oldest remaining packet.
     ///
     /// `DeviceFault` if the device sends a reply that a healthy queue can't send, `Call` if a call was refused. Blocks
-    /// already freed stay free. If the driver isn't running, it returns `DeviceFault` without any event.
+    /// already freed stay free. If the driver isn't running, `reap` returns `DeviceFault` without causing any event.
     pub fn reap<N: Nic>(&mut self, alloc: Global, nic: &mut N) -> Result<Reaped, PmdFault>
         ensures drives { RunsOn (N.made nic.old) self.old.rings (N.made nic.new) self.new.rings }
         ensures reaped { WhereUp self.old.rings self.new.rings (λ r s.
@@ -217,13 +218,14 @@ impl Pmd {
 }
 
 impl Pmd {
-    /// Receives up to `most` packets, the next ones in order. Appends them to `packets` after the tail has passed the
-    /// blocks that replace theirs. Returns the number of packets received; it is 0 only if `most` is 0 or the slot
-    /// after those already seen isn't done. It isn't promised how many packets, from 1 to `most`, it returns.
+    /// Receives the next packets in order, up to `most`. Appends them to `packets` after the tail has passed the blocks
+    /// that replace the packets' blocks. Returns the number of packets received, which is 0 only if `most` is 0 or the
+    /// slot after those already seen isn't done. The contract doesn't promise how many packets, from 1 to `most`, the
+    /// call returns.
     ///
     /// It fails for the same reasons as `rx`, and only if it returns no packet; the next call continues from there. It
-    /// also returns `Call` if there is no memory for the packets. If the driver isn't running, it returns `DeviceFault`
-    /// without any event.
+    /// also returns `Call` if there is no memory to append the packets. If the driver isn't running, `rx_burst` returns
+    /// `DeviceFault` without causing any event.
     pub fn rx_burst<N: Nic>(
         &mut self,
         alloc: Global,
@@ -253,16 +255,16 @@ impl Pmd {
         }
     }
 
-    /// Sends packets from the front of the list, as many as fit, with one tail write after the last. If fewer than
-    /// `vacant` slots of the ring are vacant, it first frees the blocks of sent packets, as `reap` does. It never does
-    /// this if `vacant` is 0, and always if `vacant` is above 1,023. It stops at the first packet that doesn't fit, is
-    /// refused, or meets a fault. Returns the number of packets accepted; these are removed from the list, and the
-    /// others stay in order.
+    /// Sends packets from the front of the list, as many as fit, with one tail write after the last packet. If fewer
+    /// than `vacant` slots in the ring are vacant, it first frees the blocks of sent packets, as `reap` does. It never
+    /// frees blocks first if `vacant` is 0, and always does if `vacant` is above 1,023. It stops at the first packet
+    /// that doesn't fit, is refused, or meets a fault. Returns the number of packets accepted. These packets are
+    /// removed from the list, and the others stay in order.
     ///
-    /// If no packet was accepted, it returns the fault, if there is one: the fault of reaping, or the one that `tx`
-    /// would return for the first packet. It also returns a fault if it accepted packets but couldn't write the tail
-    /// after them. These packets are no longer in the list; the next call continues with them. If the driver isn't
-    /// running, it returns `DeviceFault` without any event, and all packets stay.
+    /// If no packet was accepted, it returns the fault that prevented this, if any: the fault met while reaping, or the
+    /// fault that `tx` would return for the first packet. It also returns a fault if it accepted packets but couldn't
+    /// write the tail after them. These packets are no longer in the list; the next call continues with them. If the
+    /// driver isn't running, it returns `DeviceFault` without causing any event, and all packets stay in the list.
     pub fn tx_burst<N: Nic>(
         &mut self,
         alloc: Global,
@@ -291,8 +293,8 @@ impl Pmd {
 }
 
 impl Pmd {
-    /// Creates a packet of `len` zero bytes in free blocks. Returns `None` and takes nothing if too few blocks are free
-    /// or the length is above 10,240.
+    /// Creates a packet of `len` zero bytes in free blocks. Returns `None` and takes no block if too few blocks are
+    /// free or the length is above 10,240.
     pub fn packet(&mut self, len: u16) -> Option<Packet>
         ensures none { IsNone result ↔ ((10240 < len) ⊎ (free_count (arena_of self.old.rings) < bufs_for len)) }
         ensures made { IsFresh (arena_of self.old.rings) len result (arena_of self.new.rings) }
@@ -309,8 +311,8 @@ impl Pmd {
         }
     }
 
-    /// Creates a packet of these bytes in free blocks. Returns `None` and takes nothing if too few blocks are free or
-    /// there are more than 10,240 bytes.
+    /// Creates a packet of these bytes in free blocks. Returns `None` and takes no block if too few blocks are free or
+    /// `bytes` is longer than 10,240 bytes.
     pub fn packet_of(&mut self, bytes: &[u8]) -> Option<Packet>
         ensures none { IsNone result ↔ ((10240 < length bytes.now)
             ⊎ (free_count (arena_of self.old.rings) < bufs_for (length bytes.now))) }
@@ -331,9 +333,9 @@ impl Pmd {
         }
     }
 
-    /// Returns a packet's blocks to the arena. The packet itself is returned if one of its blocks can't be returned:
-    /// the arena doesn't own the block's number, the block is free there, it occurs twice in the packet, or this driver
-    /// has it out.
+    /// Returns a packet's blocks to the arena. If one of the blocks can't go back to the arena, the caller gets the
+    /// packet back instead. A block can't go back if the arena doesn't own its number, the block is already free, it
+    /// occurs twice in the packet, or this driver has it out.
     pub fn release(&mut self, packet: Packet) -> Result<(), Packet>
         ensures ok { IsOk result ↔ (goes_back_to self.old.rings packet ≡ true) }
         // The packet's blocks are free in the arena.
@@ -355,7 +357,7 @@ impl Pmd {
 
     /// Ends the driver: disables both sides of the queue and takes back all blocks that the driver has lent.
     ///
-    /// It fails for the same reasons as `Halted::stop`; the error then contains the driver, which is no longer running.
+    /// It fails for the same reasons as `Halted::stop`; the error contains the driver, which is no longer running.
     pub fn stop<N: Nic>(self, alloc: Global, nic: &mut N) -> Result<Home, StopRefused>
         ensures home { IfOk result (λ home.
             Stops self.queue (N.made nic.old) (halted_of self.rings) (N.made nic.new) home) }
@@ -384,7 +386,7 @@ impl Pmd {
     }
 }
 
-/// The rings while the driver stops.
+/// Returns the driver with these rings as one that isn't running.
 fn halt(rings: Rings) -> Halted
     ensures { result ≡ halted_of rings }
 {

@@ -11,20 +11,22 @@ use pmd_rx::ReceiveRing;
 use pmd_tx::TransmitRing;
 use std::alloc::Global;
 
-/// The receive half: its ring, or its blocks that are being returned, with the packets handed out.
+/// The receive half: its ring, or the closed ring's blocks that are being returned and the records of the packets
+/// handed out.
 pub(crate) enum Receiving {
     Ring(ReceiveRing),
     Leaves(Reclaim, Vec<Record>),
 }
 
-/// The transmit half: its ring, or its blocks that are being returned, with the packets accepted.
+/// The transmit half: its ring, or the closed ring's blocks that are being returned and the records of the packets
+/// accepted.
 pub(crate) enum Sending {
     Ring(TransmitRing),
     Leaves(Reclaim, Vec<Record>),
 }
 
 impl Receiving {
-    /// The packets handed out so far, oldest first.
+    /// Returns the records of the packets handed out so far, oldest first.
     pub(crate) fn handed(&self) -> &[Record]
         ensures { result.now ≡ handed_of self.now }
     {
@@ -45,7 +47,7 @@ impl Receiving {
         }
     }
 
-    /// Closes the ring, if it isn't closed yet. The blocks of a packet that it holds return to the arena.
+    /// Closes the ring, if it isn't closed yet. The blocks of packets that the ring keeps return to the arena.
     pub(crate) fn close(self, arena: &mut Arena) -> Result<(Reclaim, Vec<Record>), Receiving>
         requires { AreOut arena.old ((received_way self).lent ++ held_of self) }
         ensures way { IfOk result (λ ends. ends.0 ≡ received_way self) }
@@ -65,7 +67,7 @@ impl Receiving {
 }
 
 impl Sending {
-    /// The packets accepted so far, oldest first.
+    /// Returns the records of the packets accepted so far, oldest first.
     pub(crate) fn accepted(&self) -> &[Record]
         ensures { result.now ≡ accepted_of self.now }
     {
@@ -86,7 +88,7 @@ impl Sending {
         }
     }
 
-    /// Closes the ring, if it isn't closed yet. The waiting segments' blocks return to the arena.
+    /// Closes the ring, if it isn't closed yet. The blocks of waiting segments return to the arena.
     pub(crate) fn close(
         self,
         alloc: Global,

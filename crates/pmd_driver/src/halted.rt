@@ -29,8 +29,8 @@ use std::alloc::Global;
 use std::collections::VecDeque;
 use std::marker::Model;
 
-/// A driver that isn't running: its start failed with a block lent, or its stop has begun. It can't be dropped, because
-/// its arena can't; `stop` ends it.
+/// A driver that isn't running: its start failed with a block lent, or its stop has begun. A `Halted` can't be dropped,
+/// because its arena can't be; `stop` ends it.
 pub struct Halted {
     arena: Arena,
     receive: Receiving,
@@ -49,7 +49,7 @@ impl Model for Halted {
 }
 
 impl Halted {
-    /// Creates a driver from the two rings of one queue, with their blocks out of the arena. It allocates nothing.
+    /// Creates a driver from the two rings of one queue, whose blocks are out of the arena. It allocates nothing.
     pub fn of_rings(arena: Arena, receive: ReceiveRing, transmit: TransmitRing) -> Halted
         requires { AreOut arena (blocks_out receive ++ kept_out transmit) }
         ensures { result ≡ with_rings arena receive transmit }
@@ -62,8 +62,8 @@ impl Halted {
         }
     }
 
-    /// Creates a driver from a receive ring and some blocks lent for a transmit ring that doesn't exist yet. All of
-    /// their blocks are out of the arena. It allocates nothing.
+    /// Creates a driver from a receive ring and some blocks lent for a transmit ring that doesn't exist yet. The
+    /// receive ring's blocks and these blocks are out of the arena. It allocates nothing.
     pub fn of_receive(
         alloc: Global,
         arena: Arena,
@@ -81,7 +81,8 @@ impl Halted {
         }
     }
 
-    /// Creates a driver from some blocks lent for a receive ring and out of the arena. It allocates nothing.
+    /// Creates a driver from some blocks that were lent for a receive ring and are out of the arena. It allocates
+    /// nothing.
     pub fn of_blocks(alloc: Global, arena: Arena, lent: VecDeque<u32>) -> Halted
         requires { AreOut arena lent.items }
         ensures { result ≡ with_blocks arena lent.items }
@@ -94,21 +95,21 @@ impl Halted {
         }
     }
 
-    /// The packets handed out so far, oldest first.
+    /// Returns the records of the packets handed out so far, oldest first.
     pub fn handed(&self) -> &[Record]
         ensures { result.now ≡ self.now.handed }
     {
         self.receive.handed()
     }
 
-    /// The packets accepted so far, oldest first.
+    /// Returns the records of the packets accepted so far, oldest first.
     pub fn accepted(&self) -> &[Record]
         ensures { result.now ≡ self.now.accepted }
     {
         self.transmit.accepted()
     }
 
-    /// The number of free blocks in the driver's arena.
+    /// Returns the number of free blocks in the driver's arena.
     pub fn free_blocks(&self) -> u32
         ensures { result ≡ free_count self.now.arena }
     {
@@ -117,8 +118,8 @@ impl Halted {
 }
 
 impl Halted {
-    /// Creates a packet of `len` zero bytes in free blocks. Returns `None` and takes nothing if too few blocks are free
-    /// or the length is above 10,240.
+    /// Creates a packet of `len` zero bytes in free blocks. Returns `None` and takes no block if too few blocks are
+    /// free or the length is above 10,240.
     pub fn packet(&mut self, len: u16) -> Option<Packet>
         ensures none { IsNone result ↔ ((10240 < len) ⊎ (free_count self.old.arena < bufs_for len)) }
         ensures made { IsFresh self.old.arena len result self.new.arena }
@@ -153,9 +154,9 @@ impl Halted {
         are_out(&self.arena, &packet.bufs) && !self.has_one(&packet.bufs)
     }
 
-    /// Returns a packet's blocks to the arena. The packet itself is returned if one of its blocks can't be returned:
-    /// the arena doesn't own the block's number, the block is free there, it occurs twice in the packet, or this driver
-    /// has it out.
+    /// Returns a packet's blocks to the arena. If one of the blocks can't go back to the arena, the caller gets the
+    /// packet back instead. A block can't go back if the arena doesn't own its number, the block is already free, it
+    /// occurs twice in the packet, or this driver has it out.
     pub fn release(&mut self, packet: Packet) -> Result<(), Packet>
         ensures ok { IsOk result ↔ (goes_back self.old packet ≡ true) }
         ensures released { OnOk result
@@ -178,19 +179,19 @@ impl Halted {
     /// Stops the driver: closes the rings, disables both sides of the queue, and returns all blocks to the arena.
     ///
     /// `Call(OutOfMemory)` before any event if there is no memory to close a ring. After that, `StartTimeout` if a side
-    /// isn't disabled within the permitted polls, `DeviceFault` if the port has no such register, and `Call` if a call
-    /// was refused. The error contains the driver in its current state, and you can try again: the next call writes
-    /// "off", polls again, and continues with the blocks that are still out. A block that the device no longer has is
-    /// lost.
+    /// isn't disabled within the permitted polls, `DeviceFault` if the port doesn't have a register that `stop`
+    /// accesses, and `Call` if a call was refused. The error contains the driver in its current state, and you can call
+    /// `stop` again. That call writes "off", polls again, and continues with the blocks that are still out. A block
+    /// that the device no longer has is lost.
     pub fn stop<N: Nic>(self, alloc: Global, nic: &mut N, queue: &Queue) -> Result<Home, StopFailed>
         // Apart from device steps in between, it makes only these calls: it requests that both sides be disabled, polls
-        // both, with fewer than 1,000 polls that show a side on, and takes each block back.
+        // both sides, with fewer than 1,000 polls that show a side on, and takes each block back.
         ensures home { IfOk result (λ home. Stops queue.now (N.made nic.old) self (N.made nic.new) home) }
         // The arena owns the same numbers as before.
         ensures owns { IfOk result (λ home. (n : ℕ) → is_own home.arena n ≡ is_own self.arena n) }
         // If no block is lost, the free numbers are those that were free before and those that the driver had out. If a
-        // block is lost, clause `home` determines them: each number is unchanged, except that the numbers in hand and
-        // the numbers of blocks that the device returned are free.
+        // block is lost, clause `home` determines the free numbers. Each number is free or not as before, except that
+        // the numbers in hand and the numbers of blocks that the device returned are free.
         ensures free { IfOk result (λ home. home.lost ≡ 0
             → (n : ℕ) → is_free home.arena n ≡ is_free_or_out self.arena (all_out self) n) }
         ensures failed { IfErr result (λ failed.
@@ -208,7 +209,7 @@ impl Halted {
         }
     }
 
-    /// Closes the rings. If there is no memory, one of them may already be closed.
+    /// Closes the rings. If memory runs out, one of the rings may already be closed.
     fn close(self, alloc: Global) -> Result<Leaving, Halted>
         ensures closed { IfOk result (λ leaving. leaving_as leaving ≡ closed self) }
         ensures out { IsHalted self }
@@ -243,7 +244,7 @@ impl Halted {
         }
     }
 
-    /// A driver with closed rings.
+    /// Creates a driver from the parts of a driver with closed rings.
     pub(crate) fn of_leaving(leaving: Leaving) -> Halted
         requires { IsHalted (leaving_as leaving) }
         ensures { result ≡ leaving_as leaving }

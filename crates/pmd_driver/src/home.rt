@@ -9,13 +9,13 @@ pub struct Home {
     pub arena: Arena,
     /// The number of blocks that the device no longer had when the driver tried to take them back.
     pub lost: u32,
-    /// The packets that the driver handed out, oldest first.
+    /// The records of the packets that the driver handed out, oldest first.
     pub handed: Vec<Record>,
-    /// The packets that the driver accepted, oldest first.
+    /// The records of the packets that the driver accepted, oldest first.
     pub accepted: Vec<Record>,
 }
 
-/// A failed stop: the reason, and the driver at that point. You can try again.
+/// A failed stop: the reason, and the driver at that point. You can try to stop the driver again.
 pub struct StopFailed {
     /// Why the stop failed.
     pub fault: PmdFault,

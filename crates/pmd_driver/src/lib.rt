@@ -1,13 +1,15 @@
 //! The poll-mode driver of one queue, built from its two halves.
 //!
-//! `running.rt` contains a driver whose two rings are up: what it receives and sends, and where each block is.
+//! `running.rt` contains a driver whose two rings are up: it receives and sends packets and tracks where each block is.
 //! `bursts.rt` sends several packets in one call, `bytes.rt` creates packets from given bytes, and `arriving.rt`
 //! delivers a frame from the link. `rings.rt` contains the steps that bring the rings up; `start.rt` finds the blocks
-//! for them and runs these steps in order. `driver.rt` is the driver as a whole, `Pmd`: started, running, and stopped.
+//! for the rings and runs these steps in order. `driver.rt` contains the whole driver, `Pmd`, from its start to its
+//! stop.
 //!
 //! `Halted` is a driver whose start failed with a block lent, or whose stop has begun. `Halted::stop` disables both
-//! sides of its queue and takes its blocks back; you can call it again. `ends.rt` contains its two halves, each of them
-//! a ring or blocks that are being returned. `stopping.rt` contains what follows when both rings are closed.
+//! sides of its queue and takes its blocks back; if a stop fails, you can call it again. `ends.rt` contains the two
+//! halves of a `Halted`: each half is a ring, or blocks that are being returned. `stopping.rt` contains the steps after
+//! both rings are closed.
 #![tactic(auto)]
 
 mod arriving;

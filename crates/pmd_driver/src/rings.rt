@@ -1,5 +1,5 @@
-//! Brings up the rings of a driver, one function for each step. If a step fails, only the blocks that it lent are out
-//! of the arena.
+//! Brings up a driver's rings, with one function for each step. If a step fails, only the blocks that this step lent
+//! are out of the arena.
 
 ghost use Rattle.std.specs.Prelude.{◌≡◌, ◌≤◌, ◌+◌, [], true};
 ghost use Rattle.std.specs.List.{range_with_len};
@@ -52,8 +52,8 @@ fn lend_one<N: Nic>(
     }
 }
 
-/// Lends the `count` blocks starting at `first`, which are free in the arena, in order. It records the numbers of those
-/// lent, for which there is room.
+/// Lends `count` blocks in order, starting at block `first`; all of them are free in the arena. Appends the numbers of
+/// the lent blocks to `lent`, which has room for them.
 fn lend_run<N: Nic>(
     alloc: Global,
     nic: &mut N,
@@ -171,7 +171,7 @@ pub(crate) fn transmit_ring<N: Nic>(
     }
 }
 
-/// Enables both sides and fills the receive ring. Enough blocks must be free.
+/// Enables both sides and fills the receive ring. Enough blocks must be free to fill it.
 pub(crate) fn go_on<N: Nic>(
     alloc: Global,
     nic: &mut N,

@@ -28,9 +28,9 @@ use std::alloc::Global;
 use std::collections::VecDeque;
 use std::marker::Model;
 
-/// A driver with both rings up: the arena of its blocks, and the rings. After any call, each block is in at most one
-/// place: free in the arena, or with a ring. In the receive ring, one slot is vacant, and the slots of held and
-/// complete packets aren't posted; all other slots are.
+/// A driver with both rings up: the arena that owns its blocks, and the rings. After any call, no block is both free in
+/// the arena and with a ring, or with a ring twice. In the receive ring, one slot is vacant, and the slots of held and
+/// complete packets aren't posted; all other slots are posted.
 pub struct Running {
     arena: Arena,
     receive: ReceiveRing,
@@ -48,9 +48,9 @@ impl Model for Running {
 }
 
 impl Running {
-    /// Creates a driver from two rings that are up and have their blocks out of the arena. In the receive ring, one
-    /// slot is vacant, and the slots of held and complete packets aren't posted; all other slots are. The transmit ring
-    /// has at least one slot.
+    /// Creates a driver from two rings that are up and whose blocks are out of the arena. In the receive ring, one slot
+    /// is vacant, and the slots of held and complete packets aren't posted; all other slots are posted. The transmit
+    /// ring has at least one slot.
     pub fn new(arena: Arena, receive: ReceiveRing, transmit: TransmitRing) -> Running
         requires { IsUp (record { arena = arena; receive = receive; transmit = transmit }) }
         ensures { result ≡ record { arena = arena; receive = receive; transmit = transmit } }
@@ -79,37 +79,37 @@ impl Running {
         (arena, receive, transmit)
     }
 
-    /// The packets handed out so far, oldest first.
+    /// Returns the records of the packets handed out so far, oldest first.
     pub fn handed(&self) -> &[Record]
         ensures { result.now ≡ self.now.receive.handed }
     {
         self.receive.handed()
     }
 
-    /// The packets accepted so far, oldest first.
+    /// Returns the records of the packets accepted so far, oldest first.
     pub fn accepted(&self) -> &[Record]
         ensures { result.now ≡ self.now.transmit.accepted }
     {
         self.transmit.accepted()
     }
 
-    /// The number of free blocks in the driver's arena.
+    /// Returns the number of free blocks in the driver's arena.
     pub fn free_blocks(&self) -> u32
         ensures { result ≡ free_count self.now.arena }
     {
         self.arena.free_blocks()
     }
 
-    /// The number of transmit descriptors that can still be filled.
+    /// Returns the number of transmit descriptors that can still be filled.
     pub fn vacant(&self) -> u16
         ensures vacant { result ≡ vacant_in self.now.transmit }
-        // 0 to 1,023.
+        // The number is from 0 to 1,023.
         ensures few { result < 1024 }
     {
         self.transmit.vacant()
     }
 
-    /// The number of packets accepted but not yet reaped.
+    /// Returns the number of packets accepted but not yet reaped.
     pub fn outstanding(&self) -> u16
         ensures { result ≡ packets_in self.now.transmit.outstanding }
     {
@@ -122,7 +122,7 @@ impl Running {
     ///
     /// `NoBuffer` if a packet is waiting and too few blocks are free for it; `DeviceFault` if a reply is one that a
     /// healthy queue never sends; `Call` if a call was refused, or if there was no memory for the packet's record. The
-    /// driver keeps its place, and the next call continues.
+    /// driver keeps its position, and the next call continues from there.
     pub fn rx<N: Nic>(&mut self, alloc: Global, nic: &mut N) -> Result<Option<Packet>, PmdFault>
         ensures drives { DrivesRings (N.made nic.old) self.old (N.made nic.new) self.new }
         ensures received { IsReceiveCall result (N.made nic.old) self.old (N.made nic.new) self.new }
@@ -135,12 +135,13 @@ impl Running {
         self.receive.receive(alloc, nic, &mut self.arena)
     }
 
-    /// Receives up to `most` packets, the next ones in order. Appends them to `packets` after the tail has passed the
-    /// blocks that replace theirs. Returns the number of packets received; it is 0 only if `most` is 0 or the slot
-    /// after those already seen isn't done. It isn't promised how many packets, from 1 to `most`, it returns.
+    /// Receives the next packets in order, up to `most`. Appends them to `packets` after the tail has passed the blocks
+    /// that replace the packets' blocks. Returns the number of packets received, which is 0 only if `most` is 0 or the
+    /// slot after those already seen isn't done. The contract doesn't promise how many packets, from 1 to `most`, the
+    /// call returns.
     ///
     /// It fails for the same reasons as `rx`, and only if it returns no packet; the next call continues from there. It
-    /// also returns `Call` if there is no memory for the packets.
+    /// also returns `Call` if there is no memory to append the packets.
     pub fn rx_burst<N: Nic>(
         &mut self,
         alloc: Global,
@@ -163,17 +164,17 @@ impl Running {
             .receive_burst(alloc, nic, &mut self.arena, most, packets)
     }
 
-    /// Sends a packet, zero-padded to 60 bytes if it is shorter, with one descriptor for each Buf that contains bytes
-    /// of it.
+    /// Sends a packet, zero-padded to 60 bytes if it is shorter. It fills one descriptor for each `Buf` that contains
+    /// bytes of the packet.
     ///
-    /// It checks the packet before any event. `BadSize` if its length is 0, above the frame limit less 4, or above the
-    /// capacity of its Bufs; `ForeignBlock` if `release` would return it; `RingFull` if the outstanding descriptors and
-    /// the packet's together would take more than all but one of the ring's slots.
+    /// It checks the packet before any event. `BadSize` if the packet's length is 0, above the frame limit less 4, or
+    /// above the capacity of its Bufs; `ForeignBlock` if `release` would return the packet; `RingFull` if the
+    /// outstanding descriptors and the packet's descriptors together would leave no slot of the ring vacant.
     ///
     /// After that, `DeviceFault` if the device sends a reply that a healthy queue can't send; `Call` if a call was
-    /// refused, or if there was no memory for the record. If none of its blocks was lent yet, the packet is returned;
-    /// after `DeviceFault`, its blocks have the same numbers. Otherwise it is accepted, and the next call continues
-    /// with it.
+    /// refused, or if there was no memory for the record. If none of the packet's blocks was lent yet, the packet is
+    /// returned; after `DeviceFault`, its blocks have the same numbers. Otherwise the packet is accepted, and the next
+    /// call continues with it.
     pub fn tx<N: Nic>(
         &mut self,
         alloc: Global,
@@ -194,8 +195,8 @@ impl Running {
     }
 
     /// Frees the blocks of sent packets, oldest first. It first continues with a packet that has waited since an
-    /// earlier call. Its clauses promise that, if it returns without a fault, the tail has passed both the freed
-    /// packets and the oldest remaining one.
+    /// earlier call. If `reap` returns without a fault, its clauses promise that the tail has passed both the freed
+    /// packets and the oldest remaining packet.
     ///
     /// `DeviceFault` if the device sends a reply that a healthy queue can't send, `Call` if a call was refused. Blocks
     /// already freed stay free.
@@ -228,8 +229,8 @@ impl Running {
             .queue(alloc, nic, &mut self.arena, elsewhere, packet)
     }
 
-    /// Advances the tail past all accepted packets, unless it is already there. Before that, it finishes the last
-    /// packet if a part of it is waiting.
+    /// Advances the tail past all accepted packets, unless the tail is already there. Before that, it finishes the last
+    /// packet if a part of this packet is waiting.
     ///
     /// `DeviceFault` if the device sends a reply that a healthy queue can't send, `Call` if a call was refused; the
     /// next call continues.
@@ -243,8 +244,8 @@ impl Running {
 }
 
 impl Running {
-    /// Creates a packet of `len` zero bytes in free blocks. Returns `None` and takes nothing if too few blocks are free
-    /// or the length is above 10,240.
+    /// Creates a packet of `len` zero bytes in free blocks. Returns `None` and takes no block if too few blocks are
+    /// free or the length is above 10,240.
     pub fn packet(&mut self, len: u16) -> Option<Packet>
         ensures none { IsNone result ↔ ((10240 < len) ⊎ (free_count self.old.arena < bufs_for len)) }
         ensures made { IsFresh self.old.arena len result self.new.arena }
@@ -275,9 +276,9 @@ impl Running {
         self.transmit.goes_home(&self.arena, packet) && !self.receives(&packet.bufs)
     }
 
-    /// Returns a packet's blocks to the arena. The packet itself is returned if one of its blocks can't be returned:
-    /// the arena doesn't own the block's number, the block is free there, it occurs twice in the packet, or this driver
-    /// has it out.
+    /// Returns a packet's blocks to the arena. If one of the blocks can't go back to the arena, the caller gets the
+    /// packet back instead. A block can't go back if the arena doesn't own its number, the block is already free, it
+    /// occurs twice in the packet, or this driver has it out.
     pub fn release(&mut self, packet: Packet) -> Result<(), Packet>
         ensures ok { IsOk result ↔ (goes_back self.old packet ≡ true) }
         ensures released { OnOk result (IsReleased self.old packet self.new) }

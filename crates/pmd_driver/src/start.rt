@@ -32,13 +32,13 @@ use std::alloc::Global;
 pub enum Rest {
     /// The arena, with none of its blocks lent.
     Home(Home),
-    /// A driver that isn't running, with the blocks it lent. `stop` returns them to the arena.
+    /// A driver that isn't running, with the blocks that it lent. `stop` returns these blocks to the arena.
     Running(Pmd),
 }
 
-/// A refused start.
+/// A start that was refused.
 pub struct StartRefused {
-    /// Why it was refused.
+    /// Why the start was refused.
     pub fault: PmdFault,
     /// What you must close or stop: an arena, or a driver that isn't running.
     pub rest: Rest,
@@ -51,14 +51,15 @@ fn is_size(size: u16) -> bool
     8 <= size && size <= 1024 && size % 8 == 0
 }
 
-/// Where a start places its rings: the first block of each.
+/// Where a start places its rings: the first block of each ring.
 #[derive(Clone, Copy)]
 struct Places {
     receive: u32,
     transmit: u32,
 }
 
-/// Finds the two lowest runs of free blocks that fit one ring each, if enough blocks are free.
+/// Finds the two lowest runs of free blocks, each long enough for one ring. Returns `None` if there are no two such
+/// runs or too few blocks are free.
 fn find_places(arena: &Arena, size: u16) -> Option<Places>
     requires { (8 ≤ size) × (size ≤ 1024) }
     ensures some { IsSome result ↔ (has_room arena.now size ≡ true) }
@@ -74,7 +75,7 @@ fn find_places(arena: &Arena, size: u16) -> Option<Places>
     Some(Places { receive, transmit })
 }
 
-/// Returns the queue and the places of its rings, unless the start is refused before any event.
+/// Returns the queue and the first blocks of its rings, unless the start is refused before any event.
 fn named(
     arena: &Arena,
     port: Port,
@@ -100,7 +101,7 @@ fn named(
     }
 }
 
-/// A refusal with nothing lent.
+/// Returns the refusal of a start that lent no block; it contains the arena.
 fn at_home(alloc: Global, fault: PmdFault, arena: Arena) -> StartRefused
     ensures fault { result.fault ≡ fault }
     ensures rest { IsHome arena result.rest }
@@ -116,7 +117,7 @@ fn at_home(alloc: Global, fault: PmdFault, arena: Arena) -> StartRefused
     }
 }
 
-/// A refusal that leaves a driver with the blocks it lent.
+/// Returns the refusal of a start that lent blocks; it contains a driver with these blocks.
 fn half_started(fault: PmdFault, queue: Queue, halted: Halted) -> StartRefused
     ensures { result ≡ record {
       fault = fault;
@@ -129,7 +130,8 @@ fn half_started(fault: PmdFault, queue: Queue, halted: Halted) -> StartRefused
     }
 }
 
-/// A refusal while preparing the receive ring. Those of the ring's blocks that are already lent are out of the arena.
+/// Returns the refusal of a start that failed while preparing the receive ring. The ring's blocks that are already lent
+/// are out of the arena.
 fn left_before_one(
     alloc: Global,
     queue: Queue,
@@ -147,8 +149,8 @@ fn left_before_one(
     half_started(fault, queue, Halted::of_blocks(alloc, arena, lent))
 }
 
-/// A refusal while preparing the transmit ring. The receive ring's blocks are out of the arena, and so are those of the
-/// transmit ring's blocks that are already lent.
+/// Returns the refusal of a start that failed while preparing the transmit ring. The receive ring's blocks are out of
+/// the arena, and so are the transmit ring's blocks that are already lent.
 fn left_after_one(
     alloc: Global,
     queue: Queue,
@@ -226,15 +228,16 @@ fn bring_up<N: Nic>(
 }
 
 impl Pmd {
-    /// Starts the driver of a queue that is off, with `size` descriptors for each ring: a multiple of 8 from 8 to
-    /// 1,024. Each ring takes a run of blocks of the arena, one for every 128 descriptors, and `size` - 1 blocks are
-    /// posted for incoming frames. A frame is at most `frame` bytes long with its frame check sequence: 1,518 to 9,728.
+    /// Starts the driver of a queue that is off. Each ring has `size` descriptors: a multiple of 8 from 8 to 1,024.
+    /// Each ring takes a run of blocks from the arena, one block for every 128 descriptors, and `size` - 1 blocks are
+    /// posted for incoming frames. A frame is at most `frame` bytes long, including its frame check sequence; `frame`
+    /// is from 1,518 to 9,728.
     ///
-    /// It fails before any event, in this order: `BadSize` if the size or the frame length is out of range; `NoBuffer`
-    /// if too few blocks are free, or no two such runs are free; `DeviceFault` if the port can't address the queue.
-    /// After that, `DeviceFault` if a side of the queue is on, or if the device sends a reply that a healthy queue
-    /// can't send; `StartTimeout` if 1,000 polls show a side off; `Call` if a call was refused. If a block was already
-    /// lent, the error contains the half-started driver.
+    /// Before any event, it checks in this order and fails with `BadSize` if the size or the frame length is out of
+    /// range; `NoBuffer` if too few blocks are free, or no two such runs are free; `DeviceFault` if the port can't
+    /// address the queue. After that, `DeviceFault` if a side of the queue is on, or if the device sends a reply that a
+    /// healthy queue can't send; `StartTimeout` if 1,000 polls show a side off; `Call` if a call was refused. If a
+    /// block was already lent, the error contains the half-started driver.
     pub fn start<N: Nic>(
         alloc: Global,
         nic: &mut N,
@@ -246,10 +249,11 @@ impl Pmd {
     ) -> Result<Pmd, StartRefused>
         ensures shut { IsShut (start_gate arena (record { port = port; queue = queue }) size frame) arena
             (N.made nic.old) (N.made nic.new) result }
-        // Before it lent any block, the driver read that both sides are off, wrote "off", and read this again. It wrote
-        // the registers of one ring and lent the ring's free, consecutive blocks in order; then it did the same for the
-        // other ring. It requested that both sides be enabled, polled both, with fewer than 1,000 polls that showed a
-        // side off, and filled the receive ring. Apart from device steps in between, it made no other calls.
+        // Before it lent any block, the driver read that both sides are off, wrote "off", and read again that they are
+        // off. It wrote the registers of one ring and lent the ring's free, consecutive blocks in order; then it did
+        // the same for the other ring. It requested that both sides be enabled, polled both sides, with fewer than
+        // 1,000 polls that showed a side off, and filled the receive ring. Apart from device steps in between, it made
+        // no other calls.
         ensures started { IfOk result (λ p. HasStarted (record { port = port; queue = queue }) size frame
             (N.made nic.old) arena (N.made nic.new) p) }
         ensures stops { IfErr result (λ e. start_gate arena (record { port = port; queue = queue }) size frame ≡ None

@@ -1,4 +1,4 @@
-//! A driver whose rings are closed, returning its blocks.
+//! A driver whose rings are closed and whose blocks are being returned.
 
 ghost use Rattle.std.specs.Prelude.{◌++◌, IfOk, IfErr, OnOk, OnErr};
 ghost use Rattle.pmd_access.specs.Home.{AreOut, BringsAll, StopsBringing};

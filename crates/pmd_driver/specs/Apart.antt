@@ -1,4 +1,4 @@
--- What the halves of a driver lend: only blocks of its own numbers, and none that the other half has lent.
+-- What a driver's two halves lend: only blocks with the driver's own numbers, and none that the other half has lent.
 use Rattle.std.specs.Prelude.{ℕ, ◌≡◌, Bool, IsTrue, IsFalse, ⊤, List, [], ◌∷◌}
 use Rattle.pmd_access.specs.NicDevice.DmaArena.Block.{Block}
 use Rattle.pmd_access.specs.NicDevice.DmaArena.Numbers.{Numbers, is_own}
@@ -18,7 +18,8 @@ use Rattle.pmd_tx.specs.Sending.{Elsewhere}
 use Rattle.pmd_driver.specs.Halves.{Halves, Doer, Receives, Sends, Drives, OwnCall, after_call, halves_of}
 use Rattle.pmd_driver.specs.Running.{Running}
 
--- A half may lend a block with one of these numbers that the other half hasn't lent. Nobody else lends any of them.
+-- A half may lend a block if its number is one of these and the other half hasn't lent it. Nobody else lends a block
+-- with one of these numbers.
 abbrev pub MayLend : Blocks → Halves → Doer → ℕ → Type 0
 MayLend own h Receives n = IsTrue (own n) × IsFalse (sending.has_lent h.transmit n)
 MayLend own h (Sends Elsewhere) n = IsFalse (own n)
@@ -29,7 +30,7 @@ abbrev pub LendsApart : Blocks → Halves → Doer → Event Block → Type 0
 LendsApart own h d (event.Lend block) = MayLend own h d block.number
 LendsApart own h d other = ⊤
 
--- This holds for each of these calls.
+-- `LendsApart` holds for each of these calls.
 abbrev pub AllLendApart : Blocks → Halves → List Doer → List Call → Type 0
 AllLendApart own h [] calls = ⊤
 AllLendApart own h (d ∷ doers) [] = ⊤

@@ -11,12 +11,12 @@ use Rattle.pmd_access.specs.declared.fault.PmdFault.TheVariants as fault
 use Rattle.pmd_driver.specs.declared.arriving.Arrived.{Arrived}
 use Rattle.pmd_driver.specs.declared.arriving.Arrived.TheVariants.{Taken, Dropped}
 
--- The reply that reports the outcome for a frame.
+-- The reply that reports what the device did with a frame.
 abbrev pub reply_of : Arrived → Reply Block
 reply_of Taken = reply.Done
 reply_of (Dropped why) = reply.Dropped why
 
--- After some device steps, a frame with these bytes arrived, with this outcome.
+-- After some device steps, a frame with these bytes arrived, and the device did with it what `arrived` says.
 abbrev pub Arrives : List Call → List Call → List ℕ → Arrived → Type 0
 Arrives old new frame arrived = Adds old new (event.Arrive frame) (reply_of arrived)
 

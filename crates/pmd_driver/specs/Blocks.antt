@@ -1,4 +1,4 @@
--- The blocks of a driver: none appears from nowhere, and none is lost.
+-- A driver's blocks: no block is created, and no block is lost.
 use Rattle.std.specs.Prelude.{◌≡◌, ℕ, ◌+◌, List, [], ◌++◌, if◌then◌else◌}
 use Rattle.pmd_access.specs.NicDevice.DmaArena.Numbers.{Numbers, is_own, is_free}
 use Rattle.pmd_access.specs.NicDevice.DmaArena.Whereabouts.{times_in_hand}
@@ -9,27 +9,29 @@ use Rattle.pmd_driver.specs.declared.driver.Rings.{Rings}
 use Rattle.pmd_driver.specs.declared.start.Rest.{Rest}
 use Rattle.pmd_driver.specs.declared.start.Rest.TheVariants as rest
 
--- The arena owns the same numbers as before, and each number is free in it or out of it as often as before.
+-- The arena owns the same numbers as before. Each number occurs as often as before among the arena's free blocks and
+-- the blocks that are out, taken together.
 pub record KeepsEach (a : Numbers) (out : List ℕ) (b : Numbers) (new : List ℕ) : Type 0 where
   pub owns : (n : ℕ) → is_own b n ≡ is_own a n
   pub each : (n : ℕ)
       → (if is_free b n then 1 else 0) + times_in_hand new n ≡ (if is_free a n then 1 else 0) + times_in_hand out n
 
--- A call to two rings that are up: each block is free in the arena, out, or in hand as often as before. The blocks
--- `given` were in hand before the call, and the blocks `back` are in hand after it.
+-- A call to a driver with both rings up: each block occurs as often as before among the free blocks, the blocks that
+-- are out, and the blocks in hand, taken together. The blocks `given` were in hand before the call, and the blocks
+-- `back` are in hand after it.
 abbrev pub KeepsUp : Running → List ℕ → Running → List ℕ → Type 0
 KeepsUp r given s back = KeepsEach r.arena (rings_out r ++ given) s.arena (rings_out s ++ back)
 
--- A call to a driver, running or not: each of its blocks is free in its arena, out with its rings, or in hand as often
--- as before. A block of a packet passed to the call was in hand before; a block of a packet that the call hands out or
--- returns is in hand after it.
+-- A call to a driver, running or not: each of its blocks occurs as often as before among the free blocks in its arena,
+-- the blocks out with its rings, and the blocks in hand, taken together. A block of a packet passed to the call was in
+-- hand before; a block of a packet that the call hands out or returns is in hand after it.
 abbrev pub KeepsBlocks : Rings → List ℕ → Rings → List ℕ → Type 0
 KeepsBlocks old given new back =
     KeepsEach (halted_of old).arena (all_out (halted_of old) ++ given) (halted_of new).arena
     (all_out (halted_of new) ++ back)
 
--- The blocks that are free, out with the driver, or in hand are exactly those that were free in the arena that it was
--- given.
+-- The blocks that are free, out with the driver, or in hand are exactly those that were free in the arena that the
+-- driver was given.
 abbrev pub HasAll : Numbers → Halted → List ℕ → Type 0
 HasAll a h hand = KeepsEach a [] h.arena (all_out h ++ hand)
 

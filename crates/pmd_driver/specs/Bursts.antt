@@ -1,5 +1,5 @@
--- The answer and the resulting state of a running driver that receives or sends several packets in one call. The effect
--- is the same as with one call for each packet, but with one tail write for all.
+-- The result and the new state of a running driver that receives or sends several packets in one call. The effect is
+-- the same as with one call for each packet, but with one tail write for all packets.
 use Rattle.std.specs.Prelude.{ℕ, ◌≡◌, ◌⊎◌, ◌-◌, ◌<◌, ◌≤◌, ◌++◌, ◌∷◌, [], ⊤, false, length, drop, map, List, Option, Some, None, Result, Ok, Err, IfOk, IfErr, IfSome, OnErr}
 use Rattle.pmd_access.specs.NicDevice.DmaArena.Block.{Block}
 use Rattle.pmd_access.specs.NicDevice.DmaArena.Numbers.{Numbers, is_own}
@@ -28,7 +28,7 @@ use Rattle.pmd_driver.specs.DriverCalls.{IsReapCall}
 use Rattle.pmd_driver.specs.Halves.{Halves, Sends, halves_of}
 use Rattle.pmd_driver.specs.Running.{Running, receives}
 
--- The driver was to hand out at most `most` packets. It appends those that it hands out to a list.
+-- A call that hands out at most `most` packets and appends them to a list.
 pub record IsReceiveBurst (most : ℕ) (before after : List Packet) (result : Result ℕ PmdFault) (old : List Call)
     (r : Running) (new : List Call) (s : Running) : Type 0 where
   pub packets : List Packet
@@ -37,18 +37,18 @@ pub record IsReceiveBurst (most : ℕ) (before after : List Packet) (result : Re
   pub count : IfOk result (λ n. n ≡ length packets)
   pub few : length packets ≤ most
   pub err : OnErr result (packets ≡ [])
-  -- They are the newest packets that it has handed out.
+  -- These packets are the newest that the driver has handed out.
   pub handed : s.receive.handed ≡ r.receive.handed ++ records_of packets
-  -- If it hands out none although `most` isn't 0, it looked at the slots of a packet and found one that isn't done.
+  -- If it hands out none although `most` isn't 0, it looked at a packet's slots and found a slot that isn't done.
   pub none : result ≡ Ok 0 → 0 < most → LooksInVain old r.receive new s.receive
-  -- The fault belongs to its receive half. After a refused call, the event is one that this half may make next.
+  -- The receive half met the fault. After a refused call, the refused event is one that this half may cause next.
   pub fails : IfErr result (λ f. FailsBy f old r.arena r.receive new s.arena s.receive)
   -- After `DeviceFault`, each call is made by one of the halves or is a device step. The last call got a reply that a
   -- healthy queue never sends.
   pub finds : IfErr result (λ f. FindsBy f (is_own r.arena) old (halves_of r) new)
   -- After `NoBuffer`, a packet is waiting for free blocks.
   pub waits : result ≡ Err fault.NoBuffer → PacketWaits s.receive.stage
-  -- The receive half keeps its blocks, except those of the packets it hands out.
+  -- The receive half keeps its blocks, except those of the packets that it hands out.
   pub keeps : Keeps r.arena r.receive s.arena s.receive (numbers_of_all packets)
   -- The transmit half is unchanged.
   pub transmit : s.transmit ≡ r.transmit
@@ -57,8 +57,8 @@ pub record IsReceiveBurst (most : ℕ) (before after : List Packet) (result : Re
 abbrev pub vacant_in : Sender → ℕ
 vacant_in v = v.layout.size - 1 - length v.outstanding
 
--- The answers that the driver may give for a packet, according to its check; and whether the packet is refused or finds
--- a full ring, before any event.
+-- `MayAnswer`: a result that the driver may return for a packet, according to the check of the packet. `IsKeptOut`:
+-- before any event, the packet is refused or the ring is too full for it.
 
 abbrev pub MayAnswer : Running → Packet → Result TxAnswer TxFault → Type 0
 MayAnswer r p answer = IsAnswer (gate_of r.transmit r.arena (receives r p) p) p answer
@@ -71,7 +71,7 @@ abbrev pub segments_in : List Packet → List Segment
 segments_in [] = []
 segments_in (p ∷ ps) = segments_of (outgoing_of p) ++ segments_in ps
 
--- The arena after the blocks that contain no bytes of these accepted packets have returned, in order.
+-- The arena after the blocks that contain no bytes of these accepted packets were returned to it, in order.
 abbrev pub with_rests : Numbers → List Packet → Numbers
 with_rests a [] = a
 with_rests a (p ∷ ps) = with_rests (with_all_free a (drop (parts_for p.len) (numbers_of p.bufs))) ps
@@ -85,7 +85,7 @@ pub record Accepts (gone : List Packet) (r s : Running) : Type 0 where
   pub receive : s.receive ≡ r.receive
 
 -- Each call is made by one of the halves or is a device step. After the calls, the refused event is a move that the
--- transmit half may make next. If it lends a block, this half may lend it.
+-- transmit half may make next. If this event lends a block, the transmit half may lend that block.
 pub record AsksApart (own : Blocks) (old : List Call) (h : Halves) (new : List Call) : Type 0 where
   pub there : Halves
   pub move : Move
@@ -95,20 +95,20 @@ pub record AsksApart (own : Blocks) (old : List Call) (h : Halves) (new : List C
   pub ours : is_elsewhere move ≡ false
   pub apart : LendsApart own there (Sends move) event
 
--- For `DeviceFault`, the calls end with one that got a reply that a healthy queue never sends. For a refused call, the
--- event is one that the transmit half may make after these calls. Other faults require nothing.
+-- For `DeviceFault`, the last call got a reply that a healthy queue never sends. For a refused call, the refused event
+-- is one that the transmit half may cause after these calls. Other faults require nothing.
 abbrev pub FailsDuring : PmdFault → Blocks → List Call → Halves → List Call → Type 0
 FailsDuring fault.DeviceFault own old h new = FindsFault own old h new
 FailsDuring (fault.Call refusal) own old h new = AsksApart own old h new
 FailsDuring f own old h new = ⊤
 
--- This holds for the calls up to some point.
+-- `FailsDuring` holds for the calls up to some point.
 abbrev pub FailedDuring : PmdFault → Blocks → List Call → Halves → List Call → Type 0
 FailedDuring f own old h new =
     (mid : List Call) × (later : List Call) × (new ≡ mid ++ later) × FailsDuring f own old h mid
 
--- The packets that weren't accepted remain. If a fault was met, the first of them may be in the form in which it is
--- returned after that fault.
+-- The packets that weren't accepted remain. If a fault occurred, the first remaining packet may differ from the one
+-- given as far as `IsBack` permits after this fault.
 abbrev pub AreLeft : Option PmdFault → List Packet → List Packet → Type 0
 AreLeft None waiting left = left ≡ waiting
 AreLeft (Some f) [] left = left ≡ []
@@ -120,23 +120,23 @@ abbrev pub IsRefusedFirst : PmdFault → Running → List Packet → Type 0
 IsRefusedFirst f s [] = ⊥
 IsRefusedFirst f s (p ∷ left) = IsKeptOut s p × MayAnswer s p (Err (record { fault = f; packet = Some p }))
 
--- Why no more packets were accepted: none is left, the ring has no room for the next one, the next one is refused
--- before any event, or a fault occurred during events.
+-- Why no more packets were accepted: no packet remains, the ring has no room for the next packet, the next packet is
+-- refused before any event, or a fault occurred during events.
 abbrev pub Stops : Option PmdFault → Running → List Packet → Type 0
 Stops None s [] = ⊤
 Stops None s (p ∷ left) =
     IsKeptOut s p × MayAnswer s p (Ok (RingFull p)) × IsFullWhereReported s.transmit p (Ok (RingFull p))
 Stops (Some f) s left = IsLate f ⊎ IsRefusedFirst f s left
 
--- The driver was given packets to send. It accepted the first ones, then advanced the tail past them and past the
--- packets that were waiting for this.
+-- A call that sends packets. The driver accepted the first packets, then advanced the tail past them and past earlier
+-- packets that the tail hadn't passed yet.
 pub record SendsBurst (given left : List Packet) (result : Result ℕ PmdFault) (old : List Call) (r : Running)
     (new : List Call) (s : Running) : Type 0 where
   pub gone : List Packet
   pub waiting : List Packet
   -- The fault met by the next packet or by the last accepted one, if any.
   pub met : Option PmdFault
-  -- The first packets, as many as reported, were accepted as the newest ones.
+  -- The first packets, as many as reported, were accepted and are now the newest accepted packets.
   pub given_are : given ≡ gone ++ waiting
   pub accepts : Accepts gone r s
   pub count : IfOk result (λ n. n ≡ length gone)
@@ -150,9 +150,9 @@ pub record SendsBurst (given left : List Packet) (result : Result ℕ PmdFault) 
   pub left_are : AreLeft met waiting left
   pub stops : Stops met s left
   pub during : IfSome met (λ f. FailedDuring f (is_own r.arena) old (halves_of r) new)
-  -- If no packet was accepted, the answer is the fault that the first one met.
+  -- If no packet was accepted, the result is the fault that the first packet met, if any.
   pub none : gone ≡ [] → IfSome met (λ f. result ≡ Err f)
-  -- The fault is that one, if no packet was accepted, or one that occurred during events.
+  -- A returned fault occurred during events, or no packet was accepted and the first packet met this fault.
   pub fails : IfErr result (λ f. IsLate f ⊎ ((gone ≡ []) × (met ≡ Some f)))
   pub faults : IfErr result (λ f. FailsDuring f (is_own r.arena) old (halves_of r) new)
   -- If the first packet is refused before any event, no call was made and nothing changed.
@@ -161,7 +161,7 @@ pub record SendsBurst (given left : List Packet) (result : Result ℕ PmdFault) 
   -- Without a fault, the tail has passed everything outstanding.
   pub settled : IfOk result (λ n. s.transmit.posted ≡ length s.transmit.outstanding)
 
--- If fewer than `vacant` slots are vacant, the blocks of sent packets were freed, unless a fault stopped it.
+-- If fewer than `vacant` slots were vacant, the blocks of sent packets were freed, unless a fault stopped this.
 pub record MakesRoom (vacant : ℕ) (failed : Option PmdFault) (old : List Call) (r : Running) (new : List Call)
     (s : Running) : Type 0 where
   pub room : vacant ≤ vacant_in r.transmit → (new ≡ old) × (s ≡ r) × (failed ≡ None)
@@ -174,17 +174,17 @@ abbrev pub SendsWith : Option PmdFault → List Packet → List Packet → Resul
 SendsWith None given left result old r new s = SendsBurst given left result old r new s
 SendsWith (Some f) given left result old r new s = (result ≡ Err f) × (left ≡ given) × (new ≡ old) × (s ≡ r)
 
--- The driver was given packets to send. If fewer than `vacant` slots are vacant, it first made room.
+-- A call that sends packets. If fewer than `vacant` slots were vacant, the driver first made room.
 pub record IsSendBurst (vacant : ℕ) (given left : List Packet) (result : Result ℕ PmdFault) (old : List Call)
     (r : Running) (new : List Call) (s : Running) : Type 0 where
-  -- `made` are the calls and `there` is the driver after room was made.
+  -- After room was made, `made` are all calls made so far and `there` is the driver's state.
   pub made : List Call
   pub there : Running
   pub failed : Option PmdFault
   pub room : MakesRoom vacant failed old r made there
   pub drives : DrivesRings old r made there
   pub sends : SendsWith failed given left result made there new s
-  -- The first packets, as many as reported, were accepted as the newest ones.
+  -- The first packets, as many as reported, were accepted and are now the newest accepted packets.
   pub gone : List Packet
   pub waiting : List Packet
   pub given_are : given ≡ gone ++ waiting

@@ -11,7 +11,7 @@ use Rattle.pmd_driver.specs.Running.{Running}
 use Rattle.pmd_driver.specs.declared.driver.Rings.{Rings}
 use Rattle.pmd_driver.specs.declared.driver.Rings.TheVariants.{Up, Down}
 
--- Its queue, and its rings: up, or being taken down.
+-- The driver's queue, and its rings, which are up or being taken down.
 pub record Driver : Type 0 where
   pub queue : AtPort
   pub rings : Rings
@@ -40,12 +40,12 @@ abbrev pub with_arena : Rings → Numbers → Rings
 with_arena (Up r) a = Up (record r { arena = a })
 with_arena (Down h) a = Down (record h { arena = a })
 
--- The rings while the driver stops.
+-- The driver with these rings as one that isn't running.
 abbrev pub halted_of : Rings → Halted
 halted_of (Up r) = with_rings r.arena r.receive r.transmit
 halted_of (Down h) = h
 
--- If the driver is running, it stays running, and the property holds of its rings before and after.
+-- If the driver is running, it stays running, and the property holds for its rings before and after.
 abbrev pub WhereUp : Rings → Rings → (Running → Running → Type 0) → Type 0
 WhereUp (Up r) (Up s) P = P r s
 WhereUp (Up r) (Down h) P = ⊥

@@ -1,5 +1,4 @@
--- The answer and the resulting state of each call of a running driver, given the calls made and the driver before and
--- after it.
+-- What each call to a running driver returns and changes, given the calls made and the driver before and after it.
 use Rattle.std.specs.Prelude.{ℕ, ◌≡◌, ◌↔◌, ◌++◌, ◌∷◌, [], false, length, List, Option, Result, Ok, Err, IfOk, IfErr, IfSome, IfNone, OnErr, IsTrue}
 use Rattle.pmd_access.specs.NicDevice.DmaArena.Numbers.{is_own}
 use Rattle.pmd_access.specs.DeviceLock.declared.entry.Call.{Call}
@@ -20,31 +19,32 @@ use Rattle.pmd_driver.specs.Apart.{FindsBy}
 use Rattle.pmd_driver.specs.Halves.{halves_of}
 use Rattle.pmd_driver.specs.Running.{Running, receives}
 
--- The driver was to hand out the next received packet.
+-- A call that receives the next packet.
 pub record IsReceiveCall (result : Result (Option Packet) PmdFault) (old : List Call) (r : Running) (new : List Call)
     (s : Running) : Type 0 where
-  -- A packet that it hands out is the newest of those that it has handed out.
+  -- If it hands out a packet, this packet is the newest that the driver has handed out.
   pub some : IfOk result (λ out. IfSome out (λ packet. s.receive.handed ≡ r.receive.handed ++ kept_of packet ∷ []))
-  -- If it hands out none, it looked at the slots of a packet and found one that isn't done.
+  -- If it hands out no packet, it looked at a packet's slots and found a slot that isn't done.
   pub none : IfOk result (λ out. IfNone out (LooksInVain old r.receive new s.receive))
-  -- If it returns a fault, it hands out nothing.
+  -- If it returns a fault, it hands out no packet.
   pub err : OnErr result (s.receive.handed ≡ r.receive.handed)
-  -- The fault belongs to its receive half. After a refused call, the event is one that this half may make next.
+  -- The receive half met the fault. After a refused call, the refused event is one that this half may cause next.
   pub fails : IfErr result (λ f. FailsBy f old r.arena r.receive new s.arena s.receive)
   -- After `DeviceFault`, each call is made by one of the halves or is a device step. The last call got a reply that a
   -- healthy queue never sends.
   pub finds : IfErr result (λ f. FindsBy f (is_own r.arena) old (halves_of r) new)
   -- After `NoBuffer`, a packet is waiting for free blocks.
   pub waits : result ≡ Err NoBuffer → PacketWaits s.receive.stage
-  -- The receive half keeps its blocks, except those of the packet it hands out.
+  -- The receive half keeps its blocks, except those of the packet that it hands out.
   pub keeps : Keeps r.arena r.receive s.arena s.receive (handed_blocks result)
   -- The transmit half is unchanged.
   pub transmit : s.transmit ≡ r.transmit
 
--- The driver was given a packet to send.
+-- A call that sends a packet.
 pub record IsSendCall (packet : Packet) (result : Result TxAnswer TxFault) (old : List Call) (r : Running)
     (new : List Call) (s : Running) : Type 0 where
-  -- The answer follows from the packet's check: the packet is refused, the ring is full, or the packet can be sent.
+  -- The result follows from the check of the packet: the packet is refused, the ring is full, or the packet can be
+  -- sent.
   pub answer : IsAnswer (gate_of r.transmit r.arena (receives r packet) packet) packet result
   -- If the ring is reported as full, it has no room for the packet.
   pub full : IsFullWhereReported r.transmit packet result
@@ -60,8 +60,8 @@ pub record IsSendCall (packet : Packet) (result : Result TxAnswer TxFault) (old 
   pub home : SendsHome (returned result) packet r.arena s.arena
   -- After `Taken`, the tail has passed all outstanding packets.
   pub settled : result ≡ Ok Taken → s.transmit.posted ≡ length s.transmit.outstanding
-  -- After a refused call, the event is one that the transmit half may make next. After `DeviceFault`, the last call was
-  -- one of that half and got a reply that a healthy queue never sends.
+  -- After a refused call, the refused event is one that the transmit half may cause next. After `DeviceFault`, the
+  -- transmit half made the last call, which got a reply that a healthy queue never sends.
   pub faults : IfErr result (λ failed. FaultsBy failed.fault (outgoing_of packet).blocks old r.transmit new)
   -- After `DeviceFault`, each call up to that last one is made by one of the halves or is a device step.
   pub finds : IfErr result (λ failed. FindsBy failed.fault (is_own r.arena) old (halves_of r) new)
@@ -70,18 +70,18 @@ pub record IsSendCall (packet : Packet) (result : Result TxAnswer TxFault) (old 
   -- The receive half is unchanged.
   pub receive : s.receive ≡ r.receive
 
--- The driver was to free the blocks of sent packets.
+-- A call that frees the blocks of sent packets.
 pub record IsReapCall (result : Result Reaped PmdFault) (old : List Call) (r : Running) (new : List Call)
     (s : Running) : Type 0 where
   -- It reports whether no packet is outstanding.
   pub idle : IfOk result (λ done. IsTrue done.idle ↔ (s.transmit.outstanding ≡ []))
-  -- If a packet is outstanding, its last call looked at the oldest one, which hasn't been sent.
+  -- If a packet is outstanding, the last call looked at the oldest outstanding packet, which hasn't been sent.
   pub waits : IfOk result (λ done. done.idle ≡ false → LooksLast old r.transmit new s.transmit)
   -- It freed the blocks of as many packets as it reports, oldest first.
   pub freed : IfOk result (λ done. FreesSome r.transmit s.transmit r.arena s.arena done.freed)
   -- If it returns a fault, it freed the blocks of some packets, possibly none.
   pub some : OnErr result ((packets : ℕ) × FreesSome r.transmit s.transmit r.arena s.arena packets)
-  -- It accepted nothing.
+  -- It accepted no packet.
   pub accepted : s.transmit.accepted ≡ r.transmit.accepted
   -- The transmit ring is the same, except for the slot of the oldest packet.
   pub layout : s.transmit.layout ≡ record r.transmit.layout { next = s.transmit.layout.next }

@@ -16,7 +16,7 @@ abbrev pub received_way : Receiving → Homebound
 received_way (received.Ring v) = way_of (receive.lent_of v)
 received_way (received.Leaves way records) = way
 
--- The blocks that it has in hand.
+-- The blocks that this half has in hand.
 abbrev pub held_of : Receiving → List ℕ
 held_of (received.Ring v) = receive.blocks_held v
 held_of (received.Leaves way records) = []
@@ -29,7 +29,7 @@ abbrev pub sent_way : Sending → Homebound
 sent_way (sent.Ring v) = way_of (transmit.lent_of v)
 sent_way (sent.Leaves way records) = way
 
--- The blocks that it has in hand.
+-- The blocks that this half has in hand.
 abbrev pub waiting_of : Sending → List ℕ
 waiting_of (sent.Ring v) = transmit.waiting_of v
 waiting_of (sent.Leaves way records) = []

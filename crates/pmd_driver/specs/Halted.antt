@@ -13,9 +13,10 @@ use Rattle.pmd_tx.specs.Leaving as transmit
 use Rattle.pmd_tx.specs.Sending.{Sender}
 use Rattle.pmd_tx.specs.Sends.{are_out}
 
--- The driver's arena; the blocks that it has in hand, which belong to packets that its receive ring hasn't handed out
--- yet or its transmit ring hasn't lent yet; its other blocks, which are being returned; and the packets that it handed
--- out and accepted.
+-- The state of a driver that isn't running. `held` are the blocks that it has in hand: they belong to packets that its
+-- receive ring hasn't handed out yet or its transmit ring hasn't lent yet. `way` are its other blocks, which are being
+-- returned. `arena` is its arena; `handed` and `accepted` are the records of the packets that it handed out and
+-- accepted.
 pub record Halted : Type 0 where
   pub arena : Numbers
   pub held : List ℕ
@@ -27,7 +28,7 @@ pub record Halted : Type 0 where
 abbrev pub all_out : Halted → List ℕ
 all_out h = h.way.lent ++ h.held
 
--- Each block is in at most one place, and the number of lost blocks fits in 32 bits.
+-- No block is out twice, or both out and free in the arena. The number of lost blocks fits in 32 bits.
 pub record IsHalted (h : Halted) : Type 0 where
   pub home : AreOut h.arena (all_out h)
   pub few : h.way.lost + length h.way.lent < 4294967296
@@ -36,8 +37,8 @@ pub record IsHalted (h : Halted) : Type 0 where
 abbrev pub is_out : Halted → ℕ → Bool
 is_out h n = nat_lt 0 (times_in_hand (all_out h) n)
 
--- Whether a packet's blocks can be returned to the arena: it owns their numbers, none is free there, no number occurs
--- twice, and none is out with the driver.
+-- Whether a packet's blocks can be returned to the arena: the arena owns their numbers, none of them is free there, no
+-- number occurs twice, and the driver has none of them out.
 abbrev pub goes_back : Halted → Packet → Bool
 goes_back h p = are_out h.arena (numbers_of p.bufs) && not (list_any (λ n. is_out h n) (numbers_of p.bufs))
 

@@ -19,7 +19,7 @@ abbrev pub halves_of : Running → Halves
 halves_of r = record { receive = r.receive; transmit = r.transmit }
 
 -- Who makes a call: the receive half, or the transmit half with one of its moves. The move `Elsewhere` belongs to
--- neither.
+-- neither half.
 pub data Doer : Type 0 where
   Receives : Doer
   Sends : Move → Doer
@@ -29,7 +29,7 @@ abbrev pub after_call : Halves → Doer → Call → Halves
 after_call h Receives n = record h { receive = receiving.drive h.receive n.event n.reply }
 after_call h (Sends m) n = record h { transmit = sending.moved h.transmit m n.reply }
 
--- The halves after these calls: all that the driver's code knows.
+-- The halves after these calls. The driver's code knows nothing more.
 abbrev pub played_by : Halves → List Doer → List Call → Halves
 played_by h [] calls = h
 played_by h (d ∷ doers) [] = h
@@ -62,7 +62,8 @@ Drives old h new k =
     (doers : List Doer) × (since : List Call) × (new ≡ old ++ since) × AllOwn h doers since
     × (k ≡ played_by h doers since) × OthersStep doers since
 
--- The doers of calls when only the receive half made some, only the transmit half did, or neither did.
+-- The doers of a sequence of calls in which only the receive half made calls, only the transmit half did, or neither
+-- did.
 
 abbrev pub doer_marked : Bool → Doer
 doer_marked true = Receives
@@ -77,8 +78,8 @@ doers_moved moves = map Sends moves
 abbrev pub doers_other : List Call → List Doer
 doers_other calls = map (λ (n : Call). Sends Elsewhere) calls
 
--- Three facts. Calls of one half, while the other stays unchanged, are driver calls. Calls of neither half leave both
--- unchanged. Sequences of calls can follow each other.
+-- Three facts. Calls made by one half, while the other half is unchanged, are driver calls. Calls made by neither half
+-- leave both halves unchanged. A sequence of driver calls can follow another one.
 abbrev pub ReceivingDrives : Type 0
 ReceivingDrives =
     (old new : List Call) (h k : Halves) → receive.Plays old h.receive new k.receive → k.transmit ≡ h.transmit →

@@ -6,7 +6,7 @@ use Rattle.pmd_access.specs.Home.{Homebound, Bringing}
 use Rattle.pmd_driver.specs.Halted.{Halted, both_ways}
 use Rattle.pmd_driver.specs.declared.stopping.Leaving.{Leaving}
 
--- The same driver as one that isn't running.
+-- The driver with closed rings as a driver that isn't running.
 abbrev pub leaving_as : Leaving → Halted
 leaving_as l = record {
   arena = l.arena;

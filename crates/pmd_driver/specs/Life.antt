@@ -27,10 +27,10 @@ abbrev pub KeepsHalves : Rings → Rings → Type 0
 KeepsHalves rings after = WhereUp rings after (λ r s. (halves_of s ≡ halves_of r) × OwnsSame r.arena s.arena)
 
 -- The driver of this queue is running. After the earlier calls its rings came up, with `size` descriptors each and
--- blocks of this arena. Each call since then is made by one of its halves or is a device step.
+-- blocks from this arena. Each call since then is made by one of its halves or is a device step.
 pub record Lives (q : AtPort) (size frame : ℕ) (old : List Call) (a : Numbers) (new : List Call) (r : Running) :
     Type 0 where
-  -- The calls made by the time it ran, and the driver at that point.
+  -- The calls made until the driver ran, and the driver at that point.
   pub made : List Call
   pub fresh : Running
   pub up : AreUp q size frame old a made fresh
@@ -44,7 +44,8 @@ IsStopped q old h new (rest.Running p) (Some f) =
     (after : Halted) × (p ≡ record { queue = q; rings = Down after }) × StopFails f q old h new after
 IsStopped q old h new left late = ⊥
 
--- The driver lived and was stopped. The packets it handed out and accepted are its halves' packets up to that point.
+-- The driver ran and was stopped. The packets that it handed out and accepted are those that its halves handed out and
+-- accepted up to that point.
 pub record HasLived (q : AtPort) (size frame : ℕ) (old : List Call) (a : Numbers) (new : List Call) (left : Rest)
     (late : Option PmdFault) : Type 0 where
   -- The calls made up to the stop, and the driver at that point.
@@ -61,7 +62,8 @@ ComesDown old (rest.Home home) new left = (left ≡ rest.Home home) × (new ≡ 
 ComesDown old (rest.Running p) new left =
     (late : Option PmdFault) × IsStopped p.queue old (halted_of p.rings) new left late
 
--- The driver's start was refused, and a driver that it returned was stopped once. Nothing was handed out or accepted.
+-- The driver's start was refused. If the refused start returned a driver, that driver was stopped once. No packet was
+-- handed out or accepted.
 pub record NeverLived (q : AtPort) (size frame : ℕ) (old : List Call) (a : Numbers) (e : StartRefused) (new : List Call)
     (left : Rest) : Type 0 where
   -- The calls made when the start was refused.

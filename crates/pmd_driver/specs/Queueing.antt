@@ -1,4 +1,4 @@
--- The effect of each step of a burst, in one record, given the calls made and the driver before and after it.
+-- The effect of each step in a burst as one record, given the calls made and the driver before and after the step.
 use Rattle.std.specs.Prelude.{ℕ, ◌≡◌, ◌+◌, ◌≤◌, ◌++◌, ◌∷◌, [], length, true, is_some, Bool, List, Option, Some, None, Result, IfSome}
 use Rattle.pmd_access.specs.NicDevice.DmaArena.Numbers.{is_own}
 use Rattle.pmd_access.specs.DeviceLock.declared.entry.Call.{Call}
@@ -15,7 +15,7 @@ use Rattle.pmd_driver.specs.Bursts.{Accepts, AreLeft, FailsDuring, IsRefusedFirs
 use Rattle.pmd_driver.specs.Halves.{halves_of}
 use Rattle.pmd_driver.specs.Running.{Running}
 
--- `sent` packets were queued, and the next or the last one met this fault, if any.
+-- `sent` packets were queued. The next packet or the last queued packet met the fault `met`, if any.
 pub record Queues (given left : List Packet) (sent : ℕ) (met : Option PmdFault) (old : List Call) (r : Running)
     (new : List Call) (s : Running) : Type 0 where
   pub gone : List Packet
@@ -35,14 +35,14 @@ pub record Queues (given left : List Packet) (sent : ℕ) (met : Option PmdFault
   pub shut : (f : PmdFault) → IsRefusedFirst f r given
       → (sent ≡ 0) × IfSome met (λ g. g ≡ f) × (left ≡ given) × (new ≡ old) × (s ≡ r)
 
--- A step of a burst as above; if the burst ends with it, `stops` says why.
+-- A step of a burst with the effect `Queues`; if the burst ends with this step, `stops` says why.
 pub record QueuesUpTo (ends : Bool) (given left : List Packet) (sent : ℕ) (met : Option PmdFault) (old : List Call)
     (r : Running) (new : List Call) (s : Running) : Type 0 where
   pub queues : Queues given left sent met old r new s
   pub stops : ends ≡ true → Stops met s left
 
--- A packet before others: the packets that remain if it is returned, the number of packets queued, and whether a burst
--- ends with it.
+-- For a packet that others follow: the packets that remain if it is returned, the number of packets queued, and whether
+-- the burst ends with it.
 
 abbrev pub left_with : Option Packet → List Packet → List Packet
 left_with None rest = rest
@@ -56,13 +56,13 @@ abbrev pub ends_by : Option Packet → Option PmdFault → Bool
 ends_by None met = is_some met
 ends_by (Some back) met = true
 
--- One packet is a burst, for any packets after it.
+-- Queueing one packet is a step of a burst, whichever packets follow it.
 abbrev pub QueuesOne : Packet → Result TxAnswer TxFault → List Call → Running → List Call → Running → Type 0
 QueuesOne p x old r new s =
     (rest : List Packet) → QueuesUpTo (ends_by (returned x) (failed_in x)) (p ∷ rest) (left_with (returned x) rest)
     (sent_by (returned x)) (failed_in x) old r new s
 
--- The transmit half continued with what was waiting, and accepted no packet.
+-- The transmit half continued with the segments that were waiting, and accepted no packet.
 pub record Continues (f : Option PmdFault) (old : List Call) (r : Running) (new : List Call) (s : Running) : Type 0
   where
     pub drives : DrivesRings old r new s
@@ -71,14 +71,14 @@ pub record Continues (f : Option PmdFault) (old : List Call) (r : Running) (new 
     pub late : IfSome f (λ f. IsLate f)
     pub during : IfSome f (λ f. FailsDuring f (is_own r.arena) old (halves_of r) new)
 
--- Packets were queued, then the tail was to be advanced past them.
+-- Packets were queued, then the driver tried to advance the tail past them.
 pub record Posts (given left : List Packet) (result : Result ℕ PmdFault) (old : List Call) (r : Running)
     (new : List Call) (s : Running) : Type 0 where
   pub drives : DrivesRings old r new s
   pub keeps : KeepsUp r (numbers_of_all given) s (numbers_of_all left)
   pub sends : SendsBurst given left result old r new s
 
--- If fewer than `vacant` slots were vacant, room was made for a burst, unless a fault stopped it.
+-- If fewer than `vacant` slots were vacant, room was made for a burst, unless a fault stopped this.
 pub record HasRoom (vacant : ℕ) (f : Option PmdFault) (old : List Call) (r : Running) (new : List Call) (s : Running)
     : Type 0 where
   pub drives : DrivesRings old r new s

@@ -25,16 +25,16 @@ use Rattle.pmd_driver.specs.Starting.{IsReceiveReady, ReceiveFails, IsTransmitRe
 use Rattle.pmd_driver.specs.declared.rings.Unprepared.{Unprepared}
 use Rattle.pmd_driver.specs.declared.start.StartRefused.{StartRefused}
 
--- Their requirements.
+-- The requirements of the steps.
 
--- The blocks starting at block `ring` are free, as many as a ring of 8 to 1,024 descriptors takes.
+-- All blocks that a ring of 8 to 1,024 descriptors takes, starting at block `ring`, are free.
 pub record HasPlace (a : Numbers) (ring size : ℕ) : Type 0 where
   pub some : 8 ≤ size
   pub few : size ≤ 1024
   pub low : ring + blocks_for size ≤ 65536
   pub free : IsFreeRun a ring (blocks_for size)
 
--- This holds for both rings, and enough further blocks are free to fill the receive ring.
+-- The blocks of both rings are free, and enough further blocks are free to fill the receive ring.
 pub record HasPlaces (a : Numbers) (size frame receive transmit : ℕ) : Type 0 where
   pub sized : is_size size ≡ true
   pub framed : is_frame frame ≡ true
@@ -52,14 +52,14 @@ pub record IsEmpty (a : Numbers) (v : Receive) : Type 0 where
   pub home : AreOut a (blocks_out v)
   pub enough : v.layout.size ≤ free_count a + 1
 
--- Their results, whether successful or not.
+-- The results of the steps, whether successful or not.
 
 -- The block was lent, or it is still free.
 abbrev pub LendsOne : Result (Unit {0}) PmdFault → ℕ → List Call → Numbers → List Call → Numbers → Type 0
 LendsOne (Ok done) n old a new b = IsLent old new (zero_block n) None × (b ≡ with_free a n false)
 LendsOne (Err f) n old a new b = LendingFails f old new (zero_block n) × (b ≡ a)
 
--- The blocks were lent in order, or only the first of them, which are out.
+-- All blocks were lent in order, or only the first of them, `out`, were lent.
 abbrev pub LendsRun : Result (Unit {0}) PmdFault → List ℕ → List Call → Numbers → List Call → Numbers → List ℕ → Type 0
 LendsRun (Ok done) all old a new b out = LendsEach old new all × IsDrawn a all b
 LendsRun (Err f) all old a new b out = StopsLending f all old a new b out
@@ -80,7 +80,7 @@ abbrev pub PreparesTransmit : Result Sender Unprepared → AtPort → ℕ → �
 PreparesTransmit (Ok v) q size frame old a new b = IsTransmitReady q size frame old a new b v
 PreparesTransmit (Err e) q size frame old a new b = PreparingFails e.fault q Tx size old a new b e.lent.items
 
--- Both sides were enabled and the receive ring was filled, or part of this failed.
+-- Both sides were enabled and the receive ring was filled, or one of these actions failed.
 pub record GoesUp (result : Result (Unit {0}) PmdFault) (q : AtPort) (old : List Call) (a : Numbers) (v : Receive)
     (new : List Call) (b : Numbers) (w : Receive) : Type 0 where
   pub on : OnOk result (GoesOn q old a v new b w)
@@ -90,13 +90,14 @@ pub record GoesUp (result : Result (Unit {0}) PmdFault) (q : AtPort) (old : List
   pub handed : w.handed ≡ v.handed
   pub keeps : Keeps a v b w []
 
--- The start isn't refused before any event; this is its queue, and these are the places of its rings.
+-- The start isn't refused before any event. Its queue is `named`, and its rings start at blocks `receive` and
+-- `transmit`.
 pub record IsOpen (a : Numbers) (q named : AtPort) (size frame receive transmit : ℕ) : Type 0 where
   pub open_way : start_gate a q size frame ≡ None
   pub queue : named ≡ q
   pub places : HasPlaces a size frame receive transmit
 
--- The driver is running, with all blocks of the arena it was given.
+-- The driver is running and has all blocks of the arena that it was given.
 pub record StartsUp (q : AtPort) (size frame : ℕ) (old : List Call) (a : Numbers) (new : List Call) (p : Driver)
     : Type 0 where
   pub started : HasStarted q size frame old a new p

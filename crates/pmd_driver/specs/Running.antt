@@ -18,7 +18,8 @@ pub record Running : Type 0 where
   pub receive : Receive
   pub transmit : Sender
 
--- All blocks that the transmit ring keeps: those of outstanding segments, lent or in hand, and those that it occupies.
+-- All blocks that the transmit ring keeps: the blocks of outstanding segments, lent or in hand, and the blocks that the
+-- ring occupies.
 abbrev pub kept_out : Sender → List ℕ
 kept_out v = blocks_of v.outstanding ++ ring_blocks v.layout.ring v.layout.size
 
@@ -26,7 +27,8 @@ kept_out v = blocks_of v.outstanding ++ ring_blocks v.layout.ring v.layout.size
 abbrev pub rings_out : Running → List ℕ
 rings_out r = blocks_out r.receive ++ kept_out r.transmit
 
--- Each block is in at most one place, the receive ring is filled, and the transmit ring has at least one slot.
+-- No block is out twice, or both out and free in the arena. The receive ring is filled, and the transmit ring has at
+-- least one slot.
 pub record IsUp (r : Running) : Type 0 where
   pub home : AreOut r.arena (rings_out r)
   pub filled : IsRunning r.receive
@@ -36,8 +38,8 @@ pub record IsUp (r : Running) : Type 0 where
 abbrev pub receives : Running → Packet → Bool
 receives r p = list_any (λ n. nat_lt 0 (times_in_hand (blocks_out r.receive) n)) (numbers_of p.bufs)
 
--- Whether a packet's blocks can be returned to the arena: the transmit ring permits it, and the receive ring owns none
--- of them.
+-- Whether a packet's blocks can be returned to the arena: the transmit ring permits this, and the receive ring owns
+-- none of these blocks.
 abbrev pub goes_back : Running → Packet → Bool
 goes_back r p = goes_home r.transmit r.arena p && not (receives r p)
 

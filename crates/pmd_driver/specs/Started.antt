@@ -26,8 +26,8 @@ use Rattle.pmd_driver.specs.declared.start.StartRefused.{StartRefused}
 abbrev pub is_size : ℕ → Bool
 is_size size = nat_le 8 size && (nat_le size 1024 && size % 8 == 0)
 
--- Whether enough blocks are free: the blocks of its two rings, and one for each slot of the receive ring except one.
--- There must be two runs of consecutive blocks for the rings.
+-- Whether enough blocks are free: the blocks of the two rings, and one block for each slot in the receive ring except
+-- one. Two runs of consecutive free blocks are needed for the rings.
 abbrev pub has_room : Numbers → ℕ → Bool
 has_room a size =
     nat_le (size - 1 + 2 * blocks_for size) (free_count a) && is_some (second_run a (blocks_for size))
@@ -41,7 +41,7 @@ start_gate a q size frame =
     else Some NoBuffer)
     else Some BadSize
 
--- Nothing is lent: the arena is unchanged, and there are no records.
+-- No block is lent: the arena is unchanged, and the lists of records are empty.
 abbrev pub IsHome : Numbers → Rest → Type 0
 IsHome a (rest.Home h) = (h.arena ≡ a) × (h.lost ≡ 0) × (h.handed.items ≡ []) × (h.accepted.items ≡ [])
 IsHome a (rest.Running p) = ⊥
@@ -62,7 +62,7 @@ IsShut None a old new r = ⊤
 IsShut (Some f) a old new (Ok p) = ⊥
 IsShut (Some f) a old new (Err e) = (e.fault ≡ f) × IsHome a e.rest × (new ≡ old)
 
--- The rings came up one after the other: both are lent, both sides are on, and the receive ring is filled.
+-- The rings came up one after the other: both rings are lent, both sides are on, and the receive ring is filled.
 pub record AreUp (q : AtPort) (size frame : ℕ) (old : List Call) (a : Numbers) (new : List Call) (r : Running) :
     Type 0 where
   pub sized : is_size size ≡ true
@@ -81,11 +81,11 @@ abbrev pub HasStarted : AtPort → ℕ → ℕ → List Call → Numbers → Lis
 HasStarted q size frame old a new p =
     (r : Running) × (p ≡ record { queue = q; rings = Up r }) × AreUp q size frame old a new r
 
--- A driver is returned that isn't running, with the blocks it lent.
+-- The start returned a driver that isn't running, with the blocks that it lent.
 abbrev pub IsHalfStarted : AtPort → Halted → Rest → Type 0
 IsHalfStarted q h left = left ≡ rest.Running (record { queue = q; rings = Down h })
 
--- No ring was prepared. If a block of the receive ring was lent, a driver is returned; otherwise the arena is.
+-- No ring was prepared. If a block of the receive ring was lent, a driver is returned; otherwise the arena is returned.
 abbrev pub IsLeftWith : AtPort → Numbers → List ℕ → Rest → Type 0
 IsLeftWith q a [] left = IsHome a left
 IsLeftWith q a (n ∷ ns) left = IsHalfStarted q (with_blocks a (n ∷ ns)) left

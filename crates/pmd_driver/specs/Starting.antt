@@ -56,7 +56,7 @@ LendingFails fault.ForeignBlock old new block = ⊥
 LendingFails fault.StartTimeout old new block = ⊥
 LendingFails fault.NoBuffer old new block = ⊥
 
--- The first of these blocks were taken from the arena and lent. The next one, which is free, wasn't.
+-- The first of these blocks were taken from the arena and lent. The next block, which is free, wasn't lent.
 pub record StopsLending (f : PmdFault) (all : List ℕ) (old : List Call) (a : Numbers) (new : List Call) (b : Numbers)
     (out : List ℕ) : Type 0 where
   pub next : ℕ
@@ -77,7 +77,8 @@ PreparingFails f q side size old a new b out =
     ⊎ ((mid : List Call) × AreMade q old mid (ring_words side ring size)
     × StopsLending f (ring_blocks ring size) mid a new b out))
 
--- The driver read that both sides are off, wrote "off", and read this again. An empty receive ring is lent.
+-- The driver read that both sides are off, wrote "off", and read again that they are off. An empty receive ring is
+-- lent.
 pub record IsReceiveReady (q : AtPort) (size frame : ℕ) (old : List Call) (a : Numbers) (new : List Call) (b : Numbers)
     (v : Receive) : Type 0 where
   pub mid : List Call

@@ -16,7 +16,7 @@ use Rattle.pmd_driver.specs.declared.home.Home.{Home}
 abbrev pub closed : Halted → Halted
 closed h = record h { arena = with_all_free h.arena h.held; held = [] }
 
--- The state while its blocks are being returned.
+-- The state while the driver's blocks are being returned.
 abbrev pub bringing : List Call → Halted → Bringing
 bringing made h = record { made = made; arena = h.arena; way = h.way }
 
@@ -66,6 +66,6 @@ IsUnclosed f old h new left =
     (f ≡ fault.Call (refused.OutOfMemory tt)) × (new ≡ old) × IsInPart h left
 
 -- The driver didn't stop: its rings couldn't be closed for lack of memory, its queue wasn't disabled, or a call to take
--- back a block was refused. `left` is its state afterwards.
+-- back a block was refused. `left` is the driver's state afterwards.
 abbrev pub StopFails : PmdFault → AtPort → List Call → Halted → List Call → Halted → Type 0
 StopFails f q old h new left = IsUnclosed f old h new left ⊎ IsLeft f q old (closed h) new left

@@ -1,4 +1,4 @@
--- What the laws of a driver's life require when it starts, in terms of a history's entries.
+-- What the laws about a driver's life require when the driver starts, in terms of the entries of a history.
 use Rattle.std.specs.Prelude.{◌*◌, ◌<◌, ◌≤◌, All, List, ℕ, length}
 use Rattle.pmd_driver.specs.NicDevice.DmaArena.Numbers.{count_of}
 use Rattle.driver_laws.specs.StartPrelude.{AreEvents, Call, Entry, FitsBlocks, IsLegal, Numbers, State, Watched}
@@ -9,16 +9,16 @@ use Rattle.pmd.specs.{Points.HoldsAtFirst, Points.JustBefore, Quiet.NeverAskedOn
 use Rattle.pmd.specs.declared.beginning.Given.{Given}
 use Rattle.driver_laws.specs.Asked as asked
 
--- If a driver begins well in a history of a new device, the following holds just before its first event. Its port and
--- queue name the watched queue, and the device's frame limit is the limit of its frames.
+-- If a driver begins well in a history of a new device, its port and queue name the watched queue just before its first
+-- event. The device's frame limit is then the limit of the driver's frames.
 abbrev pub BegunHasGround : Type 0
 BegunHasGround =
     (w : Watched) (fifo : ℕ) (old : List Call) (given : Given) (h : List Entry) →
     (w.vfs ≤ 63) × (0 < fifo) × (fifo ≤ 4096) → AreEvents h → BeginsWell w (length old) given h →
     HoldsAtFirst w fifo old h (HasGround w.queue (record { port = given.port; queue = given.queue }) given.frame)
 
--- If no entry before the driver's first one tries to enable its queue, and the driver begins well, the following holds
--- just before that entry. Both sides of the queue are off, with no enable request pending.
+-- If no entry before the driver's first entry tries to enable its queue, and the driver begins well, both sides of the
+-- queue are off just before that entry, with no enable request pending.
 abbrev pub NeverAskedIsQuiet : Type 0
 NeverAskedIsQuiet =
     (w : Watched) (fifo : ℕ) (old : List Call) (given : Given) (h : List Entry) →
@@ -27,9 +27,9 @@ NeverAskedIsQuiet =
     JustBefore w.vfs fifo w.pass old h
     (IsQuiet w.queue (record { port = given.port; queue = given.queue }) given.frame)
 
--- If a legal history's entries show that nobody else lends an arena's blocks, the following holds. After the first
--- entry of the driver's pass, no other pass tries to lend any of these blocks that the driver's pass tries to lend.
--- None of these is lent just before the driver's first event.
+-- Take a legal history whose entries show that nobody else lends an arena's blocks. After the first entry of the
+-- driver's pass, no other pass tries to lend any of these blocks that the driver's pass tries to lend. None of the
+-- blocks that the driver's pass tries to lend is lent just before the driver's first event.
 abbrev pub OthersLendNoneIsAlone : Type 0
 OthersLendNoneIsAlone =
     (w : Watched) (fifo : ℕ) (old : List Call) (a : Numbers) (h : List Entry) → IsLegal (new_state w.vfs fifo) h →
@@ -40,8 +40,8 @@ OthersLendNoneIsAlone =
 abbrev pub AllFitBlocks : (queue frame : ℕ) → State → Type 0
 AllFitBlocks queue frame s = All (FitsBlocks queue (most_blocks frame)) s.waiting
 
--- If a legal history's entries show that the frames fit, the following holds just before the driver's first event. The
--- frames that wait for the queue fit the number of blocks that a packet of the driver may take.
+-- Take a legal history whose entries show that the frames fit. Just before the driver's first event, the frames that
+-- wait for the queue fit the number of blocks that a packet of the driver may take.
 abbrev pub FramesFitIsShort : Type 0
 FramesFitIsShort =
     (w : Watched) (fifo : ℕ) (old : List Call) (frame : ℕ) (h : List Entry) → IsLegal (new_state w.vfs fifo) h →

@@ -9,11 +9,12 @@ use Rattle.pmd_driver.specs.PmdAccess.Events.{is_step}
 use Rattle.pmd.specs.Quiet.{asks_on}
 use Rattle.pmd.specs.declared.before.Reported.{Reported}
 
--- Whether an entry is the driver's first one, if `left` calls of its pass must still come before that.
+-- Whether an entry is the driver's first entry. `left` calls made by the driver's pass must still come before its first
+-- entry.
 abbrev pub is_first : Watched → ℕ → Entry → Bool
 is_first w left e = (e.pass == w.pass) && ((left == 0) && not (is_step e.event))
 
--- The number of calls that remain after an entry.
+-- How many calls made by the driver's pass must still come, after this entry, before the driver's first entry.
 abbrev pub still_left : Watched → ℕ → Entry → ℕ
 still_left w left e = if e.pass == w.pass then left - 1 else left
 
@@ -23,7 +24,7 @@ holds_of test None = true
 holds_of test (Some s) = test s
 
 module _ {S : Type 0} (next : S → Entry → S) where
-  -- What is known after the entries of a history, updated by each of them.
+  -- What is known after all entries of a history; `next` updates it for each entry.
   abbrev pub known_through : S → List Entry → S
   known_through s [] = s
   known_through s (e ∷ es) = known_through (next s e) es

@@ -1,5 +1,5 @@
--- Whether a driver begins well according to the entries before it: its port and queue name its queue when it starts,
--- and the device's frame limit is the one it was given.
+-- Whether a driver begins well according to the entries before its first entry: when it starts, its port and queue name
+-- its queue, and the device's frame limit is the one that it was given.
 use Rattle.std.specs.Prelude.{ℕ, ◌≡◌, ◌==◌, ◌&&◌, Bool, false, List, length, Option, Some, None}
 use Rattle.pmd_driver.specs.DeviceLock.Reported.{first_settings, limit_of, settings_through}
 use Rattle.pmd_driver.specs.DeviceLock.declared.alone.Watched.{Watched}
@@ -17,13 +17,14 @@ pub record Fits (w : Watched) (s : Settings) (x : Given) : Type 0 where
   pub names : queue_at s.mode w.vfs x.port x.queue ≡ Some w.queue
   pub limit : limit_of s.frames ≡ packet_limit x.frame
 
--- This holds just before the driver's first entry, after `from` calls of its pass, as the entries before it report.
+-- `Fits` holds just before the driver's first entry, for the settings that the entries before it report. The first
+-- entry comes after `from` calls made by the driver's pass.
 abbrev pub BeginsWell : Watched → ℕ → Given → List Entry → Type 0
 BeginsWell w from start h =
     (old : List Call) → length old ≡ from → (x : Starts w.pass old h) →
     Fits w (settings_through w.vfs first_settings x.before) start
 
--- The test of the settings.
+-- The test of the settings, as code can compute it.
 
 abbrev pub is_queue : Option ℕ → ℕ → Bool
 is_queue None queue = false

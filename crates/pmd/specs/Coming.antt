@@ -33,7 +33,7 @@ AllSit [] [] [] = ⊤
 AllSit (j ∷ jobs) (s ∷ cells) (c ∷ collectors) = Sits j s c × AllSit jobs cells collectors
 AllSit jobs cells collectors = ⊥
 
--- Only reports were taken.
+-- Reports may have been taken, and nothing else changed.
 abbrev pub IsDrained : Collector → Collector → Type 0
 IsDrained old new = SameConsumer old.consumer new.consumer × (vec_capacity new.reports ≡ vec_capacity old.reports)
 
@@ -41,7 +41,7 @@ abbrev pub AreDrained : List Collector → List Collector → Type 0
 AreDrained old new = (length new ≡ length old)
     × ((at : ℕ) (c : Collector) → at < length old → IsDrained (slice_index_or old at c) (slice_index_or new at c))
 
--- The worker of the job has ended, and the rest of its reports can be taken.
+-- The job's worker has ended, and its remaining reports can be taken.
 abbrev pub HasEnded : Job → TaskCell Assignment Back → Collector → Type 0
 HasEnded j (Ended b) c =
     IsEndOf j b.pass b.rest (sent b.producer) b.fault × IsPair b.producer c.consumer
@@ -54,7 +54,7 @@ AllEnded (j ∷ jobs) (s ∷ cells) (c ∷ collectors) = HasEnded j s c × AllEn
 AllEnded jobs cells collectors = ⊥
 
 module _ {T : Type 0} where
-  -- The rest of a worker's reports can be taken.
+  -- A worker's remaining reports can be taken.
   abbrev pub HasCome : TaskCell T Back → Collector → Type 0
   HasCome (Ended b) c = IsPair b.producer c.consumer × (length (sent b.producer) ≤ vec_capacity c.reports)
   HasCome (Waits task) c = ⊥
@@ -66,7 +66,7 @@ module _ {T : Type 0} where
   HaveCome (s ∷ cells) [] = ⊥
   HaveCome (s ∷ cells) (c ∷ collectors) = HasCome s c × HaveCome cells collectors
 
-  -- An outcome contains what the worker's thread returned, and all reports.
+  -- A worker's result contains what the worker's thread returned, and all reports.
   abbrev pub IsMade : TaskCell T Back → WorkerEnd → Type 0
   IsMade (Ended b) e =
       (e.pass ≡ b.pass) × (e.rest ≡ b.rest) × (e.reports.items ≡ sent b.producer) × (e.fault ≡ b.fault)

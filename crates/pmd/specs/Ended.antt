@@ -1,4 +1,4 @@
--- Tests of a worker's outcome.
+-- Tests of a worker's result.
 use Rattle.std.specs.Prelude.{Bool, true, false, Option, Some, None, Result, Ok, Err}
 use Rattle.pmd_driver.specs.PmdAccess.declared.fault.PmdFault.{PmdFault}
 use Rattle.pmd_driver.specs.declared.start.Rest.{Rest}
@@ -21,7 +21,7 @@ abbrev pub is_shut_out : WorkerFault → Bool
 is_shut_out GateShut = true
 is_shut_out other = false
 
--- The first of two faults: of the work, then of the stop.
+-- The first of two faults: the fault of the worker's rounds, then the fault of the stop.
 abbrev pub first_fault : Result (Unit {0}) WorkerFault → Option PmdFault → Option WorkerFault
 first_fault (Err fault) late = Some fault
 first_fault (Ok done) None = None

@@ -16,8 +16,8 @@ use Rattle.pmd.specs.declared.assignment.Back.{Back}
 use Rattle.pmd.specs.declared.assignment.Assignment.{Assignment}
 use Rattle.pmd.specs.declared.ends.WorkerEnd.{WorkerEnd}
 
--- The outcome of a job's worker: its pass, its driver's arena and records or the driver that didn't stop, its reports,
--- and its fault.
+-- The result of a job's worker: the worker's pass, its driver's arena and records or the driver that didn't stop, its
+-- reports, and its fault.
 pub record IsEndOf (j : Job) (pass : PassValue) (rest : Rest) (reported : List Report) (fault : Option WorkerFault) :
     Type 0 where
   pub bench : pass.bench ≡ j.pass.bench
@@ -42,7 +42,7 @@ IsBack d b = IsEndOf d.job b.pass b.rest (sent b.producer) b.fault × SameProduc
 abbrev pub IsEnd : Job → WorkerEnd → Type 0
 IsEnd j e = IsEndOf j e.pass e.rest e.reports.items e.fault
 
--- Each job has an outcome, in order.
+-- Each job has a result, in order.
 abbrev pub AreEnds : List Job → List WorkerEnd → Type 0
 AreEnds [] [] = ⊤
 AreEnds [] (e ∷ ends) = ⊥

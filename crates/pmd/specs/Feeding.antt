@@ -27,7 +27,7 @@ pub record HaveArrived (frames : List (List ℕ)) (old new : PassValue) : Type 0
   pub made : new ≡ record old { calls = old.calls ++ since }
   pub events : map (λ (c : Call). c.event) since ≡ map (λ (frame : List ℕ). Arrive frame) frames
 
--- All of these frames arrived, or those before the one with the refused call.
+-- All of these frames arrived, or only the frames before the one whose call was refused.
 abbrev pub IsFed : List (List ℕ) → Option (CallFault (Unit {0})) → PassValue → PassValue → Type 0
 IsFed frames None old new = HaveArrived frames old new
 IsFed frames (Some refusal) old new =

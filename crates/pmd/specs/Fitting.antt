@@ -1,4 +1,4 @@
--- Frames within the length of a driver's packets, according to a history's entries before the driver starts.
+-- Whether accepted frames fit a driver's packets, according to the entries of a history before the driver starts.
 use Rattle.std.specs.Prelude.{ℕ, ◌≡◌, ◌≤◌, max, List, length}
 use Rattle.pmd_driver.specs.NicDevice.DmaArena.Block.{Block}
 use Rattle.pmd_driver.specs.NicDevice.declared.event.Event.{Event}

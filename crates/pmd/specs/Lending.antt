@@ -17,7 +17,8 @@ use Rattle.pmd.specs.Starts.{Starts}
 abbrev pub are_from : (first count : ℕ) → Blocks
 are_from first count number = nat_le first number && nat_lt number (first + count)
 
--- Whether an event lends none of these blocks, whatever its reply; and whether no other pass does in a history.
+-- Whether an event lends none of these blocks, whatever its reply; and whether no other pass lends any of them in a
+-- history.
 
 abbrev pub lends_none : Blocks → Event Block → Bool
 lends_none own (event.Lend block) = not (own block.number)
@@ -51,7 +52,7 @@ NoneLentBefore w from own h =
     (old : List Call) → length old ≡ from → (x : Starts w.pass old h) → (number : ℕ) → IsTrue (own number) →
     IsFalse (lent_through x.before number)
 
--- Each entry of another pass lends none of these blocks.
+-- No entry of another pass lends any of these blocks.
 abbrev pub OnlyPassLends : ℕ → Blocks → List Entry → Type 0
 OnlyPassLends pass own [] = ⊤
 OnlyPassLends pass own (e ∷ es) = (e.pass ≢ pass → IsTrue (lends_none own e.event)) × OnlyPassLends pass own es

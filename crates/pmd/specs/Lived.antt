@@ -11,7 +11,7 @@ use Rattle.pmd.specs.Ended.{first_fault}
 use Rattle.pmd.specs.declared.fault.WorkerFault.{WorkerFault}
 use Rattle.pmd.specs.declared.fault.WorkerFault.TheVariants.{Pmd}
 
--- A worker had one driver of its queue. Either the driver lived and was stopped, and the worker reports why it ended
+-- A worker had one driver for its queue. Either the driver ran and was stopped, and the worker reports why it ended
 -- early, or else why the driver didn't stop. Or the start was refused, and the worker reports why.
 abbrev pub HasRun : AtPort → ℕ → ℕ → List Call → Numbers → List Call → Rest → Option WorkerFault → Type 0
 HasRun q size frame old a new left fault =

@@ -3,7 +3,7 @@ use Rattle.std.specs.Prelude.{◌≡◌, ℕ, zero, suc, ◌<◌, true, List, []
 use Rattle.pmd_driver.specs.NicDevice.DmaArena.Numbers.{Numbers, is_own}
 use Rattle.pmd.specs.declared.job.Job.{Job}
 
--- The arena of the job at this index. Beyond the last job, it is one that owns no number.
+-- The arena of the job at this index. Beyond the last job, this is an arena that owns no number.
 abbrev pub arena_at : List Job → ℕ → Numbers
 arena_at [] at = record { first = 0; free = [] }
 arena_at (j ∷ jobs) zero = j.arena

@@ -4,12 +4,12 @@ use Rattle.driver_laws.specs.{Prelude.BeforeLast, Prelude.BeforeNext, Reported.I
 use Rattle.driver_laws.specs.StartPrelude.{AtPort, Call, Entry, Numbers, State, Watched, leads_to, new_state}
 use Rattle.pmd.specs.Starts.{Starts}
 
--- The property holds of a new device's state just before the driver's first entry.
+-- The property holds for a new device's state just before the driver's first entry.
 abbrev pub JustBefore : (vfs fifo tag : ℕ) → List Call → List Entry → (State → Type 0) → Type 0
 JustBefore vfs fifo tag old h P = (x : Starts tag old h) → P (leads_to (new_state vfs fifo) x.before)
 
--- It also holds just before the pass's next call after these, where a start begins, and for a driver that started
--- there.
+-- The property also holds just before the next call that the pass makes after these calls, where a start begins, and
+-- for a driver that started there.
 pub record HoldsAtFirst (w : Watched) (fifo : ℕ) (old : List Call) (h : List Entry) (P : State → Type 0) : Type 0 where
   pub first : JustBefore w.vfs fifo w.pass old h P
   pub next : BeforeNext w (new_state w.vfs fifo) h old P

@@ -27,7 +27,7 @@ is_enable queue None = false
 is_enable queue (Some p) = is_enable_row p.row && (p.index == queue)
 
 -- The event tries to enable the queue, given how the mode divides the queues: it writes a value with bit 25 set to an
--- enable register, under any name.
+-- enable register, through any port and address.
 abbrev pub asks_on : Watched → Mode → Event Block → Bool
 asks_on w mode (event.Write port number word) = is_enable w.queue (place_at mode w.vfs port number) && has_bit 25 word
 asks_on w mode other = false
@@ -38,8 +38,8 @@ NoneAsksOn w h =
     (before : List Entry) (e : Entry) (following : List Entry) → before ++ e ∷ following ≡ h →
     IsFalse (asks_on w (settings_through w.vfs first_settings before).mode e.event)
 
--- No entry before the driver's first one tries to enable the queue. The driver's first entry comes after `from` calls
--- of its pass.
+-- No entry before the driver's first entry tries to enable the queue. The driver's first entry comes after `from` calls
+-- made by its pass.
 abbrev pub NeverAskedOn : Watched → ℕ → List Entry → Type 0
 NeverAskedOn w from h =
     (old : List Call) → length old ≡ from → (x : Starts w.pass old h) → NoneAsksOn w x.before

@@ -1,4 +1,4 @@
--- Where the members of a gate are.
+-- Which points of a gate its members have reached.
 use Rattle.std.specs.Prelude.{◌≡◌, ℕ, Bool, true, false, nat_le, max, List, All, take, slice_set, slice_index_or}
 use Rattle.pmd.specs.declared.standing.Standing.{Standing}
 use Rattle.pmd.specs.declared.standing.Standing.TheVariants.{Outside, At, Left}
@@ -9,14 +9,14 @@ has_come point Outside = false
 has_come point (At own) = nat_le point own
 has_come point Left = true
 
--- Where a member is after it reaches a point. It never returns to an earlier point, and doesn't return after it has
--- left.
+-- Where a member is after it reaches a point. A member never goes back to an earlier point, and doesn't return after it
+-- has left.
 abbrev pub moved_to : ℕ → Standing → Standing
 moved_to point Outside = At point
 moved_to point (At own) = At (max own point)
 moved_to point Left = Left
 
--- Where all members are after one reaches a point.
+-- Where all members are after one of them reaches a point.
 abbrev pub with_one_at : ℕ → ℕ → List Standing → List Standing
 with_one_at member point of = slice_set of member (moved_to point (slice_index_or of member Outside))
 

@@ -6,8 +6,8 @@ use Rattle.pmd_driver.specs.DeviceLock.declared.entry.Entry.{Entry}
 use Rattle.pmd_driver.specs.PmdAccess.Events.{is_step}
 use Rattle.pmd_driver.specs.PmdAccess.Made.{AreSteps}
 
--- The driver's first entry in a history. It comes after the calls that its pass made before the driver, and after
--- device steps.
+-- The driver's first entry in a history. This entry comes after the calls that the driver's pass made before the driver
+-- started, and after device steps.
 pub record Starts (tag : ℕ) (old : List Call) (h : List Entry) : Type 0 where
   pub before : List Entry
   pub first : Entry

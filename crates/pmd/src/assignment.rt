@@ -1,4 +1,4 @@
-//! What a worker takes to its thread, and what it brings back.
+//! What a worker's thread receives, and what it returns.
 
 ghost use Rattle.std.specs.Prelude.{◌≡◌, ◌≤◌, []};
 ghost use Rattle.rtrb.specs.Ring.{sent, known_free};

@@ -1,4 +1,4 @@
-//! What a history's entries report up to a driver's first entry.
+//! What the entries of a history report up to a driver's first entry.
 
 ghost use Rattle.std.specs.Prelude.{◌≡◌};
 ghost use Rattle.pmd_driver.specs.PmdAccess.Events.{is_step};
@@ -30,8 +30,8 @@ fn is_enable(queue: u16, place: Option<Place>) -> bool
     }
 }
 
-/// Returns whether an event tries to enable the watched queue, in the device's current mode. The bit is the same for
-/// receive and transmit.
+/// Returns whether an event tries to enable the watched queue when the device is in this mode. The enable bit is the
+/// same for receive and transmit.
 fn asks_on(watched: Watched, mode: Mode, event: &EventNote) -> bool
     ensures { result ≡ asks_on watched mode event.now }
 {
@@ -45,7 +45,7 @@ fn asks_on(watched: Watched, mode: Mode, event: &EventNote) -> bool
 }
 
 impl Reported {
-    /// The report for a new device.
+    /// Returns the report for a new device.
     fn new() -> Reported
         ensures { result ≡ first_reported }
     {
@@ -55,7 +55,7 @@ impl Reported {
         }
     }
 
-    /// The report after one more event.
+    /// Returns the report after one more event.
     fn after(self, watched: Watched, event: &EventNote) -> Reported
         ensures { result ≡ reported_after watched self event.now }
     {
@@ -81,14 +81,15 @@ fn is_step(event: &EventNote) -> bool
     )
 }
 
-/// Returns whether an entry is the driver's first one, if `left` calls of its pass must still come before that.
+/// Returns whether an entry is the driver's first entry. `left` calls made by the driver's pass must still come before
+/// its first entry.
 pub(crate) fn is_first(watched: Watched, left: usize, entry: &Entry) -> bool
     ensures { result ≡ is_first watched left entry.now }
 {
     entry.pass == watched.pass && left == 0 && !is_step(&entry.event)
 }
 
-/// The number of calls that remain after an entry.
+/// Returns how many calls made by the driver's pass must still come, after this entry, before the driver's first entry.
 pub(crate) fn still_left(watched: Watched, left: usize, entry: &Entry) -> usize
     ensures { result ≡ still_left watched left entry.now }
 {
@@ -99,8 +100,8 @@ pub(crate) fn still_left(watched: Watched, left: usize, entry: &Entry) -> usize
     }
 }
 
-/// The report just before the driver's first entry, which comes after `from` calls of its pass and isn't a device step.
-/// Returns `None` if there is no such entry. It allocates nothing.
+/// Returns the report just before the driver's first entry, or `None` if there is no such entry. The driver's first
+/// entry comes after `from` calls made by its pass and isn't a device step. This function allocates nothing.
 pub(crate) fn reported_before(watched: Watched, from: usize, history: &[Entry]) -> Option<Reported>
     ensures { result ≡ reported_before watched first_reported from history.now }
 {

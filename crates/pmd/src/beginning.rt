@@ -1,5 +1,5 @@
-//! Whether a driver begins well according to a history's entries: its port and queue name its queue when it starts, and
-//! the device's frame limit is the one it was given.
+//! Whether a driver begins well according to the entries of a history: when the driver starts, its port and queue
+//! number name its queue, and the device's frame limit is the one that the driver was given.
 
 ghost use Rattle.std.specs.Prelude.{◌≡◌, ◌↔◌, true, IsTrue};
 ghost use Rattle.pmd.specs.Beginning.{BeginsWell, begins, is_queue};
@@ -11,20 +11,20 @@ use pmd_driver::{Entry, Mode, Port, QUEUES, Settings, Watched, queues_of};
 /// The size in bytes of the frame check sequence.
 pub(crate) const FRAME_CHECK: u16 = 4;
 
-/// What a driver is given when it starts: its queue, as its port numbers it, and the maximum frame length.
+/// What a driver is given when it starts: its port, its queue's number at that port, and the maximum frame length.
 #[derive(Clone, Copy, PartialEq, Eq, Debug)]
 pub struct Given {
     /// The port of the queue.
     pub port: Port,
     /// The queue's number at that port.
     pub queue: u16,
-    /// The maximum length of a frame in bytes, with its check sequence: 1,518 to 9,728.
+    /// The maximum length of a frame in bytes, including its check sequence: 1,518 to 9,728.
     pub frame: u16,
 }
 
-/// The device queue, below 128, that a queue's number at a port names, in this pool mode and with `vfs` virtual
-/// functions. The physical function's numbers are the device's; a virtual function's numbers count within its pool.
-/// Returns `None` if there is no such queue.
+/// Returns the device queue, below 128, that a queue number at a port names, in this pool mode and with `vfs` virtual
+/// functions. Returns `None` if there is no such queue. The physical function's queue numbers are the device's; a
+/// virtual function's queue numbers count from the first queue in its pool.
 pub fn queue_at(mode: Mode, vfs: u8, port: Port, number: u16) -> Option<u16>
     ensures { result ≡ queue_at mode vfs port number }
 {
@@ -53,9 +53,9 @@ fn begins(watched: Watched, settings: Settings, given: Given) -> bool
 }
 
 /// Returns whether a driver begins well in a history of a new device. Just before the driver's first event, its port
-/// and queue must name the watched queue, and the device's frame limit must be the limit of the driver's frames. That
-/// event comes after `from` calls of its pass and isn't a device step. Returns true if there is no such event. It
-/// allocates nothing.
+/// and queue must name the watched queue, and the device's frame limit must be the limit of the driver's frames. The
+/// driver's first event comes after `from` calls made by its pass and isn't a device step. Returns true if there is no
+/// such event. This function allocates nothing.
 pub fn begins_well(watched: Watched, from: usize, given: Given, history: &[Entry]) -> bool
     ensures { IsTrue result ↔ BeginsWell watched from given history.now }
 {

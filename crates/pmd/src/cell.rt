@@ -3,26 +3,26 @@ ghost use Rattle.pmd.specs.TaskCells.{waits};
 
 use std::mem;
 
-/// A task to run on its own thread; it has an outcome.
+/// A task to run on its own thread, with a result.
 pub trait Task<E> {
-    /// The outcomes that the task may have.
+    /// The results that the task may return.
     ghost ends: { Self → E → Type 0 };
 
-    /// Runs the task and returns its outcome.
+    /// Runs the task and returns its result.
     fn run(self) -> E
         ensures { ends self result };
 
-    /// Gives the task up if no thread was created for it. Returns its outcome.
+    /// Gives the task up if no thread was created for it. Returns the task's result.
     fn give_up(self) -> E
         ensures { ends self result };
 }
 
-/// A place for a task, then for its outcome.
+/// A cell that holds a task, then the task's result.
 #[derive(Drop)]
 pub enum TaskCell<T, E> {
     /// The task hasn't run yet.
     Waits(T),
-    /// The task has ended; this is its outcome.
+    /// The task has ended with this result.
     Ended(E),
     /// Empty: the task is running.
     Empty,
@@ -41,7 +41,7 @@ pub(crate) fn take<T, E>(cell: &mut TaskCell<T, E>) -> T
     }
 }
 
-/// Stores a task's outcome in its empty cell.
+/// Stores a task's result in its empty cell.
 pub(crate) fn put<T, E>(cell: &mut TaskCell<T, E>, end: E)
     requires { cell.old ≡ TaskCell.Empty }
     ensures { cell.new ≡ TaskCell.Ended end }

@@ -23,20 +23,20 @@ use pmd_driver::{Arena, Nic, Pmd, PmdFault, Port, Rest, StartRefused, StopRefuse
 use rtrb::Producer;
 use std::alloc::Global;
 
-/// What a worker is to do.
+/// What a worker must do.
 #[derive(Clone, Copy)]
 pub struct Order {
-    /// Its number at the gate.
+    /// The worker's number at the gate.
     pub worker: usize,
     /// The port of its queue.
     pub port: Port,
     /// The number of its queue at that port.
     pub queue: u16,
-    /// The number of descriptors of each ring: a multiple of 8 from 8 to 1,024.
+    /// The number of descriptors in each ring: a multiple of 8 from 8 to 1,024.
     pub size: u16,
-    /// The maximum length of a frame in bytes, with its frame check sequence: 1,518 to 9,728.
+    /// The maximum length of a frame in bytes, including its frame check sequence: 1,518 to 9,728.
     pub frame: u16,
-    /// How many times it looks for a packet.
+    /// How many times the worker looks for a packet.
     pub rounds: u32,
 }
 
@@ -52,7 +52,7 @@ fn meet<G: Gate>(gate: &G, worker: usize, point: u8) -> Result<(), WorkerFault>
     }
 }
 
-/// Waits for the others, runs its rounds, reaps the packets it sent, and waits again.
+/// Waits for the other members, runs the worker's rounds, reaps the packets it sent, and waits again.
 fn work<G: Gate, N: Nic>(
     alloc: Global,
     nic: &mut N,
@@ -97,7 +97,7 @@ fn take_home<N: Nic>(alloc: Global, nic: &mut N, pmd: Pmd) -> (Rest, Option<PmdF
     }
 }
 
-/// Tries once to stop the driver that a refused start left, if there is one.
+/// Tries once to stop the driver that a refused start returned, if it returned one.
 fn end<N: Nic>(alloc: Global, nic: &mut N, rest: Rest) -> Rest
     ensures down { ComesDown (N.made nic.old) rest (N.made nic.new) result }
     ensures handed { left_handed result ≡ left_handed rest }
@@ -114,7 +114,7 @@ fn end<N: Nic>(alloc: Global, nic: &mut N, rest: Rest) -> Rest
     }
 }
 
-/// The first of two faults.
+/// Returns the first of two faults: the fault of the worker's rounds, then the fault of the stop.
 fn first_fault(worked: Result<(), WorkerFault>, late: Option<PmdFault>) -> Option<WorkerFault>
     ensures { result ≡ first_fault worked late }
 {
@@ -160,14 +160,14 @@ fn drive<G: Gate, N: Nic>(
     (rest, first_fault(worked, late))
 }
 
-/// Runs one worker. It starts a driver of a queue with the blocks of an arena, passes points 0 and 1 of the gate, and
+/// Runs one worker. It starts a driver for a queue with the blocks in an arena, passes points 0 and 1 of the gate, and
 /// looks for a packet `rounds` times. It reports each packet that it receives and sends it again. Then it reaps the
 /// packets it sent, passes point 2, and stops the driver.
 ///
 /// If a driver call fails or the gate is shut, it leaves the gate, tries once to stop the driver, and returns the
-/// reason. There is one report for each packet that its driver handed out, in order, numbered from 0. The calls made
-/// are the life of this one driver, apart from what its `Nic` adds. How often it looks, what it sends, and that it
-/// passes and leaves the gate isn't promised; tests check that.
+/// reason. It sends one report for each packet that its driver handed out, in order, numbered from 0. The calls made
+/// are the life of this one driver, apart from what its `Nic` adds. How often the worker looks, what it sends, and that
+/// it passes and leaves the gate isn't promised; tests check these facts.
 pub fn run_worker<G: Gate, N: Nic>(
     alloc: Global,
     nic: &mut N,
@@ -181,7 +181,7 @@ pub fn run_worker<G: Gate, N: Nic>(
     ensures lived { HasRun (record { port = order.port; queue = order.queue }) order.size order.frame
         (N.made nic.old) arena (N.made nic.new) result.0 result.1 }
     ensures reported { sent producer.new ≡ reports_of order.queue (left_handed result.0) }
-    // At most `rounds` reports.
+    // It sends at most `rounds` reports.
     ensures few { length (sent producer.new) ≤ order.rounds }
     ensures ring { SameProducer producer.old producer.new }
     ensures home { IfNone result.1 (is_home result.0 ≡ true) }

@@ -10,21 +10,21 @@ use crate::job::Job;
 use crate::reports::{Collector, Report};
 use pmd_driver::{Pass, Rest};
 
-/// The result of a worker. It can't be dropped.
+/// The result of a worker. A `WorkerEnd` can't be dropped.
 pub struct WorkerEnd {
-    /// Its pass, with the calls it made.
+    /// The worker's pass, with the calls that the worker made.
     pub pass: Pass,
     /// Its driver's arena and records, or the driver if it couldn't be stopped.
     pub rest: Rest,
     /// Its reports of the packets that it received, in order.
     pub reports: Vec<Report>,
-    /// Why it ended early, or why its driver didn't stop; `None` otherwise.
+    /// Why the worker ended early, or why its driver didn't stop; `None` otherwise.
     pub fault: Option<WorkerFault>,
 }
 
-/// The result of a run. It can't be dropped.
+/// The result of a run. A `Ran` can't be dropped.
 pub struct Ran {
-    /// The outcome of each job, in the order of the jobs.
+    /// The result of each job, in the order of the jobs.
     pub ends: Vec<WorkerEnd>,
     /// The number of frames that the device accepted.
     pub fed: usize,
@@ -35,16 +35,16 @@ pub struct Ran {
 pub enum RunFault {
     /// There are no jobs, or more than 16.
     NoJobs,
-    /// The arena of this job shares a block number with an earlier job's arena. It is the first job for which this is
+    /// The arena of this job shares a block number with an earlier job's arena. This job is the first for which this is
     /// true.
     Overlap(usize),
     /// Memory ran out.
     OutOfMemory,
 }
 
-/// A refused run: the reason, and what was passed in. It can't be dropped.
+/// A refused run: the reason, and what was passed in. A `RunRefused` can't be dropped.
 pub struct RunRefused {
-    /// Why it was refused.
+    /// Why the run was refused.
     pub fault: RunFault,
     /// The jobs passed in, unchanged.
     pub jobs: Vec<Job>,
@@ -52,7 +52,7 @@ pub struct RunRefused {
     pub frames: Vec<Vec<u8>>,
 }
 
-/// The outcome of a worker after its thread was joined, with all its reports.
+/// Returns the result of a worker after its thread was joined, with all its reports.
 fn end_of<T>(cell: TaskCell<T, Back>, collector: Collector) -> WorkerEnd
     requires { HasCome cell collector }
     ensures { IsMade cell result }
@@ -77,7 +77,7 @@ fn end_of<T>(cell: TaskCell<T, Back>, collector: Collector) -> WorkerEnd
     }
 }
 
-/// Collects the outcomes of all workers, in order. There is room for them.
+/// Collects the results of all workers, in order. `room` has room for them.
 pub(crate) fn gather<T>(
     cells: Vec<TaskCell<T, Back>>,
     collectors: Vec<Collector>,

@@ -8,11 +8,11 @@ use pmd_driver::PmdFault;
 /// Why a worker ended early.
 #[derive(Debug, Drop)]
 pub enum WorkerFault {
-    /// A call of its driver failed.
+    /// A call to its driver failed.
     Pmd(PmdFault),
-    /// The gate was shut to it.
+    /// The gate was shut to the worker.
     GateShut,
-    /// No thread could be created for it.
+    /// No thread could be created for the worker.
     NoThread,
 }
 

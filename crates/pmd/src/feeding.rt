@@ -9,7 +9,7 @@ use pmd_driver::{CallFault, Event, Octets, Pass, Reply, Shared};
 use std::alloc::Global;
 use std::sync::Wait;
 
-/// The outcome of delivering frames.
+/// The result of delivering frames.
 #[derive(Debug, Drop)]
 pub struct Fed {
     /// The number of frames that the device accepted.
@@ -78,7 +78,8 @@ fn arrive<R: Wait, const VFS: u8, const FIFO: u16>(
     }
 }
 
-/// The number of frames accepted in one call, given its reply. The reply contains no buffer and is dropped.
+/// Returns the number of frames accepted in one call, given the call's reply. The reply contains no buffer and is
+/// dropped.
 fn count_let_in(reply: Reply) -> usize
     requires { may_arrive reply ≡ true }
     ensures { result ≡ (if is_done reply then 1 else 0) }

@@ -1,4 +1,4 @@
-//! Whether the frames accepted before a driver's start fit its packets, according to a history's entries.
+//! Whether the frames accepted before a driver's start fit its packets, according to the entries of a history.
 
 ghost use Rattle.std.specs.Prelude.{◌≡◌, ◌↔◌, ◌*◌, IsTrue};
 ghost use Rattle.pmd_driver.specs.PmdAccess.Frames.{most_blocks};
@@ -9,7 +9,8 @@ use crate::before::{is_first, still_left};
 use crate::beginning::FRAME_CHECK;
 use pmd_driver::{BLOCK_BYTES, Entry, Event, Reply, Watched};
 
-/// The length in bytes of the frame that arrived in an entry and was accepted; 0 if there is none.
+/// Returns the length in bytes of the frame that arrived in this entry and was accepted, or 0 if there is no such
+/// frame.
 fn let_in_by(entry: &Entry) -> usize
     ensures { result ≡ let_in_by entry.now.event entry.now.reply }
 {
@@ -19,7 +20,7 @@ fn let_in_by(entry: &Entry) -> usize
     }
 }
 
-/// The length in bytes of the longest frame accepted before the driver's first entry. Returns `None` if there is no
+/// Returns the length in bytes of the longest frame accepted before the driver's first entry, or `None` if there is no
 /// such entry.
 fn longest_before(watched: Watched, from: usize, history: &[Entry]) -> Option<usize>
     ensures { result ≡ known_before longest_after watched 0 from history.now }
@@ -36,8 +37,8 @@ fn longest_before(watched: Watched, from: usize, history: &[Entry]) -> Option<us
     None
 }
 
-/// The maximum capacity in bytes of a driver's packet, in 2,048-byte blocks, for frames of at most `frame` bytes with
-/// their check sequence.
+/// Returns the maximum capacity in bytes of a driver's packet, whose blocks have 2,048 bytes each. Frames have at most
+/// `frame` bytes, including their check sequence.
 fn room_of(frame: u16) -> usize
     ensures { result ≡ 2048 * most_blocks frame }
 {
@@ -46,10 +47,10 @@ fn room_of(frame: u16) -> usize
 }
 
 /// Returns whether the frames accepted before a driver's start fit its packets, in a history of a new device. A frame
-/// fits if it isn't longer than the maximum number of blocks of a packet, at 2,048 bytes each, for frames of at most
-/// `frame` bytes with their check sequence. The check covers entries before the driver's first event, which comes after
-/// `from` calls of its pass and isn't a device step. A dropped frame doesn't count. Returns true if there is no such
-/// event. It allocates nothing.
+/// fits if it isn't longer than the maximum number of blocks in a packet, at 2,048 bytes each. This maximum is for
+/// frames of at most `frame` bytes, including their check sequence. The check covers entries before the driver's first
+/// event, which comes after `from` calls made by its pass and isn't a device step. A dropped frame doesn't count.
+/// Returns true if there is no such event. This function allocates nothing.
 pub fn frames_fit(watched: Watched, from: usize, frame: u16, history: &[Entry]) -> bool
     ensures { IsTrue result ↔ FramesFit watched from (2048 * most_blocks frame) history.now }
 {

@@ -40,9 +40,9 @@ fn feed_at<R: Wait, G: Gate, const VFS: u8, const FIFO: u16>(
     }
 }
 
-/// The calling thread's work while the workers run. Its number at the gate follows the workers' numbers. It passes
-/// point 0, delivers the frames, passes point 1, and leaves; then it takes the workers' reports so far. Returns the
-/// number of frames accepted.
+/// Does the calling thread's work while the workers run. The calling thread's number at the gate follows the workers'
+/// numbers. It passes point 0, delivers the frames, passes point 1, and leaves; then it takes the reports that the
+/// workers have sent so far. Returns the number of frames accepted.
 pub(crate) fn host<R: Wait, G: Gate, const VFS: u8, const FIFO: u16>(
     rt: &R,
     alloc: Global,

@@ -12,7 +12,7 @@ use std::sync::Wait;
 use std::thread;
 use std::thread::{Promise, PromisedHandle, Scope, Threads};
 
-/// States that a thread returns an outcome of this task.
+/// States that a thread returns a result that this task may have.
 #[derive(Drop)]
 struct EndOf<T>(Snapshot<T>);
 
@@ -22,11 +22,11 @@ impl<E, T: Task<E>> Promise<ManuallyDrop<E>> for EndOf<T> {
     ghost kept_by = { λ promise end. T.ends promise.0.value (manually_drop_value end) };
 }
 
-/// A thread that runs a task, or the task's outcome if no thread could be created.
+/// A thread that runs a task, or the task's result if no thread could be created.
 type Seat<E, T> = Result<PromisedHandle<ManuallyDrop<E>, EndOf<T>>, ManuallyDrop<E>>;
 
-/// A value on its way to a thread or back. It must be droppable there, but a task and its outcome may not be.
-/// `ManuallyDrop::into_inner` unwraps it.
+/// Wraps a value for its transfer to a thread or back. The value must be droppable during the transfer, but a task and
+/// its result may not be. `ManuallyDrop::into_inner` unwraps it.
 fn on_its_way<T>(value: T) -> ManuallyDrop<T>
     ensures { manually_drop_value result ≡ value }
 {
@@ -34,7 +34,7 @@ fn on_its_way<T>(value: T) -> ManuallyDrop<T>
     unsafe { ManuallyDrop::new_unchecked(value) }
 }
 
-/// Runs a task, or gives it up if it has no thread.
+/// Runs a task, or gives the task up if it has no thread.
 fn work<E, T: Task<E>>(start: &Start, task: ManuallyDrop<T>) -> ManuallyDrop<E>
     ensures { T.ends (manually_drop_value task) (manually_drop_value result) }
 {
@@ -47,7 +47,7 @@ fn work<E, T: Task<E>>(start: &Start, task: ManuallyDrop<T>) -> ManuallyDrop<E>
     on_its_way(end)
 }
 
-/// Runs a task on its own thread. If none can be created, gives the task up immediately.
+/// Runs a task on its own thread. If no thread can be created, gives the task up immediately.
 fn begin<'s, V: 's, E: Send + 's, T: Task<E> + Send + 's>(
     scope: &Scope<'s, V>,
     start: &'s Start,
@@ -72,7 +72,7 @@ fn begin<'s, V: 's, E: Send + 's, T: Task<E> + Send + 's>(
     }
 }
 
-/// The outcome of a task, after its thread has returned it.
+/// Returns the result of a task, after the task's thread has returned it.
 fn finish<R: Threads, E, T: Task<E>>(rt: &R, seat: Seat<E, T>) -> E
     ensures made { IfOk seat (λ thread. T.ends thread.promise.0.value result) }
     ensures refused { IfErr seat (λ end. manually_drop_value end ≡ result) }
@@ -84,7 +84,7 @@ fn finish<R: Threads, E, T: Task<E>>(rt: &R, seat: Seat<E, T>) -> E
     ManuallyDrop::into_inner(end)
 }
 
-/// Runs the task of each cell. Calls the host after each task has a thread or was given up.
+/// Runs the task in each cell. Calls the host after each task has a thread or was given up.
 fn run_cells<'s, V: 's, R: Threads, E: Send + 's, T: Task<E> + Send + 's, H: FnMut()>(
     rt: &R,
     scope: &Scope<'s, V>,
@@ -113,11 +113,11 @@ fn end_loan<L>(lent: &mut L)
     ensures { lent.new ≡ lent.old }
 {}
 
-/// Runs the task of each cell on its own thread, and calls the host on this thread in the meantime.
+/// Runs the task in each cell on its own thread, and calls the host on this thread in the meantime.
 ///
-/// A thread that was created is waited for, however long it takes to begin. If none can be created, the task is given
-/// up before the host is called, and its `Start` says so from then on. Its clauses promise that each task has an
-/// outcome of its kind and that the host was called, but nothing about threads.
+/// `run` waits for each thread that was created, however long the thread takes to begin. If no thread can be created,
+/// the task is given up before the host is called, and from then on the task's `Start` says so. The clauses promise
+/// that each task ends with a result that it may have and that the host was called, but nothing about threads.
 pub fn run<R: Threads + Wait, E: Send, T: Task<E> + Send, H: FnMut()>(
     rt: &R,
     starts: &[Start],

@@ -7,31 +7,31 @@ ghost use Rattle.pmd.specs.Queues.{queue_at};
 use crate::beginning::queue_at;
 use pmd_driver::{Arena, Mode, Pass, Port};
 
-/// A worker's job. It can't be dropped.
+/// A worker's job. A `Job` can't be dropped.
 pub struct Job {
-    /// The pass that its calls use.
+    /// The pass that the worker's calls use.
     pub pass: Pass,
-    /// The port through which it reaches its queue.
+    /// The port through which the worker reaches its queue.
     pub port: Port,
-    /// The number of its queue at that port.
+    /// The number of the worker's queue at that port.
     pub queue: u16,
-    /// The queue, below 128, whose device steps run before each of its calls: the queue that `port` and `queue` name
-    /// when it starts (`queue_at`).
+    /// The device queue, below 128, whose device steps run before each of the worker's calls. It should be the queue
+    /// that `port` and `queue` name when the worker starts (`queue_at`).
     pub pf_queue: u16,
-    /// The number of descriptors of each ring: a multiple of 8 from 8 to 1,024.
+    /// The number of descriptors in each ring: a multiple of 8 from 8 to 1,024.
     pub size: u16,
-    /// The maximum length of a frame in bytes, with its frame check sequence: 1,518 to 9,728.
+    /// The maximum length of a frame in bytes, including its frame check sequence: 1,518 to 9,728.
     pub frame: u16,
-    /// The blocks for its driver.
+    /// The blocks for the worker's driver.
     pub arena: Arena,
-    /// How many times it looks for a packet.
+    /// How many times the worker looks for a packet.
     pub rounds: u32,
 }
 
 impl Job {
-    /// Returns whether the device steps before the worker's calls belong to its own queue: whether `pf_queue` is the
-    /// queue that its port and queue name, in this pool mode and with `vfs` virtual functions. If it isn't, only others
-    /// can enable the worker's queue.
+    /// Returns whether the device steps before the worker's calls serve the worker's own queue. They do if `pf_queue`
+    /// is the queue that `port` and `queue` name, in this pool mode and with `vfs` virtual functions. If they don't,
+    /// only others can enable the worker's queue.
     pub fn steps_its_queue(&self, mode: Mode, vfs: u8) -> bool
         ensures { IsTrue result ↔ (queue_at mode vfs self.now.port self.now.queue ≡ Some self.now.pf_queue) }
     {
@@ -64,7 +64,8 @@ fn shares_earlier(jobs: &[Job], at: usize) -> bool
     false
 }
 
-/// The first job whose arena shares a block number with an earlier job's arena.
+/// Returns the first job whose arena shares a block number with an earlier job's arena, or `None` if there is no such
+/// job.
 pub fn overlap(jobs: &[Job]) -> Option<usize>
     ensures some { IfSome result (λ n. IsFirstToShare jobs.now n) }
     ensures none { IfNone result ((n : ℕ) → ¬ SharesEarlier jobs.now n) }

@@ -1,5 +1,5 @@
-//! Whether nobody else lends a driver's blocks, according to a history's entries: no other pass lends any, and none is
-//! lent when the driver starts.
+//! Whether nobody else lends a driver's blocks, according to the entries of a history: no other pass lends any of the
+//! blocks, and none of them is lent when the driver starts.
 
 ghost use Rattle.std.specs.Prelude.{◌≡◌, ◌↔◌, ◌==◌, ◌&&◌, ◌||◌, not, nat_lt, ℕ, IsTrue, if◌then◌else◌};
 ghost use Rattle.pmd_driver.specs.DeviceLock.Watching.{marked, none_of};
@@ -82,7 +82,8 @@ fn none_lent(lent: &Lent, first: u32, count: u32) -> bool
     true
 }
 
-/// Returns whether none of these blocks is lent just before the driver's first entry; true if there is none.
+/// Returns whether none of these blocks is lent just before the driver's first entry. Returns true if there is no such
+/// entry.
 fn none_lent_before(
     watched: Watched,
     from: usize,
@@ -106,9 +107,10 @@ fn none_lent_before(
 }
 
 /// Returns whether nobody else lends a driver's blocks in a history of a new device. The blocks are the `count` blocks
-/// starting at `first`, as in its arena. No entry of another pass may try to lend any of them, whatever the reply, and
-/// none may be lent just before the driver's first event. That event comes after `from` calls of its pass and isn't a
-/// device step. A block is lent if an earlier entry lends it and none after that takes it back. It allocates nothing.
+/// starting at `first`, as in the driver's arena. No entry of another pass may try to lend any of these blocks,
+/// whatever the reply, and none of them may be lent just before the driver's first event. That event comes after `from`
+/// calls made by the driver's pass and isn't a device step. A block is lent if an earlier entry lent it and no entry
+/// since then took it back. This function allocates nothing.
 pub fn others_lend_none(
     watched: Watched,
     from: usize,

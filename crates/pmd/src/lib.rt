@@ -1,30 +1,30 @@
-//! The poll-mode driver: the driver of one queue, the ways to access a device, and workers that drive queues of one
-//! device on their own threads.
+//! The poll-mode driver: the driver of one queue, the access to a device, and workers that drive queues of one device
+//! on their own threads.
 //!
-//! This crate contains the workers, and the checks of a closed history. It re-exports the driver of one queue with its
-//! device access, setup and packets (`pmd_driver`), and the device shared by threads with its passes and history
-//! (`device_lock`).
+//! This crate contains the workers, and the checks of a driver against a closed history. It re-exports the driver of
+//! one queue with its device access, setup and packets (`pmd_driver`), and the device shared by threads with its passes
+//! and history (`device_lock`).
 //!
-//! `run_workers` runs the jobs while the calling thread feeds the workers and collects their reports. `run_worker` runs
-//! one of them, through any `Nic`.
+//! `run_workers` runs the jobs while the calling thread delivers frames to the device and collects the workers'
+//! reports. `run_worker` runs one worker, through any `Nic`.
 //!
-//! Tasks on threads: a `TaskCell` holds a task, then its outcome. If no thread can be created for a task, the task
-//! gives up so that nobody waits for it, and its `Start` says so. Meeting points: the trait `Gate` is what a worker
-//! requires of a meeting point; `Lockstep` is a gate at which all members that haven't left wait for one another.
+//! Tasks on threads: a `TaskCell` holds a task, then the task's result. If no thread can be created for a task, the
+//! task gives up so that nobody waits for it, and its `Start` says so. Meeting points: the trait `Gate` states what a
+//! worker requires of a gate; `Lockstep` is a gate at which all members that haven't left wait for one another.
 //!
 //! A worker: `job.rt` describes its work, `reports.rt` the ring of its reports, and `feeding.rt` the frames that arrive
-//! in the meantime. `turns.rt` receives one packet, reports it and sends it again; `driving.rt` is a whole run with the
-//! points at which the worker meets the others.
+//! in the meantime. `turns.rt` receives one packet, reports it and sends it again; `driving.rt` contains a worker's
+//! whole run, including the points at which the worker meets the others.
 //!
-//! The team: `assignment.rt` is what a worker takes to its thread and what the thread returns, `worker_task.rt` its
-//! task there, `room.rt` the memory allocated before a thread starts, `host.rt` the calling thread's work, `ends.rt`
-//! how workers end, and `team.rt` a whole run.
+//! The team: `assignment.rt` contains what a worker's thread receives and returns, and `worker_task.rt` the worker's
+//! task on that thread. `room.rt` allocates memory before a thread starts, `host.rt` contains the calling thread's
+//! work, `ends.rt` how workers end, and `team.rt` a run of all workers.
 //!
-//! Checks of a driver against a closed history: `before.rt` walks the entries up to the driver's first one.
+//! Checks of a driver against a closed history: `before.rt` walks the entries up to the driver's first entry.
 //! `beginning.rt` decides which queue a port addresses and whether the driver begins well there. `quiet.rt` checks that
-//! nothing tried to enable its queue before, `lending.rt` that nobody else lends its blocks, and `fitting.rt` that the
-//! frames accepted earlier fit its packets. `verdict.rt` checks all of this, and that the queue was left alone, in one
-//! call.
+//! nothing tried to enable the driver's queue before, `lending.rt` that nobody else lends the driver's blocks, and
+//! `fitting.rt` that the frames accepted earlier fit the driver's packets. `verdict.rt` checks all of this, and that
+//! the queue was left alone, in one call.
 #![tactic(auto)]
 
 mod assignment;

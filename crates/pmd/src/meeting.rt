@@ -10,10 +10,10 @@ use std::sync::{Condvar, Mutex, MutexGuard, Wait};
 /// The maximum number of members at a gate.
 pub const MAX_MEMBERS: usize = 17;
 
-/// A gate with at most 17 members; their workers are numbered from 0. Contracts see the number of members.
+/// A gate with at most 17 members, which are numbered from 0. In contracts, a `Lockstep` is its number of members.
 ///
-/// A member that reaches a point waits until every member that hasn't left has reached that point or a later one. This
-/// isn't promised; tests check it.
+/// A member that reaches a point waits until every member that hasn't left has reached that point or a later one. The
+/// contracts don't promise this wait; tests check it.
 #[derive(Drop)]
 pub struct Lockstep<'a, R> {
     rt: &'a R,
@@ -48,7 +48,7 @@ impl<'a, R> Lockstep<'a, R> {
 }
 
 impl<'a, R: Wait> Lockstep<'a, R> {
-    /// Records that a member has reached a point, and wakes the waiting ones to check again.
+    /// Records that a member has reached a point, and wakes the waiting members to check again.
     fn come(&self, member: usize, point: u8)
         requires { member < self.now }
     {
@@ -56,8 +56,8 @@ impl<'a, R: Wait> Lockstep<'a, R> {
         self.moved.notify_all();
     }
 
-    /// Waits until each member has reached a point or a later one, or has left. Returns with the lock held; the
-    /// contents of the lock show that this is so.
+    /// Waits until each member has reached a point or a later one, or has left. Returns with the lock held; the state
+    /// under the lock shows that all members have come or left.
     fn wait(&self, point: u8) -> MutexGuard<'_, Standings>
         ensures { HaveAllCome point self.now (mutex_guard_value result).of }
     {
@@ -72,7 +72,8 @@ impl<'a, R: Wait> Lockstep<'a, R> {
 impl<'a, R: Wait> Gate for Lockstep<'a, R> {
     ghost shuts = { λ members worker. members ≤ worker };
 
-    /// Returns false exactly if the worker isn't a member. Then nobody waits for it, and it doesn't wait for anybody.
+    /// Returns false exactly if the worker isn't a member. Nobody waits for such a worker, and it doesn't wait for
+    /// anybody.
     fn pass(&self, worker: usize, point: u8) -> bool
         ensures shut { result ≡ false → self.now ≤ worker }
         // The gate lets a member pass at each point, and nobody else.

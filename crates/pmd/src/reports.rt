@@ -10,7 +10,7 @@ use std::alloc::{AllocError, Global};
 /// A worker's report of a packet that it received.
 #[derive(Clone, Copy, PartialEq, Eq, Debug)]
 pub struct Report {
-    /// The queue in the job, 0 to 127.
+    /// The queue's number in the job, 0 to 127.
     pub queue: u16,
     /// How many packets the worker received before this one.
     pub number: u32,
@@ -29,8 +29,8 @@ pub struct Collector {
 }
 
 impl Collector {
-    /// Creates a ring for at most `most` reports: the worker's end, and the end that collects them. This allocates all
-    /// memory that they need.
+    /// Creates a ring for at most `most` reports. Returns the worker's end and the end that collects the reports. This
+    /// allocates all memory that both ends need.
     pub fn with_room(alloc: Global, most: u32) -> Result<(Producer<Report>, Collector), AllocError>
         ensures pair { IfOk result (λ r. IsPair r.0 r.1.consumer) }
         ensures fresh { IfOk result (λ r. (sent r.0 ≡ []) × (r.1.reports.items ≡ [])) }
@@ -66,7 +66,7 @@ impl Collector {
     /// Takes the reports that have arrived, while the worker continues.
     pub fn drain(&mut self)
         ensures ring { SameConsumer self.old.consumer self.new.consumer }
-        // The room is unchanged.
+        // The room for reports is unchanged.
         ensures room { vec_capacity self.new.reports ≡ vec_capacity self.old.reports }
         // The reports already taken stay.
         ensures kept { IsPrefix self.old.reports.items self.new.reports.items }

@@ -16,7 +16,7 @@ use rtrb::Producer;
 use std::alloc::{AllocError, Global};
 use std::sync::Wait;
 
-/// What the jobs need and can be dropped: a start for each thread, and both ends of each ring for reports.
+/// The droppable values that the jobs need: a start for each thread, and both ends of each ring for reports.
 #[derive(Drop)]
 pub(crate) struct Room {
     pub(crate) starts: Vec<Start>,
@@ -45,8 +45,8 @@ fn make_room(alloc: Global, jobs: &[Job]) -> Result<Room, AllocError>
     })
 }
 
-/// Allocates room for a whole run: all reports of the jobs' workers, a task for each job, and their outcomes. Returns
-/// `None` if there is no memory.
+/// Allocates room for a whole run: all reports from the jobs' workers, a task for each job, and a result for each job.
+/// Returns `None` if there is no memory.
 pub(crate) fn make_all_room<T>(
     alloc: Global,
     jobs: &[Job],
@@ -69,7 +69,7 @@ pub(crate) fn make_all_room<T>(
     Some((room, cells, ends))
 }
 
-/// Puts each job in a cell, with the worker's end of its ring for reports. There is room for the cells.
+/// Puts each job in a cell, with the worker's end of its ring for reports. `room` has room for the cells.
 pub(crate) fn sit<'a, R: Wait, G: Gate, const VFS: u8, const FIFO: u16>(
     rt: &'a R,
     alloc: Global,

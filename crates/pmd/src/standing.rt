@@ -6,11 +6,11 @@ use crate::meeting::MAX_MEMBERS;
 /// Where a member of a gate is.
 #[derive(Clone, Copy)]
 pub enum Standing {
-    /// It hasn't reached any point.
+    /// The member hasn't reached any point.
     Outside,
-    /// It waits at this point or has passed it.
+    /// The member waits at this point or has passed it.
     At(u8),
-    /// It has left the gate and doesn't return.
+    /// The member has left the gate and doesn't return.
     Left,
 }
 
@@ -26,8 +26,8 @@ impl Standing {
         }
     }
 
-    /// Where the member is after it reaches a point. It never returns to an earlier point, and doesn't return after it
-    /// has left.
+    /// Returns where the member is after it reaches a point. A member never goes back to an earlier point, and doesn't
+    /// return after it has left.
     pub fn moved_to(self, point: u8) -> Standing
         ensures { result ≡ moved_to point self }
     {
@@ -46,7 +46,7 @@ pub struct Standings {
 }
 
 impl Standings {
-    /// No member has reached a point yet.
+    /// Creates the standings in which no member has reached a point yet.
     pub fn new() -> Standings
         ensures { All (λ s. s ≡ Standing.Outside) result.of }
     {

@@ -7,7 +7,7 @@ const OPEN: u64 = 0;
 /// No thread could be created.
 const REFUSED: u64 = 1;
 
-/// Whether a task has a thread. A thread that was created is waited for, however long it takes to begin.
+/// Whether a task has a thread. The run waits for each thread that was created, however long the thread takes to begin.
 #[derive(Drop)]
 pub struct Start {
     word: AtomicU64,
@@ -26,7 +26,7 @@ impl Start {
         self.word.store(REFUSED, Ordering::SeqCst);
     }
 
-    /// Returns whether no thread could be created for the task. The answer is final when the host is called.
+    /// Returns whether no thread could be created for the task. From the call to the host on, this no longer changes.
     pub fn is_missing(&self) -> bool {
         self.word.load(Ordering::SeqCst) == REFUSED
     }

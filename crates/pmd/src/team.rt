@@ -35,7 +35,7 @@ fn is_team_size(count: usize) -> bool
     1 <= count && count <= MAX_JOBS
 }
 
-/// Why the jobs can't run, regardless of memory.
+/// Returns why the jobs can't run, regardless of memory, or `None` if they can.
 fn refusal(jobs: &[Job]) -> Option<RunFault>
     ensures some { IfSome result (λ fault. IsWhy jobs.now fault) }
     ensures certain { IfSome result (λ fault. is_certain fault ≡ true) }
@@ -148,32 +148,33 @@ fn run_in<R: Threads + Wait + Sync, G: Gate + Sync, const VFS: u8, const FIFO: u
 /// It reports each packet that it receives and sends it again. Then it reaps, passes point 2, and stops the driver.
 ///
 /// The calling thread's number at the gate is the number of jobs. It passes point 0, delivers the frames up to the
-/// first that is refused, passes point 1, and leaves. If the gate doesn't let it pass, it delivers none. Then it takes
-/// the workers' reports and joins them. A worker that ends early leaves the gate. A worker for which no thread can be
-/// created leaves before another waits for it, and ends with `NoThread`. A thread that was created is waited for,
-/// however long it takes to begin.
+/// first that is refused, passes point 1, and leaves. If the gate doesn't let it pass point 0, it delivers no frame.
+/// Then it takes the workers' reports and joins the workers. A worker that ends early leaves the gate. A worker for
+/// which no thread can be created leaves before another worker waits for it, and ends with `NoThread`. The run waits
+/// for each thread that was created, however long the thread takes to begin.
 ///
-/// The reports of each outcome are in order over every history of the device, up to the last call of the outcome's
-/// pass, that leaves the job's queue alone and in which the job's driver begins well. If the outcome has a fault, both
-/// sides of the queue must also be off with no enable request pending just before the driver's first event.
+/// Take a job with its result, and a history of the device that leaves the job's queue alone and in which the job's
+/// driver begins well. The result is in order over every such history, up to the last call made by the result's pass.
+/// If the result has a fault, both sides of the queue must also be off with no enable request pending just before the
+/// driver's first event.
 ///
-/// In order means two facts. The packets that its driver handed out are a prefix of those delivered on the queue. The
-/// frames sent there are a prefix of those that it accepted. Both are counted since the sides were enabled after that
-/// event.
+/// "In order" means two facts. The packets that the driver handed out are a prefix of those delivered on the queue. The
+/// frames sent on the queue are a prefix of those that the driver accepted. Delivered and sent frames are counted since
+/// the sides were enabled after that event.
 ///
-/// This also holds over the history returned when the passes are closed, if `left_alone` and `begins_well` are true of
-/// the outcome's pass and the job. If the outcome has a fault, `never_asked_on` must be true too.
+/// The result is also in order over the history returned when the passes are closed, if `left_alone` and `begins_well`
+/// are true of the result's pass and the job. If the result has a fault, `never_asked_on` must be true too.
 ///
 /// A job isn't refused just because its `pf_queue` isn't the queue that its port and queue name. Which queue they name
-/// depends on the device's mode when its worker starts, and others may step that queue. If nobody steps it, the worker
-/// ends with `StartTimeout` after 1,000 polls that show a side off. If port and queue name no queue, it ends with
-/// `DeviceFault`. `Job::steps_its_queue` checks this in advance.
+/// depends on the device's mode when the job's worker starts, and others may run steps that serve that queue. If nobody
+/// does, the worker ends with `StartTimeout` after 1,000 polls that show a side off. If port and queue name no queue,
+/// the worker ends with `DeviceFault`. `Job::steps_its_queue` checks this in advance.
 ///
 /// How often a worker looks, what it sends, which points it passes, and why the last frames don't arrive isn't
-/// promised; tests check that.
+/// promised; tests check these facts.
 ///
-/// Errors, in this order: `NoJobs` if there are no jobs or more than 16, `Overlap` if two arenas share a number, and
-/// `OutOfMemory`. Each returns the jobs and frames, and nothing is done.
+/// It fails in this order: `NoJobs` if there are no jobs or more than 16, `Overlap` if two arenas share a block number,
+/// and `OutOfMemory`. Each error returns the jobs and frames, and nothing is done.
 pub fn run_workers<R: Threads + Wait + Sync, G: Gate + Sync, const VFS: u8, const FIFO: u16>(
     rt: &R,
     alloc: Global,

@@ -1,4 +1,4 @@
-//! Receives one packet after another, reports each, and sends it again.
+//! Receives one packet after another, reports each packet, and sends it again.
 
 ghost use Rattle.std.specs.Prelude.{◌≡◌, ◌+◌, ◌<◌, ◌≤◌, ◌++◌, ◌∷◌, [], length, true, IfOk, IfSome, IfNone, OnErr};
 ghost use Rattle.rtrb.specs.Ring.{sent, known_free, SameProducer};
@@ -73,7 +73,7 @@ fn send<N: Nic>(
     }
 }
 
-/// Returns a packet's blocks to the arena, which must be possible.
+/// Returns a packet's blocks to the arena. The packet must be one that the driver can release.
 fn release(pmd: &mut Pmd, packet: Packet)
     requires { goes_back_to pmd.old.rings packet ≡ true }
     ensures handed { handed_of pmd.new.rings ≡ handed_of pmd.old.rings }
@@ -87,7 +87,7 @@ fn release(pmd: &mut Pmd, packet: Packet)
     }
 }
 
-/// Sends a packet with blocks that can be returned to the arena; releases it if it isn't accepted.
+/// Sends a packet with blocks that can be returned to the arena. Releases the packet if it isn't accepted.
 fn forward<N: Nic>(
     alloc: Global,
     nic: &mut N,
@@ -175,7 +175,7 @@ fn round<N: Nic>(
     Ok(())
 }
 
-/// Runs `rounds` rounds, up to the first that fails.
+/// Runs `rounds` rounds, but stops at the first round that fails.
 pub(crate) fn do_rounds<N: Nic>(
     alloc: Global,
     nic: &mut N,

@@ -1,5 +1,5 @@
-//! Checks a driver against a closed history in one call. `judge` checks everything that the laws on a driver's packets
-//! and blocks require of a history, and names the first requirement that doesn't hold.
+//! Checks a driver against a closed history in one call. `judge` checks everything that the laws about a driver's
+//! packets and blocks require of a history, and names the first requirement that doesn't hold.
 
 ghost use Rattle.std.specs.Prelude.{◌↔◌, IsOk, IfErr};
 ghost use Rattle.pmd.specs.Judged.{IsClear, IsFirst};
@@ -10,14 +10,14 @@ use crate::lending::others_lend_none;
 use crate::quiet::never_asked_on;
 use pmd_driver::{Entry, Watched, left_alone};
 
-/// A driver to be judged by a history.
+/// A driver to be checked against a history.
 #[derive(Clone, Copy)]
 pub struct Driven {
     /// The number of virtual functions, the driver's pass, and its queue.
     pub watched: Watched,
-    /// The number of calls that its pass made before it started.
+    /// The number of calls that the driver's pass made before the driver started.
     pub from: usize,
-    /// The queue and the frame limit that it was started with.
+    /// The port, the queue and the frame limit with which the driver was started.
     pub given: Given,
     /// The first block of its arena.
     pub first: u32,
@@ -28,21 +28,23 @@ pub struct Driven {
 /// The first check that a history fails for a driver, in the order of the checks.
 #[derive(Clone, Copy, PartialEq, Eq, Debug)]
 pub enum Doubt {
-    /// Something other than the driver touched its queue or the blocks that it lent; `left_alone` is false.
+    /// Something other than the driver touched the driver's queue or the blocks that it lent; `left_alone` is false.
     Disturbed,
-    /// When it started, its port and queue named another queue, or the frame limit was different; `begins_well` is
-    /// false.
+    /// When the driver started, its port and queue named another queue, or the frame limit was different; `begins_well`
+    /// is false.
     BeganOtherwise,
-    /// Something tried to enable its queue before it started; `never_asked_on` is false.
+    /// Something tried to enable the driver's queue before the driver started; `never_asked_on` is false.
     AskedOnBefore,
-    /// A block of its arena was lent when it started, or another pass tries to lend one; `others_lend_none` is false.
+    /// A block in the driver's arena was lent when the driver started, or another pass tries to lend such a block;
+    /// `others_lend_none` is false.
     LentByOthers,
-    /// A frame accepted before it started is too long for its packets; `frames_fit` is false.
+    /// A frame accepted before the driver started is too long for the driver's packets; `frames_fit` is false.
     TooLong,
 }
 
-/// Judges a driver by a history of a new device: first with `left_alone`, then with `begins_well`, `never_asked_on`,
-/// `others_lend_none` and `frames_fit`. Returns the first doubt. It allocates nothing.
+/// Checks a driver against a history of a new device: first with `left_alone`, then with `begins_well`,
+/// `never_asked_on`, `others_lend_none` and `frames_fit`. Returns the first check that fails. This function allocates
+/// nothing.
 pub fn judge(driven: &Driven, history: &[Entry]) -> Result<(), Doubt>
     ensures clear { IsOk result ↔ IsClear driven.now history.now }
     ensures first { IfErr result (λ doubt. IsFirst driven.now history.now doubt) }

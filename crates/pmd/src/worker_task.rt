@@ -14,7 +14,8 @@ use std::alloc::Global;
 use std::marker::Model;
 use std::sync::Wait;
 
-/// A worker's assignment at a gate and a shared device. Contracts see the assignment.
+/// A worker's assignment with the gate and the shared device that the worker uses. In contracts, a `WorkerTask` is its
+/// assignment.
 pub(crate) struct WorkerTask<'a, R: Wait, G: Gate, const VFS: u8, const FIFO: u16> {
     rt: &'a R,
     alloc: Global,
@@ -33,7 +34,7 @@ impl<'a, R: Wait, G: Gate, const VFS: u8, const FIFO: u16> Model
 }
 
 impl<'a, R: Wait, G: Gate, const VFS: u8, const FIFO: u16> WorkerTask<'a, R, G, VFS, FIFO> {
-    /// An assignment with this gate and this device.
+    /// Creates the task for an assignment, with this gate and this device.
     pub(crate) fn new(
         rt: &'a R,
         alloc: Global,

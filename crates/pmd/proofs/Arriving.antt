@@ -33,7 +33,7 @@ pub all_came : (before all : List (List ℕ)) (old new : PassValue) → before +
 all_came before all old new are arrived =
     subst (λ (l : List (List ℕ)). HaveArrived l old new) (sym (append-nil before) ∙ are) arrived
 
--- The frames before the one with the refused call arrived.
+-- The frames before the one whose call was refused arrived.
 pub stops_before : (before rest all : List (List ℕ)) (frame : List ℕ) (refusal : CallFault (Unit {0}))
     (old new : PassValue) → before ++ frame ∷ rest ≡ all → HaveArrived before old new
     → IsFed all (Some refusal) old new
@@ -44,7 +44,7 @@ stops_before before rest all frame refusal old new are arrived = (
       (sym (first_of before (frame ∷ rest)) ∙ ap (λ (l : List (List ℕ)). take (length before) l) are) arrived,
 )
 
--- The calls of the frames that arrived are those that were added to the pass.
+-- The calls for the frames that arrived are those that were added to the pass.
 gained_since : (frames : List (List ℕ)) (old new : PassValue) (arrived : HaveArrived frames old new)
     → gained old new ≡ arrived.since
 gained_since frames old new arrived =

@@ -1,4 +1,4 @@
--- Lemmas: workers that have returned, and their outcomes for the jobs.
+-- Lemmas about workers that have returned, and their results for the jobs.
 use Rattle.std.proofs.Common.{◌≡◌, ℕ, zero, suc, ◌<◌, ◌++◌, List, take, refl, ap, [], ◌∷◌, length, set, slice_index_or, inl, inr, sym, ◌∙◌, subst, arith}
 use Rattle.std.proofs.Math.Seq.{take-append_seam}
 use Rattle.std.proofs.lemmas.Bool.{cases_eq}
@@ -35,7 +35,7 @@ same_there [] i x y inside = absurd (omega (arith, inside))
 same_there (c ∷ cs) zero x y inside = refl
 same_there (c ∷ cs) (suc i) x y inside = same_there cs i x y (omega (arith, inside))
 
--- The reports of another worker were taken.
+-- One more worker's reports were taken.
 pub drained_more : (old cs : List Collector) (i : ℕ) (x d : Collector) → i < length cs → AreDrained old cs
     → IsDrained (slice_index_or cs i x) d → AreDrained old (set cs i d)
 drained_more old cs i x d inside drained one = (
@@ -91,7 +91,7 @@ all_ended (j ∷ jobs) (s ∷ cells) after [] new sit count ended drained = absu
 taken : {A : Type 0} → (xs rest : List A) (n : ℕ) → n ≡ length xs → take n (xs ++ rest) ≡ xs
 taken xs rest n is = ap (λ (k : ℕ). take k (xs ++ rest)) is ∙ take-append_seam xs rest
 
--- A run over the cells, and over the collectors of a vector.
+-- A run over the cells, and over the collectors in a vector.
 pub run_over : (jobs : List Job) (cells after : List (TaskCell Assignment Back)) (old new : List Collector) (count : ℕ)
     (left : List Collector) → AllSit jobs cells old → length after ≡ length cells → count ≡ length old
     → EachEnded IsBack cells after → AreDrained old new → AllEnded jobs after (take count (new ++ left))
@@ -103,7 +103,7 @@ one_come j (Ended b) d (end, pair, room) = (pair, omega (arith, end.few, room))
 one_come j (Waits assignment) d ended = absurd ended
 one_come j Empty d ended = absurd ended
 
--- The rest of each worker's reports can be taken.
+-- Each worker's remaining reports can be taken.
 pub all_come : (jobs : List Job) (cells : List (TaskCell Assignment Back)) (collectors : List Collector)
     → AllEnded jobs cells collectors → HaveCome cells collectors
 all_come [] [] [] ended = tt
@@ -120,7 +120,7 @@ one_end j (Ended b) d e ended (pass, rest, reports, fault) = rw (pass, rest, rep
 one_end j (Waits assignment) d e ended made = absurd ended
 one_end j Empty d e ended made = absurd ended
 
--- The collected outcomes are the jobs' outcomes.
+-- The collected results are the jobs' results.
 pub all_ends : (jobs : List Job) (cells : List (TaskCell Assignment Back)) (collectors : List Collector)
     (ends : List WorkerEnd) → AllEnded jobs cells collectors → AreMade cells ends → AreEnds jobs ends
 all_ends [] [] [] [] ended made = tt

@@ -1,4 +1,4 @@
--- Lemmas: outcomes are collected one by one.
+-- Lemmas: the workers' results are collected one after the other.
 use Rattle.std.proofs.Common.{◌≡◌, ◌<◌, List, [], ◌∷◌, ◌++◌, length, slice_index_or, sym, ◌∙◌, subst, append_assoc, append-nil, arith}
 use Rattle.std.specs.List.{remove}
 use Rattle.pmd.specs.declared.cell.TaskCell.{TaskCell}
@@ -23,13 +23,13 @@ module _ {T : Type 0} where
   made_more [] (f ∷ ends) s e made one = absurd made
   made_more (t ∷ cells) [] s e made one = absurd made
 
-  -- Some outcomes are collected, and the other workers have returned.
+  -- Some results are collected, and the other workers have returned.
   pub record IsGathered (all cells : List (TaskCell T Back)) (ends : List WorkerEnd) : Type 0 where
     pub before : List (TaskCell T Back)
     pub cells_are : before ++ cells ≡ all
     pub made : AreMade before ends
 
-  -- The outcome of the first remaining worker is collected.
+  -- The result of the first remaining worker is collected.
   pub one_gathered : (all cells : List (TaskCell T Back)) (ends : List WorkerEnd) (s : TaskCell T Back) (e : WorkerEnd)
       → IsGathered all cells ends → 0 < length cells → s ≡ slice_index_or cells 0 s → IsMade s e
       → IsGathered all (remove cells 0) (ends ++ e ∷ [])
@@ -40,7 +40,7 @@ module _ {T : Type 0} where
   }
   one_gathered all [] ends s e i some is one = absurd (omega (arith, some))
 
-  -- All outcomes are collected.
+  -- All results are collected.
   pub all_gathered : (all : List (TaskCell T Back)) (ends : List WorkerEnd) → IsGathered all [] ends → AreMade all ends
   all_gathered all ends i =
       subst (λ (l : List (TaskCell T Back)). AreMade l ends) (sym (append-nil i.before) ∙ i.cells_are) i.made

@@ -1,4 +1,4 @@
--- Lemmas: a worker's outcome is in order, over every history that its pass may be closed with.
+-- Lemmas: a worker's result is in order over every history with which its pass may be closed.
 use Rattle.pmd_driver.specs.PmdAccess.QueueMade.{IsSeen}
 use Rattle.driver_laws.proofs.Prelude.{Call, DrivesRings, Entry, HasGround, HasLived, IsAlong, IsFalse, IsQuiet}
 use Rattle.driver_laws.proofs.Prelude.{IsStopping, Life, List, None, Numbers, Option, PmdFault, Rest, Rxdctl, Some}
@@ -25,10 +25,10 @@ use Rattle.pmd_driver.specs.NicDevice.declared.event.Reply.TheVariants as reply
 use Rattle.driver_laws.specs.RingLaws.Delivered as receive
 use Rattle.driver_laws.specs.RingLaws.Laws as transmit
 
--- A driver that lived, counted from its first event on. The rest of its history is treated as a separate one, in which
--- the driver lived after no calls of its pass.
+-- A driver that ran, from its first event on. The history from that event on is treated as a separate history, before
+-- which the driver's pass made no calls.
 
--- The first of some calls that isn't a device step.
+-- The first call in a list that isn't a device step.
 one_first : (xs ys : List Call) (c d : Call) (cs ds : List Call) → AreSteps xs → AreSteps ys → IsFalse (is_step c.event)
     → IsFalse (is_step d.event) → xs ++ c ∷ cs ≡ ys ++ d ∷ ds → c ∷ cs ≡ d ∷ ds
 one_first (x ∷ xs) (y ∷ ys) c d cs ds one two none other same =
@@ -117,9 +117,9 @@ module _ (w : Watched) (origin : State) (h : List Entry) {q : AtPort} {size fram
         let sent = sent_over life _ stopping (stop.following life.made) in
         search (rules, over_stop life _ stopping, sent, lived)
 
--- A worker's outcome.
+-- A worker's result.
 
--- The outcome of one of the jobs.
+-- The result of one of the jobs.
 end_of : (jobs : List Job) (ran : List WorkerEnd) (j : Job) (e : WorkerEnd) → AreEnds jobs ran
     → IsEndAmong jobs ran j e → IsEnd j e
 end_of (k ∷ jobs) (f ∷ ran) j e are among = grind (arith, end_of jobs ran j e are.1)

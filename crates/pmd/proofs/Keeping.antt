@@ -1,4 +1,4 @@
--- Lemmas: where a driver's blocks are after one of its calls.
+-- Lemmas about where a driver's blocks are after one of its calls.
 use Rattle.std.proofs.Common.{ℕ, List, [], ◌++◌}
 use Rattle.pmd_driver.specs.Halted.{all_out}
 use Rattle.pmd_driver.specs.Blocks.{KeepsBlocks}

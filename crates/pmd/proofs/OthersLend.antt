@@ -10,7 +10,7 @@ use Rattle.pmd.specs.Before.{holds_of, known_before}
 use Rattle.pmd.specs.Lending.{NoneLentBefore, OnlyPassLends, OthersLendNone, are_from, lends_none, lent_after, lent_through, no_block, only_pass_lends}
 use Rattle.pmd.proofs.FirstOwn.{test_decides}
 
--- Entry by entry, whether no other pass lends.
+-- Whether no other pass lends, decided entry by entry.
 
 module _ (pass : ℕ) (own : Blocks) where
   own_or : (e : Entry) → (e.pass ≢ pass → lends_none own e.event ≡ true)
@@ -63,7 +63,7 @@ none_decides lent first count = (
       none k (and_from _ _ (le-leb first k low) (lt-ltb k (first + count) high))),
 )
 
--- The two tests together decide it.
+-- The two tests together decide whether nobody else lends the blocks.
 
 none_before_decides : (w : Watched) (from first count : ℕ) (h : List Entry)
     → (holds_of (λ lent. none_of lent first count) (known_before lent_after w no_block from h) ≡ true)

@@ -1,4 +1,4 @@
--- Lemmas: returned packets with blocks that can still be returned to the arena.
+-- Lemmas about returned packets with blocks that can still be returned to the arena.
 use Rattle.std.proofs.Common.{◌≡◌, ℕ, ◌&&◌, not, nat_lt, Bool, true, List, Option, Some, None, Result, Ok, Err, IfSome, sym, ap, ◌∙◌, subst}
 use Rattle.std.specs.List.{list_any}
 use Rattle.pmd_driver.specs.DeviceLock.declared.entry.Call.{Call}

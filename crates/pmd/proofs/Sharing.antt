@@ -1,4 +1,4 @@
--- Lemmas: arenas that share a block number.
+-- Lemmas about arenas that share a block number.
 use Rattle.std.proofs.Common.{◌≡◌, ℕ, zero, suc, ◌+◌, ◌<◌, inl, inr, Bool, true, false, List, [], ◌∷◌, length, slice_index_or, refl, sym, ◌∙◌, subst, arith}
 use Rattle.std.proofs.lemmas.Bool.{cases_eq}
 use Rattle.std.proofs.lemmas.Bool.Decides.{nat_tests}
@@ -31,7 +31,7 @@ job_there [] at number own = absurd (grind (arith, nat_tests, own))
 job_there (j ∷ jobs) zero number own = omega arith
 job_there (j ∷ jobs) (suc at) number own = omega (arith, job_there jobs at number own)
 
--- If no job so far shares a number, and the next doesn't either, none up to it does.
+-- If no job so far shares a number, and the next job doesn't either, no job up to the next one does.
 pub none_more : (P : ℕ → Type 0) (n : ℕ) → ((k : ℕ) → k < n → ¬ P k) → ¬ P n → (k : ℕ) → k < n + 1 → ¬ P k
 none_more P n below here k less p =
     elim (cases_eq k n) [ inl e ↦ here (subst P e p) | inr ne ↦ below k (omega (arith, less, ne)) p ]

@@ -1,4 +1,4 @@
--- Lemmas: jobs are put into cells one by one.
+-- Lemmas: jobs are put into cells one after the other.
 use Rattle.std.proofs.Common.{◌≡◌, ℕ, zero, suc, ◌<◌, true, List, [], ◌∷◌, ◌++◌, length, slice_index_or, refl, sym, ap, ◌∙◌, subst, append_assoc, append-nil, arith}
 use Rattle.std.specs.List.{remove}
 use Rattle.std.specs.declared.alloc.Global.{Global}
@@ -14,7 +14,7 @@ use Rattle.pmd.specs.Coming.{AreWays, Sits, AllSit}
 use Rattle.pmd.specs.declared.assignment.Back.{Back}
 use Rattle.pmd.specs.declared.assignment.Assignment.{Assignment}
 
--- Another job is in its cell.
+-- One more job is in its cell.
 sit_more : (jobs : List Job) (ss : List (TaskCell Assignment Back)) (cs : List Collector) (j : Job)
     (s : TaskCell Assignment Back) (c : Collector) → AllSit jobs ss cs → Sits j s c
     → AllSit (jobs ++ j ∷ []) (ss ++ s ∷ []) (cs ++ c ∷ [])
@@ -25,7 +25,7 @@ sit_more [] [] (d ∷ cs) j s c sit sits = absurd sit
 sit_more (k ∷ jobs) [] cs j s c sit sits = absurd sit
 sit_more (k ∷ jobs) (t ∷ ss) [] j s c sit sits = absurd sit
 
--- Some jobs are in cells, and the rest have rings.
+-- Some jobs are in cells, and the remaining jobs have rings.
 pub record IsSitting (all : List Job) (collectors : List Collector) (jobs : List Job)
     (ps : List (Producer Report Global AnyItems)) (ss : List (TaskCell Assignment Back)) : Type 0 where
   pub before : List Job
@@ -60,7 +60,7 @@ first_sits all collectors (j ∷ jobs) [] ss d k q before taken left jobs_are co
 first_sits all collectors (j ∷ jobs) (p ∷ ps) ss d k q before taken [] jobs_are collectors_are sit ways some is here =
     absurd ways
 
--- The first of the rest is put into a cell.
+-- The first remaining job is put into a cell.
 pub one_sits : (all : List Job) (collectors : List Collector) (jobs : List Job)
     (ps : List (Producer Report Global AnyItems)) (ss : List (TaskCell Assignment Back)) (d : Assignment) (k : Job)
     (q : Producer Report Global AnyItems) → IsSitting all collectors jobs ps ss → 0 < length jobs → d.job ≡ k
@@ -88,7 +88,7 @@ nobody_left [] [] ways = refl
 nobody_left [] (c ∷ left) ways = absurd ways
 nobody_left (p ∷ ps) left ways = absurd ways
 
--- When all are in cells, each has its collector.
+-- When all jobs are in cells, each job has its collector.
 pub all_sit : (all : List Job) (collectors : List Collector) (ps : List (Producer Report Global AnyItems))
     (ss : List (TaskCell Assignment Back)) → IsSitting all collectors [] ps ss → AllSit all ss collectors
 all_sit all collectors ps ss i =

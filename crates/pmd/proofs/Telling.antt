@@ -1,4 +1,4 @@
--- Lemmas: packets are reported one by one.
+-- Lemmas: packets are reported one after the other.
 use Rattle.std.proofs.Common.{◌≡◌, ℕ, suc, ◌+◌, List, [], ◌∷◌, ◌++◌, length, refl, sym, ap, ◌∙◌, arith}
 use Rattle.pmd_driver.specs.PmdAccess.Packet.{Kept}
 use Rattle.pmd.specs.declared.reports.Report.{Report}
@@ -16,7 +16,7 @@ from_more queue number (first ∷ packets) k =
     (from_more queue (suc number) packets k
     ∙ ap (λ (n : ℕ). reports_from queue (suc number) packets ++ report_of queue n k ∷ []) e)
 
--- The reports of some packets and of one more.
+-- The reports of some packets and of one more packet.
 pub reported_more : (queue : ℕ) (packets : List Kept) (k : Kept) (reports : List Report)
     → reports ≡ reports_of queue packets
     → reports ++ report_of queue (length packets) k ∷ [] ≡ reports_of queue (packets ++ k ∷ [])
@@ -26,7 +26,7 @@ reported_more queue packets k reports reported =
     ∙ ap (λ (n : ℕ). reports_of queue packets ++ report_of queue n k ∷ []) e
     ∙ sym (from_more queue 0 packets k)
 
--- There are as many reports as packets.
+-- The number of reports is the number of packets.
 pub reported_count : (queue number : ℕ) (packets : List Kept)
     → length (reports_from queue number packets) ≡ length packets
 reported_count queue number [] = refl

@@ -1,4 +1,4 @@
--- Lemmas: a walk through a history, entry by entry, up to the driver's first one.
+-- Lemmas about a walk through a history, entry by entry, up to the driver's first entry.
 use Rattle.std.proofs.Common.{◌≡◌, ℕ, ◌+◌, ◌<◌, suc, true, false, List, ◌∷◌, length, get_or, drop, Some, None, refl, ap, ◌∙◌, arith, drop-cons}
 use Rattle.std.proofs.Math.Seq.{drop-length}
 use Rattle.pmd_driver.specs.DeviceLock.declared.alone.Watched.{Watched}
@@ -13,11 +13,11 @@ module _ {S : Type 0} (next : S → Entry → S) (w : Watched) (s : S) (left : �
     begins : drop i h ≡ e ∷ drop (i + 1) h
     begins = split h i e lt ∙ ap (λ (d : Entry). d ∷ drop (i + 1) h) there
 
-    -- The entry is the driver's first one.
+    -- The entry is the driver's first entry.
     pub known_here : is_first w left e ≡ true → known_before next w s left (drop i h) ≡ Some s
     known_here is = ap (known_before next w s left) begins ∙ rw is refl
 
-    -- The entry isn't the driver's first one.
+    -- The entry isn't the driver's first entry.
     pub known_there : is_first w left e ≡ false → (then : S) (following : ℕ) → then ≡ next s e
         → following ≡ still_left w left e
         → known_before next w s left (drop i h) ≡ known_before next w then following (drop (i + 1) h)

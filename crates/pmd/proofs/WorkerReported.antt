@@ -13,7 +13,7 @@ use Rattle.pmd.specs.{Beginning.BeginsWell, Starts.Starts, declared.beginning.Gi
 use Rattle.pmd_driver.specs.DeviceLock.{Reported.first_settings, Reported.settings_through, declared.reported.Settings.Settings}
 use Rattle.pmd.specs.Queues as reported
 
--- All calls of a pass, around its driver's first one.
+-- All calls made by a pass, before and after its driver's first call.
 pub calls_from : (tag : ℕ) (old : List Call) (h : List Entry) (x : Starts tag old h)
     → calls_of tag h ≡ old ++ (x.steps ++ call_in x.first ∷ calls_of tag x.following)
 calls_from tag old h x = grind (arith, common_steps, calls_joined, calls_own)
@@ -61,7 +61,7 @@ pub named_below : (mode : Mode) (vfs : ℕ) (port : Port) (number queue : ℕ)
     → queue_at mode vfs port number ≡ Some queue → queue < 128
 named_below mode vfs port number queue is = grind (arith, common_steps, some_where, is_in)
 
--- Port and queue name the watched queue at that point, and the frame limit is the one the driver was given.
+-- Port and queue name the watched queue at that point, and the frame limit is the one that the driver was given.
 pub ground_there : (w : Watched) (fifo : ℕ) (old : List Call) (given : Given) (h : List Entry)
     → IsSound (new_state w.vfs fifo) → AreEvents h → BeginsWell w (length old) given h → (x : Starts w.pass old h)
     → HasGround w.queue (record { port = given.port; queue = given.queue }) given.frame

@@ -22,13 +22,13 @@ use Rattle.pmd_driver.specs.Halves.{played_by}
 use Rattle.pmd_driver.proofs.Placed.{many_parts}
 use Rattle.pmd_driver.proofs.Followed.{receiving_drives, sending_drives, drives_none, drives_on}
 
--- A device step lends nothing.
+-- A device step lends no block.
 pub step_apart : (own : Blocks) (h : Halves) (e : Event Block) → IsTrue (is_step e)
     → LendsApart own h (Sends Elsewhere) e
 step_apart own h (event.Lend b) step = cc
 step_apart own h e step = tt
 
--- No call was made, or calls follow others.
+-- No call was made, or further calls follow.
 
 pub apart_none : (own : Blocks) (made : List Call) (h : Halves) → DrivesApart own made h made h
 unfolding drives_none
@@ -52,7 +52,7 @@ apart_on own old mid new h j k p q = record {
       (subst (λ (x : Halves). AllLendApart own x q.drives.0 q.drives.1) p.drives.4 q.apart);
 }
 
--- The receive half may lend what is free in an arena.
+-- The receive half may lend a block that is free in an arena.
 
 pub received_apart : (own : Blocks) (a : Numbers) (h : Halves)
     → ((n : ℕ) → is_free a n ≡ true → MayLend own h Receives n) → (e : Event Block) → receive.LendsFree a true e
@@ -159,7 +159,7 @@ module _ (own : Blocks) (v : Receive) where
   played_may blocks s some all (m ∷ moves) (n ∷ calls) is =
       played_may blocks (sending.moved s m n.reply) some (moved_may blocks s some all m n.reply is.0) moves calls is.1
 
--- The blocks that one half may lend and the other hasn't lent.
+-- The blocks that one half may lend and the other half hasn't lent.
 abbrev pub OutstandingMay : Blocks → Halves → Type 0
 OutstandingMay own h = AllMaySend own h.receive (blocks_of h.transmit.outstanding)
 

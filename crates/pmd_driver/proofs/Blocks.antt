@@ -1,4 +1,4 @@
--- Lemmas: where a driver's blocks are after each of its calls.
+-- Lemmas about where a driver's blocks are after each of its calls.
 use Rattle.std.proofs.Common.{◌≡◌, ◌≢◌, ℕ, ◌+◌, ◌≤◌, ◌⊎◌, inl, inr, true, false, cond, List, ◌∷◌, ◌++◌, sym, subst, arith}
 use Rattle.std.proofs.lemmas.Bool.{cases_eq}
 use Rattle.pmd_access.specs.NicDevice.DmaArena.Numbers.{Numbers, is_own, is_free}
@@ -29,7 +29,7 @@ pub out_joined : (a : Numbers) (xs : List ℕ) (n : ℕ) → is_own a n ≡ true
     → times_in_hand xs n ≡ 0 → AreOut a xs → AreOut a (n ∷ xs)
 out_joined a xs n own away none out k = joined_at a xs n own away none out k (cases_eq k n)
 
--- A call of the receive half.
+-- A call made by the receive half.
 
 pub received_up : (r s : Running) (out : List ℕ) → IsUp r → Keeps r.arena r.receive s.arena s.receive out
     → s.transmit ≡ r.transmit → IsUp s

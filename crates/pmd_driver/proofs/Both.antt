@@ -1,4 +1,4 @@
--- Lemmas: a call of one half is a driver call, and lends only the driver's own blocks.
+-- Lemmas: a call made by one half is a driver call, and lends only the driver's own blocks.
 use Rattle.std.proofs.Common.{◌≡◌, ℕ, ◌≤◌, true, false, List, [], ◌∷◌, ◌++◌, refl, ◌∙◌, subst, arith}
 use Rattle.pmd_access.specs.NicDevice.DmaArena.Numbers.{is_own, is_free}
 use Rattle.pmd_access.specs.NicDevice.DmaArena.Whereabouts.{times_in_hand}

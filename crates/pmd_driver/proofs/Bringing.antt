@@ -1,4 +1,4 @@
--- Lemmas: what is preserved while blocks are returned to the arena.
+-- Lemmas about what is preserved while blocks are returned to the arena.
 use Rattle.std.proofs.Common.{◌≡◌, ◌≢◌, ℕ, zero, suc, ◌+◌, ◌<◌, ◌≤◌, ◌⊎◌, inl, inr, true, List, [], ◌∷◌, ◌++◌, length, refl, sym, ap, subst, ◌∙◌, arith}
 use Rattle.std.proofs.Math.Bool.{or-false}
 use Rattle.std.proofs.lemmas.Bool.{cases_eq}
@@ -109,7 +109,7 @@ pub all_fit : (s t : Bringing) → BringsAll s t → AreUnheld s → t.way.lost 
 all_fit s t (count, brings, none) (out, few) =
     let fewer = brings_few count s t brings in omega (arith, fewer.1, few)
 
--- If no block is lost, all are free again.
+-- If no block is lost, all blocks are free again.
 pub all_free_again : (s t : Bringing) → BringsAll s t → AreOut s.arena (s.way.lent ++ []) → t.way.lost ≡ 0 → (k : ℕ)
     → is_free t.arena k ≡ is_free_or_out s.arena (s.way.lent ++ []) k
 all_free_again s t (count, brings, gone) out none k =

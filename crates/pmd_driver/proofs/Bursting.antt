@@ -74,7 +74,7 @@ room_reaped {vacant} {x} {old} {new} {r} {s} few drives reaped keeps = record {
 }
 
 module _ {vacant : ℕ} {old made : List Call} {r there : Running} (given : List Packet) where
-  -- The packets' blocks stay where they are.
+  -- The packets' blocks don't move.
   pub room_beside : {f : Option PmdFault} → HasRoom vacant f old r made there
       → KeepsUp r (numbers_of_all given) there (numbers_of_all given)
   room_beside h = keeps_beside r.arena there.arena (rings_out r) (rings_out there) [] [] (numbers_of_all given) h.keeps

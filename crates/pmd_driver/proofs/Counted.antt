@@ -1,4 +1,4 @@
--- Lemmas: the count of a driver's blocks after receiving, making or releasing a packet.
+-- Lemmas about the count of a driver's blocks after receiving, making or releasing a packet.
 use Rattle.std.proofs.Common.{◌≡◌, ℕ, ◌&&◌, not, true, List, [], ◌++◌, Option, Some, None, Result, Ok, Err, OnOk, refl, ap, subst, sym, arith}
 use Rattle.std.specs.List.{list_any}
 use Rattle.std.proofs.lemmas.Bool.Decides.{nat_tests}
@@ -56,7 +56,7 @@ up_kept r s given back keeps = record {
   );
 }
 
--- A call of the receive half.
+-- A call made by the receive half.
 pub received_kept : (r s : Running) (out : List ℕ) → Keeps r.arena r.receive s.arena s.receive out
     → s.transmit ≡ r.transmit → KeepsUp r [] s out
 received_kept r s out keeps same =

@@ -1,4 +1,4 @@
--- Lemmas: properties of a driver, from the state of its rings.
+-- Lemmas: properties of a driver follow from the state of its rings.
 use Rattle.std.proofs.Common.{◌≡◌, Option, Some, None, Result, Ok, Err, IfOk, IfErr, IfSome, sym, subst}
 use Rattle.pmd_driver.specs.Halted.{Halted}
 use Rattle.pmd_access.specs.Named.{AtPort}
@@ -35,7 +35,7 @@ pub some_later : {T : Type 0} {P Q : T → Type 0} (o : Option T) → ((x : T) �
 some_later None step p = tt
 some_later (Some x) step p = step x p
 
--- A property of an error holds of the fault in the result.
+-- A property of an error holds for the fault in the result.
 pub some_by : {T : Type 0} (P : PmdFault → Type 0) (r : Result T PmdFault) → IfErr r P → IfSome (fault_in r) P
 some_by P (Ok x) by = tt
 some_by P (Err f) by = by

@@ -1,4 +1,4 @@
--- Lemmas: packets made from bytes.
+-- Lemmas about packets made from bytes.
 use Rattle.std.proofs.Common.{◌≡◌, ℕ, ◌+◌, ◌-◌, ◌*◌, List, [], ◌∷◌, ◌++◌, map, replicate, length, drop, Some, refl, sym, ap, ◌∙◌, subst, arith}
 use Rattle.std.proofs.lemmas.List.{drop-replicate, length-map, replicate-append-replicate}
 use Rattle.pmd_access.specs.NicDevice.DmaArena.Block.{Block, zero_block}

@@ -1,4 +1,4 @@
--- Lemmas: a call of a half with a reply that a healthy queue never sends.
+-- Lemmas about a half's call that gets a reply that a healthy queue never sends.
 use Rattle.std.proofs.Common.{◌≡◌, ℕ, true, false, List, [], ◌∷◌, ◌++◌, length, length-append, refl, sym, ap, ◌∙◌, subst, arith}
 use Rattle.std.specs.Prelude.{IsTrue}
 use Rattle.pmd_access.specs.NicDevice.DmaArena.Block.{Block}
@@ -21,7 +21,7 @@ use Rattle.pmd_driver.specs.Halves.{Halves, Receives, Sends}
 use Rattle.pmd_driver.proofs.Apart.{AllMaySend, OutstandingMay, played_may, receiving_apart, received_apart}
 use Rattle.pmd_driver.proofs.Apart.{sending_apart, moved_apart}
 
--- A call of the receive half.
+-- A call made by the receive half.
 
 finds_wrong : (own : Blocks) (a : Numbers) (old new : List Call) (h : Halves) (w : Receive)
     → ((n : ℕ) → is_free a n ≡ true → MayLend own h Receives n) → EndsWrong a old h.receive new w
@@ -47,7 +47,7 @@ pub wrong_by : (f : PmdFault) (own : Blocks) (a b : Numbers) (old new : List Cal
 wrong_by DeviceFault own a b old new h w may fails = finds_wrong own a old new h w may fails
 wrong_by f own a b old new h w may fails = tt
 
--- A call of the transmit half.
+-- A call made by the transmit half.
 
 real_step : (m : Move) (r : Reply Block) (e : Event Block) → sending.is_healthy m r ≡ false → IsTrue (is_elsewhere m)
     → IsTrue (is_step e)
@@ -82,7 +82,7 @@ pub fault_by : (f : PmdFault) (own : Blocks) (blocks : List ℕ) (old new : List
 fault_by DeviceFault own blocks old new h some all faults = finds_fault own blocks old new h some all faults
 fault_by f own blocks old new h some all faults = tt
 
--- If no call was made, none had a wrong reply.
+-- If no call was made, no call got a wrong reply.
 
 none_made : (blocks : List ℕ) (old new : List Call) (h : Halves) → new ≡ old → Faults blocks old h.transmit new → ⊥
 none_made blocks old new h same f =

@@ -23,7 +23,7 @@ use Rattle.pmd_driver.specs.Queueing.{Queues, QueuesOne, ends_by, left_with, sen
 use Rattle.pmd_driver.specs.Running.{Running, rings_out}
 use Rattle.pmd_driver.proofs.Meeting.{fault_kept, full_kept, one_answer}
 
--- The blocks of other packets stay where they are.
+-- The blocks of the other packets don't move.
 pub keeps_beside : (a b : Numbers) (x y g h z : List ℕ) → KeepsEach a (x ++ g) b (y ++ h)
     → KeepsEach a (x ++ (g ++ z)) b (y ++ (h ++ z))
 keeps_beside a b x y g h z keeps = record {
@@ -53,7 +53,7 @@ left_same None ps = refl
 left_same (Some f) [] = refl
 left_same (Some f) (p ∷ ps) = (back_same f p, refl)
 
--- What the packet met, and the result.
+-- The fault that the packet met, and the result.
 pub record Meets (p : Packet) (x : Result TxAnswer TxFault) (old : List Call) (r : Running) (new : List Call)
     (s : Running) : Type 0 where
   pub answer : MayAnswer r p x

@@ -10,7 +10,7 @@ use Rattle.pmd_driver.specs.Halves.{Halves, Doer, Receives, Sends, AllOwn, Drive
 use Rattle.pmd_driver.specs.Halves.{doers_marked, doers_moved, doers_other, is_neither, played_by, OthersStep}
 use Rattle.pmd_driver.specs.Halves.{ReceivingDrives, SendingDrives, OthersDrive, DrivesOn}
 
--- The calls of one half.
+-- The calls made by one half.
 
 pub receives_own : (h : Halves) (marks : List Bool) (calls : List Call) → receive.AllOwn h.receive marks calls
     → AllOwn h (doers_marked marks) calls

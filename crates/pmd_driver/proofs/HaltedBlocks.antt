@@ -1,4 +1,4 @@
--- Lemmas: where the blocks of a driver that isn't running are.
+-- Lemmas about where the blocks of a driver that isn't running are.
 use Rattle.std.proofs.Common.{◌≡◌, ℕ, ◌+◌, ◌<◌, ◌||◌, nat_lt, Bool, true, false, cond, List, [], ◌++◌, length, length-append, sym, ap, ◌∙◌, subst, arith}
 use Rattle.std.proofs.lemmas.Bool.Decides.{nat_tests}
 use Rattle.pmd_access.specs.NicDevice.DmaArena.Numbers.{Numbers, is_own, is_free}
@@ -32,7 +32,7 @@ module _ (a : Numbers) (small : length a.free < 4294967296) (lent held : List �
       → IsHalted (record { arena = a; held = held; way = way_of lent; handed = handed; accepted = accepted })
   first_halted handed accepted out = record { home = out; few = omega (arith, few_at_first out) }
 
--- The blocks of a receive ring, and others.
+-- The blocks of a receive ring, and other blocks.
 pub ring_out : (a : Numbers) (v : Receive) (others : List ℕ) → AreOut a (receive.blocks_out v ++ others)
     → AreOut a ((receive.lent_of v ++ others) ++ (receive.blocks_held v ++ []))
 ring_out a v others out =
@@ -139,7 +139,7 @@ part_halted h k is part =
       few = is.few;
     })
 
--- If a stopped driver lost no block, all of them are free again.
+-- If a stopped driver lost no block, all its blocks are free again.
 pub home_free : (q : AtPort) (old new : List Call) (h : Halted) (home : Home) → IsHalted h
     → GoesHome q old (closed h) new home → home.lost ≡ 0 → (k : ℕ)
     → is_free home.arena k ≡ is_free_or_out h.arena (all_out h) k

@@ -1,4 +1,4 @@
--- Lemmas: two lists of blocks to be returned, combined into one.
+-- Lemmas about two lists of blocks to be returned, combined into one list.
 use Rattle.std.proofs.Common.{◌≡◌, ℕ, zero, suc, ◌+◌, inl, inr, List, [], ◌++◌, length-append, refl, sym, ap, subst, arith}
 use Rattle.pmd_access.specs.DeviceLock.declared.entry.Call.{Call}
 use Rattle.pmd_access.specs.NicDevice.DmaArena.Numbers.{Numbers}
@@ -7,7 +7,7 @@ use Rattle.pmd_driver.specs.Halted.{both_ways}
 use Rattle.pmd_driver.specs.Leaving.{bringing_both}
 use Rattle.pmd_driver.proofs.Bringing.{brings_out}
 
--- The blocks of one list, then the blocks of the other.
+-- The blocks in one list, then the blocks in the other list.
 brings_then : (count more : ℕ) (s m t : Bringing) → Brings count s m → Brings more m t
     → (all : ℕ) × Brings all s t
 brings_then count zero s m t first same = (count, subst (λ (b : Bringing). Brings count s b) (sym same) first)
@@ -84,7 +84,7 @@ module _ (old mid : List Call) (a b : Numbers) (first left second : Homebound) w
   abbrev onward : Bringing
   onward = record { made = mid; arena = b; way = second }
 
-  -- All of the first list, then part of the second.
+  -- All blocks in the first list, then some of the second list's blocks.
   onto : (t : Bringing) (count more : ℕ) → Brings count start halfway → left.lent ≡ [] → Brings more onward t
       → (all : ℕ) × Brings all (bringing_both old a first second) (bringing_both t.made t.arena left t.way)
   onto t count more brings none then =

@@ -1,4 +1,4 @@
--- Lemmas: the arena returned by a driver that had all blocks of another.
+-- Lemmas about the arena returned by a driver that had all blocks of another arena.
 use Rattle.std.proofs.Common.{◌≡◌, ℕ, ◌+◌, ◌||◌, nat_lt, Bool, true, false, cond, List, [], refl, ◌∙◌, arith}
 use Rattle.std.proofs.lemmas.Bool.Decides.{nat_tests}
 use Rattle.pmd_access.specs.NicDevice.DmaArena.Numbers.{Numbers, is_own, is_free}

@@ -1,4 +1,4 @@
--- Lemmas: the blocks that a transmit ring keeps, lent or in hand.
+-- Lemmas about the blocks that a transmit ring keeps, lent or in hand.
 use Rattle.std.proofs.Common.{◌≡◌, ℕ, zero, suc, ◌+◌, ◌==◌, nat_lt, Bool, true, false, List, ◌++◌, take, drop, refl, sym, ap, ◌∙◌, arith}
 use Rattle.std.specs.List.{list_any}
 use Rattle.std.proofs.lemmas.Bool.{or_from}
@@ -49,7 +49,7 @@ module _ (v : Sender) (n : ℕ) where
   pub kept_parted : times_in_hand (kept_out v) n ≡ times_in_hand (lent_of v) n + times_in_hand (waiting_of v) n
   kept_parted = omega (arith, times-append blocks ends n, times-append lent ends n, parted)
 
-  -- A block that isn't kept.
+  -- A block that the ring doesn't keep.
   pub none_kept : keeps v n ≡ false → times_in_hand (kept_out v) n ≡ 0
   none_kept away =
       let both = neither (is_ring_block v.layout.ring v.layout.size n) (list_any (λ b. n == b) blocks) away in

@@ -1,4 +1,4 @@
--- Lemmas: which faults occur during events.
+-- Lemmas about which faults occur during events.
 use Rattle.std.proofs.Common.{◌≡◌, ℕ, ◌+◌, ◌≤◌, ◌<◌, Bool, List, Result, Ok, Err, IfErr, inl, inr, refl, arith}
 use Rattle.pmd_access.specs.NicDevice.DmaArena.Numbers.{Numbers}
 use Rattle.pmd_access.specs.DeviceLock.declared.entry.Call.{Call}

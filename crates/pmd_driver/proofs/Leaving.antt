@@ -1,4 +1,4 @@
--- Lemmas: a driver left by a refused start has handed out and accepted nothing.
+-- Lemmas: a driver returned by a refused start has handed out and accepted no packet.
 use Rattle.std.proofs.Common.{◌≡◌, ℕ, List, [], ◌∷◌, inl, inr, refl, ap, ◌∙◌}
 use Rattle.pmd_access.specs.NicDevice.DmaArena.Numbers.{Numbers}
 use Rattle.pmd_access.specs.DeviceLock.declared.entry.Call.{Call}
@@ -39,7 +39,7 @@ before_accepted : (q : AtPort) (a : Numbers) (out : List ℕ) (r : Rest) → IsL
 before_accepted q a [] r is = home_accepted a r is
 before_accepted q a (n ∷ ns) r is = half_accepted q _ r refl is
 
--- A start refused during its events leaves a driver that accepted nothing.
+-- A start refused during its events returns a driver that accepted no packet.
 pub stops_accepted : (q : AtPort) (size frame : ℕ) (old : List Call) (a : Numbers) (new : List Call) (e : StartRefused)
     → StopsStarting q size frame old a new e → left_accepted e.rest ≡ []
 stops_accepted q size frame old a new e (inl none) = before_accepted q none.arena none.out e.rest none.left

@@ -20,7 +20,7 @@ use Rattle.pmd_access.specs.NicDevice.DmaArena.Run.{IsFreeRun}
 use Rattle.pmd_driver.specs.Starting.{LendsEach, LendingFails, StopsLending}
 use Rattle.pmd_driver.proofs.Starting.{drawn_keeps, none_past}
 
--- One more block.
+-- One more block is lent.
 
 drawn_more : (a : Numbers) (xs : List ℕ) (b : Numbers) (n : ℕ) → IsDrawn a xs b → is_free b n ≡ true
     → IsDrawn a (xs ++ n ∷ []) (with_free b n false)
@@ -53,7 +53,7 @@ lends_next old mid new first k is lent =
     subst (λ (l : List ℕ). LendsEach old new l) (sym (range_more first k))
     (lends_more old mid new (range_with_len first k) (first + k) is lent)
 
--- Splits the run into the blocks lent, the next one, and the rest.
+-- Splits the run into the blocks lent, the next block, and the remaining blocks.
 split_at : (first k rest many : ℕ) → k + (rest + 1) ≡ many
     → range_with_len first k ++ (first + k) ∷ range_with_len (first + k + 1) rest ≡ range_with_len first many
 split_at first zero rest many is =
@@ -85,7 +85,7 @@ stops_next f first count k old a mid b new out below lent drawn free fails is =
       fails = fails;
     })
 
--- No register was written, for lack of memory.
+-- No register was written, because memory was short.
 pub unwritten : (q : AtPort) (side : Dir) (ring size : ℕ) (made : List Call) (refusal : CallFault (Unit {0}))
     → StopsBy (fault.Call refusal) q made made (ring_words side ring size)
 unwritten q Rx ring size made refusal = ([], _, _, made, refl, refl, ([], sym (append-nil made), tt))

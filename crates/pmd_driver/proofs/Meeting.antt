@@ -1,4 +1,4 @@
--- Lemmas: a packet of a burst fails its check, or meets a fault during events.
+-- Lemmas: a packet in a burst fails its check, or meets a fault during events.
 use Rattle.std.proofs.Common.{◌≡◌, ◌⊎◌, inl, inr, ℕ, true, false, ◌&&◌, not, List, Some, None, Result, Ok, Err, Option, IfErr, IfSome, refl, sym, ap, ◌∙◌, subst}
 use Rattle.pmd_access.specs.NicDevice.DmaArena.Numbers.{is_own}
 use Rattle.pmd_access.specs.DeviceLock.Alone.{Blocks}
@@ -23,7 +23,7 @@ use Rattle.pmd_driver.proofs.Finding.{finds_fault}
 use Rattle.pmd_driver.proofs.Sending.{by_gate}
 use Rattle.pmd_driver.proofs.Sent.{Way, sent_may, way}
 
--- A refused event of the transmit half.
+-- A refused event that the transmit half causes.
 
 asks_apart : (own : Blocks) (blocks : List ℕ) (old new : List Call) (h : Halves) → AllMaySend own h.receive blocks
     → OutstandingMay own h → AsksNext blocks old h.transmit new → AsksApart own old h new
@@ -130,7 +130,7 @@ module _ (r : Running) (p : Packet) where
       (λ shut is. inr (shut, ap packet_in is)) (λ shut is. never_ok _ _ _ (sym is)) (λ tried. inl tried)
       (λ shut is. inr (shut, ap packet_in is)) answer
 
-  -- A packet that fails its check has only one answer.
+  -- A packet that fails its check has only one possible result.
   pub one_answer : (x y : Result TxAnswer TxFault) → IsShut (gate_of r.transmit r.arena (receives r p) p)
       → MayAnswer r p x → MayAnswer r p y → x ≡ y
   one_answer x y shut one two =

@@ -1,4 +1,4 @@
--- Lemmas: the blocks of an accepted packet, one for each of its parts.
+-- Lemmas about the blocks of an accepted packet, one for each part of the packet.
 use Rattle.std.proofs.Common.{◌≡◌, ℕ, zero, suc, ◌-◌, ◌*◌, ◌<◌, ◌≤◌, All, List, [], ◌∷◌, ◌++◌, length, take, drop, replicate, refl, ap, ◌∙◌, arith}
 use Rattle.std.proofs.lemmas.List.{length-append, length-replicate, length-take-le, map-append}
 use Rattle.pmd_access.specs.NicDevice.DmaArena.Block.{Block, IsBlock}

@@ -50,7 +50,7 @@ module _ (s t : Running) (kept : Accepts [] s t) where
   stops_still (Some f) (p ∷ left) (inr refused) =
       inr (subst (λ (x : Running). IsRefusedFirst f x (p ∷ left)) like_is refused)
 
--- The reported fault.
+-- The fault that the burst reports.
 
 by_test : (b : Bool) (met : Option PmdFault) (f : PmdFault) → (if b then met else None) ≡ Some f
     → (b ≡ true) × (met ≡ Some f)
@@ -122,7 +122,7 @@ module _ {given left : List Packet} {sent : ℕ} {met : Option PmdFault} {old mi
           };
         }
 
-    -- No fault is reported, and the tail was to be advanced.
+    -- No fault is reported before the tail is advanced.
     module _ {f : Option PmdFault} {t : Running} {new : List Call} (reported : (if sent == 0 then met else None) ≡ None)
         (c : Continues f mid s new t)
       where

@@ -108,7 +108,7 @@ pub accepted_none : (r s : Running) (p : Packet) (o : Option Packet)
 accepted_none r s p None none home layout receive = tt
 accepted_none r s p (Some q) none home layout receive = accepts_none r s none home layout receive
 
--- Packets after others.
+-- Packets that follow the queued ones.
 
 all_segments : (ps qs : List Packet) → segments_in (ps ++ qs) ≡ segments_in ps ++ segments_in qs
 all_segments [] qs = refl

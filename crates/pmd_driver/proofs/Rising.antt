@@ -1,4 +1,4 @@
--- Lemmas: where a driver's blocks are while its rings come up.
+-- Lemmas about where a driver's blocks are while its rings come up.
 use Rattle.std.proofs.Common.{ℕ, List, [], ◌∷◌, ◌++◌, refl, sym, subst, arith}
 use Rattle.pmd_access.specs.NicDevice.DmaArena.Numbers.{Numbers}
 use Rattle.pmd_access.specs.NicDevice.DmaRing.declared.dir.Dir.TheVariants.{Tx}
@@ -89,7 +89,7 @@ both_rings a b v s hand keeps =
 module _ {q : AtPort} {size frame : ℕ} {old mid new : List Call} {a b d : Numbers} {v : Receive}
     (ready : IsReceiveReady q size frame old a mid b v)
   where
-    -- Only the receive ring, with some blocks of the other.
+    -- Only the receive ring, with some blocks of the transmit ring.
     pub after_all : {f : PmdFault} {out : List ℕ} → PreparingFails f q Tx size mid b new d out
         → HasAll a (with_receive_ring d v out) []
     after_all {f} {out} fails =

@@ -1,4 +1,4 @@
--- Lemmas: where a driver's blocks are after a packet is sent, and after packets are reaped.
+-- Lemmas about where a driver's blocks are after a packet is sent, and after packets are reaped.
 use Rattle.std.proofs.Common.{◌≡◌, ℕ, ◌+◌, ◌<◌, ◌≤◌, ◌*◌, ◌&&◌, not, if◌then◌else◌, Bool, true, false, cond, All, List, [], ◌++◌, length, take, drop, Option, Some, None, Result, Ok, Err, IfSome, IfNone, IfOk, OnErr, refl, sym, ap, subst, ◌∙◌, arith}
 use Rattle.std.proofs.lemmas.Bool.Decides.{nat_tests}
 use Rattle.std.proofs.lemmas.List.{drop-map, take-append-drop}
@@ -26,7 +26,7 @@ use Rattle.pmd_driver.proofs.Kept.{home_goes}
 use Rattle.pmd_driver.proofs.Placed.{blocks_accepted}
 use Rattle.pmd_driver.proofs.Several.{all_given, all_own_same, out_all_given}
 
--- A packet is accepted: the ring keeps its blocks, except that those that contain none of its bytes are returned to the
+-- A packet is accepted: the ring keeps the packet's blocks, but returns those that contain none of its bytes to the
 -- arena.
 
 module _ (r s : Running) (p : Packet) (out : AreOut r.arena (numbers_of p.bufs ++ rings_out r))
@@ -189,7 +189,7 @@ pub way_out : (r : Running) (p : Packet) → IsUp r → (goes_home r.transmit r.
     → AreOut r.arena (numbers_of p.bufs ++ rings_out r)
 way_out r p up goes = home_goes r p up (grind (arith, nat_tests, goes)) (grind (arith, nat_tests, goes))
 
--- If it didn't pass, no block was returned to the arena.
+-- If the packet didn't pass the check, no block was returned to the arena.
 
 gave_all : (p : Packet) (x y : Result TxAnswer TxFault) (a b : Numbers) → x ≡ y → SendsHome (returned x) p a b
     → SendsHome (returned y) p a b
@@ -208,7 +208,7 @@ home_owns None p a b home n =
     ap (λ (x : Numbers). is_own x n) home ∙ all_own_same a (drop (parts_for p.len) (numbers_of p.bufs)) n
 home_owns (Some back) p a b home n = ap (λ (x : Numbers). is_own x n) home
 
--- A packet was to be sent.
+-- A call that sends a packet.
 
 module _ (r s : Running) (p : Packet) (x : Result TxAnswer TxFault)
     (answer : IsAnswer (gate_of r.transmit r.arena (receives r p) p) p x)

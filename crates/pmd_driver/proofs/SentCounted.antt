@@ -1,4 +1,4 @@
--- Lemmas: the count of a driver's blocks after a packet was to be sent.
+-- Lemmas about the count of a driver's blocks after a call that sends a packet.
 use Rattle.std.proofs.Common.{◌≡◌, ◌&&◌, not, Bool, All, Option, Some, None, Result, Ok, Err, IfErr, IfSome, IfNone, refl, sym, ap, subst}
 use Rattle.pmd_access.specs.NicDevice.DmaArena.Block.{Block, IsBlock}
 use Rattle.pmd_access.specs.NicDevice.DmaArena.Numbers.{Numbers}

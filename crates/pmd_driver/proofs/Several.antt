@@ -1,4 +1,4 @@
--- Lemmas: several blocks together, both a packet's blocks that are returned to the arena and blocks kept in hand.
+-- Lemmas about several blocks together: a packet's blocks that are returned to the arena, or blocks kept in hand.
 use Rattle.std.proofs.Common.{◌≡◌, ℕ, zero, suc, ◌+◌, ◌<◌, ◌≤◌, ◌==◌, ◌&&◌, ◌||◌, nat_lt, not, Bool, true, false, List, [], ◌∷◌, ◌++◌, length, drop, get_or, refl, sym, ap, subst, ◌∙◌, arith}
 use Rattle.std.specs.Prelude.{⊤}
 use Rattle.std.specs.List.{list_any}
@@ -92,7 +92,7 @@ all_joined a xs (n ∷ ns) are away out =
     out_joined a (ns ++ xs) n own here
     (omega (arith, times-append ns xs n, none_among ns n alone, away.0)) (all_joined a xs ns rest away.1 out)
 
--- Conversely, blocks that are out among others pass the test.
+-- Conversely, blocks that are out together with other blocks pass the test.
 
 pub out_are : (a : Numbers) (ns xs : List ℕ) → AreOut a (ns ++ xs) → are_out a ns ≡ true
 out_are a [] xs out = refl

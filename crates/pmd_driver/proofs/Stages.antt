@@ -1,4 +1,4 @@
--- Lemmas: what a start requires and leaves at each step.
+-- Lemmas about what each step of a start requires and what it leaves behind.
 use Rattle.std.proofs.Common.{◌≡◌, ◌<◌, ℕ, List, inl, inr, Ok, Err, refl, sym, ap, subst, ◌∙◌, arith}
 use Rattle.pmd_access.specs.NicDevice.DmaArena.Numbers.{Numbers}
 use Rattle.pmd_access.specs.NicDevice.DmaRing.declared.dir.Dir.TheVariants.{Tx}

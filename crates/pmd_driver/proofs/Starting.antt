@@ -1,4 +1,4 @@
--- Lemmas: where a driver's blocks are while its rings come up.
+-- Lemmas about where a driver's blocks are while its rings come up.
 use Rattle.std.proofs.Common.{◌≡◌, ℕ, zero, suc, ◌+◌, ◌≤◌, inl, inr, Bool, true, false, cond, List, [], ◌∷◌, ◌++◌, length, refl, sym, ap, subst, ◌∙◌, arith}
 use Rattle.std.proofs.lemmas.Bool.{cases_eq}
 use Rattle.std.specs.List.{range_with_len}
@@ -94,7 +94,7 @@ module _ {q : AtPort} {size frame : ℕ} {old mid new : List Call} {a b d : Numb
       pub filled_rings : {e : Numbers} {w : Receive} → Keeps d v e w [] → AreOut e (blocks_out w ++ kept_out s)
       filled_rings {e} {w} keeps = out_exchanged d (blocks_out v) e (blocks_out w) (kept_out s) rings_out keeps.arena
 
--- A free block stays free while others are taken.
+-- A free block stays free while other blocks are taken.
 
 pub drawn_keeps : (a : Numbers) (xs : List ℕ) (b : Numbers) (n : ℕ) → IsDrawn a xs b → is_free a n ≡ true
     → times_in_hand xs n ≡ 0 → is_free b n ≡ true
@@ -110,7 +110,7 @@ drawn_keeps a (x ∷ xs) b n (here, is) free none = elim (cases_eq n x) [
       (sym (times_rest xs x n ne) ∙ none)
 ]
 
--- A number after a run isn't in it.
+-- A number after a run isn't in that run.
 pub none_past : (many first n : ℕ) → first + many ≤ n → times_in_hand (range_with_len first many) n ≡ 0
 none_past zero first n following = refl
 none_past (suc many) first n following =

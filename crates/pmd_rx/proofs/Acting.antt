@@ -1,4 +1,4 @@
--- Lemmas: successive driver calls, each with a record of its effect.
+-- Lemmas about successive driver calls, each with a record of its effect.
 use Rattle.std.proofs.Common.{◌≡◌, ◌≢◌, ◌<◌, ◌≤◌, true, List, [], length, Option, Some, None, IfSome, Result, Ok, Err, IfOk, IfErr, OnOk, OnErr, refl, ap, subst, sym, ◌∙◌, arith}
 use Rattle.std.proofs.lemmas.List.{length-append}
 use Rattle.pmd_access.specs.NicDevice.DmaArena.Numbers.{Numbers, free_count}
@@ -26,7 +26,7 @@ use Rattle.pmd_rx.proofs.Own.{name_plays, name_fails}
 use Rattle.pmd_rx.proofs.Playing.{plays_none}
 use Rattle.pmd_rx.proofs.Refilling.{name_keeps}
 
--- A call that collects effects, then one that never lacks a block.
+-- A call with the effect `Gathers`, then a call that never lacks a block.
 
 pub acts_then : {f h : Option PmdFault} {l m n : List Call} {a b d : Numbers} {v w x : Receive} → Gathers f l a v m b w
     → h ≢ Some fault.NoBuffer → Acts h m b w n d x → Acts h l a v n d x
@@ -51,7 +51,7 @@ alone_then p q = record {
   enough = q.enough;
 }
 
--- A call that looks, then one that may lack a block.
+-- A call that looks at slots, then a call that may lack a block.
 pub gathers_seen : {f h : Option PmdFault} {l m n : List Call} {a b : Numbers} {v w x : Receive}
     → GathersAlone f l v m w → w ≡ record v { seen = w.seen; stage = w.stage } → Gathers h m a w n b x
     → Gathers h l a v n b x
@@ -67,7 +67,7 @@ gathers_seen {f} {h} {l} {m} {n} {a} {b} {v} {w} {x} p same q =
       whole = omega (arith, first.whole, q.whole);
     }
 
--- The next call may proceed after a fault.
+-- After a fault, another call may follow.
 pub gathers_on : {f : Option PmdFault} {m n : List Call} {a b : Numbers} {v w : Receive} → Gathers f m a v n b w
     → Gathers None m a v n b w
 gathers_on p = record {
@@ -77,7 +77,7 @@ gathers_on p = record {
   whole = p.whole;
 }
 
--- A call without events.
+-- A call that causes no event.
 
 pub gathers_none : (f : Option PmdFault) {old : List Call} {a : Numbers} {v : Receive}
     → IfSome f (λ i. FailsBy i old a v old a v) → Gathers f old a v old a v
@@ -91,7 +91,7 @@ gathers_none f {old} {a} {v} by = record {
 pub alone_none : {old : List Call} {v : Receive} → GathersAlone None old v old v
 alone_none = record { gathers = λ a. gathers_none None tt; enough = λ short. cc }
 
--- One event, done or refused.
+-- A call with one event, which is done or refused.
 
 pub acts_alone : (f : Option PmdFault) {old new : List Call} {v w : Receive}
     → ((a : Numbers) → PlaysFrom a old v new w) → ((a : Numbers) → IfSome f (λ i. IsFault i a old v new w))
@@ -151,7 +151,7 @@ wrong_gathers {old} {new} {v} {w} can some wrong =
     (λ a. look_keeps a look.Wrong old new v w can wrong) (ap (λ (y : Receive). y.handed) kept)
     (omega (arith, ap (λ (y : Receive). length y.whole) kept))
 
--- Naming a block keeps at least as many complete packets.
+-- After a block is named, at least as many packets are complete.
 names_more : {E : Type 0} (r : Result Unit E) (v w : Receive) → OnOk r (w ≡ names v) → OnErr r (w ≡ v)
     → length v.whole ≤ length w.whole
 names_more (Ok o) v w is same = rw is (omega (arith, length-append v.whole (ended_of v.seen v.held)))

@@ -1,4 +1,4 @@
--- Lemmas: the packets that a burst hands out.
+-- Lemmas about the packets that a burst hands out.
 use Rattle.std.proofs.Common.{◌≡◌, ℕ, ◌<◌, ◌≤◌, List, [], ◌∷◌, ◌++◌, length, Result, Ok, Err, IfOk, refl, sym, ap, subst, ◌∙◌, arith}
 use Rattle.std.proofs.lemmas.List.{append-nil}
 use Rattle.std.proofs.lemmas.List.Elements.{All-push}
@@ -13,7 +13,7 @@ use Rattle.pmd_rx.specs.Receive.{Receive, records_of}
 use Rattle.pmd_rx.specs.Shown.{HandsOne, HandsAll}
 use Rattle.pmd_rx.proofs.Keeping.{keeps_both}
 
--- None.
+-- The burst hands out no packet.
 
 pub none_out : (r : Result ℕ PmdFault) (most : ℕ) (a b : Numbers) (v w : Receive) (old new : List Packet)
     → IfOk r (λ n. n ≡ 0) → w.handed ≡ v.handed → new ≡ old → Keeps a v b w [] → IsBurst r most a v old b w new
@@ -36,7 +36,7 @@ none_out (Err f) most a b v w old new zero handed same keeps = record {
   keeps = keeps;
 }
 
--- The oldest complete packet, or all of them.
+-- The burst hands out the oldest complete packet, or all complete packets.
 
 pub one_out : (most : ℕ) (a : Numbers) (v w : Receive) (p : Packet) (old new : List Packet) → HandsOne v w p
     → new ≡ old ++ p ∷ [] → 0 < most → IsBurst (Ok 1) most a v old a w new

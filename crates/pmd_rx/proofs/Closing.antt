@@ -1,4 +1,4 @@
--- Lemmas: where the blocks of a closed ring are.
+-- Lemmas about where the blocks of a closed ring are.
 use Rattle.std.proofs.Common.{◌≡◌, ℕ, zero, suc, ◌+◌, ◌<◌, ◌≤◌, List, [], ◌∷◌, ◌++◌, length, take, slice_index_or, Bool, true, false, suc-add, refl, ap, ◌∙◌, arith}
 use Rattle.std.specs.List.{range_with_len}
 use Rattle.pmd_access.specs.NicDevice.DmaArena.Numbers.{Numbers, with_free}

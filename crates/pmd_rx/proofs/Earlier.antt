@@ -15,7 +15,7 @@ use Rattle.pmd_access.specs.declared.fault.PmdFault.TheVariants as fault
 use Rattle.pmd_rx.proofs.Failing.{fails_of, fault_after, fault_among}
 use Rattle.pmd_rx.proofs.Playing.{plays_both, plays_in}
 
--- A block that is free after others were taken was free before.
+-- A block that is free after other blocks were taken was also free before.
 
 free_at : (a : Numbers) (n k : ℕ) → is_free a n ≡ true → (k ≡ n) ⊎ (k ≢ n) → is_free (with_free a n false) k ≡ true
     → is_free a k ≡ true
@@ -58,7 +58,7 @@ pub all_fail_then : (o : Option PmdFault) (a b d : Numbers) (old mid new : List 
 all_fail_then None a b d old mid new v w x plays keeps is = tt
 all_fail_then (Some f) a b d old mid new v w x plays keeps is = fails_then f a b d old mid new v w x plays keeps is
 
--- Calls that post some blocks, then the one that fails.
+-- Calls that post some blocks, then a call that fails.
 pub stops_filling : (f : PmdFault) (count : ℕ) (a b d : Numbers) (old mid new : List Call) (v w x : Receive)
     → count + 1 < v.layout.size → PlaysFrom a old v mid w → PostsSome count a v b w → PlaysFrom b mid w new x
     → FailsBy f mid b w new d x → (f ≡ fault.NoBuffer → free_count b ≡ 0) → StopsFilling f old a v new d x

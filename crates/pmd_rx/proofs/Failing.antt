@@ -1,4 +1,4 @@
--- Lemmas: why calls fail.
+-- Lemmas about why calls fail.
 use Rattle.std.proofs.Common.{◌≡◌, ℕ, true, List, Option, Some, None, IfSome, Result, Ok, Err, refl, ap, subst, ◌∙◌}
 use Rattle.std.specs.Prelude.{IsFalse}
 use Rattle.pmd_access.specs.NicDevice.DmaArena.Block.{Block}
@@ -43,7 +43,7 @@ fails_of fault.NoBuffer old new a b v w is = absurd is
 fails_of fault.DeviceFault old new a b v w is = is
 fails_of (fault.Call refusal) old new a b v w is = is
 
--- After calls that left ring and records unchanged.
+-- Why a call fails after calls that left the ring and the records unchanged.
 pub fails_after : (f : PmdFault) (old mid new : List Call) (a b : Numbers) (v w x : Receive) → PlaysFrom a old v mid w
     → w ≡ record v { seen = w.seen; stage = w.stage } → FailsBy f mid a w new b x → FailsBy f old a v new b x
 fails_after fault.BadSize old mid new a b v w x plays l is = is
@@ -109,7 +109,7 @@ pub faults_of : (o : Option PmdFault) (old new : List Call) (a b : Numbers) (v w
 faults_of None old new a b v w enough is = tt
 faults_of (Some f) old new a b v w enough is = fault_of f old new a b v w (λ same. enough (ap Some same)) is
 
--- A wrong reply of the device is never a lack of blocks.
+-- A wrong reply from the device is never a lack of blocks.
 pub never_short : (o : Option PmdFault) (a : Numbers) (old new : List Call) (v w : Receive)
     → IfSome o (λ f. IsFault f a old v new w) → o ≡ Some fault.NoBuffer → ⊥
 never_short o a old new v w is short =

@@ -1,4 +1,4 @@
--- Lemmas: filling a ring block by block.
+-- Lemmas about filling a ring block by block.
 use Rattle.std.proofs.Common.{◌≡◌, ℕ, ◌+◌, ◌<◌, false, List, [], ◌∷◌, ◌++◌, length, refl, sym, ap, ◌∙◌, append_assoc, arith}
 use Rattle.std.proofs.lemmas.List.{append-nil, length_push}
 use Rattle.pmd_access.specs.NicDevice.DmaArena.Numbers.{Numbers, free_count, with_free}
@@ -95,7 +95,7 @@ filled_runs count a b v w posts empty looks none idle part some all =
       stage = rw here (omega (arith, seen, most, part));
     }
 
--- Filling lacks a block only if fewer were free than it must post.
+-- Filling lacks a block only if fewer blocks were free than it must post.
 pub short_of : (f : PmdFault) (old new : List Call) (a b : Numbers) (v w : Receive) → f ≡ fault.NoBuffer
     → StopsFilling f old a v new b w → free_count a + 1 < v.layout.size
 short_of f old new a b v w is stops =

@@ -1,4 +1,4 @@
--- Lemmas: blocks taken from the driver's arena.
+-- Lemmas about blocks taken from the driver's arena.
 use Rattle.std.proofs.Common.{◌≡◌, ◌≢◌, inl, inr, ℕ, ◌+◌, ◌<◌, true, false, List, length, get_or, subst, ◌∙◌, arith}
 use Rattle.std.proofs.lemmas.Bool.{cases_Bool}
 use Rattle.pmd_access.specs.NicDevice.DmaArena.Block.{Block}
@@ -14,7 +14,7 @@ use Rattle.pmd_rx.specs.Keeping.{blocks_out}
 use Rattle.pmd_rx.specs.Receive.{Receive, CanLend, LendsNext, MayLend, reach}
 use Rattle.pmd_rx.proofs.Keeping.{times_out}
 
--- A block that isn't out differs from all that are.
+-- A block that isn't out differs from all blocks that are out.
 pub none_of : (xs : List ℕ) (n i : ℕ) → times_in_hand xs n ≡ 0 → i < length xs → get_or xs i 0 ≢ n
 none_of xs n i none below same =
     let some : 0 < times_in_hand xs n = subst (λ (m : ℕ). 0 < times_in_hand xs m) same (times_at xs i 0 below) in
@@ -49,7 +49,7 @@ pub lends_own : (a : Numbers) (v : Receive) (b : Block) → CanLend v.stage v.se
     → length b.bytes ≡ 2048 → LendsNext v b
 lends_own a v b can free out low room whole = record { stage = can; may = may_lend a v b free out low room whole }
 
--- A block that was taken and is returned.
+-- A block that was taken from the arena and is returned to it.
 pub own_after : (a b : Numbers) (n m : ℕ) → is_free a n ≡ true → b ≡ with_free a n false → m ≡ n → is_own b m ≡ true
 own_after a b n m free taken same = rw (same, taken, is_own-with_free a n false n) (is_own-of_free a n free)
 

@@ -21,7 +21,7 @@ pub lent_named : {E : Type 0} (r : Result Unit E) (a b : Numbers) (v w x : Recei
 lent_named (Ok o) a b v w x n free taken is then = (n, free, taken, then ∙ ap (λ (y : Receive). names y) is)
 lent_named (Err e) a b v w x n free taken is then = tt
 
--- Naming keeps what is handed out.
+-- Naming a block keeps the packets handed out.
 pub named_same : {E : Type 0} (r : Result Unit E) (v w : Receive) → OnOk r (w ≡ names v) → OnErr r (w ≡ v)
     → w.handed ≡ v.handed
 named_same (Ok o) v w is same = ap (λ (y : Receive). y.handed) is
@@ -154,7 +154,7 @@ pub lent_less : {E : Type 0} (r : Result Unit E) (a : Numbers) (v w : Receive) �
 lent_less (Ok o) a v w lent during is = subst (IsOneLess a v a) (sym is) (less_lent a v lent during)
 lent_less (Err e) a v w lent during is = tt
 
--- A waiting packet needs a round, and the rounds follow each other.
+-- A waiting packet needs a round, and one round can follow another.
 
 pub some_rounds : (v : Receive) (s : Stage) → v.stage ≡ s → PacketWaits s → IsRunning v → rounds v ≡ 0 → ⊥
 some_rounds v Looks is waits runs none = waits

@@ -74,7 +74,7 @@ keeps_both a b d v w x out p q = record {
 pub keeps_to : (a b : Numbers) (v w x : Receive) (out : List ℕ) → x ≡ w → Keeps a v b w out → Keeps a v b x out
 keeps_to a b v w x out same keeps = subst (λ (y : Receive). Keeps a v b y out) (sym same) keeps
 
--- A look.
+-- A look preserves them.
 
 abbrev saw_as : Receive → List ℕ → Bool → Receive
 saw_as v d ends = record v { seen = v.seen ++ reported_by d ∷ []; stage = cond ends Takes Looks }

@@ -1,4 +1,4 @@
--- Lemmas: the first elements of a list, and the rest.
+-- Lemmas about the first elements of a list, and the remaining ones.
 use Rattle.std.proofs.Common.{◌≡◌, ℕ, ◌+◌, ◌≤◌, List, [], ◌∷◌, ◌++◌, take, drop, length, refl, sym, ap, ◌∙◌, append_assoc, drop-drop, arith}
 use Rattle.std.proofs.lemmas.List.{length-append, length-map, take-append-le, drop-append-le, drop-take, take-append-drop, map-append, length-drop, drop-map, drop_all}
 use Rattle.pmd_access.specs.Bufs.{numbers_of}

@@ -1,4 +1,4 @@
--- Lemmas: a look at the slot after those already seen.
+-- Lemmas about a look at the slot after those already seen.
 use Rattle.std.proofs.Common.{◌≡◌, ℕ, ◌<◌, ◌+◌, ◌∙◌, List, length, Option, Some, None, IfSome, Result, Ok, Err, IfOk, IfErr, OnErr, refl, sym, ap, subst, inl, inr, arith}
 use Rattle.std.specs.Prelude.{[]}
 use Rattle.std.proofs.lemmas.List.{length_push, nil_from_length}
@@ -109,7 +109,7 @@ look_kept look.Wrong old new v w p = rw p.left refl
 pub one_more : (old new : List Call) (v w : Receive) → LooksAtPart old v new w → length w.seen ≡ length v.seen + 1
 one_more old new v w p = rw p.left (length_push v.seen (reported_by p.bytes))
 
--- What a look keeps and leads to, given a result.
+-- What a look preserves and how it changes the state, given its result.
 
 pub looks_play : (a : Numbers) (r : Result Look PmdFault) (old new : List Call) (v w : Receive) → v.stage ≡ Looks
     → length v.seen < length v.layout.blocks → IfOk r (λ l. IsLook l old v new w) → OnErr r (w ≡ v)

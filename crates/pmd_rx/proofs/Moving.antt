@@ -38,7 +38,7 @@ parts_some : (ps : List Packet) → 0 < length ps → All HasPart ps → 0 < par
 parts_some [] some all = absurd (omega (arith, some))
 parts_some (p ∷ ps) some all = some_first p ps all
 
--- Handing out the oldest packet alone.
+-- Only the oldest packet is handed out.
 
 pub one_own : (v : Receive) (n : ℕ) → n ≡ parts_first v.whole → 0 < length v.whole → All HasPart v.whole
     → n ≤ length v.named → MovesNext v v.layout.port v.layout.tail (tail_after v.layout n)
@@ -71,7 +71,7 @@ one_word v =
 pub one_moved : (v : Receive) (n : ℕ) → n ≡ parts_first v.whole → moved v (tail_after v.layout n) ≡ posts_one v
 one_moved v n is = ap (λ (k : ℕ). moved v (tail_after v.layout k)) is ∙ one_word v
 
--- Handing out all packets.
+-- All packets are handed out.
 
 pub all_own : (v : Receive) (n : ℕ) → n ≡ length v.named → 0 < length v.named
     → MovesNext v v.layout.port v.layout.tail (tail_after v.layout n)

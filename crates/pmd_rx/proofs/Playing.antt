@@ -1,4 +1,4 @@
--- Lemmas: how a call extends the driver's calls.
+-- Lemmas about how a call extends the driver's calls.
 use Rattle.std.proofs.Common.{◌≡◌, ℕ, suc, Bool, true, false, not, List, [], ◌∷◌, ◌++◌, length, map, refl, sym, ap, ◌∙◌, subst, append_assoc}
 use Rattle.std.proofs.lemmas.List.{append-nil}
 use Rattle.pmd_access.specs.NicDevice.DmaArena.Block.{Block}
@@ -43,7 +43,7 @@ free-last : (arena : Numbers) (before : List Call) (e : Event Block) (r : Reply 
 free-last arena [] e r free = (free, tt)
 free-last arena (n ∷ before) e r free = (tt, free-last arena before e r free)
 
--- An own event after calls that aren't own.
+-- The driver's own event after calls that aren't its own.
 pub plays_adds : (arena : Numbers) (old new : List Call) (v : Receive) (e : Event Block) (r : Reply Block) → IsOwn v e
     → LendsFree arena true e → Adds old new e r → PlaysFrom arena old v new (drive v e r)
 plays_adds arena old new v e r own free (before, is, steps) = record {

@@ -1,4 +1,4 @@
--- Lemmas: what the steps of a refill preserve.
+-- Lemmas about what the steps of a refill preserve.
 use Rattle.std.proofs.Common.{◌≡◌, ℕ, ◌+◌, ◌<◌, true, false, List, [], ◌∷◌, length, Result, Ok, Err, OnOk, OnErr, refl, ap, arith}
 use Rattle.std.proofs.lemmas.List.{length_push, length-append, length-map}
 use Rattle.pmd_access.specs.NicDevice.DmaArena.Block.{Block}

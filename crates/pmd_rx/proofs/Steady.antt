@@ -56,7 +56,7 @@ joined_steady l posted seen p whole s t rest next blocks left bs b len rss hash 
       },
     )
 
--- Another part is seen.
+-- One more part is seen.
 
 part_fits : (most before second : ℕ) → is_part most before second ≡ true → (ends_packet second ≡ true)
     ⊎ (ends_packet second ≡ false) → bytes_in second ≤ 2048

@@ -1,5 +1,5 @@
--- Lemmas: the driver as its fields show it. The first of the slots' blocks are posted, and the first of the records
--- belong to packets handed out.
+-- Lemmas about the driver as its fields show it. The first of the slots' blocks are posted, and the first of the
+-- records belong to packets handed out.
 use Rattle.std.proofs.Common.{◌≡◌, ℕ, ◌+◌, ◌≤◌, List, [], ◌∷◌, ◌++◌, take, drop, length, refl, sym, ap, ◌∙◌, take-add, drop-drop, arith}
 use Rattle.std.proofs.lemmas.List.{take-map, take-append-le, drop-append-le}
 use Rattle.pmd_access.specs.NicDevice.DmaArena.Block.{Block}
@@ -50,7 +50,7 @@ parts_same : (l : Layout) (bs cs ms ns : List ℕ) (hs ks : List Kept) (seen : L
     }
 parts_same l bs cs ms ns hs ks seen p ps qs s blocks handed whole named = rw (blocks, handed, whole, named) refl
 
--- More blocks are posted, and as many packets are handed out.
+-- `n` more blocks are posted, and `m` more packets are handed out.
 pub shown_posts : (l : Layout) (posted n more : ℕ) (records : List Kept) (handed m reported : ℕ) (seen : List Reported)
     (held : Packet) (whole left : List Packet) (s : Stage) → AreRecords handed records whole → more ≡ posted + n
     → reported ≡ handed + m → left ≡ drop m whole

@@ -39,7 +39,7 @@ lent_along own known s (e ∷ es) legal events only =
     lent_along own (lent_after known e) (after s e.event) es legal.1 events.1
     (rw legal.0 (lent_here own known s only e.event events.0))
 
--- An event that lends none of some blocks also lends none of the requested ones among them.
+-- An event that lends none of some blocks also lends none of the requested blocks among them.
 lends_fewer : (own asks : Blocks) (e : Event Block) → IsTrue (lends_none own e) → LendsNone (Both own asks) e
 lends_fewer own asks (event.Lend block) none = grind (arith, common_steps)
 lends_fewer own asks other none = tt

@@ -28,7 +28,8 @@ use Rattle.std.proofs.lemmas.Bool.{cond_both}
 use Rattle.pmd.specs.Quiet.{NoneAsksOn, asks_on}
 use Rattle.pmd_driver.specs.NicDevice.declared.event.Event.TheVariants as event
 
--- A side that is off with no enable request pending stays so over every event that doesn't try to enable the queue.
+-- A side that is off with no enable request pending stays in this state over every event that doesn't try to enable the
+-- queue.
 
 -- The side's state according to the registers.
 
@@ -47,7 +48,7 @@ within : (dir : Dir) (queue : ℕ) → queue < 128
     → (queue < (row_of (enable_row dir)).count) × (has_bit 25 (row_of (enable_row dir)).reset ≡ false)
 within dir queue small = grind (arith, common_steps)
 
--- Only a write of this register changes the side's enable request, and setting it requires bit 25.
+-- Only a write to this register changes the side's enable request, and setting the request requires bit 25.
 
 asked_of : (dir : Dir) (queue : ℕ) → queue < 128 → (s : State) → IsSound s → (view word : ℕ)
     → is_wanted (after_write s.registers (enable dir queue) view word) dir queue ≡ has_bit 25 word
@@ -124,7 +125,7 @@ stays_off w s small sound image functions dir e none off =
     steady_kept dir w.queue s e IsOff off off_steady
     (side_did dir w.queue s e sound small (left-side w s functions dir e tt))
 
--- If nothing tried to enable the queue, it is therefore off when its driver starts.
+-- If nothing tried to enable the queue, the queue is therefore off when its driver starts.
 
 module _ (w : Watched) (fifo : ℕ) (sound : IsSound (new_state w.vfs fifo)) (small : w.queue < 128) (dir : Dir)
     (h : List Entry) (events : AreEvents h) (none : NoneAsksOn w h) where

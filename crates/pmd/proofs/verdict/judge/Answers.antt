@@ -6,7 +6,7 @@ use Rattle.pmd.specs.declared.verdict.Doubt.TheVariants.{Disturbed, BeganOtherwi
 use Rattle.pmd.specs.declared.verdict.Driven.{Driven}
 use Rattle.pmd.proofs.verdict.judge.Goals as goal
 
--- What follows from the answer yes, and from the answer no.
+-- What follows if a check is true, and if it is false.
 
 yes_of : (P : Type 0) (answer : Bool) → (IsTrue answer ↔ P) → answer ≡ true → P
 yes_of P answer asked is = asked.0 is

@@ -17,8 +17,8 @@ BegunHasGround =
     (w.vfs ≤ 63) × (0 < fifo) × (fifo ≤ 4096) → AreEvents h → BeginsWell w (length old) given h →
     HoldsAtFirst w fifo old h (HasGround w.queue (record { port = given.port; queue = given.queue }) given.frame)
 
--- If no entry before the driver's first entry tries to enable its queue, and the driver begins well, both sides of the
--- queue are off just before that entry, with no enable request pending.
+-- Take a history in which a driver begins well and no entry before its first entry tries to enable its queue. Just
+-- before that first entry, both sides of the queue are off, with no enable request pending.
 abbrev pub NeverAskedIsQuiet : Type 0
 NeverAskedIsQuiet =
     (w : Watched) (fifo : ℕ) (old : List Call) (given : Given) (h : List Entry) →

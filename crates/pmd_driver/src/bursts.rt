@@ -44,9 +44,9 @@ impl Running {
         // As many packets as reported were accepted in order from the front of the list, and removed. The others are
         // unchanged, with one exception: if lending the first remaining packet got a wrong reply, that packet may be in
         // other blocks with the same numbers. The tail is advanced only after all accepted packets are queued. Without
-        // a fault, the tail has passed everything outstanding. The burst stops only if no packet remains, the ring has
-        // no room for the next packet, the next packet is refused before any event, or a call met a fault during its
-        // events. If the first packet is refused, no event occurs after room was made.
+        // a fault, the tail has passed everything outstanding. The burst stops only for one of these reasons: no packet
+        // remains, the ring has no room for the next packet, the next packet is refused before any event, or a call met
+        // a fault during its events. If the first packet is refused, no event occurs after room was made.
         ensures sent { IsSendBurst vacant packets.old.items packets.new.items result (N.made nic.old) self.old
             (N.made nic.new) self.new }
         ensures blocks { KeepsUp self.old (numbers_of_all packets.old.items) self.new

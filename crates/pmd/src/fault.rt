@@ -8,7 +8,7 @@ use pmd_driver::PmdFault;
 /// Why a worker ended early.
 #[derive(Debug, Drop)]
 pub enum WorkerFault {
-    /// A call to its driver failed.
+    /// A call to the worker's driver failed.
     Pmd(PmdFault),
     /// The gate was shut to the worker.
     GateShut,

@@ -100,7 +100,7 @@ impl Pmd {
     }
 
     /// Returns the number of transmit descriptors that can still be filled, or 0 if the driver isn't running. A packet
-    /// takes one descriptor for every 2,048 bytes or part of them.
+    /// takes one descriptor for every 2,048 bytes or part thereof.
     pub fn vacant(&self) -> u16
         ensures { result ≡ vacant_of self.now.rings }
     {

@@ -1,5 +1,5 @@
-//! Brings up a driver's rings, with one function for each step. If a step fails, only the blocks that this step lent
-//! are out of the arena.
+//! Brings up a driver's rings, with one function for each step. A step that fails has taken only those blocks out of
+//! the arena that it lent.
 
 ghost use Rattle.std.specs.Prelude.{◌≡◌, ◌≤◌, ◌+◌, [], true};
 ghost use Rattle.std.specs.List.{range_with_len};

@@ -20,7 +20,8 @@ pub fn runs_end_first()
     ensures { RunsEndFirst }
 {}
 
-/// Going back a number of steps and then forward by the same number reaches the original step.
+/// Going back a number of steps, at most to step 0, and then forward by the same number reaches the original step. The
+/// premise: the machine has counted each step of the session.
 pub fn back_and_on_again()
     ensures { BackAndOnAgain }
 {}

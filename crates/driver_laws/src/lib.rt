@@ -47,7 +47,7 @@ pub mod starting;
 /// when the `Direct` or `Interleaved` was created, the device was in the state that the earlier part leads to. For a
 /// new one, clause `began` ensures this, and each driver call preserves it. The laws also require that the history
 /// leaves the queue alone. For a `Direct`, the result of `device_lock::left_alone` is enough in any state. For an
-/// `Interleaved`, that result is enough if no image is installed and no pool mode was set in that state.
+/// `Interleaved`, that result is enough if the device had no image and no pool mode when the history began.
 ///
 /// The calls through a `pmd_access::ThroughLock` form a history of a device that was new. It is the history that
 /// `close` returned for the device's passes, up to the last of these calls. The pass may have any tag. The premise is

@@ -165,9 +165,9 @@ pub fn start_leaves_sides_that_agree()
     ensures on { StartGoesOn }
 {}
 
-/// A start that returns `StartTimeout` made 1,000 reads of its queue's RXDCTL and TXDCTL in total, each of which
-/// returned bit 25 as 0. Each of these reads follows a write to the same register, and the last such write before the
-/// read set bit 25.
+/// A start that returns `StartTimeout` made reads of its queue's RXDCTL and TXDCTL, of which 1,000 in total returned
+/// bit 25 as 0 after an enable request. That is, the read follows a write to the same register, and the last such write
+/// before the read set bit 25.
 #[tactic(auto, using(crate::proofs::TimedOut::timeouts_poll))]
 pub fn timeouts_poll_a_thousand_times()
     ensures { TimeoutsPoll }

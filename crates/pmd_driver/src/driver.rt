@@ -261,10 +261,11 @@ impl Pmd {
     /// that doesn't fit, is refused, or meets a fault. Returns the number of packets accepted. These packets are
     /// removed from the list, and the others stay in order.
     ///
-    /// If no packet was accepted, it returns the fault that prevented this, if any: the fault met while reaping, or the
-    /// fault that `tx` would return for the first packet. It also returns a fault if it accepted packets but couldn't
-    /// write the tail after them. These packets are no longer in the list; the next call continues with them. If the
-    /// driver isn't running, it returns `DeviceFault` without causing any event, and all packets stay in the list.
+    /// If no packet was accepted, it returns the fault that prevented this, if any. This is the fault met while reaping
+    /// or while continuing with earlier packets, or the fault that `tx` would return for the first packet. It also
+    /// returns a fault if it accepted packets but couldn't write the tail after them. These packets are no longer in the
+    /// list; the next call continues with them. If the driver isn't running, it returns `DeviceFault` without causing
+    /// any event, and all packets stay in the list.
     pub fn tx_burst<N: Nic>(
         &mut self,
         alloc: Global,

@@ -87,8 +87,8 @@ impl TransmitRing {
     /// block numbers.
     ///
     /// The packet is checked before any event. The result is `BadSize` if the packet's length is out of range or above
-    /// the capacity of its blocks. It is `ForeignBlock` if the packet's blocks can't be returned to the arena or one of
-    /// them is lent elsewhere. It is `RingFull` if the outstanding segments and the packet's own would together leave
+    /// the capacity of its blocks. It is `ForeignBlock` if the packet's blocks can't be returned to the arena, or if one
+    /// of them is lent elsewhere or kept by this ring. It is `RingFull` if the outstanding segments and the packet's own would together leave
     /// no slot of the ring free.
     ///
     /// After the check, the result is `DeviceFault` if the device sends a reply that a healthy queue can't send. It is

@@ -9,7 +9,7 @@ use crate::register_file::RegisterFile;
 use dma_ring::Dir;
 use reg_table::{RowId, bump};
 
-/// The number of bits per queue in an RQSMR or TQSM word. These bits name the queue's counter.
+/// The number of bits per queue in an RQSMR or TQSM word. The low four of these bits select the queue's counter.
 const COUNTER_BITS: u32 = 8;
 
 /// The number of queues per RQSMR or TQSM word.

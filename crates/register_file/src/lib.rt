@@ -1,8 +1,8 @@
 //! The registers of the Intel 82599 as the device core stores them: their values, the enable requests for the queues'
 //! sides, and the interrupt causes that messages have reported.
 //!
-//! Contracts view a `RegisterFile` as `Registers`: the values of each row at its indices, and the enable requests of
-//! each queue. `read` and `write` access a place according to the kind of its row. A write changes the bits that the
+//! Contracts view a `RegisterFile` as `Registers`: the values of each row at its indices, the enable requests of each
+//! queue, and the reported causes of each group. `read` and `write` access a place according to the kind of its row. A write changes the bits that the
 //! kind allows. Reading a counter resets it to 0, except for a virtual function's counters. Accesses to a group's
 //! interrupts go through `intr_unit`, using the values of the group's registers. `peek` returns what a read would
 //! return, without its side effects; `word` returns the stored value.

@@ -12,8 +12,8 @@ use register_file::{Dir, Mode, QueueMode, RegisterFile, RowId, queues_of};
 /// The maximum number of pools.
 const POOLS: u16 = 64;
 
-/// Returns the pool that receives a frame. The pool is below 64 and has queues according to MRQC. If pools aren't in
-/// use, the pool is 0.
+/// Returns the pool that receives a frame. The pool is below 64 and has queues in the mode that MRQC and GCR_EXT
+/// select. If pools aren't in use, the pool is 0.
 #[tactic(auto, unfolding(crate::specs::Pools::chosen_pool))]
 pub(crate) fn chosen_pool(registers: &RegisterFile, frame: &[u8]) -> Result<u16, Unwanted>
     ensures chosen { result ≡ chosen_pool registers.now frame.now }

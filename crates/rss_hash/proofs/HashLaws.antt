@@ -48,8 +48,8 @@ share-xor (suc zero) (suc zero) n p q = sym (xor_self n)
 share-xor (suc (suc a)) b n p q = absurd (omega arith)
 share-xor a (suc (suc b)) n p q = absurd (omega arith)
 
--- If the bits of `c` are the sums of the bits of `a` and `b`, the exclusive or over `c` is the exclusive or of the one
--- over `a` and the one over `b`.
+-- If each bit of `c` is the sum of the bits of `a` and `b`, modulo 2, two results are equal: the exclusive or over `c`,
+-- and the exclusive or of the results over `a` and over `b`.
 pub xor_where-sum : (f a b c : ℕ → ℕ) → ((k : ℕ) → a k < 2) → ((k : ℕ) → b k < 2) → ((k : ℕ) → c k ≡ (a k + b k) % 2)
     → (ks : List ℕ) → xor_where f c ks ≡ bit_xor (xor_where f a ks) (xor_where f b ks)
 xor_where-sum f a b c small_a small_b sums [] = sym (xor_zero_l 0)

@@ -61,8 +61,8 @@ IsListed r frame =
     let vector = vector_of (word_of r Mcstctrl 0 % 4) frame in
     IsTrue (has_bit MFE (word_of r Mcstctrl 0)) × IsTrue (has_bit (vector % 32) (word_of r Mta (vector / 32)))
 
--- A multicast frame other than a broadcast is accepted if and only if FCTRL bit 8, MPE, is 1, a valid address equals
--- the frame's destination, or MTA lists the destination.
+-- A multicast frame other than a broadcast is accepted if and only if one of these holds: FCTRL bit 8, MPE, is 1; a
+-- valid address equals the frame's destination; MTA lists the destination.
 abbrev pub MulticastIsLetIn : Type 0
 MulticastIsLetIn =
     (r : Registers) (frame : List ℕ) → IsFalse (is_broadcast frame) → IsTrue (is_multicast frame) →
@@ -183,8 +183,8 @@ PoolsBeyondGetNone =
     (r : Registers) (frame : List ℕ) (pool : ℕ) → IsTrue (passes r frame) → IsTrue (uses_pools r) →
     selected_pool r frame ≡ Some pool → IsBeyond r pool → sorted r frame ≡ Err NoPool
 
--- If GCR_EXT selects 16 pools, frames are distributed among pools and MRQC has a code for pools, a frame reaches only
--- queues that belong to the virtual function of the frame's pool.
+-- The premises: GCR_EXT selects 16 pools, frames are distributed among pools, and MRQC has a code for pools. A frame
+-- reaches only queues that belong to the virtual function of the frame's pool.
 abbrev pub FunctionsGetTheirs : Type 0
 FunctionsGetTheirs =
     (r : Registers) (frame : List ℕ) (pool : ℕ) (t : Target) → mode_in r ≡ mode.Pools16 →

@@ -14,8 +14,8 @@ pub fn broadcast_is_let_in()
     ensures exact { BroadcastIsLetIn }
 {}
 
-/// A multicast frame other than a broadcast is accepted if and only if FCTRL MPE is 1, a valid receive address equals
-/// the frame's destination, or both MCSTCTRL MFE and the destination's bit in MTA are 1.
+/// A multicast frame other than a broadcast is accepted if and only if one of these holds: FCTRL MPE is 1; a valid
+/// receive address equals the frame's destination; MCSTCTRL MFE and the destination's bit in MTA are both 1.
 pub fn multicast_is_let_in()
     ensures { MulticastIsLetIn }
 {}
@@ -41,8 +41,8 @@ pub fn single_queue_is_queue_0()
     ensures { SingleIsQueue0 }
 {}
 
-/// If VT_CTL bit 0 is 1 and MRQC has a code that gives pools their own queues, a queue receives frames only while
-/// reception is enabled in VFRE for the queue's pool.
+/// The premises: VT_CTL bit 0 is 1, and MRQC has a code that gives pools their own queues. A queue receives frames only
+/// while reception is enabled in VFRE for the queue's pool.
 pub fn off_pools_get_none()
     ensures { OffPoolsGetNone }
 {}
@@ -60,8 +60,8 @@ pub fn pools_beyond_get_none()
     ensures { PoolsBeyondGetNone }
 {}
 
-/// If GCR_EXT selects 16 pools, VT_CTL bit 0 is 1 and MRQC has a code for pools, a frame reaches only queues that
-/// belong to the virtual function of the frame's pool.
+/// The premises: GCR_EXT selects 16 pools, VT_CTL bit 0 is 1, and MRQC has a code for pools. A frame reaches only queues
+/// that belong to the virtual function of the frame's pool.
 pub fn functions_get_theirs()
     ensures { FunctionsGetTheirs }
 {}

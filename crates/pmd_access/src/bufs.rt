@@ -96,7 +96,7 @@ impl Bufs {
         }
     }
 
-    /// Removes and returns the first Buf, or returns `None` if the list is empty.
+    /// Removes and returns the first Buf. Returns `None` if and only if the list is empty.
     pub fn take_first(&mut self) -> Option<Buf>
         ensures first { self.old ≡ option_to_list result ++ self.new }
         ensures none { IfNone result (self.old ≡ []) }

@@ -81,8 +81,8 @@ impl Interleaved {
         &self.handled.calls
     }
 
-    /// Returns one mark for each of these calls, in order. A mark is true if the call is own, that is, if `Nic::call` made
-    /// it for its caller.
+    /// Returns one mark for each of these calls, in order. A mark is true if the call is own, that is, if `Nic::call`
+    /// made it for its caller.
     pub fn own(&self) -> &[bool]
         ensures own { result.now ≡ self.now.handled.own }
         ensures each { length result.now ≡ length self.now.handled.calls }

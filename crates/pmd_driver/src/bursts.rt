@@ -32,8 +32,8 @@ impl Running {
     ///
     /// If no packet was accepted, it returns the fault that prevented this, if any. This is the fault met while reaping
     /// or while continuing with earlier packets, or the fault that `tx` would return for the first packet. It also
-    /// returns a fault if it accepted packets but couldn't write the tail after them. These packets are no longer in the
-    /// list; the next call continues with them.
+    /// returns a fault if it accepted packets but couldn't write the tail after them. These packets are no longer in
+    /// the list; the next call continues with them.
     pub fn tx_burst<N: Nic>(
         &mut self,
         alloc: Global,

@@ -124,10 +124,10 @@ impl Pmd {
 impl Pmd {
     /// Receives the next packet, in order. Returns `None` while a slot of that packet isn't done.
     ///
-    /// `NoBuffer` if a packet is waiting and too few blocks are free for it; `DeviceFault` if a reply is one that a
-    /// healthy queue never sends; `Call` if a call was refused, or if there was no memory for the packet's record. The
-    /// driver keeps its position, and the next call continues from there. If the driver isn't running, `rx` returns
-    /// `DeviceFault` without causing any event.
+    /// Fails with `NoBuffer` if a packet is waiting and too few blocks are free for it; with `DeviceFault` if a reply
+    /// is one that a healthy queue never sends; with `Call` if a call was refused, or if there was no memory for the
+    /// packet's record. The driver keeps its position, and the next call continues from there. If the driver isn't
+    /// running, `rx` returns `DeviceFault` without causing any event.
     pub fn rx<N: Nic>(&mut self, alloc: Global, nic: &mut N) -> Result<Option<Packet>, PmdFault>
         ensures drives { RunsOn (N.made nic.old) self.old.rings (N.made nic.new) self.new.rings }
         ensures received { WhereUp self.old.rings self.new.rings (λ r s.
@@ -153,15 +153,16 @@ impl Pmd {
     /// Sends a packet, zero-padded to 60 bytes if it is shorter. It fills one descriptor for each `Buf` that contains
     /// bytes of the packet.
     ///
-    /// It checks the packet before any event. `BadSize` if the packet's length is 0, above the frame limit less 4, or
-    /// above the capacity of its Bufs; `ForeignBlock` if `release` would return the packet; `RingFull` if the
-    /// outstanding descriptors and the packet's descriptors together would leave no slot of the ring vacant.
+    /// It checks the packet before any event. Fails with `BadSize` if the packet's length is 0, above the frame limit
+    /// less 4, or above the capacity of its Bufs; with `ForeignBlock` if `release` would return the packet; with
+    /// `RingFull` if the outstanding descriptors and the packet's descriptors together would leave no slot of the ring
+    /// vacant.
     ///
-    /// After that, `DeviceFault` if the device sends a reply that a healthy queue can't send; `Call` if a call was
-    /// refused, or if there was no memory for the record. If none of the packet's blocks was lent yet, the packet is
-    /// returned; after `DeviceFault`, its blocks have the same numbers. Otherwise the packet is accepted, and the next
-    /// call continues with it. If the driver isn't running, `tx` returns `DeviceFault` and the packet without causing
-    /// any event.
+    /// After that, it fails with `DeviceFault` if the device sends a reply that a healthy queue can't send; with `Call`
+    /// if a call was refused, or if there was no memory for the record. If none of the packet's blocks was lent yet,
+    /// the packet is returned; after `DeviceFault`, its blocks have the same numbers. Otherwise the packet is accepted,
+    /// and the next call continues with it. If the driver isn't running, `tx` returns `DeviceFault` and the packet
+    /// without causing any event.
     pub fn tx<N: Nic>(
         &mut self,
         alloc: Global,
@@ -195,8 +196,9 @@ impl Pmd {
     /// earlier call. If `reap` returns without a fault, its clauses promise that the tail has passed both the freed
     /// packets and the oldest remaining packet.
     ///
-    /// `DeviceFault` if the device sends a reply that a healthy queue can't send, `Call` if a call was refused. Blocks
-    /// already freed stay free. If the driver isn't running, `reap` returns `DeviceFault` without causing any event.
+    /// Fails with `DeviceFault` if the device sends a reply that a healthy queue can't send, or with `Call` if a call
+    /// was refused. Blocks already freed stay free. If the driver isn't running, `reap` returns `DeviceFault` without
+    /// causing any event.
     pub fn reap<N: Nic>(&mut self, alloc: Global, nic: &mut N) -> Result<Reaped, PmdFault>
         ensures drives { RunsOn (N.made nic.old) self.old.rings (N.made nic.new) self.new.rings }
         ensures reaped { WhereUp self.old.rings self.new.rings (λ r s.
@@ -263,9 +265,9 @@ impl Pmd {
     ///
     /// If no packet was accepted, it returns the fault that prevented this, if any. This is the fault met while reaping
     /// or while continuing with earlier packets, or the fault that `tx` would return for the first packet. It also
-    /// returns a fault if it accepted packets but couldn't write the tail after them. These packets are no longer in the
-    /// list; the next call continues with them. If the driver isn't running, it returns `DeviceFault` without causing
-    /// any event, and all packets stay in the list.
+    /// returns a fault if it accepted packets but couldn't write the tail after them. These packets are no longer in
+    /// the list; the next call continues with them. If the driver isn't running, it returns `DeviceFault` without
+    /// causing any event, and all packets stay in the list.
     pub fn tx_burst<N: Nic>(
         &mut self,
         alloc: Global,

@@ -120,9 +120,9 @@ impl Running {
 impl Running {
     /// Receives the next packet, in order. Returns `None` while a slot of that packet isn't done.
     ///
-    /// `NoBuffer` if a packet is waiting and too few blocks are free for it; `DeviceFault` if a reply is one that a
-    /// healthy queue never sends; `Call` if a call was refused, or if there was no memory for the packet's record. The
-    /// driver keeps its position, and the next call continues from there.
+    /// Fails with `NoBuffer` if a packet is waiting and too few blocks are free for it; with `DeviceFault` if a reply
+    /// is one that a healthy queue never sends; with `Call` if a call was refused, or if there was no memory for the
+    /// packet's record. The driver keeps its position, and the next call continues from there.
     pub fn rx<N: Nic>(&mut self, alloc: Global, nic: &mut N) -> Result<Option<Packet>, PmdFault>
         ensures drives { DrivesRings (N.made nic.old) self.old (N.made nic.new) self.new }
         ensures received { IsReceiveCall result (N.made nic.old) self.old (N.made nic.new) self.new }
@@ -167,14 +167,15 @@ impl Running {
     /// Sends a packet, zero-padded to 60 bytes if it is shorter. It fills one descriptor for each `Buf` that contains
     /// bytes of the packet.
     ///
-    /// It checks the packet before any event. `BadSize` if the packet's length is 0, above the frame limit less 4, or
-    /// above the capacity of its Bufs; `ForeignBlock` if `release` would return the packet; `RingFull` if the
-    /// outstanding descriptors and the packet's descriptors together would leave no slot of the ring vacant.
+    /// It checks the packet before any event. Fails with `BadSize` if the packet's length is 0, above the frame limit
+    /// less 4, or above the capacity of its Bufs; with `ForeignBlock` if `release` would return the packet; with
+    /// `RingFull` if the outstanding descriptors and the packet's descriptors together would leave no slot of the ring
+    /// vacant.
     ///
-    /// After that, `DeviceFault` if the device sends a reply that a healthy queue can't send; `Call` if a call was
-    /// refused, or if there was no memory for the record. If none of the packet's blocks was lent yet, the packet is
-    /// returned; after `DeviceFault`, its blocks have the same numbers. Otherwise the packet is accepted, and the next
-    /// call continues with it.
+    /// After that, it fails with `DeviceFault` if the device sends a reply that a healthy queue can't send; with `Call`
+    /// if a call was refused, or if there was no memory for the record. If none of the packet's blocks was lent yet,
+    /// the packet is returned; after `DeviceFault`, its blocks have the same numbers. Otherwise the packet is accepted,
+    /// and the next call continues with it.
     pub fn tx<N: Nic>(
         &mut self,
         alloc: Global,
@@ -198,8 +199,8 @@ impl Running {
     /// earlier call. If `reap` returns without a fault, its clauses promise that the tail has passed both the freed
     /// packets and the oldest remaining packet.
     ///
-    /// `DeviceFault` if the device sends a reply that a healthy queue can't send, `Call` if a call was refused. Blocks
-    /// already freed stay free.
+    /// Fails with `DeviceFault` if the device sends a reply that a healthy queue can't send, or with `Call` if a call
+    /// was refused. Blocks already freed stay free.
     pub fn reap<N: Nic>(&mut self, alloc: Global, nic: &mut N) -> Result<Reaped, PmdFault>
         ensures drives { DrivesRings (N.made nic.old) self.old (N.made nic.new) self.new }
         ensures reaped { IsReapCall result (N.made nic.old) self.old (N.made nic.new) self.new }
@@ -232,8 +233,8 @@ impl Running {
     /// Advances the tail past all accepted packets, unless the tail is already there. Before that, it finishes the last
     /// packet if a part of this packet is waiting.
     ///
-    /// `DeviceFault` if the device sends a reply that a healthy queue can't send, `Call` if a call was refused; the
-    /// next call continues.
+    /// Fails with `DeviceFault` if the device sends a reply that a healthy queue can't send, or with `Call` if a call
+    /// was refused; the next call continues.
     pub(crate) fn flush<N: Nic>(&mut self, alloc: Global, nic: &mut N) -> Result<(), PmdFault>
         ensures asks { Asks N.began N.refuses (fault_in result) nic.old nic.new }
         ensures continues { Continues (fault_in result) (N.made nic.old) self.old (N.made nic.new) self.new }

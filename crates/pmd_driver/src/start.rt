@@ -234,10 +234,10 @@ impl Pmd {
     /// is from 1,518 to 9,728.
     ///
     /// Before any event, it checks in this order and fails with `BadSize` if the size or the frame length is out of
-    /// range; `NoBuffer` if too few blocks are free, or no two such runs are free; `DeviceFault` if the port can't
-    /// address the queue. After that, `DeviceFault` if a side of the queue is on, or if the device sends a reply that a
-    /// healthy queue can't send; `StartTimeout` if 1,000 polls show a side off; `Call` if a call was refused. If a
-    /// block was already lent, the error contains the half-started driver.
+    /// range; with `NoBuffer` if too few blocks are free, or no two such runs are free; with `DeviceFault` if the port
+    /// can't address the queue. After that, it fails with `DeviceFault` if a side of the queue is on, or if the device
+    /// sends a reply that a healthy queue can't send; with `StartTimeout` if 1,000 polls show a side off; with `Call`
+    /// if a call was refused. If a block was already lent, the error contains the half-started driver.
     pub fn start<N: Nic>(
         alloc: Global,
         nic: &mut N,

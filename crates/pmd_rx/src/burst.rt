@@ -116,9 +116,9 @@ impl ReceiveRing {
     /// other event.
     ///
     /// `NoBuffer` only if a packet is waiting and too few blocks are free; the driver is unchanged except for what it
-    /// has seen. `DeviceFault` if a reply is one that a healthy queue never sends. `Call` if a call was refused, or if
-    /// there was no memory to keep what the driver saw or the packet's record; the driver keeps its position, and the
-    /// next call continues from there.
+    /// has seen. Fails with `DeviceFault` if a reply is one that a healthy queue never sends. Fails with `Call` if a
+    /// call was refused, or if there was no memory to keep what the driver saw or the packet's record; the driver keeps
+    /// its position, and the next call continues from there.
     pub fn receive<N: Nic>(
         &mut self,
         alloc: Global,
@@ -196,8 +196,8 @@ impl ReceiveRing {
     /// Appends complete packets to `out` with one tail write, and returns their number. It hands out all of them if
     /// they are at most `most` and no part of another packet is taken. Otherwise it hands out the oldest.
     ///
-    /// `DeviceFault` if the port has no register with the tail's number. `Call` also if `out` can't grow for the
-    /// packets.
+    /// Fails with `DeviceFault` if the port has no register with the tail's number. Also fails with `Call` if `out`
+    /// can't grow for the packets.
     fn post_most<N: Nic>(
         &mut self,
         alloc: Global,

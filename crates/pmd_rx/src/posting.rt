@@ -25,7 +25,7 @@ use std::collections::VecDeque;
 impl ReceiveRing {
     /// Lends a fresh block from the arena and names it in a descriptor.
     ///
-    /// `NoBuffer` if no block is free; nothing is done.
+    /// Fails with `NoBuffer` if no block is free; nothing is done.
     fn lend_and_name<N: Nic>(
         &mut self,
         alloc: Global,
@@ -52,7 +52,7 @@ impl ReceiveRing {
 impl ReceiveRing {
     /// Looks at a packet's posted slots until it sees the packet's last part. Returns whether it saw the last part.
     ///
-    /// `DeviceFault` if a slot contains something that a healthy queue never writes.
+    /// Fails with `DeviceFault` if a slot contains something that a healthy queue never writes.
     pub(crate) fn look_whole<N: Nic>(
         &mut self,
         alloc: Global,
@@ -142,7 +142,7 @@ impl ReceiveRing {
     /// Takes the parts of a packet whose last part was seen, and names fresh blocks in their place. The packet is then
     /// complete.
     ///
-    /// `NoBuffer` if too few blocks are free to replace the parts; nothing is done.
+    /// Fails with `NoBuffer` if too few blocks are free to replace the parts; nothing is done.
     pub(crate) fn take_whole<N: Nic>(
         &mut self,
         alloc: Global,
@@ -196,9 +196,9 @@ impl ReceiveRing {
     /// Posts a fresh block from the arena in the first vacant slot, which hands the block to the device. One slot
     /// always stays vacant.
     ///
-    /// `NoBuffer` if no block is free; none is posted. `DeviceFault` if the block is already lent, the ring isn't lent,
-    /// or the port has no register with the tail's number. `Call` if a call was refused. Steps completed before a fault
-    /// are kept.
+    /// Fails with `NoBuffer` if no block is free; none is posted. Fails with `DeviceFault` if the block is already
+    /// lent, the ring isn't lent, or the port has no register with the tail's number. Fails with `Call` if a call was
+    /// refused. Steps completed before a fault are kept.
     pub fn post<N: Nic>(
         &mut self,
         alloc: Global,

@@ -67,7 +67,7 @@ impl ReceiveRing {
 
     /// Looks at the slot after those already seen.
     ///
-    /// `Call` if a call was refused, or if there was no memory to keep what the driver saw.
+    /// Fails with `Call` if a call was refused, or if there was no memory to keep what the driver saw.
     pub(crate) fn look<N: Nic>(&mut self, alloc: Global, nic: &mut N) -> Result<Look, PmdFault>
         requires some { length self.old.seen < length self.old.layout.blocks }
         requires stage { self.old.stage ≡ stage.Looks }
@@ -100,7 +100,7 @@ impl ReceiveRing {
 
     /// Takes the block in the next slot; the slot's part joins the packet being held.
     ///
-    /// `DeviceFault` if the block is no longer lent.
+    /// Fails with `DeviceFault` if the block is no longer lent.
     pub(crate) fn take_part<N: Nic>(&mut self, alloc: Global, nic: &mut N) -> Result<(), PmdFault>
         requires stage { self.old.stage ≡ stage.Takes }
         requires some { 0 < length self.old.seen }
@@ -159,7 +159,8 @@ impl ReceiveRing {
 
     /// Lends a fresh block from the arena.
     ///
-    /// `NoBuffer` if no block is free; nothing is done. `DeviceFault` if a block with its number is already lent.
+    /// Fails with `NoBuffer` if no block is free; nothing is done. Fails with `DeviceFault` if a block with its number
+    /// is already lent.
     pub(crate) fn lend_fresh<N: Nic>(
         &mut self,
         alloc: Global,
@@ -210,8 +211,8 @@ impl ReceiveRing {
     /// Names the fresh block in the descriptor of the first vacant slot. If no part of the packet being held remains to
     /// be taken, that packet is then complete.
     ///
-    /// `DeviceFault` if the ring is no longer lent. `Call` if a call was refused, or if there was no memory for the
-    /// block's number or the packet's record.
+    /// Fails with `DeviceFault` if the ring is no longer lent. Fails with `Call` if a call was refused, or if there was
+    /// no memory for the block's number or the packet's record.
     pub(crate) fn name_fresh<N: Nic>(&mut self, alloc: Global, nic: &mut N) -> Result<(), PmdFault>
         requires { HasLent self.old.stage }
         ensures asks { Asks N.began N.refuses (fault_in result) nic.old nic.new }

@@ -17,7 +17,7 @@ use std::collections::VecDeque;
 impl ReceiveRing {
     /// Advances the tail by `more` slots.
     ///
-    /// `DeviceFault` if the port has no register with the tail's number.
+    /// Fails with `DeviceFault` if the port has no register with the tail's number.
     fn write_tail<N: Nic>(&self, alloc: Global, nic: &mut N, more: u16) -> Result<(), PmdFault>
         requires { length self.now.layout.blocks + more ≤ self.now.layout.size }
         ensures asks { Asks N.began N.refuses (fault_in result) nic.old nic.new }
@@ -35,7 +35,7 @@ impl ReceiveRing {
 
     /// Advances the tail over the blocks that replace the oldest complete packet, and hands that packet out.
     ///
-    /// `DeviceFault` if the port has no register with the tail's number.
+    /// Fails with `DeviceFault` if the port has no register with the tail's number.
     pub(crate) fn post_one<N: Nic>(
         &mut self,
         alloc: Global,
@@ -83,7 +83,7 @@ impl ReceiveRing {
     /// Advances the tail over all named blocks. The driver may not hold part of a packet. Appends the complete packets
     /// to `out`, which has room for them.
     ///
-    /// `DeviceFault` if the port has no register with the tail's number.
+    /// Fails with `DeviceFault` if the port has no register with the tail's number.
     pub(crate) fn post_all<N: Nic>(
         &mut self,
         alloc: Global,

@@ -20,8 +20,8 @@ impl TransmitRing {
     /// waited since earlier calls, as `flush` does. If the call returns without a fault, its clauses promise that the
     /// tail has passed both the freed packets and the oldest remaining packet.
     ///
-    /// `DeviceFault` if the device sends a reply that a healthy queue can't send, `Call` if a call was refused. Blocks
-    /// already freed stay free.
+    /// Fails with `DeviceFault` if the device sends a reply that a healthy queue can't send, or with `Call` if a call
+    /// was refused. Blocks already freed stay free.
     pub fn reap<N: Nic>(
         &mut self,
         alloc: Global,

@@ -301,7 +301,7 @@ impl TransmitRing {
     /// Lends the first block of a packet, which accepts the packet. Returns the Bufs that contain none of the packet's
     /// bytes. If the first block can't be lent, returns the packet.
     ///
-    /// `DeviceFault` if a block with its number is already lent.
+    /// Fails with `DeviceFault` if a block with its number is already lent.
     pub(crate) fn accept<N: Nic>(
         &mut self,
         alloc: Global,
@@ -382,7 +382,7 @@ impl TransmitRing {
 impl TransmitRing {
     /// Lends the block of the next segment not yet lent.
     ///
-    /// `DeviceFault` if a block with its number is already lent.
+    /// Fails with `DeviceFault` if a block with its number is already lent.
     pub(crate) fn lend_next<N: Nic>(&mut self, alloc: Global, nic: &mut N) -> Result<(), PmdFault>
         requires { self.old.lent < length self.old.outstanding }
         ensures asks { Asks N.began N.refuses (fault_in result) nic.old nic.new }
@@ -418,7 +418,7 @@ impl TransmitRing {
 impl TransmitRing {
     /// Writes the descriptor of the next segment.
     ///
-    /// `DeviceFault` if the ring is no longer lent.
+    /// Fails with `DeviceFault` if the ring is no longer lent.
     pub(crate) fn ask<N: Nic>(&mut self, alloc: Global, nic: &mut N) -> Result<(), PmdFault>
         requires { self.old.poked < self.old.lent }
         ensures asks { Asks N.began N.refuses (fault_in result) nic.old nic.new }
@@ -474,7 +474,7 @@ impl TransmitRing {
 
     /// Advances the tail, handing all segments to the device.
     ///
-    /// `DeviceFault` if the port has no register with the tail's number.
+    /// Fails with `DeviceFault` if the port has no register with the tail's number.
     pub(crate) fn advance<N: Nic>(&mut self, alloc: Global, nic: &mut N) -> Result<(), PmdFault>
         requires all { self.old.poked ≡ length self.old.outstanding }
         requires some { self.old.posted < self.old.poked }
@@ -530,7 +530,7 @@ impl TransmitRing {
 impl TransmitRing {
     /// Reads the descriptor that ends the oldest packet. Returns whether the packet was sent.
     ///
-    /// `DeviceFault` if the ring is no longer lent.
+    /// Fails with `DeviceFault` if the ring is no longer lent.
     pub(crate) fn look<N: Nic>(&mut self, alloc: Global, nic: &mut N) -> Result<bool, PmdFault>
         requires some { 0 < length self.old.outstanding }
         requires settled { self.old.posted ≡ length self.old.outstanding }
@@ -577,7 +577,7 @@ impl TransmitRing {
 
     /// Takes the block of the oldest segment, which is known to be done. The segment is no longer outstanding.
     ///
-    /// `DeviceFault` if the block is no longer lent.
+    /// Fails with `DeviceFault` if the block is no longer lent.
     pub(crate) fn take_oldest<N: Nic>(
         &mut self,
         alloc: Global,

@@ -87,9 +87,9 @@ impl TransmitRing {
     /// block numbers.
     ///
     /// The packet is checked before any event. The result is `BadSize` if the packet's length is out of range or above
-    /// the capacity of its blocks. It is `ForeignBlock` if the packet's blocks can't be returned to the arena, or if one
-    /// of them is lent elsewhere or kept by this ring. It is `RingFull` if the outstanding segments and the packet's own would together leave
-    /// no slot of the ring free.
+    /// the capacity of its blocks. It is `ForeignBlock` if the packet's blocks can't be returned to the arena, or if
+    /// one of them is lent elsewhere or kept by this ring. It is `RingFull` if the outstanding segments and the
+    /// packet's own would together leave no slot of the ring free.
     ///
     /// After the check, the result is `DeviceFault` if the device sends a reply that a healthy queue can't send. It is
     /// `Call` if a call was refused, or if there was no memory for the record. If none of the packet's blocks was lent
@@ -298,8 +298,8 @@ impl TransmitRing {
     /// is no fault, every block is lent and the tail has passed every packet. If the tail had already passed all
     /// packets, no device call is made.
     ///
-    /// `DeviceFault` if the device sends a reply that a healthy queue can't send, `Call` if a call was refused; the
-    /// next call continues.
+    /// Fails with `DeviceFault` if the device sends a reply that a healthy queue can't send, or with `Call` if a call
+    /// was refused; the next call continues.
     pub fn flush<N: Nic>(&mut self, alloc: Global, nic: &mut N) -> Result<(), PmdFault>
         ensures plays { (blocks : List ℕ) → PlaysWith blocks (N.made nic.old) self.old (N.made nic.new) self.new }
         ensures lent { OnOk result (self.new.lent ≡ length self.new.outstanding) }

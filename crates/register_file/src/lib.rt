@@ -2,10 +2,10 @@
 //! sides, and the interrupt causes that messages have reported.
 //!
 //! Contracts view a `RegisterFile` as `Registers`: the values of each row at its indices, the enable requests of each
-//! queue, and the reported causes of each group. `read` and `write` access a place according to the kind of its row. A write changes the bits that the
-//! kind allows. Reading a counter resets it to 0, except for a virtual function's counters. Accesses to a group's
-//! interrupts go through `intr_unit`, using the values of the group's registers. `peek` returns what a read would
-//! return, without its side effects; `word` returns the stored value.
+//! queue, and the reported causes of each group. `read` and `write` access a place according to the kind of its row. A
+//! write changes the bits that the kind allows. Reading a counter resets it to 0, except for a virtual function's
+//! counters. Accesses to a group's interrupts go through `intr_unit`, using the values of the group's registers. `peek`
+//! returns what a read would return, without its side effects; `word` returns the stored value.
 //!
 //! The remaining calls serve the device core. They query a queue (its ring, whether it is enabled, its counter), a pool
 //! (its queues, whether it is enabled) or single bits. They also move a head, enable a side of a queue, increment a

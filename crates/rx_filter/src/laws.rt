@@ -60,8 +60,8 @@ pub fn pools_beyond_get_none()
     ensures { PoolsBeyondGetNone }
 {}
 
-/// The premises: GCR_EXT selects 16 pools, VT_CTL bit 0 is 1, and MRQC has a code for pools. A frame reaches only queues
-/// that belong to the virtual function of the frame's pool.
+/// The premises: GCR_EXT selects 16 pools, VT_CTL bit 0 is 1, and MRQC has a code for pools. A frame reaches only
+/// queues that belong to the virtual function of the frame's pool.
 pub fn functions_get_theirs()
     ensures { FunctionsGetTheirs }
 {}

@@ -63,9 +63,9 @@ pub record LeavesMissed (r : Reach) (old new : State) : Type 0 where
 abbrev pub EventLeavesMissed : Type 0
 EventLeavesMissed = (s : State) (e : Event Block) → LeavesMissed (reach_of s e) s (after s e)
 
--- Register accesses. A read changes no queue, and only the group to which its place belongs. Suppose that a write
--- requests neither a device reset nor a pool reset. It changes only the side of a queue to which its place belongs, and
--- only the groups that it can reach.
+-- Register accesses. A read changes no queue, and no group except the one to which its place belongs. Suppose that a
+-- write requests neither a device reset nor a pool reset. Then the only side of a queue that it changes is the one to
+-- which its place belongs. The only groups that it changes are those that it can reach.
 pub record ReadLeaves (s : State) (port : Port) (number : ℕ) : Type 0 where
   pub queues : LeavesQueues s (after s (event.Read port number))
   pub groups :
@@ -146,7 +146,8 @@ abbrev pub ReceivesOutside : Reply Block → ℕ → Type 0
 ReceivesOutside (Wrote queue slot end desc at len) number = Avoids number desc 16 × Avoids number at len
 ReceivesOutside other number = ⊤
 
--- A receive step changes only the descriptor and the bytes that its reply reports, so all other blocks are unchanged.
+-- In memory, a receive step changes only the descriptor and the bytes that its reply reports, so all other blocks are
+-- unchanged.
 abbrev pub ReceivingLeavesOtherBlocks : Type 0
 ReceivingLeavesOtherBlocks =
     (s : State) (number : ℕ) → ReceivesOutside (reply_to s event.RxStep) number

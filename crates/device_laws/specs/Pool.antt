@@ -28,8 +28,8 @@ pub record ChangesAlone (has : Mode → ℕ → Footprint) (v : ℕ) (old new : 
   pub vfs : new.vfs ≡ old.vfs
   pub fifo : new.fifo ≡ old.fifo
 
--- Only the pool's registers change, and the bits with which its function signals the physical function: the function's
--- bits in PFMBICR, and EICR bit 19.
+-- Of the registers, only these change: the pool's, the bits in PFMBICR with which its function signals the physical
+-- function, and EICR bit 19.
 abbrev pub ChangesPoolAlone : ℕ → State → State → Type 0
 ChangesPoolAlone v old new = ChangesAlone pool_changes v old new
 

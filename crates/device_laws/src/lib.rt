@@ -96,8 +96,8 @@ pub fn events_count_for_functions()
 /// In the physical function's causes, a frame that finds the receive list full raises bit 17, a fault bit 18, and a
 /// link change bit 20. A completely written frame raises a cause in its receive queue's group: the cause that IVAR or
 /// PVTIVAR assigns to the queue. In the same way, a report that is written back raises the cause of its transmit queue.
-/// None of these events changes any other group. Any other event changes no group, unless it is a register access or a
-/// message.
+/// None of these events changes any other group. Any other event changes no group, unless it is a register access or an
+/// interrupt step.
 #[tactic(auto, using(crate::proofs::Causes::events_raise))]
 pub fn events_raise()
     ensures { EventsRaise }
@@ -113,9 +113,9 @@ pub fn asked_reset_resets()
     ensures values { ResetGivesResetValues }
 {}
 
-/// A device reset performs the register writes in the EEPROM image in order. Suppose that a write is appended to an
-/// image. Then a reset leaves the same state as a reset with the original image, followed by this write. A write to
-/// CTRL or EERD is skipped and doesn't end the list.
+/// A device reset performs the register writes in the EEPROM image in order. Suppose that a write to neither CTRL nor
+/// EERD is appended to an image. Then a reset leaves the same state as a reset with the original image, followed by
+/// this write. A write to CTRL or EERD is skipped and doesn't end the list.
 #[tactic(auto, using(crate::proofs::Imaged::last_write, crate::proofs::Imaged::stepped_over))]
 pub fn reset_applies_the_image()
     ensures writes { LastWriteIsMade }
@@ -158,10 +158,10 @@ pub fn other_events_keep_blocks()
     ensures { OtherEventsKeepBlocks }
 {}
 
-/// A register read changes no queue, and only the interrupt group to which its register belongs. Suppose that a write
-/// requests neither a device reset nor a pool reset. Then it changes only the side of a queue to which its register
-/// belongs, and only the interrupt groups that it can reach. Neither a read nor such a write changes the receive list
-/// or the transmitted frames. No register access changes memory.
+/// A register read changes no queue, and no interrupt group except the one to which its register belongs. Suppose that
+/// a write requests neither a device reset nor a pool reset. Then the only side of a queue that it changes is the one
+/// to which its register belongs. The only interrupt groups that it changes are those that it can reach. Neither a read
+/// nor such a write changes the receive list or the transmitted frames. No register access changes memory.
 pub fn access_leaves_the_rest()
     ensures read { ReadLeavesTheRest }
     ensures write { WriteLeavesTheRest }
@@ -182,8 +182,8 @@ pub fn arrival_leaves_the_rest()
 {}
 
 /// The only side of a queue that a receive step changes is the receive side of the oldest frame's queue. The step
-/// changes no transmitted frame. It changes only the blocks that contain the descriptor or the bytes that its reply
-/// reports.
+/// changes no transmitted frame. The only blocks that it changes are those that contain the descriptor or the bytes
+/// that its reply reports.
 #[tactic(auto, using(crate::proofs::StandingQueues::receiving_rest, crate::proofs::StandingQueues::receiving_blocks))]
 pub fn receiving_leaves_the_rest()
     ensures rest { ReceivingLeavesTheRest }
@@ -191,7 +191,7 @@ pub fn receiving_leaves_the_rest()
 {}
 
 /// The only side of a queue that a transmit step changes is its own queue's transmit side. The step changes no frame in
-/// the receive list. It changes only the blocks to which its reply reports a write-back.
+/// the receive list. The only blocks that it changes are those to which its reply reports a write-back.
 pub fn transmitting_leaves_the_rest()
     ensures rest { TransmittingLeavesTheRest }
     ensures blocks { TransmittingLeavesOtherBlocks }
@@ -233,7 +233,7 @@ pub fn receiving_tells()
     ensures { ReceivingTells }
 {}
 
-/// A reply to a transmit step that contains a queue contains the step's own queue. After the step fetches a slot, the
+/// If the reply to a transmit step contains a queue, it is the step's own queue. After the step fetches a slot, the
 /// queue's transmit side is unchanged except for its staged bytes and its head, which moves to the next slot. If the
 /// reply contains a write-back address, this is the queue's head write-back address if TDWBAL bit 0 is 1, and otherwise
 /// the descriptor's address. A fault disables the side, withdraws its enable request, drops its staged bytes, and
@@ -243,8 +243,8 @@ pub fn transmitting_tells()
     ensures { TransmittingTells }
 {}
 
-/// Suppose that VT_CTL bit 0 is 1 and the VFTE bit of a queue's pool is 0. Then a transmit step for the queue, below
-/// 128, is idle and changes nothing.
+/// Suppose that VT_CTL bit 0 is 1, and that the VFTE bit is 0 for the pool of a queue below 128. Then a transmit step
+/// for this queue is idle and changes nothing.
 #[tactic(auto, using(crate::proofs::Muting::muted_idle))]
 pub fn muted_queue_is_idle()
     ensures { MutedQueueIsIdle }

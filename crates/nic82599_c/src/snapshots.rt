@@ -41,8 +41,8 @@ pub extern "C" fn nic_snapshot(alloc: Global, nic: &mut Handle, kept: &mut KeptH
 #[unsafe(no_mangle)]
 pub extern "C" fn nic_restore(alloc: Global, nic: &mut Handle, kept: &mut KeptHandle) -> u8
     ensures status { result ≢ OUT_OF_MEMORY → result ≡ DONE }
-    // The device, the lent blocks with their bytes, and which blocks are free match the snapshot. So every later call
-    // returns what it would have returned right after the snapshot was taken.
+    // The device, the lent blocks with their bytes, and which blocks are free match the snapshot. So the calls that
+    // follow return what the same calls would have returned right after the snapshot was taken.
     ensures restored { result ≢ OUT_OF_MEMORY → nic.new.card ≡ kept.old.kept }
     ensures unchanged { result ≡ OUT_OF_MEMORY → nic.new.card ≡ nic.old.card }
     ensures kept { kept.new.kept ≡ kept.old.kept }

@@ -92,7 +92,7 @@ may_collect reply.Idle = true
 may_collect (reply.Frame queue bytes) = true
 may_collect other = false
 
--- Whether an event can have this reply in any state.
+-- Whether an event can have this reply, whatever the device's state.
 abbrev pub may_answer : Event Block → Reply Block → Bool
 may_answer (event.Read port address) r = may_read r
 may_answer (event.Write port address word) r = may_write r

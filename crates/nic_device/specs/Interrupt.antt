@@ -72,7 +72,8 @@ abbrev pub message_reply : Group → Option ℕ → Reply Block
 message_reply g None = Idle
 message_reply g (Some vector) = Message g vector
 
--- An interrupt step for an existing group: the group's next due message is sent.
+-- An interrupt step for an existing group: the group's next due message is sent, if there is one and bus mastering is
+-- enabled.
 abbrev pub messaged : State → Group → Outcome
 messaged s g =
     if is_stopped s.registers then gives Idle s

@@ -109,11 +109,11 @@ impl Device {
     /// disabled. Each transmitted frame is from a queue below 128 and at most 65,535 bytes long.
     ///
     /// Registers are sound if each place in the register table exists, and the following holds. A register contains
-    /// only bits of its row's reset value and bits that can become 1 in the register. If the register is written, the
-    /// bits that can become 1 are the mask's bits. In an enable register, bit 25 can also become 1. All bits can become
-    /// 1 in a counter and in EERD, and bits 2 to 7 in PVFMAILBOX. No bit can become 1 in PFMAILBOX or in a register
-    /// that only acts or is calculated. A cause is reported only while its cause bit and its mask bit are 1. Each
-    /// PVFMAILBOX has at most one of bits 2 and 3 set, and at most one of bits 6 and 7.
+    /// only bits of its row's reset value and bits that can become 1 in the register. A write can set the mask's bits.
+    /// In an enable register, bit 25 can also become 1. All bits can become 1 in a counter and in EERD, and bits 2 to 7
+    /// in PVFMAILBOX. No bit can become 1 in PFMAILBOX or in a register that only acts or is calculated. A cause is
+    /// reported only while its cause bit and its mask bit are 1. Each PVFMAILBOX has at most one of bits 2 and 3 set,
+    /// and at most one of bits 6 and 7.
     pub fn stays_sound(&self)
         ensures { IsSound self.now }
     {

@@ -79,8 +79,8 @@ impl Engine {
 }
 
 impl Device {
-    /// Whether a queue is at rest. A queue is at rest if it is below 128, both of its sides are in their requested
-    /// state, it currently can't send, and the receive list is empty. A side's enable bit requests the side's state. In
+    /// Whether a queue is at rest. A side's enable bit requests the side's state. A queue is at rest if it is below
+    /// 128, both of its sides are in their requested state, it currently can't send, and the receive list is empty. In
     /// that case, an enable step for either side of the queue, the queue's transmit step and a receive step are idle
     /// and change nothing.
     pub fn is_at_rest(&self, queue: u16) -> bool

@@ -65,8 +65,8 @@ impl Waiting {
         }
     }
 
-    /// Returns a copy of the frame, with as many bytes marked as written. Fails with `AllocError` if there isn't enough
-    /// memory for the copy.
+    /// Returns a copy of the frame, with the same number of bytes marked as written. Fails with `AllocError` if there
+    /// isn't enough memory for the copy.
     pub(crate) fn copy(&self, alloc: Global) -> Result<Waiting, AllocError>
         ensures { IfOk result (λ waiting. waiting ≡ self.now) }
     {

@@ -33,7 +33,7 @@ pub fn fill(
     requires ready { IsReady ring.now }
     requires slots { slots_of ring.now ≤ 65536 }
     requires offset { item.now.offset ≤ length item.now.frame.now }
-    // All clauses hold for every SRRCTL value, every memory, and all remaining bytes of any frame.
+    // All clauses hold for every SRRCTL value, every memory, and any remaining bytes of a frame.
     ensures answer { result ≡ (fill_of memory.old ring.now srrctl (rest_of item.now)).answer }
     ensures memory { memory.new ≡ (fill_of memory.old ring.now srrctl (rest_of item.now)).memory }
     ensures kept { OnErr result (memory.new ≡ memory.old) }

@@ -44,7 +44,7 @@ freed (Twice block) blocks = with_free blocks block.number true
 freed other blocks = blocks
 
 -- A step that runs an event while these blocks are free. The event is applied to the device, the step returns the
--- device's reply, and `kept` determines the accumulator from that reply.
+-- device's reply, and `kept` determines the accumulator from that reply and the old accumulator.
 pub record Made (program : Listing) (s : MachineState) (step : Step) (e : Event Block) (kept : Reply Block → ℕ → ℕ)
     (blocks : Numbers) : Type 0 where
   pub answer : step.answer ≡ answer.Made (step_of s.device e).reply

@@ -99,8 +99,8 @@ abbrev pub EndsSaid : ErrorKind → (ℕ → Type 0) → Outcome → Type 0
 EndsSaid kind IsFailed (Ended status) = (status ≡ words_status kind) ⊎ IsFailed status
 EndsSaid kind IsFailed (Threads workers frames) = ⊥
 
--- The program ends because of a clap error. Lack of memory is reported as for any other command; for any other error,
--- clap's message is written.
+-- The program ends because of a clap error. Lack of memory is reported in the same way as everywhere else; for any
+-- other error, clap's message is written.
 abbrev pub EndsOf : ErrorKind → Option (List ℕ) → Option (List ℕ) → (ℕ → Type 0) → Outcome → Type 0
 EndsOf of old new IsFailed outcome =
     ((of ≡ kind.OutOfMemory) × EndsSaying old new IsFailed no_memory outcome)

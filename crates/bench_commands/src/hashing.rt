@@ -57,7 +57,7 @@ impl HashFault {
     }
 }
 
-/// Returns the bytes that the line's words spell in hex. The line must consist of a single word.
+/// Returns the bytes that a line's only word spells in hex. Without a word, or with several, the line is `Malformed`.
 fn read_bytes(alloc: Global, mut words: Words<'_>) -> Result<Vec<u8>, HexFault>
     ensures ok { IfOk result (λ bytes. bytes_said words.entry ≡ Some bytes.items) }
     ensures malformed { result ≡ Err HexFault.Malformed → bytes_said words.entry ≡ None }

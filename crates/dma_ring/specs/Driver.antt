@@ -35,8 +35,8 @@ pub record TellsBoth (first : ℕ) (packet : Packet) : Type 0 where
 abbrev pub ReportedIsRead : Type 0
 ReportedIsRead = (packet : Packet) → packet.rss < 2 ^ 4 → packet.hash < 2 ^ 32 → TellsBoth (reported_of packet) packet
 
--- The command of a data descriptor for `len` bytes, without offloads. If `last` is set, the packet ends and a report is
--- requested.
+-- The command of a data descriptor for `len` bytes, without offloads. The packet ends, and a report is requested, if
+-- and only if `last` is set.
 abbrev pub data_command : ℕ → Bool → Command
 data_command len last =
     record { len = len; kind = 3; end = last; report = last; extended = true; offload = false }

@@ -48,7 +48,7 @@ StaysInside program (act.JumpUnlessEqual word target) = target ≤ length progra
 StaysInside program (act.Jump target) = target ≤ length program.instructions
 StaysInside program act.Halt = ⊤
 
--- If the stored part of a reply is a word of 16 bytes, its number is below 4.
+-- If the stored part of a reply is one of the words in its 16 bytes, the word's number is below 4.
 abbrev pub IsPart : Kept → Type 0
 IsPart Nothing = ⊤
 IsPart Word = ⊤

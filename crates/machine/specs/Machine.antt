@@ -167,8 +167,8 @@ events_until program config (suc n) =
     let s = machine_at program config n in
     events_until program config n ++ events_if_some program s (next_instruction program s)
 
--- Memory may run out for an action: to copy the block that is taken back or the frame that arrives, to lend a free
--- block, or to run a transmit step that isn't idle.
+-- Memory may run out for an action: to copy the block that is taken back or the frame that arrives, or to lend a free
+-- block. It may also run out for a transmit step that isn't idle, for a queue below 128.
 abbrev pub TakesSome : MachineState → Action → Type 0
 TakesSome s (Make event kept) = TakesMemory s.device event
 TakesSome s (Lend block) = TakesMemory s.device (event.Lend (zero_block block))

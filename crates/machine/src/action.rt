@@ -21,7 +21,7 @@ pub(crate) enum Kept {
 /// What an instruction does if it runs no device event.
 #[derive(Clone, Copy)]
 pub(crate) enum LocalAction {
-    /// Compares `acc` with the first value in the bits of the second, the mask. If they differ, the machine fails.
+    /// Compares `acc` under a mask, which is the second value, with the first value. If they differ, the machine fails.
     Expect(u32, u32),
     /// Clears those bits of `acc` that are 0 in this value.
     And(u32),

@@ -112,7 +112,7 @@ impl Machine {
     /// an event, or reports that the block to lend isn't free. If the machine isn't running, or has counted 2^64 - 1
     /// steps, returns `Stopped`, counts no step and changes nothing. After `OutOfMemory` the machine is unchanged, and
     /// you can retry the step. Memory can run out in only four cases: when a free block is lent, when a block is taken
-    /// back, when a frame arrives, and in a transmit step that isn't idle for a queue below 128.
+    /// back, when a frame arrives, and in a transmit step that isn't idle, for a queue below 128.
     pub fn step(&mut self) -> Result<StepAnswer, OutOfMemory>
         ensures answer { IfOk result (λ answer. answer ≡ (machine_step self.old.program self.old.state).answer) }
         ensures state { OnOk result

@@ -180,7 +180,7 @@ impl Processor {
         }
     }
 
-    /// Runs an event that moves no block, stores part of the reply in `acc`, and advances.
+    /// Runs an event that moves no block, stores the part `kept` of the reply in `acc`, and advances.
     fn make(
         &mut self,
         program: &Program,

@@ -202,8 +202,9 @@ EepromAnswerIsRead =
     (r : Registers) → HasShape r → (word : ℕ) → word < 2 ^ 16 →
     IsAnswered (eeprom_answered r word) (eeprom_index r) word
 
--- If a group is below 64 and its new interrupts are consistent 32-bit words, their causes, masks and reported bits are
--- stored in the group's registers. The auto-clear and the auto-mask are unchanged.
+-- Suppose that a group is below 64, and its new interrupts are consistent 32-bit words. After these interrupts are
+-- stored, the group's registers contain their causes, masks and reported bits. The auto-clear and the auto-mask are
+-- unchanged.
 abbrev pub InterruptsStand : Type 0
 InterruptsStand =
     (r : Registers) → HasShape r → (s : Interrupts) → IsConsistent s → index_of s.group < 64 →
@@ -314,7 +315,7 @@ MissedInterruptsStand =
     (f : Footprint) (old new : Registers) (g : Group) → Misses f (of_group g) → ChangesWithin f old new →
     interrupts_of new g ≡ interrupts_of old g
 
--- The settings in single words are unchanged if the footprint doesn't contain these words.
+-- Each setting in single words is unchanged if the footprint contains no bit of its words.
 pub record SettingsStand (f : Footprint) (old new : Registers) : Type 0 where
   pub stopped : LacksWord f (place Ctrl 0) → is_stopped new ≡ is_stopped old
   pub can_receive : LacksWord f (place Rxctrl 0) → can_receive new ≡ can_receive old
@@ -330,7 +331,7 @@ pub record SettingsStand (f : Footprint) (old new : Registers) : Type 0 where
   pub counter : (dir : Dir) (queue : ℕ) → LacksWord f (place (mapping_row dir) (queue / 4))
       → counter_of new dir queue ≡ counter_of old dir queue
 
--- After a change within a footprint, settings in single words are unchanged if the footprint doesn't contain these
+-- After a change within a footprint, each setting in single words is unchanged if the footprint contains no bit of its
 -- words.
 abbrev pub MissedSettingsStand : Type 0
 MissedSettingsStand = (f : Footprint) (old new : Registers) → ChangesWithin f old new → SettingsStand f old new

@@ -196,8 +196,9 @@ pub fn eeprom_answer_is_read()
     ensures { EepromAnswerIsRead }
 {}
 
-/// A change to the interrupts of a group below 64 is stored in the group's registers: causes, masks and reported bits.
-/// The cause and the mask of each reported bit are 1. The auto-clear and the auto-mask are unchanged.
+/// Suppose that a group is below 64, and its new interrupts are 32-bit words with only the group's bits. Also suppose
+/// that the cause and the mask of each reported bit are 1. After these interrupts are stored, the group's registers
+/// contain their causes, masks and reported bits. The auto-clear and the auto-mask are unchanged.
 pub fn interrupts_stand()
     ensures { InterruptsStand }
 {}

@@ -20,7 +20,7 @@ jumps_to pc (JumpUnlessEqual word target) = target == pc
 jumps_to pc (Jump target) = target == pc
 jumps_to pc other = false
 
--- Whether one of the instructions jumps to the instruction with this number.
+-- Whether one of the instructions jumps to this instruction number.
 abbrev pub is_target : List (Instruction ℕ ℕ) → ℕ → Bool
 is_target code pc = list_any (jumps_to pc) code
 

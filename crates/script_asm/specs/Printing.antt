@@ -14,15 +14,15 @@ place_text place =
     if (row_of place.row).count == 1 then (row_of place.row).name
     else (row_of place.row).name ++ (codes "[" ++ (decimal place.index ++ codes "]"))
 
--- The place, if it starts at this address.
+-- The place, if this address is the place's first.
 abbrev pub if_first_at : ℕ → Place → Option Place
 if_first_at address place = if unwrap_or (address_among runs place) 0 == address then Some place else None
 
--- The register that starts at this address.
+-- The register that has this first address.
 abbrev pub place_first_at : ℕ → Option Place
 place_first_at address = elim (place_among runs address) [ None ↦ None | Some place ↦ if_first_at address place ]
 
--- An address as text: a register's name if the register starts at this address, otherwise the number.
+-- An address as text: a register's name if the address is the register's first, otherwise the number.
 abbrev pub target_text : ℕ → List ℕ
 target_text address = elim (place_first_at address) [ None ↦ word_text address | Some place ↦ place_text place ]
 

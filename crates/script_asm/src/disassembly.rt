@@ -52,7 +52,7 @@ fn is_target(code: &[Instruction], pc: u16) -> bool
     code.iter().any(|instruction| jumps_to(instruction, pc))
 }
 
-/// If an instruction jumps to the instruction with this number, appends its label.
+/// Appends the label line for this instruction number, if an instruction jumps to it.
 fn push_label_line(text: &mut String, code: &[Instruction], pc: u16) -> Result<(), OutOfMemory>
     ensures { IfOk result (λ _. string_bytes text.new ≡ string_bytes text.old ++ label_line_at code.now pc) }
 {

@@ -30,7 +30,7 @@ impl fmt::Display for PlaceText {
     }
 }
 
-/// Returns the register that starts at this address.
+/// Returns the register that has this first address.
 fn place_first_at(address: u32) -> Option<Place>
     ensures { result ≡ place_first_at address }
 {
@@ -42,7 +42,7 @@ fn place_first_at(address: u32) -> Option<Place>
     }
 }
 
-/// The printed form of an address: a register's name if the register starts at this address, otherwise a number.
+/// The printed form of an address: a register's name if the address is the register's first, otherwise a number.
 #[derive(Clone, Copy)]
 struct TargetText(u32);
 
@@ -64,7 +64,7 @@ enum Operand {
     Named(&'static str),
     /// A number, printed as eight hex digits.
     Word(u32),
-    /// An address, printed as a register's name if the register starts there.
+    /// An address, printed as a register's name if the address is the register's first.
     Target(u32),
     /// A data string, by its number.
     Data(u16),

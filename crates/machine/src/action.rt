@@ -25,11 +25,11 @@ pub(crate) enum LocalAction {
     Expect(u32, u32),
     /// Clears those bits of `acc` that are 0 in this value.
     And(u32),
-    /// Jumps to the instruction with this number if `acc` equals this value.
+    /// Jumps to this instruction, or to the end of the program, if `acc` equals this value.
     JumpIfEqual(u32, u16),
-    /// Jumps to the instruction with this number unless `acc` equals this value.
+    /// Jumps to this instruction, or to the end of the program, unless `acc` equals this value.
     JumpUnlessEqual(u32, u16),
-    /// Jumps to the instruction with this number.
+    /// Jumps to this instruction, or to the end of the program.
     Jump(u16),
     /// Ends the program normally.
     Halt,

@@ -264,7 +264,7 @@ impl Processor {
         self.make(program, Event::Arrive(Octets::of(frame)), Kept::Nothing)
     }
 
-    /// Executes an instruction's action, and continues at the instruction that is next.
+    /// Executes an instruction's action, and advances to the next instruction unless the program ends or fails here.
     fn execute(&mut self, program: &Program, action: Action) -> Result<StepAnswer, OutOfMemory>
         requires sound { IsSoundAction program.now action }
         requires inside { self.old.pc < 4096 }

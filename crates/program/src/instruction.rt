@@ -52,7 +52,7 @@ pub enum Instruction<L = u16, D = u16> {
     TxStep(u16),
     /// `int`: sends the next message of an interrupt group: the physical function's, or a virtual function's (0 to 62).
     IntStep(Group),
-    /// `qstep`: turns one side of a queue on or off, as the side's enable bit requests.
+    /// `qstep`: enables or disables one side of a queue, as the side's enable bit requests.
     QueueStep(Dir, u16),
     /// `eestep`: completes the EEPROM read that EERD requests.
     EepromStep,
@@ -60,11 +60,12 @@ pub enum Instruction<L = u16, D = u16> {
     Link(bool),
     /// `collect`: removes the oldest transmitted frame.
     Collect,
-    /// `expect`: the program fails unless `acc` and the expected word agree in the bits that are set in the mask.
+    /// `expect`: the program fails unless the bits of `acc` in the mask, with all other bits 0, equal the expected
+    /// word.
     Expect {
         /// The expected word.
         want: u32,
-        /// The bits to compare.
+        /// The bits of `acc` to compare.
         mask: u32,
     },
     /// `and`: clears the bits in `acc` that are 0 in this word.

@@ -56,7 +56,7 @@ pub extern "C" fn nic_tx_step(nic: &mut Handle, queue: u16, outcome: &mut Outcom
     tell(nic.get_mut(), Event::TxStep(queue), outcome)
 }
 
-/// Runs an enable step: turns one side of a queue on or off, as the side's enable bit requests. The side is the
+/// Runs an enable step: enables or disables one side of a queue, as its enable bit requests. The side is the
 /// transmit side if `transmit` is true, otherwise the receive side. Returns DONE, IDLE or NO_QUEUE; `outcome` contains
 /// the details.
 #[unsafe(no_mangle)]

@@ -33,7 +33,7 @@ abbrev pub pointed_sum : List ℕ → ℕ → ℕ
 pointed_sum words n =
     let at = nth words n in sum (if names_none at then [] else take (following words at) (drop (at + 1) words))
 
--- The word that word n points to, and all words that follow it, are in the image.
+-- Word n points to no word, or the word that it points to and all words that follow that word are in the image.
 abbrev pub points_in : List ℕ → ℕ → Bool
 points_in words n = let at = nth words n in names_none at || nat_lt (at + following words at) (length words)
 

@@ -15,7 +15,7 @@ abbrev pub NamesDriven : AtPort → Port → ℕ → Type 0
 NamesDriven q port number =
     (row : RowId) × (port ≡ q.port) × (is_driven row ≡ true) × IsNumberOf q.port row q.queue number
 
--- If the event writes a register, this is one of the driver's queue.
+-- If the event writes a register, it does so at the driver's port, and the register belongs to the driver's queue.
 abbrev pub IsPlain : AtPort → Event Block → Type 0
 IsPlain q (event.Write port number word) = NamesDriven q port number
 IsPlain q other = ⊤

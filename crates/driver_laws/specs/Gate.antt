@@ -3,7 +3,7 @@ use Rattle.std.specs.Prelude.{◌≢◌, Some, ℕ}
 use Rattle.driver_laws.specs.Numbers.{NamesQueue}
 use Rattle.driver_laws.specs.StartPrelude.{AtPort, DeviceFault, Numbers, State, start_gate}
 
--- The start isn't refused with `DeviceFault` before any event, because the port can name the queue.
+-- If port and queue name a queue of the device, the start isn't refused with `DeviceFault` before any event.
 abbrev pub NamedQueuesPass : Type 0
 NamedQueuesPass =
     (s : State) (a : Numbers) (q : AtPort) (size frame queue : ℕ) → NamesQueue s q queue →

@@ -40,9 +40,9 @@ pub record Refused : Type 0 where
 abbrev pub RefusedSendsNothing : Type 0
 RefusedSendsNothing = (x : Refused) → sent_in x.w.queue (leads_to x.origin x.before) (x.first ∷ x.following) ≡ []
 
--- So the packets returned as handed out are a prefix of those delivered since that event, counted since the receive
--- side was last enabled. The frames sent since that event, counted since the transmit side was last enabled, are a
--- prefix of those returned as accepted. Both lists of returned packets are empty.
+-- The packets returned as handed out are a prefix of those delivered since the start's first event, counted since the
+-- receive side was last enabled. The frames sent since that event, counted since the transmit side was last enabled,
+-- are a prefix of those returned as accepted. Both lists of returned packets are empty.
 abbrev pub LeftOfRefusedIsPrefix : Type 0
 LeftOfRefusedIsPrefix =
     (x : Refused) →

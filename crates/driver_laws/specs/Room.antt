@@ -12,7 +12,8 @@ pub record HasTwoRuns (a : Numbers) (count : ℕ) : Type 0 where
   pub two : IsFreeRun a second count
   pub apart : first + count ≤ second
 
--- A start finds two runs of `count` free blocks exactly if there are two such runs that share no block.
+-- Let `count` be at least 1. A start finds two runs of `count` free blocks exactly if there are two such runs that
+-- share no block.
 abbrev pub TwoRunsAreFound : Type 0
 TwoRunsAreFound =
     (a : Numbers) (count : ℕ) → 0 < count → (is_some (second_run a count) ≡ true) ↔ HasTwoRuns a count

@@ -9,7 +9,7 @@ pub record Asked : Type 0 where
   pub receive : Bool
   pub transmit : Bool
 
--- Nothing is written to RXDCTL and TXDCTL yet.
+-- Nothing is written to RXDCTL or TXDCTL yet.
 abbrev pub none_asked : Asked
 none_asked = record { receive = false; transmit = false }
 

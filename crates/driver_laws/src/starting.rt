@@ -205,8 +205,8 @@ pub fn starts_find_no_device_at_fault()
 {}
 
 /// If a start returns `DeviceFault` during its events, it does so before both sides are enabled, or while it fills its
-/// receive ring. Over a history as in `starts_find_no_device_at_fault`, the first case never occurs. When the start
-/// began to fill the ring, the device and the driver agreed on both sides.
+/// receive ring. Over a history as in `starts_find_no_device_at_fault`, the first case never occurs. Over such a
+/// history, the device and the driver agreed on both sides when the start began to fill the ring.
 pub fn faults_at_a_start_come_filling()
     ensures cases { FaultsAreEarlyOrFilling }
     ensures early { NoFaultIsEarly }
@@ -227,11 +227,11 @@ pub fn calls_lead_both_halves()
 /// both halves. At that point, the receive side has just been enabled, and no request to disable it is pending. After
 /// that point, the pass makes the calls of the halves, and calls that leave the queue alone. The packets that the
 /// driver returned are a prefix of those delivered since that point. If the next poll finds none, each delivered packet
-/// was returned, or is complete and will be returned when the tail advances. If no packet is complete, all were
-/// returned. If, in addition, none was returned since some point in between, all those delivered before that second
-/// point were returned by then. The frames sent since the first point are a prefix of those that the driver accepted,
-/// and all of them if no packet is outstanding. If the transmit side is enabled at the first point, all of these frames
-/// are counted since the side was enabled.
+/// was returned, or is complete and will be returned when the tail advances. If the next poll finds none and no packet
+/// is complete, all were returned. If, in addition, none was returned since some point in between, all those delivered
+/// before that second point were returned by then. The frames sent since the first point are a prefix of those that the
+/// driver accepted, and all of them if no packet is outstanding. If the transmit side is enabled at the first point,
+/// all of these frames are counted since the side was enabled.
 pub fn both_sides_in_order()
     ensures handed { HandedIsPrefix }
     ensures taken { NoneIsAllTaken }

@@ -92,11 +92,11 @@ interrupts change =
 
 -- Reading a counter resets it to 0, unless it is read-only. Reading causes clears them. Writes don't change the base,
 -- length or head of a queue's ring while the ring's side is enabled. Bit 25 of a write to a side's enable register
--- becomes the enable request; the register's own bit 25 is unchanged until an enable step sets it. A write to CTRL with
--- bit 3 or bit 26 set requests a device reset, and a write to PVFCTRL with bit 26 set requests a pool reset. A write to
--- EERD clears bit 1, DONE, and the data that was read. PFMAILBOX stores no word: reading it shows the word of
--- PVFMAILBOX, and writing it changes that word. A write to CTRL_EXT with bit 14 set reports to all functions that a
--- reset is done.
+-- becomes the enable request. The write leaves the register's own bit 25 unchanged; an enable step then sets or clears
+-- it. A write to CTRL with bit 3 or bit 26 set requests a device reset, and a write to PVFCTRL with bit 26 set requests
+-- a pool reset. A write to EERD clears bit 1, DONE, and the data that was read. PFMAILBOX stores no word: reading it
+-- shows bits 2 and 3 of PVFMAILBOX, and writing it changes the word of PVFMAILBOX. A write to CTRL_EXT with bit 14 set
+-- reports to all functions that a reset is done.
 abbrev pub behaviour_of : Kind → Behaviour
 behaviour_of kind.Rw = plain
 behaviour_of kind.Ro = kept

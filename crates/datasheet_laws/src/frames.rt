@@ -91,8 +91,8 @@ pub fn frames_leave_at_their_end()
 
 /// A receive step writes only the slot at the head: the slot's number n is RDH. The slot's descriptor is 16n bytes
 /// after the base in RDBAH and RDBAL, modulo 2^64, and SRRCTL bits 27 to 25 are 1. The frame's bytes go to the buffer
-/// whose address is in the descriptor. They are at most as many KB as SRRCTL bits 4 to 0 say, and exactly that many if
-/// the frame doesn't end in this slot.
+/// whose address is in the descriptor, with bit 0 ignored. They are at most as many KB as SRRCTL bits 4 to 0 say, and
+/// exactly that many if the frame doesn't end in this slot.
 pub fn slots_are_written_at_the_head()
     ensures { SlotsAreWrittenAtHead }
 {}

@@ -6,8 +6,8 @@ use Rattle.driver_laws.specs.{Points.HasGround, Quieting.IsQuiet}
 use Rattle.pmd_driver.specs.NicDevice.declared.event.Event.TheVariants as event
 use Rattle.pmd_driver.specs.NicDevice.declared.event.Reply.TheVariants as reply
 
--- Take a register of a queue that a driver uses. If port and queue name the queue, a read of the register returns a
--- value, and a write to it is done.
+-- Suppose that port and queue name a queue of the device. A read of one of the queue's registers that a driver uses
+-- returns a value, and a write to that register is done.
 pub record RegistersReply (queue : ℕ) (q : AtPort) (s : State) (row : RowId) (number : ℕ) : Type 0 where
   pub read : (word : ℕ) × (reply_to s (event.Read q.port number) ≡ reply.Word word)
   pub write : (word : ℕ) → reply_to s (event.Write q.port number word) ≡ reply.Done

@@ -1,12 +1,12 @@
 /* A model of the Intel 82599 10 GbE controller to run driver code on. The registers, rings and interrupts are in the
-   driver's process, without a card, a guest or a kernel. One definition of the device, written in Rattle, specifies
+   driver's process: you need no card, guest or kernel. One definition of the device, written in Rattle, specifies
    what each call returns, and the calls are proved against it. docs/CARD.md lists where the definition differs from the
    card. The public source for the card is the Intel 82599 10 GbE Controller Datasheet (331520).
 
    How to use it: nic_open makes a controller. Read and write registers by address (NIC_RXDCTL(3), or a number). Lend
-   blocks of packet memory to the device; it touches no other memory. Frames arrive from the link and are collected from
-   it. Nothing happens by itself: the device acts in steps, and each step is a call, so a race is an order of calls.
-   nic_settle runs all steps that have work to do.
+   blocks of packet memory to the device; it touches no other memory. nic_arrive puts a frame on the link, and
+   nic_collect takes a sent frame from it. Nothing happens by itself: the device acts in steps, and each step is a call,
+   so a race is an order of calls. nic_settle runs all steps that have work to do.
 
    Threads: handles aren't thread-safe. Use each handle from one thread only, or take your own lock around each call.
    Two handles share nothing, so each may have its own thread. No call waits or calls back. Don't call the library from
@@ -62,7 +62,7 @@ enum nic_status {
     NIC_NOT_LENT = 16, /* the block with this number, or a block at these bus addresses, isn't lent */
     NIC_NO_QUEUE = 18, /* the queue isn't below 128 */
     NIC_NO_GROUP = 19, /* there is no such virtual function, or the mode has no pool for it */
-    /* refusals: nothing changes, not even what the pointers point to. Exceptions are *line, and *count, which becomes
+    /* refusals: nothing changes, not even what the pointers point to, except that *line may change and *count becomes
        0. Two calls can stop halfway and keep what they did: nic_settle with MORE or OUT_OF_MEMORY, and nic_lend_all
        with OUT_OF_MEMORY */
     NIC_OUT_OF_MEMORY = 32,
@@ -87,9 +87,9 @@ enum nic_status {
     NIC_IMAGE_BAD_CHECKSUM = 68,
     NIC_IMAGE_NOT_TRIPLES = 69,     /* the CSR section's length isn't a multiple of three words */
     NIC_TEXT = 96,                  /* base of the following statuses */
-    NIC_TEXT_SYNTAX = 97,           /* at this line, counted from 1 */
-    NIC_TEXT_TWO_VALUES = 98,       /* two lines set the word with this index */
-    NIC_TEXT_RESERVED = 99,         /* the description can't set the word with this index */
+    NIC_TEXT_SYNTAX = 97,           /* in line *line, counted from 1 */
+    NIC_TEXT_TWO_VALUES = 98,       /* two lines set the word with index *line */
+    NIC_TEXT_RESERVED = 99,         /* the description can't set the word with index *line */
     NIC_TEXT_DOES_NOT_FIT = 100,    /* an index or the CSR section exceeds the size */
     NIC_TEXT_POINTER_OUTSIDE = 101, /* a pointer is below 0x40, or its section is outside the image */
     NIC_TEXT_NOT_UTF8 = 102
@@ -177,10 +177,10 @@ const char *nic_edition(void);
 /* Records each controller created after this call. Whenever a call returns, its event is written to a file as a line of
    the script language, with the reply as a comment, so a crash loses no completed call. The first controller is
    recorded in the file with this name, the next ones in NAME.2, NAME.3 and so on; %p in the name stands for the process
-   ID. View a recording with `tools/nicview FILE` (docs/views.md). Null ends all recordings. Returns false if the file
-   can't be written: then a line on standard error says so, and nothing is recorded. If you don't call this function,
-   the environment variable NIC82599_RECORD sets the name. Recording serializes the calls of all recorded controllers. A
-   child of fork records the controllers that it creates itself, if the name contains %p. */
+   ID. View a recording with `tools/nicview FILE` (docs/views.md). A null `path` ends all recordings. Returns false if
+   the file can't be written: then a line on standard error says so, and nothing is recorded. If you don't call this
+   function, the environment variable NIC82599_RECORD sets the name. Recording serializes the calls of all recorded
+   controllers. A child of fork records the controllers that it creates itself, if the name contains %p. */
 bool nic_record(const char *path);
 
 /* Writes a comment into this controller's recording, in front of the next event, for information that the events don't
@@ -354,9 +354,9 @@ uint8_t nic_next_step(nic *n, nic_settling *where, nic_outcome *outcome);
    that memory. Like snprintf, the call writes at most `size` bytes, including the terminating 0, and returns the length
    of all lines without it. It writes only whole lines, up to the first that doesn't fit. `size` may be 0. For a closed
    controller there are no lines. The call changes nothing. Registers don't show which frames are waiting, which enable
-   requests of queues are pending, or which causes were reported. The call determines this on a copy of the controller.
-   Until it returns, the copy takes as much memory as a snapshot and a restored controller: 4,096 bytes for each lent
-   block. If there isn't enough memory, the last line says so, and the lines that need the copy are missing. */
+   requests of queues are pending, or which causes were reported. The call finds them out on a copy of the controller.
+   Until the call returns, the copy takes as much memory as a snapshot and a restored controller: 4,096 bytes for each
+   lent block. If there isn't enough memory, the last line says so, and the lines that need the copy are missing. */
 size_t nic_why(nic *n, char *text, size_t size);
 
 /* --- the EEPROM --- */
@@ -397,7 +397,7 @@ static inline void nic_drop_snapshot(nic_kept *kept)
     kept->kept = NULL;
 }
 
-/* Returns the word that a driver sees, regardless of the status. */
+/* Reads a register and returns the word that a driver sees, whatever the status. */
 static inline uint32_t nic_get(nic *n, uint32_t address)
 {
     uint32_t word = 0;
@@ -406,7 +406,7 @@ static inline uint32_t nic_get(nic *n, uint32_t address)
 }
 
 /* Returns the number of queues in each pool in the mode that a GCR_EXT value selects: 8, 4 or 2; 0 without pools. This
-   is also the number of queues before the first queue of virtual function 1. */
+   is also the number of virtual function 1's first queue. */
 static inline uint32_t nic_pool_queues(uint32_t gcr_ext)
 {
     uint32_t first = NIC_RDBAL(0);

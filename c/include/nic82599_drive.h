@@ -88,8 +88,8 @@ enum nicd_can {
     /* `open` and `close` don't change what the setup doesn't use, and don't reset the device */
     NICD_SHARED_DEVICE = 4,
 
-    /* What the driver never does, by design. Rows that require it aren't applicable. Without the bit they are reported
-       as not reached. */
+    /* What the driver never does, by design. If an action's bit is set, the rows that require the action aren't
+       applicable. Otherwise they are reported as not reached. */
     NICD_NO_MODERATION = 16, /* it writes no interval to EITR */
     NICD_NO_HEADS = 32,      /* it writes neither RDH nor TDH */
     NICD_ONE_VECTOR = 64,    /* all queues share one vector */
@@ -136,8 +136,9 @@ typedef struct nicd_driver {
     /* Reclaims sent frames. Returns how many frames of the queue are still unsent, as far as the driver knows. */
     uint32_t (*reclaim)(uint16_t queue);
 
-    /* Handles a vector's message. Returns the queues to poll, as bit q for queue q. For each the card calls `receive`
-       until it returns false, then `reclaim`, then `rearm`, which enables the queue's interrupts again. */
+    /* Handles a vector's message. Returns the queues to poll, as bit q for queue q. For each of these queues the card
+       calls `receive` until it returns false, then `reclaim`, then `rearm`, which enables the queue's interrupts
+       again. */
     uint32_t (*interrupt)(uint8_t vector);
     void (*rearm)(uint16_t queue);
 
@@ -170,8 +171,8 @@ typedef struct nicd_driver {
     bool (*mailbox_ready)(void);
 
     /* Stores the counts since `open`. Any thread may call it concurrently with all other calls. The frames and bytes of
-       a direction must match, no count may decrease, and none may be lost. Count a frame before `receive` or `send`
-       returns. */
+       a direction must match, no count may decrease, and no frame may go uncounted. Count a frame before `receive` or
+       `send` returns. */
     void (*stats)(nicd_stats *stats);
 } nicd_driver;
 

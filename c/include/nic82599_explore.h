@@ -1,7 +1,7 @@
 /* Searches for the order of steps that breaks a driver. A scenario is a driver's code, written as tasks and interrupt
-   handlers over one controller of nic82599.h. Each access of a task is a point at which any actor may run: another
+   handlers over one controller of nic82599.h. Each access by a task is a point at which any actor may run: another
    task, a handler, a step of the device, the next frame, the link. A schedule lists the actor at each point, so a run
-   can be repeated. A failing schedule is shrunk and saved in a file, and the device's side of it is written as a
+   can be repeated. A failing schedule is shrunk and saved in a file, and the device's events in it are written as a
    script. docs/explore.md starts with an example.
 
    This part is tested, not proved. One process runs its schedules one after the other on one thread; each task has its
@@ -57,8 +57,8 @@ typedef struct nicx_scenario {
        failed. Every schedule starts from the state that the device has when this function returns. During a wait or a
        pause here, or a loop that keeps reading the same value, the device runs its steps. */
     const char *(*bring_up)(void);
-    /* Runs before each schedule. Initializes the driver's state, and names its tasks, its handlers, and the frames and
-       link changes to come. Accesses take effect immediately; waits work as in bring_up. */
+    /* Runs before each schedule. Initializes the driver's state, and declares its tasks, its handlers, and the frames
+       and link changes to come. Accesses take effect immediately; waits work as in bring_up. */
     void (*begin)(void);
     /* Runs after each step; may be null. Returns null, or what is wrong. It may look at the device through
        nicx_device(), with calls that have no effects (nic_peek32, nic_dma_read); a call that has an effect fails as
@@ -72,8 +72,8 @@ typedef struct nicx_scenario {
     uint32_t allowed; /* flags of enum nicx_allowed */
     uint32_t memory;  /* flags of enum nicx_memory; without NICX_WEAK, the _ORDER flags apply only with --memory weak */
     /* Promises that tasks and handlers touch shared memory of the driver only under a common nicx_mutex, and that no
-       condition touches it. The exhaustive search then leaves out orders of steps that touch different parts of the
-       device. If the promise doesn't hold, the search may miss a failure. */
+       condition touches it. The exhaustive search then leaves out schedules that differ only in the order of steps
+       that touch different parts of the device. If the promise doesn't hold, the search may miss a failure. */
     bool race_free;
 } nicx_scenario;
 
@@ -91,32 +91,32 @@ enum {
     NICX_BESIDE = -2    /* the handler runs beside all tasks, as its own thread */
 };
 
-/* Names a task: a thread of the driver, or a processor. Returns its number, counted from 0. Names are unique. */
+/* Declares a task: a thread of the driver, or a processor. Returns its number, counted from 0. Names are unique. */
 int nicx_task(const char *name, void (*function)(void *), void *argument);
-/* Names a task that may wait forever, such as a loop that serves interrupts. A schedule that ends while it is still
+/* Declares a task that may wait forever, such as a loop that serves interrupts. A schedule that ends while it is still
    waiting isn't a deadlock. */
 int nicx_service(const char *name, void (*function)(void *), void *argument);
 
-/* Names the handler that a message of this group (0 for the physical function, v + 1 for virtual function v) and vector
-   starts. `where` is NICX_ANYWHERE, NICX_BESIDE, or the number of a task, which continues only after the handler has
-   returned. If several messages arrive before the handler starts, they start it only once. A message that arrives while
-   it runs starts it again afterwards. A message without a handler starts nothing. */
+/* Declares the handler that a message of this group (0 for the physical function, v + 1 for virtual function v) and
+   vector starts. `where` is NICX_ANYWHERE, NICX_BESIDE, or the number of a task, which continues only after the handler
+   has returned. If several messages arrive before the handler starts, they start it only once. A message that arrives
+   while it runs starts it again afterwards. A message without a handler starts nothing. */
 void nicx_handler(const char *name, uint16_t group, uint8_t vector, void (*function)(void *), void *argument,
                   int where);
 
-/* Names a timer. When it fires, it starts the function beside all tasks, as a message starts a handler. It counts as
+/* Declares a timer. When it fires, it starts the function beside all tasks, as a message starts a handler. It counts as
    one of the handlers, and fires once each time it is armed. `within` is NICX_AT_REST, to fire when no other actor can
    run, or a number of points N, at least 1. In that case the timer fires at one of the N points after the point that
    armed it. If it hasn't fired before the last of them, it fires there, before all other actors. Returns its number for
    nicx_arm. */
 int nicx_timer(const char *name, void (*function)(void *), void *argument, uint32_t within);
 
-/* Names a frame of at most 16,384 bytes, which will arrive after the frames already named. The bytes are copied. */
+/* Declares a frame of at most 16,384 bytes, which will arrive after those already declared. The bytes are copied. */
 void nicx_frame(const uint8_t *frame, size_t length);
-/* Names a link change, down or up. Link changes happen in the order of these calls, independently of frames. */
+/* Declares a link change, down or up. Link changes happen in the order of these calls, independently of frames. */
 void nicx_link_change(bool up);
 /* Returns the number of frames that have arrived so far, including dropped ones. Shrinking leaves frames out of a
-   failure, so have `end` compare with this number instead of the number of frames named. */
+   failure, so have `end` compare with this number instead of the number of frames declared. */
 uint32_t nicx_came(void);
 
 /* --- in tasks and handlers: each of these is a point --- */
@@ -138,8 +138,8 @@ void nicx_point(void);
 
 /* Waits until another actor has run: while (!ready) nicx_wait(); */
 void nicx_wait(void);
-/* Waits until a condition on the driver's own memory holds. The condition may make none of these calls. The whole wait
-   is one point, whereas a loop of nicx_wait is a point after each step of another actor. */
+/* Waits until a condition on the driver's own memory holds. The condition must not make any of these calls. The whole
+   wait is one point, whereas a loop of nicx_wait is a point after each step of another actor. */
 void nicx_wait_until(bool (*condition)(void *), void *argument);
 /* A condition for nicx_wait_until: whether a flag, a bool, is set. */
 static inline bool nicx_is_set(void *flag)
@@ -221,7 +221,7 @@ bool nicx_numbered_frame(uint8_t *frame, size_t length, uint32_t number);
 bool nicx_flow_frame(uint8_t *frame, size_t length, const nicx_flow *flow, uint32_t number);
 /* Returns the frame's number, below NICX_TORN, or NICX_TORN if a byte belongs to another frame or to none. */
 uint32_t nicx_frame_number(const uint8_t *frame, size_t length);
-/* In `begin`: names `count` numbered frames, at most NICX_FRAMES, with numbers 0 to count - 1. An invalid length is
+/* In `begin`: declares `count` numbered frames, at most NICX_FRAMES, with numbers 0 to count - 1. An invalid length is
    misuse. */
 void nicx_frames(uint32_t count, size_t length);
 

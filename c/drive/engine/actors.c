@@ -184,7 +184,7 @@ static void judge_beyond(uint16_t queue)
     const uint8_t *beyond = nicd.room[queue].beyond;
     for (unsigned k = 0; k < sizeof nicd.room[queue].beyond; k++)
         if (beyond[k])
-            nicd_failed("receive of queue %u writes beyond the bytes of its frame", queue);
+            nicd_failed("receive of queue %u writes past the end of its frame's buffer", queue);
 }
 
 bool nicd_receive(uint16_t queue)

@@ -150,7 +150,7 @@ static const char *lack_of(const struct scenario *it)
     if (it->setup.queues > 2 && d->slots > 8)
         return "rings too long for four queues";
     if (it->setup.frame > 1514 && it->setup.frame > d->frame)
-        return "shorter frames";
+        return "a lower frame limit";
     return never_of(it);
 }
 

@@ -98,8 +98,8 @@ static void read_link(void)
     }
 }
 
-static const char rule[] = "A thread may read statistics at any time: its frame and byte counts belong together, no "
-                           "count decreases, and none is lost";
+static const char rule[] = "A thread may read statistics at any time: the frame and byte counts that it reads match, "
+                           "no count decreases, and no frame goes uncounted";
 
 const struct scenario nicd_counts[] = {
     ROW("stats-receive", "statistics are read while frames are received", rule, "the adapter's stats", RECEIVES | STATS,

@@ -131,18 +131,19 @@ static void see_broadcast(const nicxo_step *step, bool is_drivers)
         .see = see_broadcast)
 
 const struct scenario nicd_filters[] = {
-    FILTER_ROW("filter-own", "only its own address", let_own_in,
+    FILTER_ROW("filter-own", "only the port's own address is accepted", let_own_in,
                "A unicast frame is accepted if a valid receive address matches", "Receive Address"),
-    FILTER_ROW("filter-broadcast", "the broadcast address too", let_broadcast_in,
+    FILTER_ROW("filter-broadcast", "the broadcast address is accepted too", let_broadcast_in,
                "FCTRL.BAM accepts broadcast frames; on the bench, MPE does too", "Filter Control"),
-    FILTER_ROW("filter-all-multicast", "all multicast frames", let_all_multicast_in, "FCTRL.MPE accepts all of them",
+    FILTER_ROW("filter-all-multicast", "all multicast frames are accepted", let_all_multicast_in,
+               "FCTRL.MPE accepts all multicast frames", "Filter Control"),
+    FILTER_ROW("filter-all", "all frames are accepted", let_all_in, "FCTRL.UPE, MPE and BAM accept all frames",
                "Filter Control"),
-    FILTER_ROW("filter-all", "all frames", let_all_in, "FCTRL.UPE, MPE and BAM accept all frames", "Filter Control"),
-    FILTER_ROW("filter-multicast", "one multicast address", let_multicast_in,
+    FILTER_ROW("filter-multicast", "one multicast address is accepted", let_multicast_in,
                "A multicast frame is accepted if a receive address or MTA matches", "Multicast Table Array"),
-    FILTER_ROW("filter-second", "a second unicast address", let_second_in,
+    FILTER_ROW("filter-second", "a second unicast address is accepted", let_second_in,
                "Each of the 128 receive addresses is active if its AV is 1", "Receive Address"),
-    FILTER_ROW("filter-no-longer", "all frames are accepted, then only those to its own address", let_in_and_out,
+    FILTER_ROW("filter-no-longer", "all frames are accepted, then only those to the port's own address", let_in_and_out,
                "Addresses no longer requested are removed from the filters", "the adapter's filter"),
     FILTER_ROW(
         "filter-multicast-no-longer", "multicast addresses are accepted, then removed", let_multicast_out,

@@ -78,7 +78,7 @@ const struct scenario nicd_interrupts[] = {
         "may take longer",
         "Extended Interrupt Throttle", RECEIVES | INTERRUPTS, .ways = OFTEN, .setup = {.interrupts = true},
         .takes = true, .comes = 4),
-    ROW("interrupt-rearm-alone", "only one queue's cause is enabled",
+    ROW("interrupt-rearm-alone", "rearm enables only its own queue's cause",
         "A write to EIMS enables every cause written as 1; the cause of a queue being polled stays masked",
         "Extended Interrupt Mask Set", PULLS | INTERRUPTS, .setup = {.queues = 2, .interrupts = true},
         .control = rearm_one),

@@ -162,7 +162,7 @@ static const char *judge_ring(uint16_t number)
 
 static const struct setting settings[SETTINGS] = {
     {"filter",
-     "only its own address is accepted again",
+     "only the port's own address is accepted again",
      FILTER,
      {0},
      let_own_in,
@@ -180,9 +180,9 @@ static const struct setting settings[SETTINGS] = {
      NULL,
      KEPT_OUT},
     {"promiscuous", "all frames are accepted", FILTER, {0}, let_all_in, come_to_each, judge_filter, NULL, NO_REACH},
-    {"mtu", "the MTU is larger", MTU, {0}, let_long_in, come_long, judge_length, send_long, TOO_LONG},
+    {"mtu", "a larger MTU is set", MTU, {0}, let_long_in, come_long, judge_length, send_long, TOO_LONG},
     {"rss",
-     "the hash key and table are new",
+     "a new hash key and table are set",
      RSS,
      {.queues = 2, .interrupts = true},
      spread_otherwise,
@@ -190,7 +190,7 @@ static const struct setting settings[SETTINGS] = {
      judge_queue,
      NULL,
      MESSAGES},
-    {"rings", "the rings are longer", RESIZE, {0}, make_rings_longer, come_over_ring, judge_ring, NULL, WRAPS},
+    {"rings", "longer rings are set up", RESIZE, {0}, make_rings_longer, come_over_ring, judge_ring, NULL, WRAPS},
 };
 
 /* --- events --- */
@@ -291,7 +291,8 @@ static const struct change {
     const char *name, *what;
     const nicd_filter *old, *wanted;
 } changes[CHANGES] = {
-    {"filter-during-traffic", "the filter stops accepting all frames while frames arrive", &promiscuous, &own_alone},
+    {"filter-during-traffic", "the filter is narrowed to the port's own address while frames arrive", &promiscuous,
+     &own_alone},
     {"list-during-traffic", "new addresses are accepted while frames arrive", &own_alone, &listed},
     {"promiscuous-during-traffic", "the filter starts to accept all frames while frames arrive", &own_alone,
      &promiscuous},

@@ -176,7 +176,7 @@ const struct scenario nicd_life[] = {
     ROW("close-two-queues", "a driver with two queues closes while both receive", stop_rule,
         "Dynamic Disabling of Receive Queues", RECEIVES, .ways = LOSSY | DROPS, .setup = {.queues = 2},
         .control = close_all, .begin = come_by_two, .sends = 3),
-    ROW("restart", "opened and closed three times, then opened a fourth time",
+    ROW("restart", "the driver is opened and closed three times, then opened a fourth time",
         "Leftovers from an earlier run in rings, heads and causes aren't mistaken for new events", "the adapter's open",
         RECEIVES, .ways = OPENS | LOSSY | DROPS, .control = three_lives, .takes = true, .comes = 4, .late = 4,
         .see = nicd_see_held),

@@ -159,7 +159,7 @@ const struct scenario nicd_rss_rows[] = {
     TYPE("rss-tcp-ipv6", "TCP/IPv6 flows", NIC_RSS_TCP_IPV6),
     TYPE("rss-udp-ipv6", "UDP/IPv6 flows", NIC_RSS_UDP_IPV6),
     TYPE("rss-ipv6", "IPv6 flows without ports", NIC_RSS_IPV6),
-    ROW("rss-none", "frames that aren't hashed", rule, "Receive Side Scaling", RECEIVES | RSS,
+    ROW("rss-none", "frames that aren't hashed arrive", rule, "Receive Side Scaling", RECEIVES | RSS,
         .setup = {.queues = 2, .slots = 16}, .begin = come_of_type, .takes = true, .end = judge_queues),
     ROW("rss-four-queues", "TCP/IPv4 flows on four queues", rule, "Receive Side Scaling", RECEIVES | RSS,
         .setup = {.queues = 4}, .begin = come_of_type, .takes = true, .type = NIC_RSS_TCP_IPV4, .end = judge_queues),

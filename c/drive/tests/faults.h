@@ -10,7 +10,7 @@ WRONG(ABORT_IN_CLOSE, "open-close", "crash: .*signal 6")
 WRONG(OUTSIDE_DMA, "receive-one",
       "memory: receive0 at faulty\\.c:\\d+ < faulty\\.c:\\d+ writes 0x1000, which isn't lent")
 WRONG(OTHERS_DMA, "receive-one", "the driver lends block 200, which nicd_dma_alloc didn't return")
-WRONG(PAST_THE_FRAME, "receive-one", "receive of queue 0 writes beyond the bytes of its frame")
+WRONG(PAST_THE_FRAME, "receive-one", "receive of queue 0 writes past the end of its frame's buffer")
 WRONG(NO_LENGTH, "receive-one", "a 0-byte frame is delivered from queue 0")
 WRONG(OTHER_QUEUE, "receive-one", "a frame is delivered from queue 3, but setup.queues is 1")
 WRONG(FREE_TWICE, "open-close", "nicd_dma_free of 0x\\w+, which nicd_dma_alloc didn't return")

@@ -136,7 +136,7 @@ def none_failed(rows: dict[str, dict[str, Any]]) -> list[dict[str, Any]]:
     """Returns the rows of a card if none failed. With few schedules, some rows don't reach what they try."""
     for row in rows.values():
         if row["state"] == "failed":
-            raise Wrong(f"row {row['name']} is failed by \"{row['cause']}\"")
+            raise Wrong(f"row {row['name']} failed with \"{row['cause']}\"")
     return list(rows.values())
 
 
@@ -152,7 +152,7 @@ def check_right(kit: Kit, runs: int) -> str:
                 if not count and row["state"] == "passed":
                     raise Wrong(f"{row['name']} passed, and never reached: {name}")
         said.append(f"{states.count('passed')} of {len(states)} rows")
-    return f"a right driver passes {said[0]}, with threads of its own {said[1]}, over weak memory {said[2]}"
+    return f"the correct driver passes {said[0]}, with its own threads {said[1]}, with weak memory {said[2]}"
 
 
 def check_bugs(kit: Kit, runs: int, each: int = 1) -> str:
@@ -163,7 +163,7 @@ def check_bugs(kit: Kit, runs: int, each: int = 1) -> str:
         expect(rows[bug.row], bug.cause, bug.name)
         schedule = kit.folder / f"card-{program.name}" / f"{bug.row}.schedule"
         ran([program, "--row", bug.row, "--memory", bug.memory, "--replay", schedule], 1)
-    return f"{len(BUGS[::each])} bugs, each found in the row that names it"
+    return f"{len(BUGS[::each])} bugs, each found in its row"
 
 
 def check_planted(kit: Kit, runs: int, count: int | None) -> str:
@@ -177,7 +177,7 @@ def check_planted(kit: Kit, runs: int, count: int | None) -> str:
         source.write_text(text)
         words = ["--rows", fault.row, "--runs", runs, "--every", runs, "--memory", fault.memory]
         expect(kit.card(source, 1, *words)[fault.row], fault.cause, f"{fault.name} in {fault.driver}")
-    return f"{len(planted)} planted faults, each found in the row that names it"
+    return f"{len(planted)} planted faults, each found in its row"
 
 
 def check_pages_driver(kit: Kit, runs: int) -> str:
@@ -251,7 +251,7 @@ def check_accesses(kit: Kit) -> str:
         raise Wrong(f"accesses of {right} aren't seen:\n{passes}")
     check_counts(folder)
     check_blind(kit, wrong, how)
-    return "a plain word that two polls change, and what is said where it isn't seen"
+    return "a race on a plain word, and the notice if accesses aren't observed"
 
 
 def check_seen(kit: Kit, runs: int, rows: str) -> str:
@@ -261,7 +261,7 @@ def check_seen(kit: Kit, runs: int, rows: str) -> str:
     for source, defines in (("driver.c", ""), ("driver.c", "-DTHREADS"), ("pages.c", "")):
         nicdrive(kit.folder / "seen", [HERE / "corpus" / source, f"--flags={defines}", *how], None)
         said.append(str(len(none_failed(rows_of(kit.folder / "seen")))))
-    return f"{', '.join(said)} rows of right drivers whose accesses are seen"
+    return f"{', '.join(said)} rows of correct drivers with accesses observed"
 
 
 def check_blind(kit: Kit, wrong: Path, how: list[object]) -> None:
@@ -311,11 +311,11 @@ def check_faults(kit: Kit, each: int = 1) -> str:
         rows = kit.card(program, 1, *some, *(["--hang", 3] if mode.startswith("HANG") else []))
         expect(rows[name], cause, mode)
         if any(not row["state"] for row in rows.values()):
-            raise Wrong(f"{mode}: a row wasn't made")
+            raise Wrong(f"{mode}: a row wasn't run")
     rows = kit.card(kit.build(HERE / "tests/faulty.c"), None, "--runs", 100, "--every", 50)
     if rows["receive-wrap"]["state"] != "passed":
         raise Wrong(f"tests/faulty.c without a fault: {rows['receive-wrap']}")
-    return f"{len(list(FAULTS)[::each])} drivers that do what no driver may"
+    return f"{len(list(FAULTS)[::each])} drivers with forbidden actions"
 
 
 def check_words(kit: Kit) -> str:
@@ -332,7 +332,7 @@ def check_words(kit: Kit) -> str:
         lines = nicdrive(kit.folder, ["--list", *words], 0).splitlines()
         if len(lines) != len(wanted) or "not applicable" in "".join(lines):
             raise Wrong(f"nicdrive --list {' '.join(words)} prints {len(lines)} rows, not {len(wanted)}")
-    return "words of the command"
+    return "arguments of the command"
 
 
 def check_listed(kit: Kit) -> str:
@@ -446,7 +446,7 @@ def check_stores(kit: Kit) -> str:
         nicdrive(folder, [HERE / "tests/faulty.c", f"--flags=-DMODE={mode}", *words], 1)
         wanted = r"memory: receive0 at faulty\.c:\d+( < \S+)? writes 0x\w+, which isn't lent: \d+ bytes past the end"
         expect(rows_of(folder)["receive-one"], wanted, mode)
-    return "lines of stores by pointers"
+    return "the source lines of stores through pointers"
 
 
 ADAPTER_FOLDER = C / "examples/adapter"
@@ -752,7 +752,7 @@ def check_pages() -> str:
         made = subprocess.run(words, capture_output=True, text=True, check=False)
         if (made.stdout, made.stderr) != ("drawn\n", wanted):
             raise Wrong(f"of pages, with ./nicbench's program at {there}, it prints: {made.stdout}{made.stderr}")
-    return "what is printed of pages"
+    return "the notice about the pages"
 
 
 # Prints what a row reports if it exceeds its time limit, which depends on --hang.
@@ -776,7 +776,7 @@ def check_patience() -> str:
         said = ran([str(word) for word in words])
         if f"no result in {seconds} s: " not in said or not said.endswith("the machine is busy (--hang)\n"):
             raise Wrong(f"--hang {hang}: a row that takes too long says {said}")
-    return "how long a row may take"
+    return "the time limit of a row"
 
 
 def check_refusals(kit: Kit) -> str:

@@ -1,8 +1,8 @@
 """Builds a driver's program from what the author provides: sources, objects, a Python file, or the program itself.
 
 Sources are compiled with -fsanitize=thread and linked with the variant of the explorer that handles its calls, so that
-each access to the driver's own memory is observed. If the compiler or linker can't do that, they are compiled without
-it.
+each access to the driver's own memory is observed. If the compiler or linker can't do that, the sources are compiled
+without it.
 """
 
 from __future__ import annotations

@@ -49,7 +49,7 @@ NICBENCH = where.programs()
 
 
 def joined(given: list[str]) -> list[str]:
-    """Joins the argument after --flags to it. Otherwise argparse wouldn't accept a value that begins with '-'."""
+    """Joins --flags and the argument after it. Otherwise argparse wouldn't accept a value that begins with '-'."""
     if "--flags" not in given[:-1]:
         return given
     place = given.index("--flags")
@@ -62,13 +62,13 @@ def words() -> argparse.Namespace:
     add_version(parser, "nicdrive")
     given = "sources and objects of the driver, or its program"
     parser.add_argument("driver", nargs="*", type=Path, metavar="DRIVER", help=given)
-    folder = "folder for the card (card)"
+    folder = "write the card to this folder (card)"
     parser.add_argument("-o", "--out", type=Path, default=Path("card"), metavar="FOLDER", help=folder)
-    rows = "only these rows: names, families or prefixes of names, separated by commas"
+    rows = "run only these rows: names, families or prefixes of names, separated by commas"
     parser.add_argument("--rows", metavar="NAMES", help=rows)
-    wanted = "a file that lists rows that must pass, with their points; may be repeated"
+    wanted = "require the rows listed in FILE to pass, each with its points; may be repeated"
     parser.add_argument("--require", type=Path, action="append", default=[], metavar="FILE", help=wanted)
-    every = "lists the rows without running them; with a driver, also says which aren't applicable"
+    every = "list the rows without running them; with a driver, also say which aren't applicable"
     parser.add_argument("--list", action="store_true", help=every)
     runs = "random schedules for each row (%(default)s)"
     parser.add_argument("--runs", type=int, default=Budget.runs, metavar="N", help=runs)
@@ -79,7 +79,7 @@ def words() -> argparse.Namespace:
     hang = "elapsed seconds without a call to the card, after which the driver counts as hung (%(default)s)"
     parser.add_argument("--hang", type=int, default=Budget.hang, metavar="S", help=hang)
     parser.add_argument("--seed", type=int, default=1, metavar="N", help="seed of the random choices (1)")
-    memory = "weak: without a barrier, stores to DMA memory may be late and loads may be old (strong)"
+    memory = "weak: without a barrier, stores to DMA memory may be late and loads stale (strong)"
     parser.add_argument("--memory", choices=("strong", "weak"), default="strong", help=memory)
     jobs = "rows to run at a time (one for each core)"
     parser.add_argument("--jobs", type=int, default=os.cpu_count() or 1, metavar="N", help=jobs)
@@ -90,7 +90,8 @@ def words() -> argparse.Namespace:
     archives = "folder of the libraries (c/out in a clone, otherwise where they are installed)"
     parser.add_argument("--libraries", type=Path, default=where.libraries(), metavar="FOLDER", help=archives)
     parser.add_argument("--no-pages", action="store_true", help="don't write pages for the runs of failed rows")
-    parser.add_argument("--compare", nargs=2, type=Path, metavar=("OLD", "NEW"), help="two cards to compare")
+    cards = "compare two cards instead of running rows"
+    parser.add_argument("--compare", nargs=2, type=Path, metavar=("OLD", "NEW"), help=cards)
     return parser.parse_args(joined(sys.argv[1:]))
 
 

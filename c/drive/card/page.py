@@ -56,7 +56,7 @@ def bar(card: Card) -> str:
 
 def failure(row: Row) -> str:
     parts = [f'<p class="cause">{escape(row.cause)}</p>']
-    pages = [(row.page, "the schedule, point by point"), (row.run, "the machine, step by step")]
+    pages = [(row.page, "the schedule, point by point"), (row.run, "the device's run, step by step")]
     links = [f'<a href="{escape(page)}">{words}</a>' for page, words in pages if page]
     if links:
         parts.append(f"<p>{'; '.join(links)}</p>")
@@ -103,7 +103,7 @@ def chips(names: dict[str, int]) -> str:
 
 def untried(rules: list[str]) -> str:
     items = "".join(f"<li>{escape(rule)}</li>" for rule in rules)
-    summary = f"{len(rules)} not tried, because the driver lacks functions"
+    summary = f"{len(rules)} not tried, because their rows aren't applicable"
     return f"<details><summary>{summary}</summary><ul>{items}</ul></details>"
 
 
@@ -127,7 +127,7 @@ def family_of(card: Card, family: str) -> str:
     rows = card.of(family)
     failed = [row for row in rows if row.state in (FAILED, NOT_REACHED)]
     others = [row for row in rows if row.state == NOT_APPLICABLE]
-    above = f'<p class="fail">failed: {links(failed)}</p>' if failed else ""
+    above = f'<p class="fail">failed or not reached: {links(failed)}</p>' if failed else ""
     passed = "".join(one(row) for row in rows if row.state == PASSED)
     folded = "".join(map(one, others))
     more = f"<details><summary>{len(others)} not applicable</summary>{folded}</details>" if others else ""
@@ -141,13 +141,13 @@ def links(rows: list[Row]) -> str:
 def page(card: Card) -> str:
     families = "".join(family_of(card, family) for family in card.families())
     failed = [row for row in card.rows if row.state in (FAILED, NOT_REACHED)]
-    first = f"<h2>failed</h2>{''.join(map(one, failed))}" if failed else ""
+    first = f"<h2>failed or not reached</h2>{''.join(map(one, failed))}" if failed else ""
     return (
         '<!doctype html><html lang="en"><head><meta charset="utf-8">'
         '<meta name="viewport" content="width=device-width, initial-scale=1">'
         f"<title>{escape(card.driver)}: report card</title><style>{STYLE}</style></head><body>"
         f"<h1>{escape(card.driver)}</h1><p>{counts(card)}, in {card.seconds:.0f} s with seed {card.budget.seed}</p>"
         f"{f'<p>{escape(blindness(card.blind))}</p>' if card.blind else ''}"
-        f"{bar(card)}{f'<p>failed: {links(failed)}</p>' if failed else ''}{first}{families}{coverage(card)}"
+        f"{bar(card)}{f'<p>failed or not reached: {links(failed)}</p>' if failed else ''}{first}{families}{coverage(card)}"
         "</body></html>\n"
     )

@@ -19,7 +19,7 @@ static uint16_t number_of(const void *given)
 
 /* --- open and close --- */
 
-/* Interrupts everything: frames received or accepted before this may be lost. */
+/* Interrupts everything: frames received or accepted before this call may be lost. */
 static void next_life(void)
 {
     nicd.life++;
@@ -648,7 +648,7 @@ static void forget(void)
     }
 }
 
-/* The number of frames that a scenario requests; 0 if none. */
+/* Returns the number of frames that a scenario requests; 0 if none. */
 static uint32_t frames_of(const struct scenario *it, int more)
 {
     return more ? (uint32_t)(it->rings * nicd.setup.slots + more) : 0;

@@ -191,7 +191,7 @@ static void write_changes(uint64_t from, uint64_t end)
     }
 }
 
-/* If a sanitizer is in use, it detects accesses to memory that isn't lent. This then writes only the pieces. */
+/* If a sanitizer is in use, it detects accesses to memory that isn't lent, so only the pieces are written. */
 static void write_all(void)
 {
     if (!__asan_poison_memory_region) {

@@ -112,7 +112,8 @@ const struct scenario nicd_rings[] = {
     ROW("send-two-threads", "two threads send on one queue", "Only one thread at a time may write a ring's slot",
         "NICD_SHARED_SEND", SENDS | SHARED_SEND, .begin = send_by_two),
     ROW("both-ways", "frames are received and sent at the same time",
-        "A queue's receive and transmit rings are independent", "Descriptor Rings", RECEIVES | SENDS, .takes = true, .sends = 6, .comes = 6),
+        "A queue's receive and transmit rings are independent", "Descriptor Rings", RECEIVES | SENDS, .takes = true,
+        .sends = 6, .comes = 6),
     ROW("two-queues", "two queues on separate threads, traffic both ways", "Queues share only the device's registers",
         "Multiple Queues", RECEIVES | SENDS, .setup = {.queues = 2, .slots = 16}, .begin = use_two_queues),
     {0}};

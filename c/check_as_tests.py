@@ -130,7 +130,7 @@ def check_as_tests(kit: Kit, names: Iterable[Path]) -> str:
         if path.stem == "first":
             fails(kit, tests)
     passes(kit, "what is odd", tests_of('<"it">\\ */ {x}.nic', HOSTILE, 2))
-    return f"{count} scripts, and one with all that is odd"
+    return f"{count} scripts, and one script of odd cases"
 
 
 def some_examples(seed: int, count: int | None) -> list[Path]:

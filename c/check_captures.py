@@ -99,7 +99,7 @@ def check_readers(program: Path, folder: Path, seed: int, count: int) -> str:
         number = others[0] if others else 0
         data = (folder / str(number)).read_bytes().hex()
         got = made.stdout.splitlines()[number : number + 1]
-        count_of = f"{len(others)} of {count} captures are read otherwise in C"
+        count_of = f"{len(others)} of {count} captures are read differently in C"
         raise Wrong(f"{count_of}: {got} and not {expected[number]!r}: {data}")
     ends = Counter(it.split()[-1] for it in expected)
-    return f"{count} spoilt captures read alike in C and Python ({ends['end']} whole, {ends['broken']} refused)"
+    return f"{count} corrupted captures read alike in C and Python ({ends['end']} whole, {ends['broken']} refused)"

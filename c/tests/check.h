@@ -11,7 +11,7 @@
 #define CHECK(fact)                                                                                                    \
     do {                                                                                                               \
         if (!(fact)) {                                                                                                 \
-            fprintf(stderr, "%s:%d: not so: %s\n", __FILE__, __LINE__, #fact);                                         \
+            fprintf(stderr, "%s:%d: check failed: %s\n", __FILE__, __LINE__, #fact);                                   \
             exit(1);                                                                                                   \
         }                                                                                                              \
     } while (0)
@@ -20,7 +20,7 @@
 static inline void check_status(const char *file, int line, const char *call, uint8_t got, uint8_t want)
 {
     if (got != want) {
-        fprintf(stderr, "%s:%d: %s answers %s", file, line, call, nic_status_name(got));
+        fprintf(stderr, "%s:%d: %s returns %s", file, line, call, nic_status_name(got));
         fprintf(stderr, ", not %s\n", nic_status_name(want));
         exit(1);
     }

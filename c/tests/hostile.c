@@ -12,7 +12,7 @@ static void allowed(const char *call, uint8_t status, const uint8_t *list)
     for (; *list != 255; list++)
         if (*list == status)
             return;
-    fprintf(stderr, "hostile: %s answers %u, %s\n", call, status, nic_status_name(status));
+    fprintf(stderr, "hostile: %s returns %u, %s\n", call, status, nic_status_name(status));
     exit(1);
 }
 
@@ -447,6 +447,6 @@ int main(void)
     nic_drop_snapshot(&kept);
     nic_drop_snapshot(&kept);
     nic_close(&n);
-    printf("%d calls by chance\n", CALLS);
+    printf("%d random calls\n", CALLS);
     return 0;
 }

@@ -202,7 +202,7 @@ static void same_answers(uint8_t *host)
             same_bytes(&t, true);
     }
     CHECK(t.collected > 100 && t.wrote > 100);
-    printf("alike in %d calls: %u frames in, %u out\n", ROUNDS, t.wrote, t.collected);
+    printf("equal results of %d calls: %u frames in, %u out\n", ROUNDS, t.wrote, t.collected);
     nic_close(&t.place);
     same_bytes(&t, false);
     nic_close(&t.copies);

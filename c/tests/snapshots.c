@@ -372,7 +372,7 @@ int main(int count, char **words)
         if (space() && is_kept_to())
             CHECK(refused() > 0);
         else
-            puts("no limit of address space holds here");
+            puts("address space limits aren't enforced here");
     }
     return 0;
 }

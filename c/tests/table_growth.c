@@ -194,10 +194,10 @@ int main(void)
 {
     beside_a_list();
     grows("blocks upwards", of_blocks(4096, UP), of_blocks(TIMES * 4096, UP));
-    grows("blocks at addresses that fall", of_blocks(4096, DOWN), of_blocks(TIMES * 4096, DOWN));
-    grows("blocks that lie apart", of_blocks(4096, APART), of_blocks(TIMES * 4096, APART));
+    grows("blocks at falling addresses", of_blocks(4096, DOWN), of_blocks(TIMES * 4096, DOWN));
+    grows("blocks that aren't consecutive", of_blocks(4096, APART), of_blocks(TIMES * 4096, APART));
     grows("controllers with the same memory", of_controllers(512, UP), of_controllers(TIMES * 512, UP));
-    grows("controllers with memory of their own", of_controllers(512, APART), of_controllers(TIMES * 512, APART));
+    grows("controllers with separate memory", of_controllers(512, APART), of_controllers(TIMES * 512, APART));
     puts("steps don't grow faster than blocks and controllers do");
     return 0;
 }

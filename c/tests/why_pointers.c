@@ -88,6 +88,6 @@ int main(void)
     rings();
     buffers();
     free(room);
-    printf("%u looks at pointers\n", tried);
+    printf("%u checks of pointers\n", tried);
     return 0;
 }

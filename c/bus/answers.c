@@ -28,7 +28,7 @@ static const struct {
     {"EICS", BUS_EICS, "reads of EICS (0x00808) with the causes in EICR, without clearing any",
      "the bench returns 0, but Linux looks there for the causes of its other vector"},
     {"EERD", BUS_EERD, "EEPROM reads (EERD, 0x10014) during master disable: it clears CTRL bit 2 for the EEPROM step",
-     "the bench doesn't answer then, but drivers still read their EEPROM"},
+     "the bench then completes no read, but drivers still read their EEPROM"},
     {"ABSENT", BUS_ABSENT,
      "accesses to status, link, mailbox and interrupt registers by virtual functions without a pool",
      "the bench returns all ones, which Linux takes for a removed card"},

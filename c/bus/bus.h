@@ -4,9 +4,9 @@
    Functions are numbered as the library numbers groups: 0 is the physical function, v + 1 virtual function v. Each has
    a window of registers, which are addressed by their offsets in it.
 
-   Nothing happens on the bench on its own, so the bus runs the steps. A read of RXDCTL or TXDCTL, which drivers poll,
+   The bench does nothing by itself, so the bus runs the steps. A read of RXDCTL or TXDCTL, which drivers poll,
    runs the queue's enable step; a write that disables the queue runs its disable step. A read of EERD runs the EEPROM
-   step, and a write to TDT sends all that is queued. The user of the bus requests receive steps and messages. */
+   step, and a write to TDT sends everything that is queued. The user of the bus requests receive steps and messages. */
 #ifndef BUS_H
 #define BUS_H
 

@@ -1,5 +1,5 @@
 /* The frames that a run sends. A frame's number determines its bytes, so either end can build the frame and compare.
-   This needs no library, so a guest's program can use it too. */
+   This file needs no library, so a guest's program can use it too. */
 #ifndef BUS_FRAMES_H
 #define BUS_FRAMES_H
 

@@ -1,4 +1,4 @@
-/* Drivers that forget a register see nothing happen: nic_why says why. */
+/* Drivers that forget to write a register see nothing happen: nic_why says why. */
 #include <stdio.h>
 
 #include "nic82599.h"

@@ -10,8 +10,8 @@ enum { NICL_UNIT = 16 };
 /* A length beyond all memory. */
 #define NICL_ALL UINT64_MAX
 
-/* Calls `poke` for each 16-byte unit in this range of the caller's memory that differs in a replay. The replay then
-   counts as having the unit. */
+/* Calls `poke` for each 16-byte unit in this range of the caller's memory that differs in a replay. Afterwards
+   the replay counts as having the unit's current bytes. */
 typedef void nicl_poke(void *argument, uint64_t bus, const uint8_t unit[NICL_UNIT]);
 void nicl_shadow_poke(const nic *n, uint64_t bus, uint64_t length, nicl_poke *poke, void *argument);
 

@@ -1,5 +1,5 @@
-/* The addresses at which the caller's memory begins, block by block, of all controllers together. This finds out in a
-   few steps whether memory is the caller's, however many controllers and blocks there are. The caller holds a lock. */
+/* The start address of each block of the caller's memory, for all controllers together. A lookup finds out in a few
+   steps whether memory is the caller's, however many controllers and blocks there are. The caller holds a lock. */
 #ifndef NICL_STARTS_H
 #define NICL_STARTS_H
 

@@ -22,8 +22,8 @@ enum { NOTE_BYTES = 200, LINE = 64 };
 /* A handle that was never opened, or that nic_close closed. */
 #define IS_CLOSED(n) __builtin_expect(!(n)->device, 0)
 #define COLD static __attribute__((noinline, cold))
-/* If nothing is recorded or reported, only makes the call. Otherwise the code after the macro makes it and writes its
-   line. */
+/* If nothing is recorded or reported, only makes the call. Otherwise the code after the macro makes the call and writes
+   its line. */
 #define UNLESS_WATCHED(n, call)                                                                                        \
     do {                                                                                                               \
         if (IS_CLOSED(n))                                                                                              \

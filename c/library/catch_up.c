@@ -1,5 +1,5 @@
-/* A step reads the descriptor at its ring's head, and the bytes that a transmit descriptor points to. This records
-   them. If a device step ever reads more, a replay of random calls (c/test) differs. */
+/* A step reads the descriptor at its ring's head, and the bytes that a transmit descriptor points to. This file
+   records both before the step. If a device step ever reads more, a replay of random calls (c/test) differs. */
 #include "catch_up.h"
 
 #include "../in_place/shadow.h"
@@ -77,7 +77,7 @@ static void find_queues(struct nicl_on *on, nic *n)
 }
 
 /* The frame's queue isn't known, so this covers every enabled queue. Checking all queues takes longer than the step, so
-   it does so only if one may have been enabled since. */
+   they are checked only if one of them may have been enabled since the last check. */
 void nicl_before_receive(struct recording *it, nic *n)
 {
     if (!is_in_place(it, n))

@@ -167,7 +167,8 @@ static void in_parent(void)
     let_go();
 }
 
-/* A child doesn't record controllers that its parent records. It records its own if the file name is its own. */
+/* A child doesn't record controllers that its parent records. It records the controllers that it creates, if the file
+   name contains %p. */
 static void in_child(void)
 {
     nicl_drops_let_go();

@@ -14,7 +14,7 @@ enum { NICL_LINE = 512 };
 /* A recording of one controller. Its lines are written when an event is complete. */
 struct recording;
 
-/* Whether any controller is recorded or reported on (tell.h). Every call reads it. */
+/* Whether any controller is recorded or reported on (tell.h). Every call reads this flag. */
 extern int nicl_is_watched;
 
 /* Returns the recording of a controller, or null. Either way, all recordings are locked until nicl_leave. */

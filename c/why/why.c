@@ -50,7 +50,7 @@ static bool read_slot(struct nicl_why *it, const struct nicl_ring *ring, uint32_
     return true;
 }
 
-/* Reports an address that isn't lent but is a pointer into lent memory of the program, or half of one. */
+/* Reports an address that isn't lent but is a pointer into lent memory of the program, or half of such a pointer. */
 static void by_pointer(struct nicl_why *it, uint64_t bus)
 {
     const struct nicl_table *table = nicl_table_of(it->of);
@@ -419,7 +419,7 @@ static void drops(struct nicl_why *it)
 
 /* --- the explanation --- */
 
-/* Reports what stops all queues, or all on one side, if one of them is in use. */
+/* Reports what stops all queues, or all on one side, if any of those queues is in use. */
 static void rx_side(struct nicl_why *it)
 {
     bool is_used = false;

@@ -5,7 +5,7 @@
 #include "bus.h"
 #include "mailbox.h"
 
-#define BUS_FRAME_ROOM 65536 /* bytes: the device sends at most 65,531, as MAXFRS limits it, and pads up to 60 */
+#define BUS_FRAME_ROOM 65536 /* in bytes: MAXFRS limits a sent frame to 65,531, and the device pads up to 60 */
 #define MAILBOX_REQUESTS 17  /* number of request codes counted separately; the last one counts all others */
 #define MAILBOX_SHOWN 3      /* words of a message that are printed */
 

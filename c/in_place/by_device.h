@@ -1,5 +1,5 @@
-/* Data about controllers that isn't in the archive, looked up by the controller's pointer. The time of a lookup doesn't
-   grow with the number of controllers. The caller holds a lock. */
+/* Data about controllers that the archive doesn't hold, looked up by the controller's pointer. The time of a lookup
+   doesn't grow with the number of controllers. The caller holds a lock. */
 #ifndef NICL_BY_DEVICE_H
 #define NICL_BY_DEVICE_H
 

@@ -315,7 +315,7 @@ uint8_t nic_eeprom_step(nic *n, nic_outcome *outcome);
 uint8_t nic_int_step(nic *n, uint8_t group, nic_outcome *outcome);
 
 /* Runs steps in rounds until none has anything to do. A round is: for each queue below `queues`, its receive enable,
-   then its transmit enable; the EEPROM; one transmit step of each of these queues; one receive step; one message of
+   then its transmit enable; the EEPROM; one transmit step for each of these queues; one receive step; one message for
    each group. The first `*count` entries of `outcome` report what happened, each with its `status`, `step` and `of`.
    Returns DONE after a round in which no step did anything. MORE means that the array filled up before such a round
    (immediately if `length` is 0); another call begins a new round. OUT_OF_MEMORY means that a transmit step found no
@@ -348,15 +348,16 @@ uint8_t nic_next_step(nic *n, nic_settling *where, nic_outcome *outcome);
    their values, as tools/niclint --trace does: "rx 3: RDH[3] 0, RDT[3] 0: head and tail meet, so the device owns no
    slot until the driver advances the tail". No lines means that nothing is waiting and nothing was dropped. Sent frames
    don't count as waiting. Dropped frames are counted by the reason for the drop, since the controller was created or a
-   snapshot was restored into it. A queue switched off by a fault keeps its reason as long as the slot is still there. A
-   transmit ring at rest has a line if its last descriptor is a context descriptor with EOP, or if no descriptor has RS.
-   If an address isn't lent, but is a pointer into memory that the caller has lent, the line names the bus address of
-   that memory. Like snprintf, the call writes at most `size` bytes, including the terminating 0, and returns the length
-   of all lines without it. It writes only whole lines, up to the first that doesn't fit. `size` may be 0. For a closed
-   controller there are no lines. The call changes nothing. Registers don't show which frames are waiting, which enable
-   requests of queues are pending, or which causes were reported. The call finds them out on a copy of the controller.
-   Until the call returns, the copy takes as much memory as a snapshot and a restored controller: 4,096 bytes for each
-   lent block. If there isn't enough memory, the last line says so, and the lines that need the copy are missing. */
+   snapshot was restored into it. A queue that a fault switched off keeps the fault's line as long as the faulty slot is
+   still in the ring. A transmit ring at rest has a line if its last descriptor is a context descriptor with EOP, or if
+   no descriptor has RS. If an address isn't lent, but is a pointer into memory that the caller has lent, the line names
+   the bus address of that memory. Like snprintf, the call writes at most `size` bytes, including the terminating 0, and
+   returns the length of all lines without it. It writes only whole lines, up to the first that doesn't fit. `size` may
+   be 0. For a closed controller there are no lines. The call changes nothing. Registers don't show which frames are
+   waiting, which enable requests of queues are pending, or which causes were reported. The call finds them out on a
+   copy of the controller. Until the call returns, the copy takes as much memory as a snapshot and a restored
+   controller: 4,096 bytes for each lent block. If there isn't enough memory, the last line says so, and the lines that
+   need the copy are missing. */
 size_t nic_why(nic *n, char *text, size_t size);
 
 /* --- the EEPROM --- */

@@ -707,7 +707,7 @@ uint8_t nic_settle(nic *n, uint16_t queues, nic_outcome *outcome, size_t length,
 
 enum { GROUPS = 64 };
 
-/* Runs the step at a position of the round. After the first group that doesn't exist there are no others. */
+/* Runs the step at a position in the round. After the first group that doesn't exist, no other group exists. */
 static uint8_t step_at(nic *n, uint16_t queues, uint16_t at, nic_outcome *outcome)
 {
     uint16_t enables = (uint16_t)(2 * queues), place = (uint16_t)(at - enables);

@@ -152,7 +152,7 @@ static void finish_all(void)
 }
 
 #ifndef _WIN32
-/* A fork waits for the calls of other threads, so that the child gets consistent data. */
+/* A fork waits until other threads' calls have finished, so that the child gets consistent data. */
 static void before_fork(void)
 {
     hold();

@@ -22,12 +22,12 @@ struct recording *nicl_enter(const nic *n);
 /* Writes what was added since nicl_enter, and unlocks the recordings. `it` may be null. */
 void nicl_leave(struct recording *it);
 
-/* Begins the recording of a new controller if controllers are to be recorded, and ends one, which may be null. */
+/* Begin a new controller's recording, if controllers are to be recorded; and end a recording, which may be null. */
 void nicl_begin(const nic *n, uint8_t vfs, uint16_t fifo, uint32_t blocks);
 void nicl_end(const nic *n, struct recording *it);
 
-/* Receive queues that may be enabled, a bit each. Only a step or a restore enables one; all other calls only
-   disable. */
+/* The set of receive queues that may be enabled, with one bit for each queue. Only a step or a restore enables a queue;
+   all other calls only disable queues. */
 struct nicl_on {
     bool is_known; /* if false, nothing is known until all queues are checked */
     uint64_t queues[2];

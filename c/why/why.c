@@ -213,7 +213,7 @@ static bool is_type(nic_desc d, uint64_t kind)
     return d.second & NIC_TXD_DEXT && nic_desc_field(d.second, NIC_TXD_DTYP) == kind;
 }
 
-/* Returns whether no descriptor of a ring requests or contains a report. */
+/* Returns whether no descriptor in a ring requests or contains a report. */
 static bool has_no_report(struct nicl_why *it, const struct nicl_ring *ring)
 {
     nic_desc d;
@@ -223,7 +223,7 @@ static bool has_no_report(struct nicl_why *it, const struct nicl_ring *ring)
     return true;
 }
 
-/* The device has processed all slots. Reports why a driver may never see the last one reported. */
+/* Called when the device has processed all slots: reports why a driver may never see the last slot reported. */
 static void tx_last(struct nicl_why *it, const struct nicl_ring *ring, uint16_t queue)
 {
     uint32_t last = (ring->head ? ring->head : ring->slots) - 1;

@@ -16,7 +16,7 @@ Sources are compiled with -fsanitize=thread, so that each access to the driver's
 without an order between them fail a row. If that isn't possible, the first line says so, and why.
 
 A row in which nothing failed passes if it reached what it tries, for example frames on each queue, or a reset while
-frames were in flight. Otherwise it is "not reached", with what is missing.
+frames were in flight. Otherwise the row is reported as "not reached", with what is missing.
 
 A --require file lists rows, one per line, each with its points (1 by default); a comment begins with '#'. Only these
 rows and the rows named by --rows run. The points are printed, and written to points.txt and, as JUnit, to points.xml. A

@@ -148,6 +148,7 @@ def page(card: Card) -> str:
         f"<title>{escape(card.driver)}: report card</title><style>{STYLE}</style></head><body>"
         f"<h1>{escape(card.driver)}</h1><p>{counts(card)}, in {card.seconds:.0f} s with seed {card.budget.seed}</p>"
         f"{f'<p>{escape(blindness(card.blind))}</p>' if card.blind else ''}"
-        f"{bar(card)}{f'<p>failed or not reached: {links(failed)}</p>' if failed else ''}{first}{families}{coverage(card)}"
+        f"{bar(card)}{f'<p>failed or not reached: {links(failed)}</p>' if failed else ''}{first}{families}"
+        f"{coverage(card)}"
         "</body></html>\n"
     )

@@ -1,6 +1,6 @@
-/* Whether a process can fork while its other threads create threads, and the child can create one. A test in Rust needs
-   this if it creates threads in a schedule's process. Status 0, or 1 if the child hangs: under QEMU's user emulation it
-   does, because one of the emulator's locks stays taken in the child. */
+/* Checks whether a process can fork while its other threads create threads, and the child can then create a thread. A
+   test in Rust needs this if it creates threads in a schedule's process. Exit status 0 if it can, 1 if the child hangs.
+   Under QEMU's user emulation the child hangs, because one of the emulator's locks stays taken in it. */
 #define _DEFAULT_SOURCE
 #include <pthread.h>
 #include <signal.h>
@@ -31,7 +31,7 @@ static void *make_threads(void *unused)
     return unused;
 }
 
-/* Whether a child exits within that time. A child that doesn't is killed. */
+/* Whether a child exits within MOST_SECONDS. A child that doesn't is killed. */
 static bool ends(pid_t child)
 {
     time_t began = time(NULL);

@@ -327,8 +327,8 @@ static uint8_t restore_below(nic *n, const nic_kept *kept, rlim_t limit, rlim_t 
     return status;
 }
 
-/* Raises a limit step by step: each call that finds no memory changes nothing. Returns how many did. The controller has
-   one block less than the snapshot, so that a restore allocates packet memory. */
+/* Raises a limit step by step: each call that finds no memory changes nothing. Returns the number of these calls. The
+   controller has one block less than the snapshot, so that a restore allocates packet memory. */
 static unsigned refused(void)
 {
     struct rlimit limit;

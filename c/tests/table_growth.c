@@ -137,7 +137,7 @@ static uint8_t *host_of(uint32_t block, uint32_t blocks, enum order order)
     return (uint8_t *)(uintptr_t)(UINT64_C(0x10000000) + at * NICL_BLOCK);
 }
 
-/* Counts the steps to lend blocks one by one, find each, and take each back, in the same order. */
+/* Counts the steps to lend blocks singly, find each, and take each back, in the same order. */
 static unsigned long long of_blocks(uint32_t blocks, enum order order)
 {
     nic n = {space};
@@ -193,7 +193,7 @@ static void grows(const char *what, unsigned long long few, unsigned long long m
 int main(void)
 {
     beside_a_list();
-    grows("blocks upwards", of_blocks(4096, UP), of_blocks(TIMES * 4096, UP));
+    grows("blocks at rising addresses", of_blocks(4096, UP), of_blocks(TIMES * 4096, UP));
     grows("blocks at falling addresses", of_blocks(4096, DOWN), of_blocks(TIMES * 4096, DOWN));
     grows("blocks that aren't consecutive", of_blocks(4096, APART), of_blocks(TIMES * 4096, APART));
     grows("controllers with the same memory", of_controllers(512, UP), of_controllers(TIMES * 512, UP));

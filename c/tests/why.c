@@ -64,7 +64,7 @@ static void make(nic *n, const char *text)
     else if (!strcmp(word, "link"))
         ANSWERS(NIC_DONE, nic_link(n, a != 0));
     else
-        CHECK(!"a line of a set-up");
+        CHECK(!"a malformed line in a setup");
 }
 
 /* --- the explanations --- */

@@ -18,7 +18,7 @@ WRONG(MAILBOX_NOT_TAKEN, "mailbox-function-collides", "it was mixed or overwritt
 WRONG(MESSAGE_BEFORE_ACK, "mailbox-function-sends", "message 0 from the virtual function is read as 0xf0000100",
       "The next message is written before the previous one is acknowledged")
 WRONG(RS_ON_EVERY_FOURTH, "send-one",
-      "1 frame of queue 0 hasn't been transmitted, although all have: slot 0 was never reclaimed, because it has no RS",
+      "1 frame in queue 0 hasn't been transmitted, although all have: slot 0 was never reclaimed, because it has no RS",
       "Only every fourth descriptor requests a report, so the others wait for it")
 WRONG(RSTD_SEEN_ONCE, "mailbox-ready-once", "deadlock: ready waits",
       "One thread's read clears RSTD, which another thread needs")

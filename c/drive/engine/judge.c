@@ -302,7 +302,7 @@ static void judge_stuck(unsigned queue)
         nicd_note("send on queue %u fails forever, although all its frames were transmitted%s", queue,
                   tell_kept(queue));
     else if (nicd.is_awaited[queue] && nicd.out[queue])
-        nicd_note("reclaim reports forever that %u frame%s of queue %u ha%s been transmitted, although all have%s",
+        nicd_note("reclaim reports forever that %u frame%s in queue %u ha%s been transmitted, although all have%s",
                   (unsigned)nicd.out[queue], nicd.out[queue] == 1 ? "" : "s", queue,
                   nicd.out[queue] == 1 ? "sn't" : "ven't", tell_kept(queue));
 }

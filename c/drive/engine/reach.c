@@ -43,8 +43,8 @@ static const struct {
     [WRITES_EIMS] = {"EIMS enabled a queue's cause", "EIMS never enabled a queue's cause", ONCE},
     [HASHES] = {"MRQC requested a hash", "MRQC never requested a hash", ONCE},
     [LOOKED] = {"receive found no frame", "receive never returned", ONCE},
-    [TAKEN] = {"frames of queue %u were delivered", "no frame arrived in queue %u", QUEUES},
-    [TAKEN_0] = {"frames of queue %u were delivered", "no frame arrived in queue %u", ONCE},
+    [TAKEN] = {"frames from queue %u were delivered", "no frame arrived in queue %u", QUEUES},
+    [TAKEN_0] = {"frames from queue %u were delivered", "no frame arrived in queue %u", ONCE},
     [SENT] = {"frames were transmitted by queue %u", "no frame was transmitted by queue %u", QUEUES},
     [MESSAGES] = {"messages were sent for queue %u", "no message was sent for queue %u", QUEUES},
     [FULL] = {"the receive ring was full", "the receive ring was never full", ONCE},
@@ -388,7 +388,7 @@ static void write_one(FILE *file, enum reach reach, unsigned number)
     if (is_excused(reach, number))
         fprintf(file, "excused all frames arrived in queue 0\n");
     if (reach == TAKEN && counts->came[number] && !counts->reached[reach][number])
-        snprintf(never, sizeof never, "no frame of queue %u was delivered", number);
+        snprintf(never, sizeof never, "no frame from queue %u was delivered", number);
     fprintf(file, "reached %" PRIu32 " %s | %s\n", counts->reached[reach][number], did, never);
 }
 

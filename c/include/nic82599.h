@@ -13,8 +13,8 @@
    the handler of a signal that can arrive during a call. The handler of a fault that the driver's own load or store
    raised may call the library on the faulting thread.
 
-   Pointers: none may be null, even for a buffer of length 0. Each points to what its type says. A buffer has as many
-   bytes or items as the length argument after it says, and buffers don't overlap. If a controller was closed by
+   Pointers: none may be null, even for a buffer of length 0. Each must point to an object of its type. A buffer has as
+   many bytes or items as the length argument after it says, and buffers must not overlap. If a controller was closed by
    nic_close or never opened ({0}), every call with it returns CLOSED. The same holds for a snapshot that was dropped or
    never taken. Closing one copy of the struct doesn't change the other copies, so don't use them any longer. Every
    other argument may have any value: the call checks it and returns a status. */
@@ -232,7 +232,7 @@ uint8_t nic_read32(nic *n, uint32_t address, uint32_t *word);
 uint8_t nic_write32(nic *n, uint32_t address, uint32_t word);
 
 /* Reads and writes a register of virtual function `vf` in the same way, by its offset in the virtual function's
-   registers. It also returns STRAY if the device doesn't have this function or the mode (GCR_EXT) has no pool for it;
+   registers. Also returns STRAY if the device doesn't have this function or the mode (GCR_EXT) has no pool for it;
    the register then reads as 0xFFFFFFFF. */
 uint8_t nic_vf_read32(nic *n, uint8_t vf, uint32_t offset, uint32_t *word);
 uint8_t nic_vf_write32(nic *n, uint8_t vf, uint32_t offset, uint32_t word);

@@ -42,7 +42,7 @@ enum {
 
 /* What the card requests from `open`. */
 typedef struct nicd_setup {
-    uint8_t port;       /* 0: the physical function; v + 1: virtual function v, of 64 */
+    uint8_t port;       /* 0: the physical function; v + 1: virtual function v, with 64 pools */
     uint16_t queues;    /* the driver uses receive and transmit queues 0 .. queues - 1 of that port; 1 to NICD_QUEUES */
     uint16_t slots;     /* descriptors per ring: 8, 16, .. 64 */
     uint32_t frame;     /* bytes of the longest frame: 1,514 to NICD_FRAME_MOST */
@@ -99,7 +99,7 @@ enum nicd_can {
     NICD_CAN = 511 /* all of these bits */
 };
 
-/* A driver: its functions; a function that it lacks is null. Rows that need a missing function are reported as not
+/* A driver's functions. A function that the driver lacks is null. Rows that need a missing function are reported as not
    applicable. `open` and `close` are required, and so is `send` or `receive` (or threads that call nicd_deliver).
 
    For each queue the card calls `receive` in one thread at a time. The same holds for `send` and `reclaim` (but see

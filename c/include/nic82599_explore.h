@@ -168,10 +168,10 @@ void nicx_arm(int timer);
 bool nicx_disarm(int timer);
 
 /* Barriers for weak memory; with strong memory they are no-ops and aren't points. When nicx_wmb returns, all earlier
-   stores of the task's processor to lent memory have reached memory. Its atomic stores to the driver's own memory may
-   still be pending, but take effect before all later stores. A load after nicx_rmb returns no value older than the
-   barrier. nicx_mb does both, and leaves no store pending. Locks are barriers too: taking one orders loads, and
-   releasing one orders stores. */
+   stores of the task's processor to lent memory have reached memory. The processor's atomic stores to the driver's own
+   memory may still be pending, but take effect before all later stores. A load after nicx_rmb returns no value older
+   than the barrier. nicx_mb does both, and leaves no store pending. Locks are barriers too: taking one orders loads,
+   and releasing one orders stores. */
 void nicx_wmb(void);
 void nicx_rmb(void);
 void nicx_mb(void);
@@ -230,13 +230,13 @@ void nicx_frames(uint32_t count, size_t length);
 uint32_t nicx_rss_hash(const nicx_flow *flow);
 uint16_t nicx_rss_queue(const nicx_flow *flow);
 
-/* A virtual function's mailbox, as its driver keeps it: {.vf = 3}. It keeps the bits that a read clears. */
+/* A virtual function's mailbox, as its driver keeps it: {.vf = 3}. `seen` keeps the bits that a read clears. */
 typedef struct nicx_mailbox {
     uint8_t vf;
     uint32_t seen;
 } nicx_mailbox;
 
-/* Both sides of a mailbox, as their drivers use it. A sender waits for the mailbox and takes it, writes at most
+/* The calls for both sides of a mailbox. A sender waits for the mailbox and takes it, writes at most
    NICX_MAILBOX words, and signals the other side. `receives` checks for a signal; if there is one, it takes the
    mailbox, reads it, and acknowledges. `is_acked` checks whether the other side has acknowledged the message. Each
    signal and each acknowledgement is reported once. */

@@ -90,8 +90,7 @@ def words() -> argparse.Namespace:
     archives = "folder of the libraries (c/out in a clone, otherwise where they are installed)"
     parser.add_argument("--libraries", type=Path, default=where.libraries(), metavar="FOLDER", help=archives)
     parser.add_argument("--no-pages", action="store_true", help="don't write pages for the runs of failed rows")
-    cards = "compare two cards instead of running rows"
-    parser.add_argument("--compare", nargs=2, type=Path, metavar=("OLD", "NEW"), help=cards)
+    parser.add_argument("--compare", nargs=2, type=Path, metavar=("OLD", "NEW"), help="compare two cards, run no rows")
     return parser.parse_args(joined(sys.argv[1:]))
 
 

@@ -169,16 +169,15 @@ fn run<R: Threads + Wait + Sync>(
 /// Runs workers on a shared device, one on each queue below `workers`, while this many frames arrive. The frames
 /// alternate between TCP over IPv4 and over IPv6, and RSS distributes them among the queues. Each worker sends back the
 /// packets that it receives. Then a summary is written. For each queue, it has a line with the numbers of packets and
-/// bytes that the queue's worker received; then come the number of transmitted frames and the line `history legal`. The
-/// device's history is legal and leaves each worker's queue alone (`left_alone`), and each worker's driver starts from
-/// a clean state (`begins_well`). The status is then 0.
+/// bytes that the queue's worker received; then come the number of transmitted frames and the line `history legal`. If
+/// the status is 0, the summary was written and the device's history is legal. It leaves each worker's queue alone
+/// (`left_alone`), and each worker's driver started from a clean state (`begins_well`).
 ///
 /// The clauses state the format of the output, and that the printed number of transmitted frames is the number in such
 /// a history. The clauses state neither which frames arrive nor that a worker sends back the packets that it receives.
 /// Nor do they state that the packets and bytes in a line are the ones that the worker received in this history. By the
-/// clause `order` of `pmd::run_workers`, the outcome that it reports for a worker is in order over each such history.
-/// The worker's packets are a prefix of those delivered on its queue, and the frames transmitted there are a prefix of
-/// those that its driver accepted.
+/// clause `order` of `pmd::run_workers`, in each such history the worker's packets are a prefix of those delivered on
+/// its queue. The frames transmitted there are a prefix of those that its driver accepted.
 ///
 /// The call waits for locks and for the threads. Nothing is written if something is refused, a worker ends with a
 /// fault, its queue isn't left alone, its driver doesn't start from a clean state, or some frames don't arrive. In

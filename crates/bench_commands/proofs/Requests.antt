@@ -116,7 +116,7 @@ begun-by-nothing request None old new (Err OutOfMemory) nothing never = tt
 begun-by-nothing request (Some input) old new (Err OutOfMemory) nothing never =
     λ answer right. rw (nothing refl) (begins-with-nothing old answer.text)
 
--- The status of an error that has one of the kinds.
+-- The status of an error of one of these kinds.
 pub HasStatusOf-kind : (kinds : Kinds) (e : Error) (status : ℕ) → status ≡ words_status (kind_of e)
     → (kind_of e ≡ kind.OutOfMemory → ⊥) → HasKind kinds e
     → HasStatusOf kinds status

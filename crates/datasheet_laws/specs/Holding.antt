@@ -6,7 +6,7 @@ use Rattle.datasheet_laws.specs.Prelude.{State, after, has_bit, named, place}
 use Rattle.datasheet_laws.specs.SharedMailbox.{function_mail}
 use Rattle.datasheet_laws.specs.Shown.{reads_one}
 
--- A write doesn't end the function's hold of its mailbox. It is neither a write to PVFMAILBOX[v] with bit 2 clear nor a
+-- A write doesn't end the function's hold on its mailbox. It is neither a write to PVFMAILBOX[v] with bit 2 clear nor a
 -- write to PFMAILBOX[v] with bit 4 set. It requests no reset of the device or of the pool.
 pub record SparesFunction (v : ℕ) (p : Place) (word : ℕ) : Type 0 where
   pub own : p ≡ place Pvfmailbox v → IsTrue (has_bit 2 word)

@@ -89,7 +89,7 @@ PhysicalRaises =
     reads around (write_at r (other v) w) (0x00B00 + 4 * v) bit
     ≡ (reads around r (0x00B00 + 4 * v) bit || (sends w && names (word r (0x04E00 + 4 * v)) bit))
 
--- The reset of function v's pool clears the function's hold of its mailbox, bit 2, and what was sent to it, bits 4 and
+-- The reset of function v's pool clears the function's hold on its mailbox, bit 2, and what was sent to it, bits 4 and
 -- 5, and leaves all other bits unchanged.
 abbrev pub PoolResetsLeave : Type 0
 PoolResetsLeave =

@@ -44,8 +44,8 @@ BitsAreReportedOnce =
     (run : List Access) → StaysPending (after_message s eiame misc) run bit →
     (misc_then : ℕ) → next_bit (after_all (after_message s eiame misc) run) misc_then ≢ Some bit
 
--- Clearing masks loses no cause. If the same masks are set again next, each of these bits whose cause is 1 and that has
--- a vector is due, even if the bit was reported before.
+-- Clearing masks loses no cause. Suppose that the same masks are set again, with no other event in between. Each bit
+-- whose mask was set again is then due if its cause is 1 and it has a vector, even if it was reported before.
 pub record MaskingLosesNoCause : Type 0 where
   pub causes : (s : Interrupts) (bits : BitSet) → (after_mask_clear s bits).causes ≡ s.causes
   pub due_again : (s : Interrupts) (bits : BitSet) (misc bit : ℕ) → bit < 32 →

@@ -20,8 +20,8 @@ pub fn bits_are_reported_once()
     ensures { BitsAreReportedOnce }
 {}
 
-/// Clearing masks loses no cause. If the same masks are set again next, each of these bits whose cause is 1 and that
-/// has a vector is due, even if the bit was reported before.
+/// Clearing masks loses no cause. Suppose that the same masks are set again, with no other event in between. Each bit
+/// whose mask was set again is then due if its cause is 1 and it has a vector, even if it was reported before.
 pub fn masking_loses_no_cause()
     ensures { MaskingLosesNoCause }
 {}

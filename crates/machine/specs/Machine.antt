@@ -140,8 +140,8 @@ abbrev pub next_instruction : Listing → MachineState → Option (Instruction �
 next_instruction program s =
     if is_running s.status && nat_lt s.steps (2 ^ 64 - 1) then slice_get program.instructions s.pc else None
 
--- The step that executes the next instruction. If no instruction is next, the result is `Stopped` and the machine stays
--- unchanged.
+-- The step that executes the next instruction. If there is no next instruction, the result is `Stopped` and the
+-- machine stays unchanged.
 abbrev pub executed_if_some : Listing → MachineState → Option (Instruction ℕ ℕ) → Step
 executed_if_some program s None = record { answer = answer.Stopped; state = s }
 executed_if_some program s (Some instruction) = done program s (action_of program instruction)

@@ -197,7 +197,7 @@ written-next copies a b m n later at number copy is among whole next some high h
       left = λ before was. left-written before b n (number - 1) copy.1 lent (is.left before was);
     })
 
--- The number below those visited has no copy, unless the next copy has this number.
+-- Block numbers are visited in descending order. The next number has no copy, unless the next copy has this number.
 
 pub no-copy-left : (copies : List (ℕ × List ℕ)) (number : ℕ) → IsFrom (memory_of copies) (memory_of copies) number
     → 0 < number → map.get (memory_of copies) (number - 1) ≡ None

@@ -815,7 +815,7 @@ def filled(pieces: Iterable[str]) -> str:
 
 
 def fields() -> list[Row]:
-    """Returns the rows that are in other fields than the cells, in the table's order."""
+    """Returns the rows that are stored in fields other than the cells, in the table's order."""
     return [row for row in TABLE if row.name in FIELDS]
 
 
@@ -828,7 +828,7 @@ def proof_among() -> str:
 
 
 def proof_cell_of() -> str:
-    """Returns the lemma that a row in no other field is a cell."""
+    """Returns the lemma that a row is a cell if it is in no other field."""
     isnt = filled(f"→ row ≢ {row.variant}" for row in fields())
     lines = ""
     for at, row in enumerate(fields()):
@@ -924,7 +924,7 @@ returns-in_default-clause-holds c =
 
 
 def answer_of_side(row: Row) -> str:
-    """Returns the proof for a queue's register: the word is stored in its side."""
+    """Returns the proof for a queue's register: its word is stored in one side of the queue."""
     side, goal = (FIELDS[row.name] or "").rpartition("a.")[2], f"returns-in-{row.variant}"
     by = f"rw (← c.self-in-{row.variant}.view_is, c.in-{row.variant}.is)"
     return f"pub {goal} : goal.{goal}\n{goal} c = {by} (simp (c.from-at.ensures, {side}_columns))\n\n"

@@ -34,7 +34,7 @@ def ran(words: list[object], wanted: int | None = 0, **how: object) -> str:
     )
     if wanted is not None and made.returncode != wanted:
         shown = " ".join(str(word) for word in words)
-        raise Wrong(f"status {made.returncode} and not {wanted} of: {shown}\n{made.stdout}".rstrip())
+        raise Wrong(f"status {made.returncode} instead of {wanted} from: {shown}\n{made.stdout}".rstrip())
     return made.stdout
 
 
@@ -101,7 +101,7 @@ class Kit:
 
 
 def of_known_memory(source: Path) -> bool:
-    """Whether a corpus driver states that its bug shows only if memory accesses are observed."""
+    """Whether a corpus driver's comment says that its bug shows only if memory accesses are observed."""
     return "-fsanitize=thread" in source.read_text().partition("*/")[0] and source.parent.name == "corpus"
 
 
@@ -289,7 +289,7 @@ NEVER = {
     "slots": [
         "task poll never got past its first wait",
         "handler isr never started: no message pf vector 5 was sent",
-        "no frame was ever written to memory: it is still waiting inside the device",
+        "no frame was ever written to memory: still waiting inside the device",
     ],
     "waits": ["task poll never got past its first wait"],
     "queue": ["queue 0 was on but sent nothing"],
@@ -371,7 +371,7 @@ WORDS = {
 
 def must_print(text: str, wanted: str, what: str) -> None:
     if not re.search(wanted, text):
-        raise Wrong(f"{what}: it isn't printed that \"{wanted}\":\n{text}")
+        raise Wrong(f"{what}: expected \"{wanted}\" in this output:\n{text}")
 
 
 def check_faults(kit: Kit) -> str:
@@ -391,7 +391,7 @@ def check_faults(kit: Kit) -> str:
             must_print(ran([program, mode, "--replay", out / "faulty.schedule"], 1), "FAILED", mode)
     said = ran([program, "check", "--quiet", "--jobs", 2, "--out", f"{out}/"], 1)
     must_print(
-        said, f"the schedule is {out}/faulty.schedule, the device's side of it {out}/faulty.nic", "a folder and a /"
+        said, f"the schedule is {out}/faulty.schedule, the script for nicbench is {out}/faulty.nic", "a folder and a /"
     )
     words = [program, "strange", "--quiet", "--jobs", 1, "--strategy", "exhaustive", "--out", out]
     must_print(ran(words, 1), "misuse: a schedule ran differently the second time", "strange")
@@ -402,7 +402,7 @@ def check_faults(kit: Kit) -> str:
         ran([program, mode, "--quiet", "--jobs", 2, "--strategy", "exhaustive", "--preemptions", 1, "--out", out])
     ran([program, "fine", "--quiet", "--runs", 500, "--out", out, "--junit", out / "result.xml"])
     if xml.etree.ElementTree.parse(out / "result.xml").find("testcase/failure") is not None:
-        raise Wrong("a search without a failure has one in its JUnit file")
+        raise Wrong("the JUnit file of a search without a failure contains one")
     return f"{len(FAULTS) + 1} faults reported"
 
 
@@ -417,21 +417,21 @@ def check_never(kit: Kit) -> str:
             said = ran(words)
             lines = [line.partition(": note: ")[2] for line in said.splitlines() if ": note: " in line]
             if [line for line in lines if not line.startswith("faults are allowed")] != wanted:
-                raise Wrong(f"vacuous {mode}: it isn't reported what never ran:\n{said}")
+                raise Wrong(f"vacuous {mode}: the report doesn't say correctly what never ran:\n{said}")
             suite = xml.etree.ElementTree.parse(out / "result.xml").getroot()
             if [one.get("value") for one in suite.iterfind("properties/property[@name='never']")] != wanted:
-                raise Wrong(f"vacuous {mode}: the JUnit file has other properties")
+                raise Wrong(f"vacuous {mode}: the JUnit file has the wrong properties")
             strict = ran([*words, "--strict"], 3 if wanted else 0)
             suite = xml.etree.ElementTree.parse(out / "result.xml").getroot()
             if (suite.find("testcase/failure") is not None) != bool(wanted) or "FAILED" in strict:
-                raise Wrong(f"vacuous {mode}: by --strict the JUnit file has another end")
+                raise Wrong(f"vacuous {mode}: with --strict, the JUnit file has the wrong verdict")
     must_print(ran([program, "faults", "--runs", 9]), "note: faults are allowed, but none occurred", "faults")
     one = ran([program, "fine", "--quiet", "--jobs", 1, "--runs", 300])
     two = ran([program, "fine", "--quiet", "--jobs", 2, "--runs", 300])
     counts = [re.findall(r"(\d+) distinct schedules", said) for said in (one, two)]
     if counts[0] != counts[1] or not 10 < int(counts[0][0]) < 300:
-        raise Wrong(f"distinct schedules: {counts}")
-    return f"{len(NEVER)} scenarios of which a part never runs, or all does; {ran([count_program(kit)]).strip()}"
+        raise Wrong(f"unexpected numbers of distinct schedules: {counts}")
+    return f"{len(NEVER)} scenarios, with and without parts that never run; {ran([count_program(kit)]).strip()}"
 
 
 # Chosen values and timers: what is printed, and the status.
@@ -478,7 +478,7 @@ def check_choices(kit: Kit) -> str:
             lines = schedule.read_text().splitlines() if status == 1 else []
             values = [line.partition("#")[0].strip() for line in lines if line.startswith("value ")]
             if mode in LOWEST and values != LOWEST[mode]:
-                raise Wrong(f"choices {mode}: by {strategy} it isn't shrunk to the lowest values but to {values}")
+                raise Wrong(f"choices {mode}: with {strategy}, it isn't shrunk to the lowest values but to {values}")
             if status == 1 and mode not in ("hang", "endless"):
                 must_print(ran([program, mode, "--replay", schedule], 1), wanted, f"choices {mode}, again")
     whole = [program, "fine", "--quiet", "--jobs", 1, "--strategy", "exhaustive", "--preemptions", 0, "--no-sleep"]
@@ -504,7 +504,7 @@ def check_weak(kit: Kit) -> str:
     schedule = out / "missing_wmb.schedule"
     lines = schedule.read_text().splitlines()
     if "memory weak" not in lines or not any(", on its way" in line for line in lines):
-        raise Wrong(f"{schedule} doesn't tell of weak memory")
+        raise Wrong(f"{schedule} doesn't say that memory is weak")
     ran([program, "--replay", schedule], 1)
     ran([program, "--replay", schedule, "--memory", "strong"], 1)
     schedule.write_text("\n".join(line for line in lines if line != "memory weak") + "\n")
@@ -533,7 +533,7 @@ def check_bounds(kit: Kit) -> str:
             schedules.append((out / f"{source.stem}.schedule").read_text())
         found += 1
         if len(set(schedules)) != 1 or "by exhaustive in part" not in schedules[0]:
-            raise Wrong(f"{source.stem}: with another bound the exhaustive search finds another failure first")
+            raise Wrong(f"{source.stem}: with a different bound, the exhaustive search finds a different failure first")
     return f"{found} failures with one preemption found first"
 
 
@@ -546,23 +546,23 @@ def check_shards(kit: Kit) -> str:
     def made(*words: object, jobs: int = 1) -> int:
         said = ran([fixed, "--quiet", "--jobs", jobs, "--out", out, *words])
         if "exhaustive" in words and "searched all schedules" not in said:
-            raise Wrong(f"a shard doesn't come to its end:\n{said}")
+            raise Wrong(f"a shard isn't searched completely:\n{said}")
         return int(re.findall(r": (\d+) schedules?,", said)[0])
 
     every = ["--strategy", "exhaustive", "--preemptions", 1, "--no-sleep"]
     parts = [made(*every, "--shard", f"{k}/{shards}") for k in range(1, shards + 1)]
     if sum(parts) != made(*every) + 2 * (shards - 1) or min(parts) < 20:
-        raise Wrong(f"the shards of the exhaustive search make {parts} schedules")
+        raise Wrong(f"the shards of the exhaustive search run {parts} schedules")
     for jobs in (1, 2):
         parts = [made("--runs", 100, "--shard", f"{k}/{shards}", jobs=jobs) for k in range(1, shards + 1)]
         if parts != [34, 33, 33]:
-            raise Wrong(f"the shards of 100 schedules make {parts}")
+            raise Wrong(f"the shards of 100 schedules run {parts}")
     words = [race, "--quiet", "--no-shrink", "--jobs", 2, "--out", out]
     found = [ran([*words, "--shard", f"{k}/{shards}"], 1) for k in range(1, shards + 1)]
     runs = [int(re.findall(r"in run (\d+)", said)[0]) for said in found]
     whole = int(re.findall(r"in run (\d+)", ran(words, 1))[0])
     if [run % shards for run in runs] != list(range(shards)) or min(runs) != whole:
-        raise Wrong(f"shards find the failure in runs {runs}, and one search in run {whole}")
+        raise Wrong(f"shards find the failure in runs {runs}, but a single search in run {whole}")
     return f"{shards} shards make what one search makes"
 
 
@@ -640,10 +640,10 @@ def check_unpointed(kit: Kit) -> str:
         found = ran([pointed, mode, *words], 1) + ran([seen, mode, *words], 1)
         must_print(found, f"{POINTED[mode]}(.*\n)*.*FAILED race: driver", mode)
         if "without a point in between" in found:
-            raise Wrong(f"unpointed {mode}: a point is reported as missing that is there:\n{found}")
+            raise Wrong(f"unpointed {mode}: a point is reported as missing although it is there:\n{found}")
     for mode in ("locked", "flags", "atomic"):
         if "without a point in between" in ran([silent, mode, *words]):
-            raise Wrong(f"unpointed {mode}: a point is reported as missing that no schedule needs")
+            raise Wrong(f"unpointed {mode}: a point is reported as missing although no schedule needs it")
     wanted = r"note: interrupted\(\) in task one .* and interrupt\(\) in handler"
     must_print(ran([silent, "interrupt", *words]), wanted, "interrupt")
     must_print(ran([seen, "interrupt", *words], 1), "FAILED end: a count is lost", "interrupt")
@@ -685,12 +685,12 @@ def check_apart(kit: Kit) -> str:
             ran([program, mode.replace("fine", "bug").replace("free", "bug-free"), *words], 1), "transmitted", mode
         )
     if counts[1] * 3 > counts[0]:
-        raise Wrong(f"apart: {counts[0]} schedules, and {counts[1]} where it is race-free")
-    return f"{counts[0]} schedules, {counts[1]} where the scenario is race-free"
+        raise Wrong(f"apart: {counts[0]} schedules, but still {counts[1]} if the scenario is race-free")
+    return f"{counts[0]} schedules, {counts[1]} if the scenario is race-free"
 
 
 def check_kit(kit: Kit) -> str:
-    """The kit's flows, frames and mailboxes."""
+    """Checks the kit's flows, frames and mailboxes."""
     out = kit.out("kit-found")
     ran([kit.build(HERE / "tests/kit.c"), "--quiet", "--jobs", 2, "--runs", 300, "--strict", "--out", out])
     return "the kit's flows and mailboxes"
@@ -816,7 +816,7 @@ def check_races(kit: Kit) -> str:
         made = [ran([program, "mutex", *words, "--runs", 100, *one]) for one in ways]
         counts = [int(re.findall(r"(\d+) points", one)[0]) for one in made]
         if not counts[0] >= counts[1] > counts[2]:
-            raise Wrong(f"--points makes {counts} points")
+            raise Wrong(f"with --points memory, memory:data and without, there are {counts} points")
     return f"{len(modes)} orders of accesses"
 
 
@@ -824,12 +824,13 @@ def check_races(kit: Kit) -> str:
 FREED_BY = r"freed by \w+ at freed\.c:\d+ < \S+; allocated at freed\.c:\d+\n"
 FREED = {
     "poll": rf"use after free: receive at freed\.c:\d+ < freed\.c:\d+ (reads|writes) 4 bytes that were {FREED_BY}",
-    "lock": rf"use after free: receive at \S+ < \S+ calls pthread_mutex_lock with what was {FREED_BY}",
+    "lock": rf"use after free: receive at \S+ < \S+ calls pthread_mutex_lock on an object that was {FREED_BY}",
     "copy": rf"use after free: receive at \S+ < \S+ reads 32 bytes that were {FREED_BY}",
     "reuse": rf"use after free: receive at \S+ < \S+ (reads|writes) 4 bytes that were {FREED_BY}",
     "timer": r"use after free: receive at \S+ < \S+ \w+ 4 bytes that were freed by watchdog at freed\.c:\d+ < ",
     "rcu": r"race: malloc\(freed\.c:\d+\)\+0x\w+, \d+ bytes: stop at freed\.c.* frees, and receive at .* read it",
-    "twice": r"double free: \w+ frees at \S+ < \S+ what stop freed at freed\.c:\d+ < \S+; allocated at freed\.c:\d+\n",
+    "twice": r"double free: \w+ frees at \S+ < \S+ memory that stop freed at freed\.c:\d+ < \S+; "
+    r"allocated at freed\.c:\d+\n",
     "moves": rf"use after free: receive at \S+ < \S+ writes 8 bytes that were {FREED_BY}",
     "aligned": rf"use after free: receive at \S+ < \S+ writes 32 bytes that were {FREED_BY}",
     "past": r"out of bounds: receive at \S+ < \S+ writes 8 bytes at offset 24 of 24 bytes, allocated at freed\.c:\d+\n",
@@ -952,7 +953,7 @@ def check_named(kit: Kit) -> str:
             must_print(ran(["node", "-e", FOLLOWED, page]), f"^{re.escape(followed)}$", f"{mode}, its page")
     once: list[object] = ["--quiet", "--runs", 1, "--jobs", 1, "--out", out]
     must_print(ran([program, "helper", *once], None), r": 1 schedule, \d+ points?, ", "one")
-    return f"{len(NAMED)} failures by names"
+    return f"{len(NAMED)} failures that name what they are about"
 
 
 UNSEEN = "the search can't see plain accesses and atomics, so it misses bugs in their order: compile with -fsanitize"
@@ -970,7 +971,7 @@ POINTS = {
 
 
 def check_points(kit: Kit) -> str:
-    """A bug that needs another thread to act just before a call takes effect is found; the twins pass each schedule."""
+    """A bug is found that needs another thread to act just before a call takes effect. The twins pass each schedule."""
     source, out = HERE / "tests/points.c", kit.out("points")
     words = ["--quiet", "--jobs", 2, "--out", out, "--no-shrink"]
     wrong, right = (kit.build_form(source, *defines, of_memory=True) for defines in ([], ["FIXED"]))
@@ -1015,13 +1016,13 @@ def check_assembly(kit: Kit) -> str:
         must_print(said.splitlines()[0], wanted, define)
     distance = ["BARRIER=DISTANCE", "PADDED"] if os.uname().machine == "x86_64" else []
     if "inline assembly" in ran([kit.build_form(source, *distance, of_memory=True), *words]):
-        raise Wrong("assembly.c: the distance of a call is taken for a barrier")
+        raise Wrong("assembly.c: a call's displacement is mistaken for a barrier")
     for right in (source, HERE / "tests/points.c", HERE / "examples/forwarder.c"):
         form = "program" if right.parent.name == "examples" else "threads"
         program = kit.build_form(right, "FIXED", of_memory=True, form=form)
         if "inline assembly" in ran([program, *([] if right != HERE / "tests/points.c" else ["wait"]), *words]):
-            raise Wrong(f"{right.name} has no inline assembly")
-    return f"{len(barriers)} barriers by inline assembly"
+            raise Wrong(f"{right.name}: inline assembly is reported, but there is none")
+    return f"{len(barriers)} barriers in inline assembly"
 
 
 STOPPED = "end: the queue stays stopped, although a descriptor is free"
@@ -1042,7 +1043,7 @@ def check_own_memory(kit: Kit) -> str:
         for memory in ("tso", "weak"):
             must_print(ran([wrong, *words, "--memory", memory], 1), f"FAILED {STOPPED}", f"{mode}, {memory}")
             if f"memory {memory}" not in schedule.read_text().splitlines():
-                raise Wrong(f"{schedule} doesn't name its memory")
+                raise Wrong(f"{schedule} doesn't name its memory model")
             late = r"stores is_stopped \((relaxed|release)\): 1, on its way"
             must_print(ran([wrong, mode, "--replay", schedule], 1), late, f"{mode}, {memory}")
             must_print(ran([right, mode, "--replay", schedule, "--lenient"]), ": fine", f"{mode}, {memory}, fixed")
@@ -1068,7 +1069,7 @@ def check_program(kit: Kit, runs: int) -> str:
         twin = kit.build_form(source, "FIXED", form="program", of_memory=of_memory)
         said = ran([twin, *words, "--runs", runs, "--strict"])
         if (UNSEEN in said) == of_memory:
-            raise Wrong(f"it isn't said whether accesses are seen:\n{said}")
+            raise Wrong(f"the report doesn't say correctly whether the search sees accesses:\n{said}")
         must_print(ran([twin, *words, "--runs", 2, "--", 1]), "no failure was found", "forwarder with one frame")
     with open(schedule.replace(".schedule", ".nic"), encoding="ascii") as script:
         if not ran([kit.nicbench, "run", "--fifo", 64], stdin=script).splitlines()[-1].startswith("ok "):
@@ -1104,7 +1105,7 @@ def check_threads(kit: Kit, searches: int) -> str:
             (explorer,) = sanitized_engine(folder, kit.compiler, THREAD, "explore")
             kits.append(replace(kit, folder=folder, flags=THREAD, explorer=explorer))
         else:
-            more = ", not under the thread sanitizer, which isn't here or has no place for what a search maps"
+            more = ", not under the thread sanitizer, which isn't installed or can't map a search's memory"
     for it in kits:
         threaded = replace(it, flags=[*it.flags, "-pthread"])
         said = ran([threaded.build(HERE / "tests/threads.c"), it.folder, searches], timeout=HANGS).splitlines()[-1]
@@ -1125,7 +1126,7 @@ def sanitized_engine(folder: Path, compiler: str, flags: list[str], *parts: str)
 
 
 # For each amount: states for the table's test; scenarios for the test of sleep sets; random schedules of each twin;
-# preemptions in a twin's exhaustive search; N, to try every Nth driver of the corpus; searches while another thread
+# preemptions in a twin's exhaustive search; N, to try every Nth driver in the corpus; searches while another thread
 # runs.
 AMOUNTS = {
     "few": (300, 4, 500, 1, 4, 5),  # with sanitizers
@@ -1135,19 +1136,19 @@ AMOUNTS = {
 
 
 def check_forms(kit: Kit, runs: int) -> list[str]:
-    """A driver's own threads and memory. The archive of the link form is built without sanitizers."""
+    """Checks searches of a driver's own threads and memory. The link form's archive is built without sanitizers."""
     checks = (check_form, check_points, check_own_memory, check_assembly, check_cpp, check_races)
     return [*(check(kit) for check in (*checks, check_freed, check_named)), check_program(kit, runs)]
 
 
 def check_reported_faults(kit: Kit) -> list[str]:
-    """How faults, values and refusals are reported."""
+    """Checks how faults, values and refusals are reported."""
     parts = (check_names, check_faults, check_never, check_choices, check_weak, check_kit, check_bounds)
     return [check(kit) for check in (*parts, check_shards, check_refusals, check_unpointed)]
 
 
 def check_searches(kit: Kit, amount: str) -> list[str]:
-    """Orders of independent steps, the corpus, the examples, and searches while other threads run."""
+    """Checks the orders of independent steps, the corpus, the examples, and searches while other threads run."""
     states, scenarios, runs, preemptions, each, searches = AMOUNTS[amount]
     return [
         check_orders(kit, states),

@@ -44,15 +44,15 @@ def check_fuzz(kit: Kit) -> str:
     """Checks the harness with fixed inputs, and with libFuzzer."""
     failing = check_inputs(kit)
     if not failing:
-        raise Wrong("no input of a hundred finds the race")
+        raise Wrong("none of the 100 inputs finds the race")
     said = f"{failing} of 100 inputs fail, and are replayed"
     if not shutil.which("clang"):
-        return f"{said}; not by libFuzzer, since clang isn't installed"
+        return f"{said}; libFuzzer isn't tried, because clang isn't installed"
     words = ["-O1", "-fsanitize=fuzzer", "-DNICX_LIBFUZZER", "-Dmain=nicx_scenario_main"]
     try:
         program = built(kit, "race-libfuzzer", "clang", *words)
     except Wrong:
-        return f"{said}; not by libFuzzer, which clang has not here"
+        return f"{said}; libFuzzer isn't tried, because this clang doesn't include it"
     out = ran([program, "-max_len=64", "-seed=1", "-runs=300000", f"-artifact_prefix={kit.folder}/"], None)
     found = re.search(r"Test unit written to (\S+)", out)
     if not found or FAILS not in out:

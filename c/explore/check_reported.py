@@ -24,7 +24,7 @@ def found_by(kit: Kit, program: Path, mode: str, *words: object) -> tuple[str, s
     said = ran([program, mode, "--quiet", "--jobs", 1, "--out", out, *words], 1)
     again = ran([program, mode, "--replay", out / "reported.schedule"], 1)
     if re.findall(r"FAILED .*", said) != re.findall(r"FAILED .*", again):
-        raise Wrong(f"reported {mode}: another failure by --replay:\n{said}{again}")
+        raise Wrong(f"reported {mode}: --replay shows a different failure:\n{said}{again}")
     return said, (out / "reported.schedule").read_text()
 
 
@@ -49,7 +49,7 @@ def check_shrinking(kit: Kit, program: Path) -> str:
         seen.append((int(numbers[1]), int(numbers[3])))
     said, schedule = found_by(kit, program, "counted")
     if "without 2 tasks, 1 handler, 4 link changes\n" not in said or points_of(schedule).count("arrive") != 6:
-        raise Wrong(f"reported counted is shrunk by frames that its end asks for:\n{said}{schedule}")
+        raise Wrong(f"reported counted: shrinking left out frames that `end` counts:\n{said}{schedule}")
     ran([program, "fixed", "--quiet", "--runs", 500, "--out", kit.folder])
     return ", ".join(f"{found} points shrunk to {shrunk}" for found, shrunk in seen)
 
@@ -62,12 +62,12 @@ def check_cycle(kit: Kit, program: Path) -> str:
     where = next(number for number, line in enumerate(lines) if line.startswith("cycle "))
     round_of = points_of("\n".join(lines[where + 1 :]))
     if len(points) > 12 or not {"task one", "task other"} == set(round_of):
-        raise Wrong(f"reported round: a longer cycle than it needs, or another:\n{schedule}")
+        raise Wrong(f"reported round: the cycle is too long, or not the expected one:\n{schedule}")
     again = ran([program, "round", "--replay", kit.folder / "reported-out/reported.schedule"], 1)
     must_print(again, f"and so on: the last {len(round_of)} points repeat", "reported round")
     script = (kit.folder / "reported-out/reported.nic").read_text()
     if script.count("# task one: ") != points.count("task one"):
-        raise Wrong(f"reported round: its script has other steps than its schedule:\n{script}")
+        raise Wrong(f"reported round: its script and its schedule have different steps:\n{script}")
     file = kit.folder / "reported-out/round.schedule"
     for text, wanted in {
         "scenario reported\ntask one\ncycle\n": ":3: the cycle has no point",
@@ -109,15 +109,15 @@ def check_places(kit: Kit, program: Path) -> str:
             pattern = re.escape(what) if name else re.escape(what).replace("far_lock", "lock 1")
             place = rf".* (at|<) reported.c:{number}$" if name else ""
             if what != "helper" and not re.search(f"# {pattern}{place}", said, re.M):
-                raise Wrong(f"by {name or 'nothing'}: line {number} isn't reported as \"{what}\":\n{said}")
+                raise Wrong(f"with {name or 'no resolver'}: line {number} isn't reported as \"{what}\":\n{said}")
         helpers = re.findall(r"w EIMC .* at reported.c:(\d+) < reported.c:\d+$", said, re.M)
         if name and [wanted.get(int(one)) for one in helpers] != ["helper", "helper"]:
-            raise Wrong(f"by {name}: the two lines of a helper aren't reported:\n{said}")
+            raise Wrong(f"with {name}: the two lines of a helper aren't reported:\n{said}")
         if not name and "reported.c:" in said:
-            raise Wrong(f"there is nobody to ask for lines, and there are some:\n{said}")
+            raise Wrong(f"no program can look up lines, but the output contains some:\n{said}")
     if found_resolvers:
         check_late_lines(kit, program, found_resolvers[0])
-    return f"lines by {' and '.join(found_resolvers) or 'nothing, which is here'}"
+    return f"lines from {' and '.join(found_resolvers) or 'no program: none is installed'}"
 
 
 def check_late_lines(kit: Kit, program: Path, name: str) -> None:
@@ -135,7 +135,7 @@ def check_late_lines(kit: Kit, program: Path, name: str) -> None:
     said = ran(words, 1, env={**os.environ, "PATH": str(folder)})
     (schedule,) = out.glob("*.schedule")
     if f"{SOURCE.name}:" not in schedule.read_text() or "misuse" in said:
-        raise Wrong(f"lines that come late aren't waited for:\n{said}")
+        raise Wrong(f"the search doesn't wait for source lines that are resolved late:\n{said}")
 
 
 PARTS = {
@@ -184,27 +184,27 @@ def check_page(kit: Kit, program: Path) -> str:
         said = ran([kit.build(source), "--quiet", "--jobs", 1, "--out", out], 1)
         data, schedule = page_of(out / f"{source.stem}.html"), (out / f"{source.stem}.schedule").read_text()
         if [step["actor"] for step in data["steps"]] != points_of(schedule):
-            raise Wrong(f"{name}: its page has other points than its schedule")
+            raise Wrong(f"{name}: its page and its schedule have different points")
         seen = {one for step in data["steps"] for one in step["objects"]}
         turn = re.search(r"point of no return: point (\d+)", said)
         if not wanted <= seen or not turn or int(turn[1]) != data["turn"]:
-            raise Wrong(f"{name}: its page has {sorted(seen)}, and goes wrong at {data.get('turn')}:\n{said}")
+            raise Wrong(f"{name}: its page has {sorted(seen)}, and the turning point {data.get('turn')}:\n{said}")
         lines = schedule.splitlines()
         where = next(number for number, line in enumerate(lines) if line.startswith("# point of no return: if "))
         if points_of("\n".join(lines[:where])) != points_of(schedule)[: data["turn"]]:
-            raise Wrong(f"{name}: its schedule goes wrong elsewhere than its page")
+            raise Wrong(f"{name}: its schedule and its page have different turning points")
     faulty = kit.build(HERE / "tests/faulty.c")
     for mode in ("crash", "end"):  # (during a step; text that looks like a tag)
         ran([faulty, mode, "--quiet", "--jobs", 1, *NO_HANG, "--out", out], 1, env={**os.environ, **CRASHES})
         data = page_of(out / "faulty.html")
         if data["outcome"] != mode or not data["steps"]:
-            raise Wrong(f"faulty {mode}: its page has no steps, or another end")
+            raise Wrong(f"faulty {mode}: its page has no steps, or the wrong outcome")
     words = [faulty, "crash", "--quiet", "--jobs", 1, *NO_HANG, "--strategy", "priorities"]
     said = ran([*words, "--out", out], 1, env={**os.environ, **CRASHES})
     must_print(said, "found by random before run 0,", "a crash before the first run")
     found_by(kit, program, "round")
     if page_of(out / "reported.html")["cycle"] != len(page_of(out / "reported.html")["steps"]) - 4:
-        raise Wrong("reported round: its page has another cycle")
+        raise Wrong("reported round: its page has the wrong cycle")
     return f"{len(OBJECTS) + 3} pages"
 
 
@@ -216,7 +216,7 @@ def check_lenient(kit: Kit, program: Path) -> str:
         said = ran([program, mode, "--replay", schedule, "--lenient"], None)
         for wanted in parts:
             if not re.search(wanted, said, re.M):
-                raise Wrong(f"reported {mode} --lenient: it isn't reported that {wanted}:\n{said}")
+                raise Wrong(f"reported {mode} --lenient: no line of the output matches {wanted}:\n{said}")
         if len(re.findall("departs from the schedule|follows the whole schedule", said)) != 1:
             raise Wrong(f"reported {mode} --lenient: it departs more than once:\n{said}")
     other = schedule.with_name("other.schedule")
@@ -227,7 +227,7 @@ def check_lenient(kit: Kit, program: Path) -> str:
     said = ran([program, "reader", "--replay", other], 2)
     must_print(said, "the schedule is for scenario old, but this program is reported", "other")
     must_print(ran([program, "reader", "--lenient"], 2), "--lenient: only valid with --replay", "--lenient")
-    return f"{len(PARTS)} drivers follow a schedule as far as it goes"
+    return f"{len(PARTS)} drivers follow a schedule as far as possible"
 
 
 def made(said: str) -> int:
@@ -248,7 +248,7 @@ def check_same_answer(kit: Kit) -> str:
         schedules.add((out / f"{source.stem}.schedule").read_text())
         count = made(ran([right, *words, "--jobs", jobs]))
         if count != whole + bounds * (jobs - 1):  # (each process runs the first schedule of each bound)
-            raise Wrong(f"{jobs} processes make {count} schedules, where one makes {whole}")
+            raise Wrong(f"{jobs} processes run {count} schedules, but one runs {whole}")
     large = kit.build(HERE / "outside/rss_rebalance.c", "FIXED")
     few = [large, *words, "--preemptions", "any", "--no-sleep"]
     runs, seconds = ["--runs", 50], ["--seconds", "0.05"]
@@ -257,11 +257,12 @@ def check_same_answer(kit: Kit) -> str:
         must_print(
             said, f"didn't search all schedules: {end[-2]} ended the search\n", "an exhaustive search that was ended"
         )
-    if "aren't all" in ran([right, *words]) or "aren't all" in ran([right, "--quiet", "--runs", 50]):
-        raise Wrong("a search that came to its end, or that is by chance, is reported not to be all")
+    part = "didn't search all schedules"
+    if part in ran([right, *words]) or part in ran([right, "--quiet", "--runs", 50]):
+        raise Wrong("a complete search or a random one is reported as incomplete")
     if len(schedules) != 1:
-        raise Wrong("with another number of processes the exhaustive search finds another schedule")
-    return f"the same failure after {alone} schedules, and {whole} of the twin, by 1, 2 and 3 processes"
+        raise Wrong("with a different number of processes, the exhaustive search finds a different schedule")
+    return f"the same failure after {alone} schedules, and {whole} schedules of the twin, with 1, 2 and 3 processes"
 
 
 def check_reported(kit: Kit) -> list[str]:

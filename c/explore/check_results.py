@@ -18,7 +18,7 @@ def numbers(said: str) -> dict[str, int]:
     found = re.search(r"(\d+) schedules?, (\d+) points?", said)
     distinct = re.search(r"(\d+) distinct schedules?", said)
     if not found:
-        raise Wrong(f"it isn't printed how many schedules were made:\n{said}")
+        raise Wrong(f"the output doesn't say how many schedules ran:\n{said}")
     return {"schedules": int(found[1]), "points": int(found[2]), "distinct": int(distinct[1]) if distinct else 0}
 
 
@@ -38,21 +38,21 @@ def check_sums(kit: Kit) -> str:
             must_print(merged, "searched all schedules", "shards of the exhaustive search")
             firsts = 2 * (2 + 1 + 2)  # (each process of each shard runs the first schedule of both bounds)
             if not wanted["schedules"] <= got["schedules"] <= wanted["schedules"] + firsts:
-                raise Wrong(f"the shards made {got}, and one search {wanted}")
+                raise Wrong(f"the shards ran {got}, but a single search ran {wanted}")
         elif got != wanted:
-            raise Wrong(f"the shards made {got}, and one search {wanted}")
+            raise Wrong(f"the shards ran {got}, but a single search ran {wanted}")
         alone = ran([program, "--merge", out / "whole", "--out", out])
         if numbers(alone) != wanted:
-            raise Wrong(f"a result by itself has {numbers(alone)}, and its search made {wanted}")
+            raise Wrong(f"a result merged by itself has {numbers(alone)}, but its search ran {wanted}")
         part = ran([program, "--merge", files[0], files[2], "--out", out])
         must_print(part, r"note: missing shards: 2 \(1 of 3\)", "two shards of three")
         if "searched all schedules" in part or ("didn't search all schedules\n" in part) != ("exhaustive" in way):
-            raise Wrong(f"two shards of three are reported to be all:\n{part}")
+            raise Wrong(f"two shards of three are reported as a complete search:\n{part}")
         must_print(
             ran([program, "--merge", files[0], files[0]], 2), "shard 1/3 of this search is also in", "a shard twice"
         )
         ran([program, "--merge", *files, "--out", out, "--strict"])
-    return "shards are one search"
+    return "merged shards equal one search"
 
 
 def check_causes(kit: Kit) -> str:
@@ -66,7 +66,7 @@ def check_causes(kit: Kit) -> str:
     run = re.findall(r"found by ([\w-]+ in run \d+)", one)[0]
     merged = ran([race, "--merge", *files, "--out", out, "--junit", out / "all.xml"], 1)
     if merged.count("FAILED") != 1 or f"found by {run}," not in merged or "in 3 results" not in merged:
-        raise Wrong(f"the failure of three shards isn't reported once, as that {run}:\n{merged}")
+        raise Wrong(f"the failure that three shards found isn't reported exactly once, as found by {run}:\n{merged}")
     ran([race, "--replay", out / "race.schedule"], 1)
     faulty = kit.build(HERE / "tests/faulty.c")
     for mode, status in (("end", 1), ("check", 1), ("fine", 0)):
@@ -88,7 +88,7 @@ def check_causes(kit: Kit) -> str:
         ran([vacuous, "waits", "--quiet", "--runs", 20, "--seed", seed, "--out", out, "--result", out / f"v{seed}"])
     said = ran([vacuous, "waits", "--merge", out / "v1", out / "v2", "--strict", "--out", out], 3)
     must_print(said, "task poll never got past its first wait", "what never ran in two results")
-    return "each cause once"
+    return "each cause reported once"
 
 
 def summed(lines: list[str]) -> str:
@@ -125,7 +125,7 @@ def check_refused(kit: Kit, tries: int) -> str:
     file, bad = out / "race-0", out / "bad"
     lines = file.read_text().splitlines(keepends=True)[:-1]
     if summed(lines) != file.read_text():
-        raise Wrong("the sum of a result's file isn't that of its lines")
+        raise Wrong("a result file's checksum doesn't match its lines")
     for old, (new, wanted) in FIELDS.items():
         at = lines.index(f"{old}\n")
         bad.write_text(summed([*lines[:at], f"{new}\n", *lines[at + 1 :]]))
@@ -146,7 +146,7 @@ def check_refused(kit: Kit, tries: int) -> str:
     chance, taken = random.Random(1), 0
     for _ in range(tries):
         taken += is_taken(race, out, changed(lines, chance))
-    return f"{len(FIELDS) + 9} refusals, {tries} changed files, {taken} of them taken"
+    return f"{len(FIELDS) + 9} refusals, {tries} changed files, {taken} of them accepted"
 
 
 def changed(lines: list[str], chance: random.Random) -> str:
@@ -175,7 +175,7 @@ def is_taken(race: Path, out: Path, text: str) -> bool:
     words = [race, "--merge", out / "bad", "--out", out]
     made = subprocess.run(words, stdout=subprocess.PIPE, stderr=subprocess.STDOUT, text=True, check=False)
     if made.returncode not in (0, 1, 2) or (made.returncode == 2) != ("/bad:" in made.stdout.split(" ")[0]):
-        raise Wrong(f"a changed file ends with status {made.returncode}:\n{made.stdout}\n{text}")
+        raise Wrong(f"a changed file was merged with status {made.returncode}:\n{made.stdout}\n{text}")
     return made.returncode != 2
 
 

@@ -193,8 +193,8 @@ static const char *why_lost(uint16_t seen)
             snprintf(room, sizeof room, ": dropped %s", nic_why_name(why));
             return room;
         }
-    return seen == FAULTED  ? ": a fault stopped it each time"
-           : seen == LET_IN ? ": it is still waiting inside the device"
+    return seen == FAULTED  ? ": a fault stopped the queue each time"
+           : seen == LET_IN ? ": still waiting inside the device"
                             : "";
 }
 
@@ -218,7 +218,7 @@ static void tell_frames(struct telling *it)
         snprintf(it->line, MOST_LINE, "frame %" PRIu32 " was never written to memory%s", first, why_lost(seen));
     else
         snprintf(it->line, MOST_LINE,
-                 "%" PRIu32 " frames of %u were never written to memory, the first frame %" PRIu32 "%s", lost,
+                 "%" PRIu32 " of %u frames were never written to memory, the first of them frame %" PRIu32 "%s", lost,
                  nicxi.frame_count, first, why_lost(seen));
     report_line(it);
 }

@@ -86,7 +86,7 @@ static void tell_merged(const struct merged *merged)
     const char *name = nicxi.scenario->name;
     const struct totals *totals = &merged->sum.totals;
     double longest = merged->longest > 0 ? merged->longest : 1e-3;
-    printf("%s: %" PRIu32 " result%s, %" PRIu64 " schedule%s, %" PRIu64 " point%s, %.1f s in all, %.1f s the longest"
+    printf("%s: %" PRIu32 " result%s, %" PRIu64 " schedule%s, %" PRIu64 " point%s, %.1f s in total, the longest %.1f s"
            " (%.0f schedules per second if they ran in parallel)\n",
            name, merged->results, nicxi_s(merged->results), totals->runs, nicxi_s(totals->runs), totals->points,
            nicxi_s(totals->points), totals->seconds, merged->longest, (double)totals->runs / longest);

@@ -140,8 +140,8 @@ static void tell_hang(const struct post *post, nicx_result *result)
     char name[96];
     uint32_t at = post->at, leaves = post->notes.leaves;
     if (leaves) {
-        snprintf(result->words, sizeof result->words, "%s's stack can't unwind: a thread or a destructor there hangs",
-                 nicxi.threads[leaves - 1].name);
+        snprintf(result->words, sizeof result->words,
+                 "%s's stack can't be unwound: a thread or a destructor there hangs", nicxi.threads[leaves - 1].name);
         return;
     }
     while (at > 1 && nicxi_is_value(post->schedule[at - 1]))
@@ -185,7 +185,7 @@ static void tell_status(const struct post *post, int status, nicx_result *result
     }
 }
 
-/* Without a watching parent, the process reports this itself. */
+/* If no parent process watches, this process prints the report itself. */
 void nicxi_refuse_thread(void)
 {
     if (watched)

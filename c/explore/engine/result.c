@@ -301,7 +301,7 @@ static void read_hashes(struct form *it, struct distinct *distinct, bool is_exac
             nicxi_count_bits(distinct, bits);
     }
     if (!*it->fault && distinct->count - before != count)
-        wrong(it, "hash: a duplicate");
+        wrong(it, "hash: listed twice");
 }
 
 static void read_ranks(struct form *it, struct distinct *distinct)

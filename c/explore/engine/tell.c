@@ -61,9 +61,8 @@ static void tell_unseen(void)
         printf("%s: %s: compile with -fsanitize=thread%s%s\n", nicxi.scenario->name, unseen,
                nicxi_form ? "" : " and link with @", nicxi_form ? "" : nicxi_form_options);
     else if (nicxi_form && nicxi_form->assembly(words, sizeof words))
-        printf("%s: the search can't see inline assembly, so %s orders nothing: use atomic_thread_fence, an atomic of "
-               "C11 or of the "
-               "compiler, or nicx_mb instead\n",
+        printf("%s: the search can't see inline assembly, so %s orders nothing: use atomic_thread_fence, a C11 or "
+               "compiler atomic, or nicx_mb instead\n",
                nicxi.scenario->name, words);
 }
 
@@ -161,8 +160,8 @@ void nicxi_tell_failure(const struct failure *failure, const nicx_result *found,
 void nicxi_tell_files(const struct failure *failure, const struct paths *paths, const char *program)
 {
     const char *name = nicxi.scenario->name;
-    printf("%s: the schedule is %s, the device's side of it %s, the page %s\n", name, paths->schedule, paths->script,
-           paths->page);
+    printf("%s: the schedule is %s, the script for nicbench is %s, the page is %s\n", name, paths->schedule,
+           paths->script, paths->page);
     if (failure->is_stale)
         printf("%s: the schedule doesn't fail by itself: to find the failure again, use the same options and number of "
                "processes\n",

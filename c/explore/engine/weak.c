@@ -10,13 +10,13 @@ enum { SEEN = 16 };
 
 /* A pending store. */
 struct store {
-    uint64_t bus; /* if to own memory: its address in the process */
+    uint64_t bus; /* for a store to own memory, its address in the process */
     uint32_t length, room;
     uint8_t *bytes;
     bool is_own;       /* to the driver's own memory */
     bool releases;     /* all earlier stores must come before it */
     uint8_t slot;      /* own memory: its number among the processor's pending stores */
-    uint32_t barriers; /* barriers made before it: stores made before one of them come first */
+    uint32_t barriers; /* barriers made before this store: stores made before such a barrier reach memory first */
 };
 
 /* The latest state of a location that a processor has seen: its loads from the location return nothing older than
@@ -29,7 +29,7 @@ struct seen {
 struct processor {
     struct store stores[NICX_STORES]; /* pending stores, oldest first */
     uint32_t count;
-    uint32_t barriers; /* barriers of stores, made while some were pending */
+    uint32_t barriers; /* store barriers made while stores were pending */
     uint32_t floor;    /* no load returns a value older than this time */
     struct seen seen[SEEN];
     uint32_t seen_count, next;
@@ -340,7 +340,7 @@ static void reach_device(struct processor *it, const struct store *store, struct
     nicxi_memory_changed(step);
     note_seen(it, store->bus, store->length, weak.time);
     if (step->status == NIC_NOT_LENT && !(nicxi.scenario->allowed & NICX_NOT_LENT))
-        nicxi_failed(NICX_MEMORY, "a store of %s%s reaches memory at 0x%llx, which is no longer lent", thread->name,
+        nicxi_failed(NICX_MEMORY, "a store by %s%s reaches memory at 0x%llx, which is no longer lent", thread->name,
                      nicxi_stored_at(thread, store->bus, where), (unsigned long long)store->bus);
 }
 
@@ -440,7 +440,7 @@ uint8_t nicxi_store(struct step *step, const uint8_t *bytes)
 
 /* --- atomic stores to memory of the driver's own --- */
 
-/* A slot that none of the processor's pending stores uses. */
+/* Returns a slot that none of the processor's pending stores uses. */
 static uint8_t free_slot(const struct processor *it)
 {
     uint32_t taken = 0;
@@ -471,7 +471,7 @@ static uint32_t up_to(const struct processor *it, uint64_t at, uint64_t length)
     return count;
 }
 
-/* If the last store there doesn't match the load exactly, the stores are flushed, and the load reads memory. */
+/* If the last store there doesn't cover exactly the loaded bytes, the stores are flushed, and the load reads memory. */
 void nicxi_load_own(uint64_t at, void *bytes, uint32_t length)
 {
     struct processor *it = processor_of(nicxi.self);

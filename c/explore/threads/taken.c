@@ -101,7 +101,7 @@ static bool is_begin(const void *at)
     return !((uintptr_t)at % UNIT) && units[unit_of(at)] & BEGINS;
 }
 
-/* The first unit of an access that doesn't belong to the driver, or UNITS. */
+/* Returns the first unit of the access that doesn't belong to the driver, or UNITS. */
 static size_t first_wrong(uint64_t at, size_t length)
 {
     uint64_t from = at - nicxi_taken_from, to = from + length;
@@ -116,7 +116,7 @@ static size_t first_wrong(uint64_t at, size_t length)
 
 /* --- reports --- */
 
-/* The allocation that begins at a unit or before it, or null. */
+/* Returns the last allocation that begins at a unit or before it, or null. */
 static char *begin_before(size_t unit)
 {
     while (unit > FIRST / UNIT && !(units[unit] & BEGINS))
@@ -212,7 +212,7 @@ static void fail_twice(const char *begin, const char *verb, const void *call)
 {
     char here[MOST_NAMED], there[MOST_NAMED], where[MOST_NAMED];
     const struct freed *it = freed_of(begin);
-    fail("double free: %.40s %s at %.90s what %.40s freed%s%.90s; allocated at %.50s", name_of_self(), verb,
+    fail("double free: %.40s %s at %.90s memory that %.40s freed%s%.90s; allocated at %.50s", name_of_self(), verb,
          nicxi_line_now(call, here), it ? freer_of(it) : "was", it ? " at " : "",
          it ? nicxi_line_by(it->call, it->caller, where) : "", nicxi_line(head_of(begin)->call, there));
 }
@@ -248,12 +248,11 @@ void nicxi_judge_object(const void *object, const char *name, const void *call)
     char what[96];
     if (!nicxi_is_taken((uintptr_t)object) || is_over() || !(units[unit_of(object)] & FREED))
         return;
-    snprintf(what, sizeof what, "calls %.40s with what was", name);
+    snprintf(what, sizeof what, "calls %.40s on an object that was", name);
     fail_freed(begin_before(unit_of(object)), what, call);
 }
 
-/* Whether memory may be freed. It may not if no allocation begins there, or if it was freed before; then it stays as it
-   is. */
+/* Whether memory may be freed. Otherwise no allocation begins there, or it was freed before; then nothing is freed. */
 static bool may_give(void *at, const char *verb, const void *call)
 {
     char here[MOST_NAMED], there[MOST_NAMED];
@@ -397,9 +396,9 @@ char *__wrap_strdup(const char *text)
     return copied ? memcpy(copied, text, size) : NULL;
 }
 
-/* All blocks are aligned to 16 bytes. For a larger alignment, allocates that much more, and inside it places a block of
-   the class of `size`, with its own header. When freed, it becomes an ordinary block of that class; the space around it
-   is lost until the schedule ends. */
+/* All blocks are aligned to 16 bytes. For a larger alignment, allocates that many more bytes, and places a block of the
+   class of `size` in them, with its own header. When freed, it becomes an ordinary block of that class; the space
+   around it is lost until the schedule ends. */
 static void *aligned(size_t alignment, size_t size, const void *call)
 {
     if (size > PIECE_ROOM || alignment > PIECE_ROOM)

@@ -1,7 +1,7 @@
 /* The explorer, as seen by a program that judges a driver's schedules while they run. The program is notified of each
    step, queries the running thread and the device, and gives a verdict. The report card (c/drive) is an observer: it
-   uses nothing of the explorer except this header and nic82599_explore.h. A process has one observer. Make these calls
-   where the nic82599_explore.h calls are allowed, and in the observer's own functions. */
+   uses nothing of the explorer except this header and nic82599_explore.h. A process has one observer. The functions
+   below may be called wherever nic82599_explore.h calls are allowed, and in the observer's own functions. */
 #ifndef NICXO_OBSERVER_H
 #define NICXO_OBSERVER_H
 
@@ -57,7 +57,7 @@ typedef struct nicxo_step {
 } nicxo_step;
 
 typedef struct nicxo_observer {
-    void (*see)(const nicxo_step *step); /* called after each step, but not for steps of `end` */
+    void (*see)(const nicxo_step *step); /* called after each step, except those in `end` */
     void (*publish)(void); /* called before each driver call: writes the driver's pointer stores with nicxo_write */
 } nicxo_observer;
 
@@ -100,8 +100,8 @@ void nicxo_hold_back(uint16_t count);
 /* Releases `count` more frames. Returns how many may arrive now. */
 uint16_t nicxo_let_come(uint16_t count);
 
-/* After this call, the driver also accesses lent memory through pointers. The function returns whether an address of
-   the process is in lent memory, and if so, its bus address. */
+/* Declares that the driver also accesses lent memory through pointers. `bus_of` returns whether an address of the
+   process is in lent memory, and if so, its bus address. */
 typedef bool nicxo_bus_of(uint64_t at, uint64_t *bus);
 void nicxo_has_pointers(nicxo_bus_of *bus_of);
 /* A store that the driver made through a pointer, treated like nicx_dma_write. `source` returns the bytes after the
@@ -120,8 +120,8 @@ bool nicxo_sees_accesses(void);
 
 /* --- before nicx_main --- */
 
-/* What a report advises the driver's author to use, if a scenario's author would use something different. Null: the
-   same as for a scenario. */
+/* What reports advise the driver's author to use, if that differs from the advice to a scenario's author. Null: the
+   advice is the same. */
 typedef struct nicxo_words {
     const char *options;     /* file of linker options that make threads and accesses visible */
     const char *for_threads; /* what to use instead of the process's own threads and locks */

@@ -482,7 +482,8 @@ static uint64_t changed_by(const struct atomic *atomic, uint64_t old)
     }
 }
 
-/* Notes what the operation will do with the current value, which is the thread's own pending store, if there is one. */
+/* Notes what the operation will do with the current value. If the thread has a pending store there, that is the current
+   value. */
 static void note_atomic(struct step *step, const struct atomic *atomic)
 {
     uint64_t old = 0, whole = atomic->size < 8 ? (UINT64_C(1) << 8 * atomic->size) - 1 : UINT64_MAX;
@@ -551,7 +552,7 @@ void nicxi_asked_in_vain(void)
         nicxi_announce(&nicxi.self->next);
 }
 
-/* The step also counts as the driver's, so no other step is independent of it. */
+/* The step also counts as the driver's, so the search treats no other step as independent of it. */
 void nicxi_asked(struct step *step)
 {
     bool is_made = step->status != NIC_IDLE && step->status != NIC_NO_GROUP;
@@ -574,7 +575,7 @@ nic *nicx_device(void)
     return &nicxi.device;
 }
 
-/* Whether the caller is neither a thread nor a function that may only look. */
+/* Whether the caller is neither a thread nor a function that may only read. */
 static bool is_outside(const char *call)
 {
     if (!nicxi_may_act())

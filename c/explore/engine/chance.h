@@ -29,7 +29,7 @@ static inline uint64_t chance_mixed(uint64_t sum, uint64_t value)
     return sum ^ sum >> 29;
 }
 
-/* Returns the generator of one run of a seed. Two runs have unrelated numbers. */
+/* Returns the generator for one run of the search with this seed. Two runs get unrelated numbers. */
 static inline struct chance chance_of(uint64_t seed, uint64_t run)
 {
     struct chance chance = {seed * 0xD1342543DE82EF95u + run * 0xA24BAED4963EE407u};

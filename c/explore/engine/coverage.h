@@ -21,12 +21,12 @@ struct coverage {
     bool acted[2][128];
     uint16_t messages[64]; /* for each group, a bit for each vector */
     uint64_t faults;       /* faults that the scenario allows */
-    char fault[100];       /* the first fault of this kind */
+    char fault[100];       /* the first of these faults */
 };
 
 struct step;
 
-/* Starts a schedule. */
+/* Called when a schedule starts: no frame has entered the device yet. */
 void nicxi_cover_begin(void);
 /* Returns the frame that a receive step is about, whether or not the step took it; -1 if no frame was waiting. Call
    this after nicxi_cover_step. */
@@ -58,7 +58,7 @@ struct distinct {
     volatile uint8_t ranks[RANKS];
 };
 
-/* Counts a schedule, given as its hash or by its actors; returns how many were distinct. */
+/* Count a schedule, given by its hash or by its actors; return how many distinct schedules were counted. */
 void nicxi_count_bits(struct distinct *distinct, uint64_t bits);
 void nicxi_count_schedule(struct distinct *distinct, const uint16_t *schedule, uint32_t points);
 uint64_t nicxi_distinct(const struct distinct *distinct, bool *is_exact);

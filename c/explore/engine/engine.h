@@ -10,8 +10,8 @@
 
 enum {
     MOST_THREADS = NICX_TASKS + NICX_HANDLERS,
-    /* threads, starts of handlers, steps of queues (receive, transmit, enables), messages, EEPROM, arrivals, the link;
-       with weak memory also each thread's stores and older loads */
+    /* threads, handler starts, queue steps (receive, transmit, enables), messages, EEPROM, arrivals, the link; with
+       weak memory also each thread's stores and older loads */
     MOST_ACTORS = MOST_THREADS + NICX_HANDLERS * (NICX_TASKS + 1) + 1 + 3 * 128 + 64 + 3 +
                   MOST_THREADS * (NICX_STORES + NICX_OLDER),
     MOST_POINTS = 1000000,
@@ -35,7 +35,7 @@ struct step {
     /* weak memory: a store that is pending, or a load that reads the thread's own pending stores */
     bool is_kept;
     bool is_own;         /* set if the store that reached memory is to own memory */
-    bool is_published;   /* a pointer store, which was an access when the driver made it (nicxo_write) */
+    bool is_published;   /* a pointer store: race detection saw it when the driver made it (nicxo_write) */
     uint8_t older;       /* weak memory: the load reads the value from before this many changes */
     uint16_t of;         /* number of the queue, group, frame or link change; for a value or a store, of the thread */
     uint32_t address;    /* register address, or offset of a virtual function's access; a block lent or taken */
@@ -108,17 +108,17 @@ struct thread {
     bool is_timer;      /* a handler that no message starts */
     uint8_t older;      /* weak memory: how many changes old the value of the current load is */
     uint32_t within;    /* timer: fires within this many points after it is armed; 0: fires at rest */
-    uint32_t due;       /* armed timer: at this point or later, no other actor may run before it fires */
+    uint32_t due;       /* armed timer: from this point on, no other actor may run before it fires */
     int interrupted_by; /* task: the handler thread that interrupts it, or -1 */
     int on;             /* handler: the task that it interrupts, or -1 */
     unsigned masked;
     size_t room;     /* size of its stack in bytes; 0: the scenario's size */
     bool is_made;    /* begins when the driver creates it */
-    bool is_timed;   /* its wait may end without its condition if no actor can run */
+    bool is_timed;   /* its wait may end before its condition holds if no actor can run */
     unsigned rested; /* number of timeouts and pauses since the last change */
     uint64_t rested_at;
     uint64_t own;          /* how often it has acted */
-    uint64_t seen, looked; /* how often others had acted at its last return from a wait; from a wait or a pause */
+    uint64_t seen, looked; /* how often others had acted when it last returned from a wait; from a wait or a pause */
     bool (*condition)(void *);
     void *condition_argument;
     nicx_mutex *lock;
@@ -155,7 +155,7 @@ struct actor {
     uint16_t of;             /* a thread, queue or group */
     int on;                  /* start: the task, or -1; store: its position; load: its age */
     uint32_t last;           /* the point at which it acted last, plus 1; 0 if it hasn't */
-    uint32_t offered, since; /* last point at which it was runnable; point since which it has been, without acting */
+    uint32_t offered, since; /* last runnable at this point; runnable without acting since this point */
 };
 
 struct frame {
@@ -233,7 +233,7 @@ struct engine {
     /* The running thread (threads.c, run.c). */
     struct fiber main;
     struct thread *self; /* null for the engine itself, which runs on `main` */
-    const char *asker;   /* the running scenario function that may only look, or null */
+    const char *asker;   /* the running scenario function that may only read, or null */
 
     /* The bring-up's accesses, which no thread makes (access.c). */
     struct polls outside;
@@ -272,7 +272,7 @@ void nicxi_failed(uint8_t outcome, const char *form, ...);
 /* Leaves a failed schedule: a running thread is abandoned where it is, and doesn't continue. Returns only if no thread
    runs, or in a thread that unwinds (left.h); then the caller must return too. */
 void nicxi_leave(void);
-/* Whether the caller may act; fails the schedule if it may only look. Publishes the driver's pointer stores first, so
+/* Whether the caller may act; fails the schedule if it may only read. Publishes the driver's pointer stores first, so
    other actors may run during this call. */
 bool nicxi_may_act(void);
 /* Like nicxi_may_act, for a call that only orders accesses in the middle of a point: no other actor runs. */
@@ -317,7 +317,8 @@ static inline void nicxi_set_idle(uint16_t number)
 bool nicxi_goes_on(const uint16_t *can);
 /* Whether all of these are device steps that may turn out to have nothing to do. */
 bool nicxi_may_be_idle(const uint16_t *can, uint32_t count);
-/* Whether an actor may still be offered at this point. A paused thread may be if all other actors may be idle. */
+/* Whether an actor may still be offered at this point. A paused thread may still be offered if all other actors may
+   turn out to be idle. */
 bool nicxi_may_come(uint16_t actor, const uint16_t *can, uint32_t count);
 /* Runs a device step or a link change. Returns false if it had nothing to do. */
 bool nicxi_device_step(struct actor *actor, struct step *step);
@@ -325,7 +326,8 @@ bool nicxi_device_step(struct actor *actor, struct step *step);
 void nicxi_judge(const struct step *step);
 /* Wakes the device's steps that may have something to do after this step, and the threads that wait. */
 void nicxi_wake(const struct step *step);
-/* With more queues than this, a write to a queue's register wakes only that queue. A test has it wake all of them. */
+/* With more queues than this, a write to a queue's register wakes only that queue. A test raises the number, so that
+   each write wakes all queues. */
 enum { FEW_QUEUES = 2 };
 extern uint16_t nicxi_few_queues;
 
@@ -337,7 +339,7 @@ static inline bool nicxi_is_value(uint16_t actor)
 /* Returns the number of points at which the actor differs from the one before. */
 uint32_t nicxi_switches(const uint16_t *schedule, uint32_t points);
 uint64_t nicxi_sum_of_values(const uint16_t *schedule, uint32_t points);
-/* Lists the timers among `can` that must fire now. Returns how many there are. */
+/* Lists in `can` the timers that must fire now. Returns their number. */
 uint32_t nicxi_list_due(uint16_t *can);
 /* Whether a timer fires when all is at rest. */
 bool nicxi_fires_at_rest(const struct actor *actor);
@@ -358,8 +360,8 @@ extern const char *nicxi_for_threads;
 bool nicxi_is_in_search(void);
 /* Has the scenario name its tasks, handlers, frames and link changes for a schedule. */
 void nicxi_begin(void);
-/* Adds a frame to a schedule, copying its bytes. Returns false if there are already NICX_FRAMES, or if it is too
-   long. */
+/* Adds a frame to a schedule, copying its bytes. Returns false if there are already NICX_FRAMES frames, or if this one
+   is too long. */
 bool nicxi_add_frame(const uint8_t *bytes, size_t length);
 
 /* Threads (threads.c). */

@@ -20,7 +20,7 @@ struct asleep {
 /* A point of the current schedule. `can` and `asleep` are offsets into lists shared by all points. */
 struct node {
     uint32_t can, count;
-    uint32_t at;   /* index of the choice being tried; `count` if none is left */
+    uint32_t at;   /* index of the choice being tried; `count` if all were tried */
     uint32_t left; /* preemptions left before this point */
     uint32_t asleep, inherited, asleep_count;
     bool is_current; /* the first runnable actor is the one that acted last */
@@ -254,7 +254,7 @@ static uint64_t next_part(struct parts *parts)
     return parts->shards ? next * parts->shards + parts->shard : next;
 }
 
-/* Starts a part: this process's, or another's. */
+/* Starts a part, which this process or another one has taken. */
 static void begin_part(struct exhaustive *it)
 {
     *it->part = it->parts->base + it->seen + 1;

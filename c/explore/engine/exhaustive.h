@@ -5,8 +5,8 @@
 
 #include "engine.h"
 
-/* How processes share an exhaustive search: each takes the next part when it is done with its own. A part is another
-   choice at one point in the first schedule. */
+/* How processes share an exhaustive search: each takes the next part when it is done with its own. A part contains the
+   schedules that follow the first one up to some point, and make the same other choice there. */
 struct parts {
     uint64_t next;
     volatile uint64_t most; /* highest-numbered part of which a schedule was run */
@@ -22,12 +22,13 @@ struct exhaustive;
 struct exhaustive *nicxi_exhaustive(uint32_t preemptions, bool sleeps, struct parts *parts, volatile uint64_t *part);
 void nicxi_free_exhaustive(struct exhaustive *it);
 
-/* Moves to the next schedule; returns false if there is none. Of a part that belongs to another process, only the first
-   step is run (a glance). A glance doesn't count as a schedule, and can be recognized as one only while it runs. */
+/* Moves to the next schedule; returns false if there is none. If a part belongs to another process, only the part's
+   first step runs (a glance). A glance doesn't count as a schedule. The second function recognizes a glance only while
+   the glance runs. */
 bool nicxi_exhaustive_next(struct exhaustive *it);
 bool nicxi_exhaustive_is_glance(const struct exhaustive *it);
 
-/* Makes the schedule's choices; after the schedule, notes what was learned from it. */
+/* The first returns the chooser for the next schedule; the second, called after the schedule, notes what it showed. */
 nicx_chooser nicxi_exhaustive_chooser(struct exhaustive *it);
 void nicxi_exhaustive_made(struct exhaustive *it);
 

@@ -14,8 +14,8 @@ bool nicxi_heap_open(void);
 /* After this call only this thread, which runs a schedule, allocates from the piece. */
 void nicxi_heap_is_mine(void);
 /* Has the library allocate from malloc on this thread until nicxi_heap_is_mine is called. This is for the caller's own
-   controller, which must survive when the search's controller is restored. Returns false and does nothing if that is
-   already so. */
+   controller, which must survive when the search's controller is restored. Returns false and does nothing if the
+   library already allocates from malloc. */
 bool nicxi_heap_pause(void);
 void nicxi_heap_close(void);
 

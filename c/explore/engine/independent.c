@@ -222,10 +222,10 @@ enum {
     DRIVER = BY(LOCAL) | READS | WRITES | MEMORY
 };
 
-/* A step of a kind in `a` and a step of a kind in `b`. */
+/* A row: a step of a kind in `a` and a step of a kind in `b` are independent if `holds` says so. */
 static const struct row {
     uint32_t a, b;
-    condition *holds; /* null: always independent */
+    condition *holds; /* null: always */
     const char *name, *law;
 } rows[] = {
     {BY(LOCAL) | BY(VALUE), DEVICE, NULL, "own step, device step", "no event: the device isn't involved"},
@@ -308,7 +308,7 @@ static int row_in_order(const struct step *a, const struct step *b)
     return -1;
 }
 
-/* A device step that had nothing to do may have work after another step, so it commutes with none. */
+/* Whether a device step had nothing to do. Another step may give it work, so it commutes with none. */
 static bool is_none(const struct step *step)
 {
     return nicxi_is_device_step(step->kind) && (step->status == NIC_IDLE || step->status == NIC_NO_GROUP);
@@ -322,13 +322,13 @@ int nicxi_row_of(const struct step *a, const struct step *b)
     return row >= 0 ? row : row_in_order(b, a);
 }
 
-/* A chosen value is a step of the driver's own. */
+/* Choosing a value counts as a step of the driver. */
 static bool is_of_driver(const struct step *step)
 {
     return step->kind < STEP_STORE;
 }
 
-/* A library call or a point at an access to own memory: the table doesn't look at its object. */
+/* Whether a step is a library call, or a point at an access to own memory. The table ignores the step's object. */
 static bool is_of_library(const struct step *step)
 {
     return step->kind == STEP_LOCAL && step->word >= LOCAL_CALL;
@@ -345,14 +345,13 @@ static bool are_apart(const struct step *a, const struct step *b)
     return nicxi.scenario->race_free;
 }
 
-/* After its step, the driver may read the device's writes through pointers. */
+/* Whether the driver, after its step `a`, may read through pointers what the device's step `b` wrote. */
 static bool may_be_read(const struct step *a, const struct step *b)
 {
     return nicxi.bus_of && is_of_driver(a) && (b->kind == STEP_RX || b->kind == STEP_TX);
 }
 
-/* With weak memory, after a step that changes memory, or may change it, other processors' loads may return older
-   values. */
+/* Whether a step may change memory. With weak memory, other processors' loads may then return older values. */
 static bool may_change_memory(const struct step *step)
 {
     return step->kind == STEP_RX || step->kind == STEP_TX || step->kind == STEP_STORE || is_of_driver(step);

@@ -57,7 +57,7 @@ static uint32_t folded(uint32_t sum)
     return ~sum & 0xFFFF;
 }
 
-/* The offset of a frame's number: after its headers. */
+/* Returns the offset of a frame's number, which follows the headers. */
 static size_t place_of_number(const uint8_t *frame, size_t length)
 {
     if (length < 60 || memcmp(frame, addresses, sizeof addresses) != 0)
@@ -162,7 +162,7 @@ void nicx_frames(uint32_t count, size_t length)
 
 /* --- the queue of a flow --- */
 
-/* The number of bytes of addresses and ports that the current MRQC has hashed; 0: none. */
+/* Returns how many bytes of addresses and ports the hash covers under the current MRQC; 0: no hash. */
 static size_t hashed_bytes(const nicx_flow *flow)
 {
     uint32_t mrqc = nicxi_peek(NIC_MRQC);

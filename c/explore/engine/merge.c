@@ -99,7 +99,7 @@ static struct cause *cause_of(const struct merged *merged, const struct failure 
     return NULL;
 }
 
-/* Moves a failure out of its result if no earlier one has the same cause, or if its run is lower. */
+/* Moves a failure out of its result if no earlier failure has the same cause, or if this one's run is lower. */
 static bool add_failure(struct merged *merged, struct result *result, const char *path)
 {
     if (!result->failure.is_there)

@@ -13,7 +13,7 @@ struct cause {
 };
 
 struct merged {
-    struct result sum; /* sum of all results, with the options of the first and no failure */
+    struct result sum; /* sum of all results, with the first result's options and without a failure */
     struct cause *causes;
     uint32_t cause_count, results;
     double longest;    /* seconds of the longest search */

@@ -12,7 +12,7 @@ struct objects {
     uint32_t count;
 };
 
-/* Lists a step's objects while the step is being reported. `about` is what it locks or waits for, or "". */
+/* Lists a step's objects while the step is being reported. `about` is what the step locks or waits for, or "". */
 void nicxi_objects(const struct step *step, const char *about, struct objects *objects);
 
 #endif

@@ -77,7 +77,7 @@ uint32_t nicxo_first_address(uint32_t address, bool *is_low)
     return nicxi_first_address(address, is_low);
 }
 
-/* A pointer store reaches the device at a later call, so its place is looked up by its own line. */
+/* A pointer store reaches the device at a later call, so its own line is looked up, not that call's. */
 const char *nicxo_place(const nicxo_step *step, char room[NICXO_PLACE])
 {
     char where[MOST_PLACE];

@@ -12,11 +12,11 @@ enum { UNBOUNDED = 1000000 };
 struct options {
     enum strategy strategy;
     uint64_t runs;  /* maximum number of schedules to run; 0: as many as there are, or as time allows */
-    uint64_t first; /* the first run of the seed */
+    uint64_t first; /* number of the first run */
     uint64_t seed;
     double seconds;       /* time limit; 0: none */
     uint32_t depth;       /* depth of priorities, 1 to 16; 0: the default depths */
-    uint32_t preemptions; /* bound of the exhaustive search; UNBOUNDED: none */
+    uint32_t preemptions; /* the exhaustive search's bound on preemptions; UNBOUNDED: none */
     uint32_t jobs;        /* processes, 1 to 256 */
     uint32_t shard;       /* the shard to search, from 0 to `shards` - 1 */
     uint32_t shards;      /* machines that share a search, 1 to 65,536 */
@@ -30,7 +30,7 @@ struct options {
     uint32_t merge_count;
     const char *points; /* accesses that become points: "memory", "memory:NAME"; or null */
     bool is_quiet, is_strict, is_lenient, no_sleep, no_shrink, wants_help;
-    bool counts_all; /* the exhaustive search counts its distinct schedules too */
+    bool counts_all; /* count distinct schedules in the exhaustive search too */
 };
 
 /* Parses the arguments. Returns null, or what is wrong with them. */

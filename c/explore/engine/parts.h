@@ -11,7 +11,7 @@ struct nicxi_form {
     void (*back)(void);  /* restores that memory before each schedule */
     void (*begun)(void); /* called after begin: names the threads that the driver may create */
     void (*close)(void);
-    /* called for a switch of threads; null: the engine */
+    /* called when the engine switches threads; null stands for the engine */
     void (*goes)(const struct thread *from, const struct thread *to);
     /* whether the thread holds a lock that others may want */
     bool (*holds_any)(const struct thread *thread);
@@ -60,20 +60,20 @@ extern const char *nicxi_asked_points; /* the argument of nicxi_ask_for_points, 
 
 /* Whether the caller is the search's own thread. */
 bool nicxi_is_maker(void);
-/* Whether a task or a handler runs, and no function that may only look. Only then are accesses reported. */
+/* Whether a task or a handler runs, outside functions that may only read. Only then are accesses reported. */
 bool nicxi_is_in_thread(void);
 
-/* Names the further tasks that a schedule may have. Each begins when the driver creates it. */
+/* Names the tasks that the driver may create during a schedule. Each begins when the driver creates it. */
 void nicxi_name_made(void);
-/* Creates a further task with a stack of `room` bytes; 0: the scenario's size. Returns null if none is left. */
+/* Creates such a task with a stack of `room` bytes; 0: the scenario's size. Returns null if all tasks are in use. */
 struct thread *nicxi_make_thread(void (*function)(void *), void *argument, size_t room);
 /* Ends the running thread, inside any call. */
 void nicxi_end_thread(void);
 
-/* Adds a point of the running thread, for a call with this name about this object. */
+/* Adds a point in the running thread, for a call with this name on this object. */
 void nicxi_call(enum thread_state state, const char *call, const void *object);
 /* Like nicxi_call, but waits until one of the engine's own conditions holds. If `timed`, the wait may end at rest
-   without it. */
+   although the condition doesn't hold. */
 void nicxi_call_until(bool (*condition)(void *), void *argument, bool timed, const char *call, const void *object);
 
 /* Notes that the running thread accesses packet memory with this call. */
@@ -98,13 +98,13 @@ void nicxi_atomic_point(const struct atomic *atomic);
 int nicxi_store_point(const struct atomic *atomic, const void *bytes, bool releases);
 /* Weak memory: makes all pending stores of the running thread reach memory. */
 void nicxi_drain(void);
-/* Notes what a load returned: a loop that keeps reading the same value counts as waiting. */
+/* Notes the value that a load returned: a loop that keeps reading the same value counts as waiting. */
 void nicxi_polled(uint64_t at, uint64_t value);
 /* Notes a change to memory that other threads read. */
 void nicxi_changed_memory(void);
 
-/* Adds a point before a device step that a thread itself requests by this call. Afterwards, reports the step's result,
-   or that the step had nothing to do. */
+/* Adds a point before a device step that a thread itself requests with this call. The functions below then report the
+   step's result, or that the step had nothing to do. */
 void nicxi_asks(const char *call);
 void nicxi_asked(struct step *step);
 void nicxi_asked_in_vain(void);

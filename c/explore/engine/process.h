@@ -1,5 +1,5 @@
-/* Schedules in child processes, which a signal may end. A child writes its progress to memory that it shares with its
-   parent, so the schedule it was running is known whatever happens. */
+/* Runs schedules in child processes, which a signal may end. A child writes its progress to memory that it shares with
+   its parent, so the schedule it was running is known whatever happens. */
 #ifndef NICX_PROCESS_H
 #define NICX_PROCESS_H
 

@@ -186,7 +186,7 @@ static void search_by_chance(struct post *post, const struct job *job)
     }
 }
 
-/* --- the exhaustive search's order: by part, and within a part in the order in which its schedules run --- */
+/* --- the exhaustive search's order: by part, and within a part in the order in which the schedules run --- */
 
 static uint64_t made_of(const struct common *common, uint64_t run)
 {

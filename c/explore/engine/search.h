@@ -27,7 +27,7 @@ struct failure {
     bool is_stale; /* its schedule alone doesn't fail: it needs what earlier schedules left in the driver */
     bool is_trial; /* found before the first run, while measuring how long schedules are */
     enum strategy strategy;
-    uint32_t preemptions; /* exhaustive search: the bound that found it */
+    uint32_t preemptions; /* exhaustive search: the bound in force when it was found */
     uint64_t run;
     nicx_result result;
     uint16_t *schedule;
@@ -51,8 +51,8 @@ void nicxi_confirm(const struct options *options, struct failure *failure);
 /* Whether the failure happens again in a new process. */
 bool nicxi_fails(const struct options *options, const struct failure *failure);
 
-/* Replaces a failure with the best one found near it, with the fewest switches: both its schedule and its result.
-   Returns how many schedules were tried. */
+/* Shrinks a failure: replaces its schedule and its result with those of the similar failure that has the fewest
+   switches. Returns how many schedules were tried. */
 uint32_t nicxi_shrink(const struct options *options, struct failure *failure);
 
 #endif

@@ -1,4 +1,5 @@
-/* The driver's last write to each place in packet memory and to each register. A later failure names its line. */
+/* The driver's last write to each place in packet memory and to each register. The report of a later failure names the
+   line of that write. */
 #ifndef NICX_STORED_H
 #define NICX_STORED_H
 

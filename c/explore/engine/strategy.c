@@ -43,7 +43,7 @@ static uint32_t highest(const struct by_priority *state, const uint16_t *can, ui
 }
 
 /* In the second half of the allowed points, the schedule is fair. Otherwise the actor with the highest priority could
-   poll forever, and keep others from doing what it polls for. */
+   poll forever, and keep other actors from doing what it polls for. */
 static uint32_t choose_by_priority(void *argument, const uint16_t *can, uint32_t count)
 {
     struct by_priority *state = argument;

@@ -5,7 +5,7 @@
 #include "chance.h"
 #include "engine.h"
 
-/* Returns the index of an actor in `can`, or `count`. */
+/* Returns the index of an actor in `can`, or `count` if it isn't there. */
 uint32_t nicxi_place_of(uint16_t actor, const uint16_t *can, uint32_t count);
 /* Returns the index of the actor that acted longest ago; for values, the first. */
 uint32_t nicxi_longest_ago(const uint16_t *can, uint32_t count);

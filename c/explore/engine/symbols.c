@@ -75,7 +75,7 @@ struct image {
     char path[MOST_FILE];
 };
 
-static struct image image; /* the file looked at last */
+static struct image image; /* the file examined last */
 
 static bool open_image(const char *path)
 {
@@ -262,7 +262,7 @@ static void begin_asking(const char *path)
         close(ends[0]);
 }
 
-/* Reads a line of an answer, without its newline. */
+/* Reads a line of a reply, without its newline. */
 static bool next_line(char *room, size_t size)
 {
     if (!fgets(room, (int)size, asked.from))
@@ -284,8 +284,8 @@ static bool take_line(const char *text, struct source_line *line)
     return true;
 }
 
-/* Sends the address, then 0: the answer to 0 marks the end of the wanted answer. An answer is a line with the address,
-   then pairs of lines with a function and a place. */
+/* Sends the address, then 0: the reply to 0 marks the end of the wanted reply. A reply is a line with the address, then
+   pairs of lines with a function and a place. */
 static unsigned ask(uintptr_t at, struct source_line *lines, unsigned most)
 {
     char text[2 * MOST_FILE], words[64];

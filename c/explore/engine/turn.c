@@ -109,7 +109,8 @@ static bool can_be_fine(struct turning *it, uint32_t length, uint32_t tries)
     return nicxi_can_be_fine(it->options, it->post, &beginning, &it->tried);
 }
 
-/* Returns the fewest points after which nothing was fine; 0 if all fail, UNKNOWN if time ran out. */
+/* Returns the length in points of the shortest beginning after which no schedule was fine; 0 if all schedules fail,
+   UNKNOWN if time ran out. */
 static uint32_t first_lost(struct turning *it)
 {
     uint32_t low = 0, high = it->failure->result.points;

@@ -114,7 +114,7 @@ static void decode_one(struct decoded *it, unsigned part)
                 AMONG(opcode, "\x63\x69\x6B\x84\x85\x86\x87\x8A\x8B\xC0\xC1\xD0\xD1\xD2\xD3");
 }
 
-/* Returns how many bytes it accesses. Vector moves count as whole vectors. */
+/* Returns how many bytes the instruction accesses. Vector moves count as whole vectors. */
 static unsigned size_of(const struct decoded *it)
 {
     unsigned opcode = it->opcode, low = opcode & 0xFF;
@@ -276,7 +276,7 @@ static void stepped(int number, siginfo_t *info, void *context)
 
 /* --- evaluation --- */
 
-/* Another thread's access to the same memory, with at least one of the two a write; or null. */
+/* Returns another thread's access to the same memory if at least one of the two is a write; or null. */
 static const struct access *shared_with(const struct access *one)
 {
     for (uint32_t k = 0; k < logged.count; k++) {

@@ -11,7 +11,7 @@
 enum { MOST_UNPOINTED = 3 };
 
 /* Two accesses of a thread without a point between them, at these instructions, and another thread's access to what the
-   second one touches. Both are at the same instruction if it reads and writes. */
+   second one touches. `first` and `second` are the same instruction if it reads and writes. */
 struct unpointed {
     uintptr_t first, second, other; /* addresses of instructions */
     uint64_t touched[2];            /* the memory touched */

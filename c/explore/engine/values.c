@@ -1,5 +1,6 @@
-/* Values that the driver chooses: whether an allocation fails, which input arrives. Choosing one is a point in the
-   schedule at which no other actor can run. In lists of actors, a value is represented by `VALUES` plus the value. */
+/* Values that the driver has the search choose: whether an allocation fails, which input arrives. Choosing one is a
+   point in the schedule at which no other actor can run. In lists of actors, a value is represented by `VALUES` plus
+   the value. */
 #include "engine.h"
 
 static bool refuses(uint32_t bound)

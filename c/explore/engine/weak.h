@@ -38,16 +38,17 @@ uint8_t nicxi_load(struct step *step, uint8_t *bytes);
 
 /* Flushes all pending stores of the thread's processor. Returns how many there were. */
 uint32_t nicxi_released(const struct thread *thread);
-/* Flushes its stores to lent memory only. Pending stores to own memory stay pending, but come before later stores. */
+/* Like nicxi_released, but flushes only stores to lent memory. Stores to own memory stay pending, but come before later
+   stores. */
 uint32_t nicxi_ordered(const struct thread *thread);
 /* After this call, no load by the thread's processor is older than this point. */
 void nicxi_acquired(const struct thread *thread);
-/* A block was lent or taken back: no processor's loads are older than this. */
+/* Called when a block was lent or taken back: from now on, no processor's load is older than this point. */
 void nicxi_memory_moved(uint32_t block);
 
 /* Makes an atomic store of the running thread to its own memory. Returns the store's slot among the pending stores,
-   which is passed to nicxi_races->landed when it reaches memory. Returns -1 if it isn't kept, and must be made now. If
-   it releases, all earlier stores reach memory before it. */
+   which is passed to nicxi_races->landed when it reaches memory. Returns -1 if the store isn't kept pending, and must
+   be made now. If it releases, all earlier stores reach memory before it. */
 int nicxi_keep_own(uint64_t at, const void *bytes, uint32_t length, bool releases);
 /* Replaces what a load from own memory returns with the thread's own pending store there, if there is one. */
 void nicxi_load_own(uint64_t at, void *bytes, uint32_t length);

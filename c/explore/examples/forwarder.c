@@ -299,7 +299,7 @@ static void frames_come(unsigned count)
     }
 }
 
-/* The number of distinct frames that went out. */
+/* Returns the number of distinct frames that went out. */
 static unsigned collected(void)
 {
     uint8_t frame[LENGTH];

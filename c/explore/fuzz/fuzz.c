@@ -1,6 +1,6 @@
-/* A schedule as a fuzzer's input: coverage of the driver, and of which actor follows which, guides the search. This
-   file defines nicx_main, so link it with a scenario's program before the explorer's archive; the scenario stays as it
-   is. docs/explore.md has the commands.
+/* Turns a fuzzer's input into a schedule: coverage of the driver, and of which actor follows which, guides the fuzzer.
+   This file defines nicx_main, so link it with a scenario's program before the explorer's archive; the scenario stays
+   as it is. docs/explore.md has the commands.
 
    Built by afl-clang-fast, it is an AFL++ harness in persistent mode; with -DNICX_LIBFUZZER and
    -Dmain=nicx_scenario_main, a libFuzzer harness. Built by any compiler, `PROGRAM INPUT` runs the schedule of one input
@@ -15,8 +15,8 @@ enum { MOST_ACTORS = 2048, IN_A_ROW = 32, MOST_INPUT = 1 << 16 };
 
 static const nicx_scenario *scenario;
 
-/* The position in the input: one byte for each choice, if there is a choice. 0 is the actor that acted last, if it can
-   continue. */
+/* The input, and the position in it. Each choice among two or more takes one byte; 0 is the actor that acted last, if
+   it can continue. */
 static struct {
     const uint8_t *bytes;
     size_t length, at;

@@ -13,7 +13,7 @@ static const uint32_t queues_of_pool = 2, address = 0x02000011;
 
 static struct {
     bool asked;           /* the PF's driver: the virtual function made a request */
-    uint32_t queues, mac; /* the virtual function: answers from the PF's driver */
+    uint32_t queues, mac; /* the virtual function: the PF driver's answers */
 } driver;
 
 /* --- the PF's driver --- */

@@ -47,11 +47,11 @@ struct nicp_way {
 struct nicp_way **nicp_way(void);
 /* Jumps to the running thread's innermost nicp_way. */
 void nicp_leave(void);
-/* Whether the running thread must leave its schedule. Called if the thread makes a call nevertheless. For a thread that
-   keeps making calls, it never returns. */
+/* The first returns whether the running thread must leave its schedule. The second is called if the thread makes a call
+   nevertheless, and never returns if the thread keeps making calls. */
 bool nicp_is_left(void);
 void nicp_calls_on(void);
-/* Before each call: whether it is allowed, by one of the engine's threads that needn't leave. */
+/* Called before each call. Returns whether one of the engine's threads makes it, and needn't leave its schedule. */
 bool nicp_may_call(void);
 
 /* --- stacks --- */

@@ -1,6 +1,6 @@
-/* `apart MODE words..`: two tasks that each send on a queue, and count under a lock. For c/explore/check.py: if the
-   scenario says that it is race-free (`free`), the exhaustive search runs fewer schedules and reaches the same verdict.
-   With a bug (`bug`, `bug-free`) the second task writes the first one's tail. */
+/* `apart MODE words..`: two tasks that each send on a queue, and count under a lock. c/explore/check.py checks that the
+   exhaustive search, if the scenario says that it is race-free (`free`), runs fewer schedules and reaches the same
+   verdict. With a bug (`bug`, `bug-free`) the second task writes the first one's tail. */
 #include <string.h>
 
 #include "corpus.h"

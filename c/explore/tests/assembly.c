@@ -1,5 +1,6 @@
 /* A driver with a barrier or exchange in inline assembly, selected by BARRIER, which the search can't see; without
-   BARRIER it has none. Built with -fsanitize=thread. For c/explore/check.py: the first line of the search's report. */
+   BARRIER it has none. Built with -fsanitize=thread. c/explore/check.py checks the first line of the search's
+   report. */
 #include <stdatomic.h>
 
 #include "corpus.h"
@@ -17,8 +18,8 @@ static int count;
         int old = 0;                                                                                                   \
         __asm__ volatile("lock; cmpxchgl %2,%1" : "+a"(old), "+m"(count) : "r"(1) : "memory", "cc");                   \
     } while (0)
-/* Not a barrier but a call, whose displacement contains the bytes of one. The call leads 0x751F1 bytes back, so
-   something must be there: PADDED makes that room, whatever else the program contains. */
+/* Not a barrier but a call, whose displacement contains the bytes of one. The call's target is 0x751F1 bytes before it,
+   so the program must be large enough: PADDED makes that room, whatever else the program contains. */
 #define DISTANCE __asm__ volatile("jmp 1f\n .byte 0xE8, 0x0F, 0xAE, 0xF8, 0xFF\n 1:" ::: "memory")
 #ifdef PADDED
 __asm__(".text\n .skip 0x80000\n");

@@ -1,4 +1,4 @@
-/* `choices MODE words..`: values that a driver chooses, and timers. For c/explore/check.py. */
+/* `choices MODE words..`: values that a driver chooses, and timers. c/explore/check.py runs it. */
 #include <stdio.h>
 #include <stdlib.h>
 #include <string.h>

@@ -6,7 +6,7 @@
 #include "../engine/demangle.h"
 
 static const struct {
-    const char *symbol, *name; /* null: it stays as it is */
+    const char *symbol, *name; /* null: the symbol stays as it is */
 } names[] = {
     {"_ZN4race4poll17h0123456789abcdefE", "race::poll"},
     {"_ZN4race4main28_$u7b$$u7b$closure$u7d$$u7d$17h0123456789abcdefE", "race::main::{{closure}}"},

@@ -1,4 +1,4 @@
-/* `faulty MODE words..`: a scenario with one fault. For c/explore/check.py: how each fault is reported. */
+/* `faulty MODE words..`: a scenario with one fault. c/explore/check.py checks how each fault is reported. */
 #define _DEFAULT_SOURCE
 #include <signal.h>
 #include <stdio.h>

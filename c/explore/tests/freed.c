@@ -1,6 +1,6 @@
 /* `freed MODE words..`, built with -fsanitize=thread: memory from malloc that is used after it was freed although a
    lock orders the two, that is freed twice, or that is accessed out of bounds. With FIXED each mode is correct. So is
-   "kinds", which allocates and frees memory in every way that there is. */
+   "kinds", which allocates and frees memory with every call for that. */
 #define _GNU_SOURCE
 #include <pthread.h>
 #include <stdatomic.h>
@@ -199,7 +199,7 @@ static void others_give(void)
         pthread_join(threads[k], NULL);
 }
 
-/* More freed blocks than are remembered, by number and by size. */
+/* Frees more blocks, and more bytes, than are remembered. */
 static void much(void)
 {
     for (int k = 0; k < 5000; k++)

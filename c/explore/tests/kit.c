@@ -1,5 +1,5 @@
-/* The kit: frames of flows arrive complete, in the queue and with the hash that it predicts. The drivers of the PF and
-   of a virtual function exchange words through the mailbox, in any order of steps. */
+/* The kit: frames of flows arrive complete, in the queue and with the hash that the kit predicts. The drivers of the PF
+   and of a virtual function exchange words through the mailbox, in any order of steps. */
 #include <stdio.h>
 #include <string.h>
 
@@ -17,7 +17,7 @@ static uint32_t ring(unsigned queue)
     return RX_RING + NIC_DESC_BYTES * SLOTS * queue;
 }
 
-/* A few TCP flows, UDP flows and flows of neither, each with its own frame numbers. */
+/* A few TCP flows, UDP flows, and flows of other protocols, each with its own frame numbers. */
 static void name_flows(void)
 {
     static const uint8_t protocols[] = {NICX_TCP, NICX_UDP, 1};
@@ -72,7 +72,7 @@ static void take_all(void *unused)
     }
 }
 
-/* --- the mailbox: a question, its acknowledgement, the answer, and the answer's acknowledgement --- */
+/* --- the mailbox: a request, its acknowledgement, the reply, and the reply's acknowledgement --- */
 
 static void function(void *unused)
 {

@@ -1,4 +1,4 @@
-/* Litmus tests of the driver's own memory, built with -fsanitize=thread: small programs of two to four tasks with C11
+/* Litmus tests for the driver's own memory, built with -fsanitize=thread: small programs of two to four tasks with C11
    atomics, under their usual names (SB is Dekker's, MP passes a message, ..). All schedules of each run under each
    memory model, and must produce exactly the outcomes listed. `litmus` prints how many tests there are; `litmus NAME`
    prints the outcomes of one. */
@@ -17,7 +17,8 @@
 #pragma GCC diagnostic ignored "-Wtsan" /* fences are supported here */
 #endif
 
-enum { MOST_TASKS = 4, MOST_OUTCOMES = 32, MOST_RUNS = 400000, OF_FOUR = 2 /* preemptions of four tasks, at most */ };
+enum { MOST_TASKS = 4, MOST_OUTCOMES = 32, MOST_RUNS = 400000, OF_FOUR = 2 /* bound on preemptions in tests with four
+                                                                              tasks */ };
 
 static atomic_int x, y, z;
 static int r[4];
@@ -104,7 +105,7 @@ TASK(co_loads, r[0] = get(&x, RLX); r[1] = get(&x, RLX);)
 /* A thread sees its own store before others do. */
 TASK(own_one, put(&x, 1, RLX); r[0] = get(&x, RLX); r[1] = get(&y, RLX);)
 TASK(own_two, put(&y, 2, RLX); put(&x, 2, RLX);)
-/* The thread's exchange sees that store too, and then all others see both. */
+/* The thread's exchange sees that store too; afterwards, all others see the store and the exchange. */
 TASK(own_add, put(&x, 1, RLX); r[0] = atomic_fetch_add_explicit(&x, 1, RLX); r[1] = get(&y, RLX);)
 TASK(own_half, put(&x, 0x10002, RLX); uint16_t half; memcpy(&half, (void *)&x, sizeof half); r[0] = half;
      r[1] = get(&y, RLX);)

@@ -18,7 +18,7 @@ static void expect(const char *got, const char *want)
     exit(1);
 }
 
-/* The lists as tables: with one call per line a compiler would take a minute. */
+/* The lists are tables: with one call per line, a compiler would take a minute. */
 static const struct {
     const char *text;
     uint32_t address;

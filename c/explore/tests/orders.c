@@ -35,7 +35,7 @@ static void fail(int row, const char *what)
     exit(1);
 }
 
-/* --- a random state, in which queues are mostly ready --- */
+/* --- a random state, in which most queues are ready --- */
 
 static uint64_t some_bus(void)
 {
@@ -302,8 +302,8 @@ static uint64_t sum_of_frames_out(uint64_t sum)
     return sum;
 }
 
-/* Waiting frames show when they are received. State that no register shows, such as the bits already reported, affects
-   later steps, so all steps are run and compared. */
+/* Frames that wait in the device show only when they are received. State that no register shows, such as the bits
+   already reported, affects later steps, so all steps are run and compared. */
 static uint64_t sum_of_going_on(uint64_t sum)
 {
     static nic_outcome outcome[MOST_OUT];

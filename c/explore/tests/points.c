@@ -77,7 +77,7 @@ static void cnd_wait11(void)
     thrd_join(thread, NULL);
 }
 
-/* --- a thread said that it is done, but hasn't ended --- */
+/* --- a thread reported that it is done, but hasn't ended --- */
 
 static void *say_done(void *unused)
 {

@@ -1,5 +1,5 @@
-/* `pthreads MODE words..`: a driver's own threads, with each intercepted call; and one mode for each fault. For
-   c/explore/check.py: how each fault is reported. */
+/* `pthreads MODE words..`: a driver's own threads, with each intercepted call; and one mode for each fault.
+   c/explore/check.py checks how each fault is reported. */
 #define _GNU_SOURCE
 #include <errno.h>
 #include <poll.h>

@@ -1,5 +1,5 @@
 /* `races MODE words..`, built with -fsanitize=thread: what orders two accesses to the same memory, and what doesn't. A
-   mode with a name that starts with "no_" has a race. For c/explore/check.py: how each race is reported. */
+   mode with a name that starts with "no_" has a race. c/explore/check.py checks how each race is reported. */
 #define _GNU_SOURCE
 #include <pthread.h>
 #include <semaphore.h>
@@ -145,7 +145,7 @@ static void one_tells(void)
     nicx_check(copied[63] == 1 || is("no_join"), "it isn't there");
 }
 
-/* --- heap and stacks: freed memory may be another thread's next --- */
+/* --- heap and stacks: freed memory may next belong to another thread --- */
 
 static void *use_heap(void *unused)
 {
@@ -231,7 +231,8 @@ static void late(void)
     nicx_write32(NIC_RDT(0), 1);
 }
 
-/* A handler runs after everything before its message, and on a task, between two of the task's steps. */
+/* A handler runs after everything that precedes its message. A handler on a task runs between two of the task's
+   steps. */
 static void isr(void *unused)
 {
     data.value++;

@@ -1,5 +1,5 @@
 /* `real_threads MODE words..`: a driver with threads and locks of the process, without the link form that intercepts
-   them. For c/explore/check.py: what is printed. */
+   them. c/explore/check.py checks what is printed. */
 #define _GNU_SOURCE
 #include <pthread.h>
 #include <stdlib.h>

@@ -3,7 +3,7 @@
    with these modes: `vf`: the queue and the driver belong to a virtual function. `apart`: the tasks share nothing but a
    lock and what it protects, and the scenario says that it is race-free. `seen`: each access to the driver's memory is
    observed. `weak`: memory is weak. `three`, `four`: this many transmit queues; a write wakes all queues in the search
-   without sleep sets, but only its own queue in the search with them. */
+   without sleep sets, but only its own queue in the search with sleep sets. */
 #include <stdio.h>
 #include <stdlib.h>
 #include <string.h>

@@ -1,6 +1,6 @@
 // The same link form intercepts threads of C++, with -static-libstdc++. With -DLOST a signal comes before the wait for
-// it. With -DORDER=relaxed a std::atomic orders nothing; with -DORDER=seq_cst it orders what comes before it. For
-// c/explore/check.py.
+// it. With -DORDER=relaxed a std::atomic orders nothing; with -DORDER=seq_cst it orders what comes before it.
+// c/explore/check.py runs it.
 #include <atomic>
 #include <condition_variable>
 #include <mutex>

@@ -1,6 +1,6 @@
 /* `stop_wake MODE words..`, built with -fsanitize=thread: a sender stops its queue when no descriptor is free, and then
    checks once more; a cleaner frees a descriptor, and wakes a stopped queue. Each stores to its own flag and then loads
-   the other task's flag. So each needs a full barrier between the two, like the smp_mb used with Linux's
+   the other task's flag. So each needs a full barrier between its store and its load, like the smp_mb used with Linux's
    netif_stop_queue and netif_wake_queue. Without it, both may see the old value, and the queue stays stopped forever.
    With FIXED it is correct.
 

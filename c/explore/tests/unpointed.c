@@ -1,5 +1,5 @@
-/* Drivers that access shared memory twice without a point between the accesses. For c/explore/check.py: no schedule
-   breaks them, but the search reports where the point is missing. With -DPOINTED the point is there, and the bug is
+/* Drivers that access shared memory twice without a point between the accesses. No schedule breaks them, but the search
+   reports where the point is missing, as c/explore/check.py checks. With -DPOINTED the point is there, and the bug is
    found. */
 #include <string.h>
 

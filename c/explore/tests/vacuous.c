@@ -1,4 +1,4 @@
-/* `vacuous MODE words..`: scenarios in which some part never runs. For c/explore/check.py: what is reported. */
+/* `vacuous MODE words..`: scenarios in which some part never runs. c/explore/check.py checks what is reported. */
 #include <stdio.h>
 #include <string.h>
 

@@ -1,4 +1,4 @@
-/* Litmus tests of weak memory: small programs of two tasks. All their schedules run, with strong and with weak memory,
+/* Litmus tests for weak memory: small programs of two tasks. All their schedules run, with strong and with weak memory,
    and the loads must return exactly the combinations listed. When a schedule ends, the engine's copy of memory must
    equal the device's. `weak` prints how many tests there are; `weak NAME` prints the outcomes of one. */
 #include <stdio.h>

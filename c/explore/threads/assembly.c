@@ -1,5 +1,5 @@
-/* Finds barriers and exchanges that a driver makes with inline assembly or processor intrinsics, which neither the
-   compiler's instrumentation nor the search sees. Scans the driver's linked code for byte sequences that no other
+/* Finds barriers and exchanges in a driver's inline assembly or processor intrinsics, which neither the compiler's
+   instrumentation nor the search sees. Scans the driver's linked code for byte sequences that no other
    compiler-generated instruction contains. If none is found, nothing is reported. */
 #include <string.h>
 

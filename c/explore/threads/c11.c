@@ -1,5 +1,5 @@
-/* C11 threads, implemented by POSIX threads: in this C library they use the same objects. Each call keeps its own name
-   and place. */
+/* C11 threads, implemented with POSIX threads: in this C library both use the same objects. Each call keeps its own
+   name and place. */
 #define _GNU_SOURCE
 #include <errno.h>
 #include <stdint.h>

@@ -1,4 +1,4 @@
-/* The library's calls on the search's controller, if a driver makes them. They are steps of the schedule, like the
+/* Library calls that a driver makes on the search's controller. They are steps of the schedule, like the
    nic82599_explore.h calls. On other controllers, and outside of a search, they work as usual. */
 #include "form.h"
 
@@ -48,7 +48,7 @@ CALL(nic_lend, (nic * n, uint32_t block), (n, block), nicx_lend(block))
 CALL(nic_take, (nic * n, uint32_t block), (n, block), (nicxi_note_call(HERE), nicx_take(block)))
 CALL(nic_lend_all, (nic * n), (n), nicx_lend_all())
 
-/* --- the device's steps: run by a whole program itself, or by the explorer in a scenario --- */
+/* --- the device's steps: a whole program runs them itself; in a scenario the explorer does --- */
 
 static bool may_ask(const char *call, const void *at)
 {

@@ -143,8 +143,8 @@ void nicxi_block_lock(struct thread *self, bool (*condition)(void *), void *argu
     nicxi_call_until(condition, argument, false, call, object);
 }
 
-/* A timed wait ends without its condition only after another actor has run, or if none can. Otherwise a loop of timed
-   waits would never end. */
+/* A timed wait times out only after another actor has run, or if none can. Otherwise a loop of timed waits would never
+   end. */
 struct timed {
     bool (*condition)(void *);
     void *argument;
@@ -187,7 +187,7 @@ void nicxi_drop(struct thread *self, const void *object)
         posix->held[k - 1] = posix->held[k];
 }
 
-/* The thread that holds an object, and where it took it. Null if no holder is known. */
+/* Returns the thread that holds an object, and stores where that thread took it. Null if no holder is known. */
 static const struct thread *holder_of(const void *object, struct held *held)
 {
     for (unsigned k = 0; k < MOST_THREADS; k++) {
@@ -309,7 +309,7 @@ static const struct nicxi_form form = {
     .called_from = nicxi_called_from,
 };
 
-/* Named in the linker's options, so it is linked whatever the driver calls. */
+/* The linker's options name this function, so it is linked whatever the driver calls. */
 void nicxi_threads_form(void) __attribute__((constructor));
 void nicxi_threads_form(void)
 {

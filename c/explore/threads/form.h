@@ -10,7 +10,7 @@
 
 enum { MOST_HELD = 16, MOST_KEYS = 64, OUTSIDE = MOST_THREADS, MOST_NAMED = 96 };
 
-/* An object that a thread holds, and where it took it. */
+/* An object that a thread holds, and where the thread took it. */
 struct held {
     const void *object;
     const void *at, *caller;
@@ -61,10 +61,11 @@ static inline unsigned nicxi_number(const struct thread *thread)
     return (unsigned)(thread - nicxi.threads);
 }
 
-/* A whole program's first thread until it creates another one: nothing that it does is a point. Null otherwise. */
+/* The first thread of a whole program, until it creates another one: nothing that it does is a point. Null
+   otherwise. */
 extern struct thread *nicxi_alone;
 
-/* Returns the calling task, or null for bring_up, begin and end. Fails for functions that may only look. */
+/* Returns the calling task, or null for bring_up, begin and end. Fails for functions that may only read. */
 static inline struct thread *nicxi_caller(void)
 {
     if (!nicxi_may_act())
@@ -79,7 +80,7 @@ void nicxi_refuse(const char *call, const void *at);
 
 /* Names an address: "driver.c:31" or its function; for an object, its name or kind. */
 const char *nicxi_line(const void *at, char room[MOST_NAMED]);
-/* Adds the line of the function's caller, if it isn't null: "regs.h:9 < driver.c:31". */
+/* Like nicxi_line, and adds the line of the function's caller, if `caller` isn't null: "regs.h:9 < driver.c:31". */
 const char *nicxi_line_by(const void *at, const void *caller, char room[MOST_NAMED]);
 /* Returns the line of the thread's current call, taken from its stack. */
 const char *nicxi_line_now(const void *at, char room[MOST_NAMED]);
@@ -106,7 +107,8 @@ int nicxi_cond_wait(pthread_cond_t *cond, pthread_mutex_t *mutex, bool is_timed,
 int nicxi_cond_signal(pthread_cond_t *cond, bool is_all, const char *call, const void *at);
 /* Whether a call signals a condition variable on which no thread is waiting. */
 bool nicxi_wakes_nobody(const char *call, const void *object);
-/* For a task that waits for a condition variable: "; wake signalled it at driver.c:9, and nobody waited", or "". */
+/* For a task that waits for a condition variable: "; wake signalled it at driver.c:9, but nothing was waiting", or
+   "". */
 const char *nicxi_vain_words(const struct posix_thread *posix, char room[2 * MOST_NAMED]);
 int nicxi_once(pthread_once_t *once, void (*function)(void), const char *call, const void *at);
 int nicxi_detach(pthread_t number, const char *call);

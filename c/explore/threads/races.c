@@ -274,7 +274,7 @@ void nicxi_race_fence(int order)
     }
 }
 
-/* --- accesses: for each eight bytes, the last ones that matter --- */
+/* --- accesses: for each eight bytes of memory, the accesses that later ones are checked against --- */
 
 enum { MOST_CELLS = 8, WRITTEN_BACK = 1 << 2, FREES = 1 << 3 };
 
@@ -343,8 +343,8 @@ static bool is_before(const struct cell *cell, const struct clock *clock)
     return cell->time <= clock->at[cell->who];
 }
 
-/* Whether two accesses to the same bytes need an order. A driver may read a write-back's location before the device
-   writes it. */
+/* Whether two accesses to the same bytes need an order. A driver may read a location before the device's write-back to
+   it. */
 static bool conflict(const struct cell *old, const struct cell *new)
 {
     if (!(old->mask & new->mask) || old->who == new->who || !((old->access | new->access) & WRITES))
@@ -564,7 +564,7 @@ static void accessed_register(const struct step *step)
     unsigned self = self_number();
     if (step->kind == STEP_READ || step->kind == STEP_VF_READ) {
         take(REGISTER, address);
-        /* the device's writes reach memory before its answer to a read */
+        /* the device's writes reach memory before its reply to a read */
         now[self].at[DEVICE] = now[DEVICE].at[DEVICE];
         return;
     }
@@ -622,7 +622,7 @@ static void device_acted(const struct step *step)
     if (step->kind == STEP_TX && step->outcome.back)
         device_writes_back(step);
     if (nicxi_is_in_thread() && nicxi.is_program)
-        join(&now[self_number()], clock); /* the step is ordered before what its requesting thread does next */
+        join(&now[self_number()], clock); /* the step is ordered before what the requesting thread does next */
 }
 
 /* --- handlers: one on a task runs between two of the task's steps --- */

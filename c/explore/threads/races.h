@@ -1,7 +1,7 @@
 /* Data races: two accesses to the same memory by two threads, at least one of them a write, without an order between
    them. Vector clocks show which accesses are ordered. Each thread counts its own time, and learns other threads' times
    where it synchronizes with them: at a lock, an atomic operation, a thread's begin or end, a register, a message, a
-   descriptor that the device wrote back. So one schedule shows a race even if its two accesses are far apart. */
+   descriptor that the device wrote back. So one schedule shows a race even if the two accesses are far apart in it. */
 #ifndef NICX_THREADS_RACES_H
 #define NICX_THREADS_RACES_H
 
@@ -24,7 +24,7 @@ void nicxi_race_access(uint64_t at, size_t length, unsigned access, const void *
    -fsanitize=thread. A schedule starts without a call. */
 const void *nicxi_called_from(void);
 void nicxi_forget_callers(void);
-/* Memory is allocated again, or freed. */
+/* Called when memory is allocated again, and when it is freed. */
 void nicxi_race_forget(const void *at, size_t length);
 void nicxi_race_free(const void *at, size_t length, const void *call);
 

@@ -70,7 +70,7 @@ sem_t *__wrap_sem_open(const char *name, int flags, mode_t mode, unsigned value)
     return __real_sem_open(name, flags, mode, value);
 }
 
-/* A system call by number may be the wait for a lock. */
+/* A system call by number may wait for a lock. */
 long __real_syscall(long number, long a, long b, long c, long d, long e, long f);
 long __wrap_syscall(long number, long a, long b, long c, long d, long e, long f);
 long __wrap_syscall(long number, long a, long b, long c, long d, long e, long f)

@@ -74,7 +74,8 @@ static bool has_local(void)
     return local.block && local.size > OF_ENGINE;
 }
 
-/* A task starts with the initial values of thread-locals; a whole program's first task, with the block as it is. */
+/* A task starts with the initial values of thread-locals. A whole program's first task starts with the block as it
+   is. */
 static char *local_of(const struct thread *thread)
 {
     char **place = &local.of[nicxi_number(thread)];

@@ -15,7 +15,7 @@ static struct posix_thread *posix_of(const struct thread *self)
     return &nicxi_posix[nicxi_number(self)];
 }
 
-/* Whether a task calls. Outside of tasks nothing would end the wait. */
+/* Whether a task makes the call. Outside of tasks nothing would end the wait. */
 static bool may_wait(const struct thread *self, const char *call, const void *at)
 {
     char where[MOST_NAMED];
@@ -78,8 +78,8 @@ int nicxi_cond_wait(pthread_cond_t *cond, pthread_mutex_t *mutex, bool is_timed,
     if (!nicxi_mutex_is_mine(self, mutex))
         nicxi_misuse("%s calls %s at %s with %s, but doesn't hold it", self->name, call, nicxi_line(at, where),
                      nicxi_name(mutex, "a mutex", name));
-    /* The mutex is held, but a signaller need not take it. Between the caller's last check and its wait, a signal may
-       be sent that wakes no thread. */
+    /* The mutex is held, but a signaller need not take it. A signal sent between the caller's last check and its wait
+       may wake no thread. */
     nicxi_call(READY, call, cond);
     struct posix_thread *posix = posix_of(self);
     posix->condition = cond;

@@ -437,8 +437,8 @@ def check_never(kit: Kit) -> str:
 # Chosen values and timers: what is printed, and the status.
 CHOICES = {
     "fine": (0, "no failure was found"),
-    "values": (1, "check: a value from 2 on, and one from 1 on"),
-    "all": (1, "check: the last of all"),
+    "values": (1, "check: a value of at least 2, and one of at least 1"),
+    "all": (1, "check: the last combination of values"),
     "inputs": (1, "end: three frames came"),
     "endless": (1, "endless: still running after 200 points; the last to act was nicx_choose"),
     "none": (1, "misuse: nicx_choose takes 1 to 256 values, not 0"),
@@ -452,7 +452,7 @@ CHOICES = {
     "twice": (0, "note: timer other never fired\n.*no failure was found"),
     "bound": (0, "note: timer other never fired\n.*no failure was found"),
     "never": (0, "note: timer timer never fired\n.*note: timer other never fired"),
-    "disarm": (1, "check: a timer fires that was disarmed"),
+    "disarm": (1, "check: a disarmed timer fires"),
     "disarmed": (0, "note: timer timer never fired\n.*note: timer other never fired"),
     "sixth": (1, "check: the sixth point"),
     "first": (1, "check: the first point"),

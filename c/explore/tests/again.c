@@ -79,7 +79,7 @@ static int refused(const nicx_scenario *scenario, const char *wanted)
     const char *fault = nicx_open(scenario);
     if (fault && strstr(fault, wanted))
         return opened();
-    printf("%s: %s\n", scenario->name, fault ? fault : "it is opened");
+    printf("%s: %s\n", scenario->name, fault ? fault : "it opens, although it must be refused");
     return 1;
 }
 
@@ -104,7 +104,7 @@ static int differs(void)
     }
     nicx_close();
     if (others)
-        printf("looks: %d schedules of another length than the first one's\n", others);
+        printf("looks: %d schedules differ in length from the first one\n", others);
     return others != 0;
 }
 

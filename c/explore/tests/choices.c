@@ -27,8 +27,8 @@ static void choose_two(void *unused)
     chosen[0] = nicx_choose(5);
     nicx_read32(NIC_STATUS);
     chosen[1] = nicx_choose(3);
-    nicx_check(!is("values") || chosen[0] < 2 || !chosen[1], "a value from 2 on, and one from 1 on");
-    nicx_check(!is("all") || chosen[0] != 4 || chosen[1] != 2, "the last of all");
+    nicx_check(!is("values") || chosen[0] < 2 || !chosen[1], "a value of at least 2, and one of at least 1");
+    nicx_check(!is("all") || chosen[0] != 4 || chosen[1] != 2, "the last combination of values");
 }
 
 static void choose_much(void *unused)
@@ -44,7 +44,7 @@ static void choose_much(void *unused)
         for (volatile unsigned turns = nicx_choose(2); is("hang"); turns++)
             continue;
     }
-    nicx_check(nicx_choose(1) == 0, "one value is 0");
+    nicx_check(nicx_choose(1) == 0, "the choice of a single value isn't 0");
     nicx_check(nicx_choose(NICX_VALUES) < NICX_VALUES, "a value beyond its bound");
 }
 
@@ -60,11 +60,11 @@ static void fire(void *unused)
 {
     fired++;
     at_point = points;
-    nicx_check(!is("rest") || !is_running, "a timer at rest fires while a task can go on");
-    nicx_check(!is("disarm") && !is("disarmed"), "a timer fires that was disarmed");
+    nicx_check(!is("rest") || !is_running, "a timer fires before rest, while a task can continue");
+    nicx_check(!is("disarm") && !is("disarmed"), "a disarmed timer fires");
     nicx_check(!is("sixth") || points < BOUND, "the sixth point");
     nicx_check(!is("first") || points > 0, "the first point");
-    nicx_check(!is("bound") || points <= BOUND, "it fires after its last point");
+    nicx_check(!is("bound") || points <= BOUND, "the timer fires after its last point");
     if (is("again") && fired < 3)
         nicx_arm(timer);
 }
@@ -78,7 +78,7 @@ static void arm(void *unused)
     for (points = 0; points < READS; points++)
         nicx_read32(NIC_RDH(points % 4));
     is_running = false;
-    nicx_check(!is("bound") || fired, "it fires within its bound");
+    nicx_check(!is("bound") || fired, "the timer doesn't fire within its bound");
     nicx_check(!is("unknown") || nicx_disarm(99), "there is no such timer");
     if (is("twice"))
         nicx_arm(timer);
@@ -133,7 +133,7 @@ static const char *end(void)
     if (is("late"))
         nicx_choose(2);
     if ((is("disarm") && !was_armed && !fired) || (is("disarmed") && !was_armed))
-        return "a timer that was armed wasn't";
+        return "nicx_disarm reports that an armed timer wasn't armed";
     if (is("again") && fired != 3)
         return "a timer that is armed again doesn't fire again";
     if (is("twice") && fired != 2)

@@ -45,7 +45,7 @@ int main(void)
     for (unsigned k = 0; k < COUNT; k++) {
         bool is_it = nicxi_demangle(names[k].symbol, room, sizeof room);
         if (is_it == !names[k].name || (is_it && strcmp(room, names[k].name) != 0)) {
-            printf("%s: %s, and not %s\n", names[k].symbol, is_it ? room : "none",
+            printf("%s: %s instead of %s\n", names[k].symbol, is_it ? room : "none",
                    names[k].name ? names[k].name : "none");
             return 1;
         }

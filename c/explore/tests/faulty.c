@@ -130,7 +130,7 @@ static void misuse(void)
         nicx_unlock(&locks[0]);
     }
     if (is("stray"))
-        nicx_check(!nicx_read32(0x1F000) || left, "a register that there isn't");
+        nicx_check(!nicx_read32(0x1F000) || left, "a register that doesn't exist");
     if (is("beyond"))
         start_queue(5, true);
     if (is("left"))
@@ -227,7 +227,7 @@ static const char *end(void)
     if (is("settle_at_end"))
         nicx_settle();
     if (is("handlers") && !(first_ran && second_ran && service_ran && nicx_read32(NIC_RDH(0)) == 1))
-        return "a handler or the service didn't come to its end";
+        return "a handler or the service didn't finish";
     if (is("lines"))
         return "rx 0: nobody\xC3\xA9 takes it\n\nint 5: no message\n";
     return is("end") ? "it ended <here> & \"now\"" : NULL;

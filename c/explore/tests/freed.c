@@ -81,7 +81,7 @@ static void read_count(void)
 {
     atomic_fetch_add(&readers, 1);
     struct ring *it = atomic_load_explicit(&ring, memory_order_acquire);
-    nicx_check(!it || it->count == 0, "another count");
+    nicx_check(!it || it->count == 0, "the count isn't 0");
     atomic_fetch_sub(&readers, 1);
 }
 
@@ -215,7 +215,7 @@ static void kinds(void)
     memset(more + 5, 0, 95);
     more = realloc(more, 3);
     nicx_check(more && !memcmp(more, "rin", 3), "another text");
-    nicx_check(realloc(more, 0) == NULL, "realloc to nothing gives nothing");
+    nicx_check(realloc(more, 0) == NULL, "realloc to size 0 returns memory");
     void *empty = malloc(0), *next = malloc(8);
     free(NULL);
     free(empty);

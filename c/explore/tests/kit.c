@@ -61,8 +61,8 @@ static void take_all(void *unused)
             nicx_dma_read(buffer(SLOTS * queue + slot), frame, length);
             uint32_t number = nicx_frame_number(frame, length);
             nicx_check(number < FLOWS, "a frame has no number");
-            nicx_check(nicx_rss_queue(&flows[number]) == queue, "a frame came into another queue");
-            nicx_check(nicx_rss_hash(&flows[number]) == nic_rx_hash(d), "a frame has another hash");
+            nicx_check(nicx_rss_queue(&flows[number]) == queue, "a frame is in the wrong queue");
+            nicx_check(nicx_rss_hash(&flows[number]) == nic_rx_hash(d), "a frame has the wrong hash");
             nicx_put_desc(ring(queue), slot, nic_rx_desc(0));
             got++;
             any = true;
@@ -110,14 +110,14 @@ static void begin(void)
     nicx_task("host", host, NULL);
     for (uint32_t k = 0; k < FLOWS; k++) {
         size_t length = 60 + (k * 131) % (LONG - 60);
-        nicx_check(nicx_flow_frame(frame, length, &flows[k], k), "no frame of a flow");
+        nicx_check(nicx_flow_frame(frame, length, &flows[k], k), "no frame was built for a flow");
         nicx_frame(frame, length);
     }
 }
 
 static const char *end(void)
 {
-    return got != FLOWS ? "a frame is lost" : asked && answered ? NULL : "the mailbox has other words";
+    return got != FLOWS ? "a frame is lost" : asked && answered ? NULL : "the mailbox returned the wrong words";
 }
 
 /* --- numbered frames, without a device --- */
@@ -146,6 +146,6 @@ int main(int argc, char **argv)
         SCENARIO(.name = "kit", .vfs = 1, .blocks = 2 + QUEUES * SLOTS, .queues = QUEUES, .points = 20000);
     int fault = check_numbers();
     if (fault)
-        printf("kit: check %d of numbered frames\n", fault);
+        printf("kit: check %d of numbered frames failed\n", fault);
     return fault ? 1 : nicx_main(argc, argv, &scenario);
 }

@@ -228,7 +228,7 @@ static void begin(void)
 static const char *end(void)
 {
     note_outcome();
-    return nicxi_weak_is_exact() ? NULL : "the copy isn't what memory is";
+    return nicxi_weak_is_exact() ? NULL : "the engine's copy differs from memory";
 }
 
 /* Returns the number of schedules. */
@@ -267,7 +267,7 @@ static bool try_one(uint32_t memory, const char *word, const char *wanted, bool 
     if (tells || strcmp(given, wanted) != 0)
         printf("%s, %s: %u schedules, gives %s\n", it->name, word, made, given);
     if (strcmp(given, wanted) != 0)
-        printf("%s, %s: it should give %s\n", it->name, word, wanted);
+        printf("%s, %s: expected %s\n", it->name, word, wanted);
     return !strcmp(given, wanted);
 }
 

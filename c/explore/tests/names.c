@@ -14,7 +14,7 @@ static void expect(const char *got, const char *want)
     reported++;
     if (!strcmp(got, want))
         return;
-    printf("%s, and not %s\n", got, want);
+    printf("%s instead of %s\n", got, want);
     exit(1);
 }
 

@@ -376,13 +376,13 @@ static void try_pair(const struct pick *left, const struct pick *right, void *ro
     nicxi_heap_copy(room);
     in_order(&f, &e);
     if (!are_same(&a, &c) || !are_same(&a, &e) || !are_same(&b, &d) || !are_same(&b, &f))
-        fail(row, "a step answers otherwise after the other");
+        fail(row, "a step's result depends on the order");
     if (nicxi_heap_is(room, size))
         return;
     uint64_t sum = sum_of_all();
     in_order(&c, &d);
     if (sum != sum_of_all())
-        fail(row, "the two orders lead to two states");
+        fail(row, "the two orders lead to different states");
 }
 
 static const uint8_t kinds[] = {STEP_LOCAL,     STEP_READ, STEP_WRITE,  STEP_VF_READ, STEP_VF_WRITE,
@@ -426,7 +426,7 @@ static void tell(unsigned states, bool all)
         }
     printf("%d rows of %u pairs of kinds, %llu pairs in both orders\n", nicxi_rows(), cells, (unsigned long long)pairs);
     if (few) {
-        printf("%u pairs of kinds were hardly tried\n", few);
+        printf("%u pairs of kinds were tried too rarely\n", few);
         exit(1);
     }
 }

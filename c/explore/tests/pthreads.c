@@ -41,7 +41,7 @@ static void *joined(pthread_t thread)
 /* No lock may admit two threads here at the same time. */
 static void be_inside(void)
 {
-    nicx_check(!inside++, "two are inside");
+    nicx_check(!inside++, "two threads are inside");
     nicx_point();
     inside--;
 }
@@ -61,7 +61,7 @@ static void *use_mutex(void *argument)
 static void mutex(void)
 {
     pthread_t one = make(use_mutex, &first), two = make(use_mutex, &first);
-    nicx_check(joined(one) == &first && joined(two) == &first && count == 2, "a result is another");
+    nicx_check(joined(one) == &first && joined(two) == &first && count == 2, "a result is wrong");
 }
 
 static void *use_recursive(void *argument)
@@ -144,10 +144,10 @@ static unsigned readers;
 static void *read_shared(void *unused)
 {
     pthread_rwlock_rdlock(&shared);
-    nicx_check(!inside, "a reader beside a writer");
+    nicx_check(!inside, "a reader and a writer hold the lock together");
     readers++;
     seen |= readers > 1;
-    nicx_check(pthread_rwlock_trywrlock(&shared) == EBUSY, "a writer beside a reader");
+    nicx_check(pthread_rwlock_trywrlock(&shared) == EBUSY, "a writer and a reader hold the lock together");
     readers--;
     pthread_rwlock_unlock(&shared);
     return unused;
@@ -157,7 +157,7 @@ static void rwlock(void)
 {
     pthread_t one = make(read_shared, NULL), two = make(read_shared, NULL);
     pthread_rwlock_wrlock(&shared);
-    nicx_check(!readers && pthread_rwlock_tryrdlock(&shared) == EBUSY, "a reader beside a writer");
+    nicx_check(!readers && pthread_rwlock_tryrdlock(&shared) == EBUSY, "a reader and a writer hold the lock together");
     be_inside();
     pthread_rwlock_unlock(&shared);
     joined(one);
@@ -190,7 +190,7 @@ static void cond(void)
     }
     joined(one);
     joined(two);
-    nicx_check(!count, "something is left");
+    nicx_check(!count, "the count isn't 0");
 }
 
 static void *signal_once(void *unused)
@@ -208,7 +208,7 @@ static void timedwait(void)
     pthread_t other = make(signal_once, NULL);
     pthread_mutex_lock(&first);
     int status = count ? 0 : pthread_cond_timedwait(&changed, &first, &until);
-    nicx_check(status == ETIMEDOUT || count, "it is woken by nobody");
+    nicx_check(status == ETIMEDOUT || count, "the wait ends without a signal");
     pthread_mutex_unlock(&first);
     joined(other);
 }
@@ -230,7 +230,7 @@ static void semaphores(void)
     nicx_check(sem_trywait(&semaphore) == 0 || (errno == EAGAIN && sem_wait(&semaphore) == 0), "no wait");
     joined(other);
     nicx_check(sem_getvalue(&semaphore, &value) == 0 && value == 0, "a value is left");
-    nicx_check(sem_timedwait(&semaphore, &until) < 0 && errno == ETIMEDOUT, "a time without an end");
+    nicx_check(sem_timedwait(&semaphore, &until) < 0 && errno == ETIMEDOUT, "a timed wait doesn't time out");
     sem_destroy(&semaphore);
 }
 
@@ -252,7 +252,7 @@ static void barriers(void)
     pthread_t other = make(arrive, NULL);
     arrive(NULL);
     joined(other);
-    nicx_check(seen == 1, "not exactly one of them is the serial thread");
+    nicx_check(seen == 1, "not exactly one thread is the serial thread");
     pthread_barrier_destroy(&barrier);
 }
 
@@ -268,7 +268,7 @@ static void count_once(void)
 static void *do_once(void *unused)
 {
     pthread_once(&once, count_once);
-    nicx_check(count == 1 && seen, "not once");
+    nicx_check(count == 1 && seen, "it didn't run exactly once");
     return unused;
 }
 
@@ -305,8 +305,8 @@ static void keys(void)
     pthread_t other = make(use_own, NULL);
     use_own(NULL);
     joined(other);
-    nicx_check(count == 1, "a value isn't destroyed");
-    nicx_check(!pthread_equal(pthread_self(), other), "two are one");
+    nicx_check(count == 1, "the value wasn't destroyed");
+    nicx_check(!pthread_equal(pthread_self(), other), "two threads are equal");
 }
 
 static void *leave(void *unused)
@@ -320,7 +320,7 @@ static void *wait_a_while(void *unused)
     clock_gettime(CLOCK_MONOTONIC, &before);
     nanosleep(&time, NULL);
     clock_gettime(CLOCK_MONOTONIC, &after);
-    nicx_check(after.tv_sec > before.tv_sec, "no time went by");
+    nicx_check(after.tv_sec > before.tv_sec, "the clock didn't advance");
     usleep(1);
     sched_yield();
     return unused;
@@ -330,7 +330,7 @@ static void exits(void)
 {
     pthread_t one = make(leave, NULL), two = make(wait_a_while, NULL);
     nicx_check(joined(one) == &count && pthread_join(one, NULL) == EINVAL, "another result");
-    nicx_check(pthread_detach(two) == 0 && pthread_join(two, NULL) == EINVAL, "it isn't detached");
+    nicx_check(pthread_detach(two) == 0 && pthread_join(two, NULL) == EINVAL, "the thread isn't detached");
 }
 
 /* --- C11 --- */
@@ -381,14 +381,14 @@ static void keep_aligned(void)
     nicx_check(bytes && (uintptr_t)bytes % 64 == 0, "it isn't aligned");
     memset(bytes, 7, SIZE);
     bytes = realloc(bytes, 5000);
-    nicx_check(bytes && is_filled(bytes, SIZE, 7), "it lost bytes as it moved");
+    nicx_check(bytes && is_filled(bytes, SIZE, 7), "the memory lost bytes when it moved");
     for (unsigned char k = 0; k < 10; k++) {
         others[k] = malloc((size_t)1 << k);
         nicx_check(others[k] != NULL, "out of memory");
         memset(others[k], k, (size_t)1 << k);
     }
     for (unsigned char k = 0; k < 10; k++)
-        nicx_check(is_filled(others[k], (size_t)1 << k, k), "two pieces have bytes in common");
+        nicx_check(is_filled(others[k], (size_t)1 << k, k), "two allocations overlap");
     free(bytes);
 }
 
@@ -400,13 +400,13 @@ static void *spoil(void *unused)
     void *left = NULL;
     nicx_check(posix_memalign(&left, 4096, 100) == 0 && (uintptr_t)left % 4096 == 0, "it isn't aligned");
     keep_aligned();
-    nicx_check((text = realloc(text, 5000)) && !strcmp(text, "spoilt"), "it isn't what it was");
+    nicx_check((text = realloc(text, 5000)) && !strcmp(text, "spoilt"), "the text changed");
     return unused;
 }
 
 static void state(void)
 {
-    nicx_check(number == 7 && !strcmp(text, "as it was"), "something is left of another schedule");
+    nicx_check(number == 7 && !strcmp(text, "as it was"), "something remains from another schedule");
     joined(make(spoil, NULL));
 }
 

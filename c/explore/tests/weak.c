@@ -309,7 +309,7 @@ static void begin(void)
 static const char *end(void)
 {
     seen |= GIVES(r[0], r[1]);
-    return nicxi_weak_is_exact() ? NULL : "the copy isn't what memory is";
+    return nicxi_weak_is_exact() ? NULL : "the engine's copy differs from memory";
 }
 
 /* Returns the number of schedules. */

@@ -139,7 +139,7 @@ ACCESS = re.compile(r"[rw] (\S+)")
 
 
 def check_script(kit: Kit, path: Path) -> None:
-    """A failure's script names registers in a way that the bench can read, and ends with what failed."""
+    """A failure's script names registers as the bench reads them, and ends with the failure."""
     lines = path.read_text().splitlines()
     accesses = [found[1] for line in lines if (found := ACCESS.match(line))]
     if not accesses or any(one.startswith("0x") for one in accesses):
@@ -192,7 +192,7 @@ def check_outside(kit: Kit, runs: int, each: int = 1) -> str:
     """Checks the drivers that weren't written for the search. Each bug must be found as the failure listed above."""
     sources = outside()
     if [source.stem for source in sources] != list(OUTSIDE):
-        raise Wrong(f"outside/ has {', '.join(source.stem for source in sources)}")
+        raise Wrong(f"OUTSIDE must list the drivers in outside/: {', '.join(source.stem for source in sources)}")
     for source in sources[::each]:
         found, _, _ = check_pair(kit, source, runs)
         must_print(found, f"FAILED {OUTSIDE[source.stem]}", source.stem)
@@ -847,7 +847,7 @@ def check_freed(kit: Kit) -> str:
     source, out = HERE / "tests/freed.c", kit.out("freed")
     words = ["--quiet", "--jobs", 2, "--out", out]
     if set(modes_of(source)) != set(FREED):
-        raise Wrong(f"freed.c has the modes {', '.join(modes_of(source))}")
+        raise Wrong(f"FREED must list the modes of freed.c: {', '.join(modes_of(source))}")
     for compiler in filter(shutil.which, ("gcc", "clang")):
         it = replace(kit, folder=kit.out(compiler), compiler=compiler)
         wrong, right = (it.build_form(source, *defines, of_memory=True) for defines in ([], ["FIXED"]))
@@ -940,7 +940,7 @@ def check_named(kit: Kit) -> str:
     source, out = HERE / "tests/named.c", kit.out("named")
     program = kit.build_form(source, of_memory=True)
     if list(dict.fromkeys(modes_of(source))) != list(NAMED):
-        raise Wrong(f"named.c has the modes {', '.join(modes_of(source))}")
+        raise Wrong(f"NAMED must list the modes of named.c: {', '.join(modes_of(source))}")
     for mode, (words, lines, followed) in NAMED.items():
         said = ran([program, mode, "--quiet", "--jobs", 1, "--out", out], 1)
         must_print(said, f"FAILED {words}", mode)
@@ -976,7 +976,7 @@ def check_points(kit: Kit) -> str:
     words = ["--quiet", "--jobs", 2, "--out", out, "--no-shrink"]
     wrong, right = (kit.build_form(source, *defines, of_memory=True) for defines in ([], ["FIXED"]))
     if modes_of(source) != list(POINTS):
-        raise Wrong(f"points.c has the modes {', '.join(modes_of(source))}")
+        raise Wrong(f"POINTS must list the modes of points.c: {', '.join(modes_of(source))}")
     for mode, wanted in POINTS.items():
         must_print(ran([wrong, mode, *words], 1), f"FAILED {wanted}", mode)
         if mode == "cnd_wait":

@@ -12,8 +12,8 @@ $(OUT)/threads/%.o: $(HERE)/explore/threads/%.c $(THREADS_HEADERS) $(EXPLORE_HEA
 	@mkdir -p $(OUT)/threads
 	$Q$(CC) -std=c99 $(EXPLORE_FLAGS) -Wall -Wextra -pedantic -fPIC -I$(HERE)/include -c -o $@ $<
 
-# The intercepted calls are the functions __wrap_NAME, which the linker calls instead of NAME. What the engine itself
-# calls, in this archive too, stays NAME.
+# The intercepted calls are the functions __wrap_NAME, which the linker calls instead of NAME. Calls made by the
+# engine itself, in this archive too, still go to NAME.
 $(OUT)/threads/intercepted: $(THREADS_OBJECTS)
 	$Qnm -g --defined-only $^ | sed -n 's/.* T __wrap_//p' | LC_ALL=C sort -u >$@
 

@@ -84,7 +84,7 @@ enum thread_state {
     LOCKED   /* waits until its lock is free */
 };
 
-/* A loop's reads: the last reads that returned something new, and how many since then returned nothing new. */
+/* A loop's reads: the last ones that returned something new, and how many reads since then returned nothing new. */
 struct polls {
     uint32_t seen[4][2]; /* what was read, and the value */
     uint32_t next, times;
@@ -351,7 +351,7 @@ void nicxi_touched(const void *place, size_t size, bool writes);
 void nicxi_is_made_here(void);
 /* The prefix of a driver's calls in reports: "nicx_", or another language's prefix. */
 extern const char *nicxi_calls;
-/* What reports call a condition. */
+/* The words that reports use for a condition. */
 extern const char *nicxi_condition;
 /* Advice printed for a driver that uses the process's own threads or locks: the link form, unless the card sets other
    words. */

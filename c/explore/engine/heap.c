@@ -13,8 +13,8 @@ static char *kept;
 static size_t kept_size;
 
 /* The searching thread, identified by the address of its thread-local `mark`. Tasks and handlers run on stacks of that
-   thread. Other threads of the process allocate from malloc, perhaps at this moment: of this file's data, they read
-   only these two pointers. */
+   thread. Other threads of the process allocate from malloc concurrently; of this file's data, they read only these two
+   pointers. */
 static char *searcher;
 static __thread char mark;
 

@@ -1,17 +1,15 @@
 /* The table of independent steps. Each row names the laws by which neither step changes anything that the other one
    changes or looks at. They are contracts of functions in crates/device_laws (`dev:`) and crates/register_laws
-   (`reg:`). `dev: event_stays_within_its_reach` bounds what each event changes; a row's other law says what one of
-   the two steps leaves unchanged. What a step looks at follows from its definition, and from the laws about its
-   results. No law states it directly, so c/explore/tests/orders.c runs each row's steps in both orders from random
-   states.
+   (`reg:`). `dev: event_stays_within_its_reach` bounds what each event changes; a row's other law says what one of the
+   two steps leaves unchanged. What a step looks at follows from its definition, and from the laws about its results. No
+   law states it directly, so c/explore/tests/orders.c runs each row's steps in both orders from random states.
 
-   The rows are about steps that do something, and each step is given with its result. Steps without a row aren't
+   The rows are about steps that do something. Each step is recorded with its result. Steps without a row aren't
    independent: steps that count or raise causes, as two receive or transmit steps do. Two steps of the driver are
    independent only if neither touches own memory that the other one changes. The search knows that if it sees the
-   driver's accesses (nicxi_touched), or if the scenario says that it is race-free. A virtual function's access
-   counts as the physical function's at the address for its offset (`dev: vf_access_is_the_physical_functions`). That
-   address depends on the mode in GCR_EXT, which no device step and no frame changes (`dev:
-   other_events_keep_settings`). */
+   driver's accesses (nicxi_touched), or if the scenario says that it is race-free. A virtual function's access counts
+   as the physical function's at the address for its offset (`dev: vf_access_is_the_physical_functions`). That address
+   depends on the mode in GCR_EXT, which no device step and no frame changes (`dev: other_events_keep_settings`). */
 #include "independent.h"
 
 /* --- the queue's side that a register belongs to --- */

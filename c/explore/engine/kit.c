@@ -1,5 +1,5 @@
-/* Shared by scenarios: descriptors in a single access, frames that carry a number, a flow's queue, and both sides of a
-   mailbox. All of it uses a driver's calls, so its accesses are points. */
+/* Shared by scenarios: descriptors in a single access, frames that carry a number, a flow's queue, and mailbox calls
+   for the PF's driver and a virtual function's. All helpers use a driver's calls, so their accesses are points. */
 #include <string.h>
 
 #include "engine.h"

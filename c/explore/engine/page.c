@@ -6,7 +6,7 @@
 #include "objects.h"
 #include "words.h"
 
-/* The page, line by line; the "@DATA@" line marks the place of the data. The build generates it from page.html. */
+/* The page, line by line; the data replaces the "@DATA@" line. The build generates it from page.html. */
 static const char *const lines[] = {
 #include "page.inc"
 };

@@ -1,5 +1,6 @@
-/* A thread's place is read from its stack while the step is reported, so it costs nothing in a schedule without step
-   listeners. When a thread takes a step, the listener runs on that thread's stack, except when the thread begins. */
+/* A thread's place in the source is read from its stack while its step is reported, so it costs nothing in a schedule
+   without step listeners. When a thread takes a step, the listener runs on that thread's stack, except when the thread
+   begins. */
 #define _GNU_SOURCE
 #include "places.h"
 

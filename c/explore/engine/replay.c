@@ -62,8 +62,8 @@ static void tell_parting(struct replay *it, const char *now)
     fprintf(it->to, "\n%s:   it is:  %s\n", name, now);
 }
 
-/* Whether the file's comment agrees with what is printed now. Lines may differ, and one of the two may lack the
-   place. */
+/* Whether the file's comment agrees with the description printed now. Line numbers may differ, and either text may lack
+   the place. */
 static bool is_as_described(const char *before, const char *now)
 {
     size_t length = strlen(now);
@@ -143,8 +143,8 @@ static void print_point(void *argument, uint16_t actor, const struct step *step)
     fflush(it->to);
 }
 
-/* Returns null, or where the file doesn't fit: at one of its points, at its end, or because the schedule ended before
-   the file did. */
+/* Returns null, or where the file doesn't fit the run: at one of its points, at its end, or because the run ended
+   first. */
 static const char *unfit(const struct replay *it, const struct by_list *state, uint32_t points)
 {
     char name[96];

@@ -6,8 +6,8 @@
 #include "names.h"
 #include "parts.h"
 
-/* Packet memory is tracked in units of a descriptor, registers by address, with REGISTERS set in the key. An entry that
-   collides with another replaces it; then a failure names no line. */
+/* Packet memory is tracked in units of a descriptor, registers by address, with REGISTERS set in the key. A new entry
+   replaces the one that it collides with; a failure that needs the replaced entry names no line. */
 enum { UNIT = NIC_DESC_BYTES, PLACES = 4096, MOST_UNITS = NIC_BLOCK_BYTES / UNIT };
 #define REGISTERS (UINT64_C(1) << 63)
 

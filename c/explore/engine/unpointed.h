@@ -1,7 +1,7 @@
 /* Finds missing points if the search doesn't see accesses to the driver's own memory: places where a thread accesses
    shared memory twice between two of its points, so that no schedule runs another thread between the two accesses.
-   Before a search, a few random schedules are single-stepped to find these places, on x86-64 Linux. What is reported is
-   real, but others may exist. */
+   Before a search, a few random schedules are single-stepped to find these places, on x86-64 Linux. Each reported place
+   is real, but others may be missed. */
 #ifndef NICX_UNPOINTED_H
 #define NICX_UNPOINTED_H
 

@@ -67,7 +67,7 @@ static const char *bring_up(void)
     return nicp_ask(ASK_BRING_UP, 0, 0, 0) == NICP_RAISED ? "raised an exception" : NULL;
 }
 
-/* The function can reach the controller itself, and may change it. */
+/* Python's begin can reach the controller directly, and may change it. */
 static void begin(void)
 {
     nicxi.is_changed = true;

@@ -165,7 +165,7 @@ int nicxi_mutex_unlock(pthread_mutex_t *mutex, const char *call, const void *at)
 INTERCEPT(int, pthread_mutex_unlock, (pthread_mutex_t * mutex), (mutex),
           nicxi_mutex_unlock(mutex, "pthread_mutex_unlock", HERE))
 
-/* The C library's own call initializes a free mutex with its kind. */
+/* pthread_mutex_init isn't intercepted: the C library's own call initializes a free mutex with its kind. */
 int __real_pthread_mutex_destroy(pthread_mutex_t *mutex);
 int __wrap_pthread_mutex_destroy(pthread_mutex_t *mutex)
 {

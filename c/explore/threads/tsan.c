@@ -18,7 +18,7 @@ static inline bool is_weak_here(void)
 
 /* --- accesses --- */
 
-/* A plain access to what the thread stored atomically first makes that store reach memory. */
+/* If the thread has a pending atomic store to this memory, the store reaches memory before the plain access. */
 static inline void access(const void *at, size_t length, unsigned how, const void *call)
 {
     if ((nicxi_memory_is_point || nicxi.handlers) && nicxi_is_in_thread())

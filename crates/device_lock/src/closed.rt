@@ -152,10 +152,10 @@ impl<const VFS: u8, const FIFO: u16> Shared<VFS, FIFO> {
     /// Closes a shared device with its passes. It never blocks.
     ///
     /// Fails with `MissingPass` if and only if a tag is missing, that is, no pass of this bench has the tag. The error
-    /// contains the lowest missing tag. If no tag is missing, fails with `ForeignPass` if and only if a pass belongs to
-    /// another bench, has a tag outside this bench's, or has another pass's tag. Any other error is `Mismatch`. It
-    /// contains the lowest tag for which, in some legal history, the entries aren't the calls of its pass. Each error
-    /// returns the shared device and the passes.
+    /// contains the lowest missing tag. If no tag is missing, fails with `ForeignPass` if and only if a pass is
+    /// surplus. A surplus pass belongs to another bench, has a tag that isn't one of this bench's, or has another
+    /// pass's tag. Any other error is `Mismatch`. It contains the lowest tag for which, in some legal history, the
+    /// entries aren't the calls of its pass. Each error returns the shared device and the passes.
     pub fn close(self, passes: Vec<Pass>) -> Result<Closed<VFS, FIFO>, CloseRefused<VFS, FIFO>>
         ensures closed { IfOk result
             (λ closed. Closes self.entry.bench self.entry.passes closed.history passes.items) }

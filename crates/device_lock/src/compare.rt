@@ -35,7 +35,7 @@ fn after_call<'a>(history: &'a [Entry], tag: u8, call: &Call) -> Option<&'a [Ent
 }
 
 /// If the step ran, skips past the next entry with this tag, which must record this event as idle. If the step didn't
-/// run, skips nothing. Returns the remaining entries.
+/// run, skips nothing. Returns the remaining entries, or `None` if the step ran but the next entry doesn't record it.
 fn after_step<'a>(
     history: &'a [Entry],
     tag: u8,
@@ -54,7 +54,8 @@ fn after_step<'a>(
     }
 }
 
-/// Skips past the next entries with this tag, which must record these idle device steps. Returns the remaining entries.
+/// Skips past the next entries with this tag, which must record these idle device steps. Returns the remaining entries,
+/// or `None` if the next ones don't record these steps.
 fn after_rested<'a>(history: &'a [Entry], tag: u8, rested: IdleSteps) -> Option<&'a [Entry]>
     ensures some { IfSome result (λ rest. calls_of tag history.now ≡ rested_calls rested ++ calls_of tag rest.now) }
     ensures none { IfNone result ((more : List Call) → calls_of tag history.now ≢ rested_calls rested ++ more) }
@@ -77,7 +78,7 @@ fn after_rested<'a>(history: &'a [Entry], tag: u8, rested: IdleSteps) -> Option<
 }
 
 /// Skips past the next entries with this tag, which must record a call and the steps before the call. Returns the
-/// remaining entries.
+/// remaining entries, or `None` if the next ones don't record them.
 fn after_made<'a>(history: &'a [Entry], tag: u8, made: &Made) -> Option<&'a [Entry]>
     ensures some { IfSome result
         (λ rest. calls_of tag history.now ≡ made_calls (made.now ∷ []) ++ calls_of tag rest.now) }

@@ -28,8 +28,8 @@ NeverAskedIsQuiet =
     (IsQuiet w.queue (record { port = given.port; queue = given.queue }) given.frame)
 
 -- Take a legal history whose entries show that nobody else lends an arena's blocks. After the first entry of the
--- driver's pass, no other pass tries to lend any of these blocks that the driver's pass tries to lend. None of the
--- blocks that the driver's pass tries to lend is lent just before the driver's first event.
+-- driver's pass, no other pass tries to lend any of these blocks that the driver's pass tries to lend. None of those
+-- blocks is lent just before the driver's first event.
 abbrev pub OthersLendNoneIsAlone : Type 0
 OthersLendNoneIsAlone =
     (w : Watched) (fifo : ℕ) (old : List Call) (a : Numbers) (h : List Entry) → IsLegal (new_state w.vfs fifo) h →

@@ -9,8 +9,8 @@ use Rattle.pmd_driver.specs.PmdAccess.Events.{is_step}
 use Rattle.pmd.specs.Quiet.{asks_on}
 use Rattle.pmd.specs.declared.before.Reported.{Reported}
 
--- Whether an entry is the driver's first entry. `left` calls made by the driver's pass must still come before its first
--- entry.
+-- Whether an entry is the driver's first entry. `left` calls made by the driver's pass must still come before the
+-- driver's first entry.
 abbrev pub is_first : Watched → ℕ → Entry → Bool
 is_first w left e = (e.pass == w.pass) && ((left == 0) && not (is_step e.event))
 

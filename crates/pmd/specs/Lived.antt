@@ -11,8 +11,9 @@ use Rattle.pmd.specs.Ended.{first_fault}
 use Rattle.pmd.specs.declared.fault.WorkerFault.{WorkerFault}
 use Rattle.pmd.specs.declared.fault.WorkerFault.TheVariants.{Pmd}
 
--- A worker had one driver for its queue. Either the driver ran and was stopped, and the worker reports why it ended
--- early, or else why the driver didn't stop. Or the start was refused, and the worker reports why.
+-- A worker had one driver for its queue. Either the driver ran and was stopped once, successfully or not. The worker
+-- then reports the first of two faults, if any: why it ended early, and why the driver didn't stop. Or the start was
+-- refused, and the worker reports why.
 abbrev pub HasRun : AtPort → ℕ → ℕ → List Call → Numbers → List Call → Rest → Option WorkerFault → Type 0
 HasRun q size frame old a new left fault =
     ((worked : Result (Unit {0}) WorkerFault) × (late : Option PmdFault) × (fault ≡ first_fault worked late)

@@ -44,7 +44,7 @@ pub record LeavesJob (vfs fifo : ℕ) (h : List Entry) (j : Job) (e : WorkerEnd)
 -- A job's result is in order over this history, up to the point where the result's pass had made exactly its calls.
 pub record IsInOrder (vfs fifo : ℕ) (h : List Entry) (j : Job) (e : WorkerEnd) (u : UpTo e.pass.tag h e.pass.calls) :
     Type 0 where
-  -- The driver has a first entry in this history, or it handed out and accepted no packet.
+  -- Up to that point, the driver has a first entry in this history, or it handed out and accepted no packet.
   pub none : Starts e.pass.tag j.pass.calls u.done ⊎ ((left_handed e.rest ≡ []) × (left_accepted e.rest ≡ []))
   -- The packets that the result reports as handed out are a prefix of those delivered on the queue from that entry on,
   -- counted since the receive side was enabled.

@@ -82,7 +82,7 @@ fn is_step(event: &EventNote) -> bool
 }
 
 /// Returns whether an entry is the driver's first entry. `left` calls made by the driver's pass must still come before
-/// its first entry.
+/// the driver's first entry.
 pub(crate) fn is_first(watched: Watched, left: usize, entry: &Entry) -> bool
     ensures { result ≡ is_first watched left entry.now }
 {

@@ -13,10 +13,10 @@ ghost use Rattle.pmd.specs.Order.{EndsAreInOrder};
 /// queue name the job's queue, and the device's frame limit is the limit of the job's frames. If the result has a
 /// fault, both sides must also be off at that point, with no enable request pending.
 ///
-/// Two facts hold over such a history, up to the last entry of the worker's pass. The packets that the result reports
-/// as handed out are a prefix of those delivered on the queue. The frames sent on the queue are a prefix of those that
-/// the driver accepted. Delivered and sent frames are counted since the sides were enabled after that event. If the
-/// driver has no event there, it handed out and accepted no packet.
+/// Two facts hold over such a history, up to the last call recorded in the worker's pass. The packets that the result
+/// reports as handed out are a prefix of those delivered on the queue. The frames sent on the queue are a prefix of
+/// those that the driver accepted. Delivered and sent frames are counted since the sides were enabled after that event.
+/// If the driver has no event there, it handed out and accepted no packet.
 pub fn ends_are_in_order()
     ensures { EndsAreInOrder }
 {}

@@ -26,7 +26,7 @@ impl Start {
         self.word.store(REFUSED, Ordering::SeqCst);
     }
 
-    /// Returns whether no thread could be created for the task. After the host is called, this no longer changes.
+    /// Returns whether no thread could be created for the task. The result is final when the host is called.
     pub fn is_missing(&self) -> bool {
         self.word.load(Ordering::SeqCst) == REFUSED
     }

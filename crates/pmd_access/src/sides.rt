@@ -16,7 +16,7 @@ use device_lock::{Dir, RowId};
 use reg_table::Rxdctl;
 use std::alloc::Global;
 
-/// The maximum number of polls that show ENABLE in the other state than requested.
+/// The maximum number of polls that don't show ENABLE in the requested state.
 pub const POLLS: u16 = 1000;
 
 /// The lowest bit of SRRCTL.DESCTYPE, the descriptor type, which has three bits.

@@ -44,8 +44,8 @@ IsStopped q old h new (rest.Running p) (Some f) =
     (after : Halted) × (p ≡ record { queue = q; rings = Down after }) × StopFails f q old h new after
 IsStopped q old h new left late = ⊥
 
--- The driver ran and was stopped. The packets that it handed out and accepted are those that its halves handed out and
--- accepted up to that point.
+-- The driver ran and was stopped once, successfully or not. The packets that it handed out and accepted are those that
+-- its halves handed out and accepted up to that point.
 pub record HasLived (q : AtPort) (size frame : ℕ) (old : List Call) (a : Numbers) (new : List Call) (left : Rest)
     (late : Option PmdFault) : Type 0 where
   -- The calls made up to the stop, and the driver at that point.

@@ -29,8 +29,8 @@ use std::collections::VecDeque;
 use std::marker::Model;
 
 /// A driver with both rings up: the arena that owns its blocks, and the rings. After any call, no block is both free in
-/// the arena and with a ring, or with a ring twice. In the receive ring, one slot is vacant, and the slots of held and
-/// complete packets aren't posted; all other slots are posted.
+/// the arena and with a ring, and no block is with the rings twice. In the receive ring, one slot is vacant, and the
+/// slots of held and complete packets aren't posted; all other slots are posted.
 pub struct Running {
     arena: Arena,
     receive: ReceiveRing,

@@ -80,8 +80,8 @@ impl ReceiveRing {
         packet
     }
 
-    /// Advances the tail over all named blocks. The driver may not hold part of a packet. Appends the complete packets
-    /// to `out`, which has room for them.
+    /// Advances the tail over all named blocks. The driver must not hold a part of a packet. Appends the complete
+    /// packets to `out`, which has room for them.
     ///
     /// Fails with `DeviceFault` if the port has no register with the tail's number.
     pub(crate) fn post_all<N: Nic>(

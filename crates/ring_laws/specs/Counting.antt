@@ -40,8 +40,8 @@ abbrev pub reported_lengths : ℕ → Reply Block → List ℕ
 reported_lengths queue (Sent on len back) = if on == queue then len ∷ [] else []
 reported_lengths queue other = []
 
--- The frames that a legal history of a sound device sends on a queue have the lengths that the history's replies
--- report.
+-- The frames that a legal history of a sound device sends on a queue have the number and lengths that the history's
+-- replies report, in order.
 abbrev pub SentIsReported : Type 0
 SentIsReported =
     (queue : ℕ) (s : State) (h : List Entry) → IsSound s → AreEvents h → IsLegal s h →

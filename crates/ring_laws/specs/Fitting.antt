@@ -1,4 +1,4 @@
--- Frames of several pieces, each of which fits as many slots as the driver takes for a packet.
+-- Frames of several pieces: each frame fits as many slots as the driver takes for a packet.
 use Rattle.std.specs.Prelude.{[], if◌then◌else◌, ◌*◌, ◌++◌, ◌==◌, ◌∷◌, ◌≡◌, ◌≤◌, All, IsFalse, IsTrue, List, length, ℕ}
 use Rattle.std.specs.Prelude.{⊤}
 use Rattle.ring_laws.specs.Prelude.{Block, Event, IsSound, Place, Register, Rx, State, Waiting, WritesNoSetting}

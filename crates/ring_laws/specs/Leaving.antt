@@ -64,7 +64,8 @@ pub record WriteLeaves (w : Watched) (mode : Mode) (write : Event Block) (p : Pl
   pub no_reset : is_reset p.row ≡ true → word / 0x4000000 % 2 ≡ 0 → LeavesRegisters w mode write
   pub other : (is_setting p.row || (is_ring p.row || is_reset p.row)) ≡ false → LeavesRegisters w mode write
 
--- A write leaves the queue alone if it reaches no register. Otherwise, this depends on the register.
+-- A write leaves the queue alone if it reaches no register. Otherwise, this depends on the register and the value, as
+-- `WriteLeaves` states.
 pub record WritesLeave (w : Watched) (mode : Mode) (port : Port) (number word : ℕ) : Type 0 where
   pub register : (p : Place) → place_at mode w.vfs port number ≡ Some p →
       WriteLeaves w mode (event.Write port number word) p word

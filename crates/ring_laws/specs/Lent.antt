@@ -4,7 +4,7 @@ use Rattle.ring_laws.specs.Prelude.{Block, Blocks, Done, Event, Memory, Reply, S
 use Rattle.device_lock.specs.NicDevice.declared.event.Reply.TheVariants.{Buf}
 use Rattle.device_lock.specs.NicDevice.declared.event.Event.TheVariants as event
 
--- Whenever a block with one of these numbers, for example an arena's, is lent, its driver knows that it is lent.
+-- Whenever a block with one of these numbers, for example an arena's, is lent, the driver knows that it is lent.
 abbrev pub OnlyLent : Blocks → Blocks → Memory → Type 0
 OnlyLent own known m = (number : ℕ) → IsTrue (own number) → IsTrue (has_block m number) → IsTrue (known number)
 
@@ -40,7 +40,8 @@ abbrev pub without : Blocks → ℕ → Blocks
 without known taken number = not (number == taken) && known number
 
 -- An event that lends none of these blocks keeps the property that each lent block is known. So does lending a block,
--- which is then known, and taking a block back, which is then no longer known. A block that isn't known isn't lent yet.
+-- which is then known, and taking a block back, which is then no longer known. If one of these blocks isn't known, it
+-- isn't lent yet.
 pub record OnlyLentStays : Type 0 where
   pub others :
       (own known : Blocks) (s : State) (e : Event Block) → LendsNone own e → OnlyLent own known s.memory

@@ -26,8 +26,8 @@ abbrev pub AllLeaveSide : ℕ → State → List Entry → Type 0
 AllLeaveSide queue s [] = ⊤
 AllLeaveSide queue s (e ∷ es) = LeavesSide queue s e.event × AllLeaveSide queue (after s e.event) es
 
--- If no enable request is in effect for a side, none is in effect later. A side that is also off stays off and sends
--- nothing.
+-- If no enable request is in effect for a side, none is in effect after such an event either. A side that is also off
+-- stays off and sends nothing during a history of such events.
 pub record OffStays : Type 0 where
   pub unwanted :
       (queue : ℕ) (s : State) (e : Event Block) → queue < 128 → LeavesSide queue s e → IsUnwanted queue s

@@ -26,7 +26,7 @@ impl<E, T: Task<E>> Promise<ManuallyDrop<E>> for EndOf<T> {
 type Seat<E, T> = Result<PromisedHandle<ManuallyDrop<E>, EndOf<T>>, ManuallyDrop<E>>;
 
 /// Wraps a value for its transfer to a thread or back. The value must be droppable during the transfer, but a task and
-/// its result may not be. `ManuallyDrop::into_inner` unwraps it.
+/// its result might not be. `ManuallyDrop::into_inner` unwraps it.
 fn on_its_way<T>(value: T) -> ManuallyDrop<T>
     ensures { manually_drop_value result ≡ value }
 {

@@ -746,7 +746,7 @@ command.draw_all([Row("a", "b", "", "c", "d", "e", state=FAILED)], Path())
 def check_pages() -> str:
     """The command announces that it compiles ./nicbench for the pages, but only if it does."""
     folders = ", ".join(repr(str(path)) for path in (HERE, C.parent / "python"))
-    notice = "nicdrive: compiling ./nicbench for the pages (only once, takes a few minutes)\n"
+    notice = "nicdrive: compiling ./nicbench for the pages (only once, takes half a minute)\n"
     for there, wanted in (("/nowhere", notice), ("/", "")):
         words = [sys.executable, "-B", "-c", PAGES.replace("FOLDERS", folders), there]
         made = subprocess.run(words, capture_output=True, text=True, check=False)

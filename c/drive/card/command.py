@@ -139,7 +139,7 @@ def draw(row: Row, folder: Path) -> None:
 def draw_all(rows: list[Row], folder: Path) -> None:
     """Writes the pages of all failed rows' runs. The first may have to wait until ./nicbench is compiled."""
     if any(row.state == FAILED for row in rows) and shutil.which("rt") and not any(map(Path.exists, NICBENCH)):
-        notice = "nicdrive: compiling ./nicbench for the pages (only once, takes a few minutes)"
+        notice = "nicdrive: compiling ./nicbench for the pages (only once, takes half a minute)"
         print(notice, file=sys.stderr, flush=True)
     for row in rows:
         draw(row, folder)

@@ -32,7 +32,7 @@ class Can(Flag):
 class Setup:
     """The arguments of `open`."""
 
-    port: int  # 0: the physical function; v + 1: virtual function v of 64
+    port: int  # 0: the physical function; v + 1: virtual function v, with 64 pools
     queues: int  # receive and transmit queues 0 to `queues` - 1 of that port
     slots: int  # descriptors per ring: 8, 16, .. 64
     frame: int  # bytes of the longest frame: 1,514 to MOST_FRAME

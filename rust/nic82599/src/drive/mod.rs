@@ -229,7 +229,7 @@ impl BitOr for Can {
 #[derive(Clone, Copy, Debug, PartialEq, Eq)]
 #[non_exhaustive]
 pub struct Setup {
-    /// 0 for the physical function; v + 1 for virtual function v, of 64.
+    /// 0 for the physical function; v + 1 for virtual function v, with 64 pools.
     pub port: u8,
     /// The number of queues: use receive and transmit queues 0 to `queues` - 1 of the port.
     pub queues: u16,

@@ -9,16 +9,18 @@
 A new `Nic` is a controller in its power-up state. Access registers by the names of docs/REGISTERS.md or by address, and
 packet memory by bus address (`nic.memory[0x800:0x83c]`). Pass frames in with `arrive` and take them out with `collect`.
 The device acts in steps: `settle` runs every step that has work, and `why` explains why nothing happens. A refused call
-raises an exception named after the refusal and leaves the device unchanged. Events of the device are returned as small
+raises an exception named after the refusal and leaves the device unchanged. The device's events are returned as small
 dataclasses.
 
-The library is searched for in this order: the path in the environment variable NIC82599_LIBRARY; next to this file; in
-c/out of the clone, where `make -C c` puts it; in the system.
+If the environment variable NIC82599_LIBRARY is set, it is the library's path. Otherwise the library is searched for in
+this order: next to this file; in the clone's c/out, where `make -C c` puts it; in the prefix of a release; in the
+system.
 
 Several threads may call the same controller. If one of them closes it, the others' calls raise `Closed`. Each library
 call holds the GIL, so calls run one after the other, and each result goes to its caller. A method that makes several
 calls (`lend` of several blocks, `settle` with more than 256 events) lets other threads run between them. A signal
-handler may make calls, too. If it raises, as Ctrl-C does, the interrupted call has either completed or had no effect.
+handler may make calls, too. If the handler raises, as the one for Ctrl-C does, the interrupted call has either
+completed or had no effect.
 """
 
 from __future__ import annotations
@@ -200,8 +202,8 @@ class Wrote:
 
 @dataclass(frozen=True)
 class Advanced:
-    """The device fetched a transmit descriptor and sent no frame. `back` is the bus address of the write-back, or
-    None."""
+    """The device fetched a transmit descriptor and sent no frame. `back` is the bus address of the write-back, or None
+    if the device wrote nothing back."""
 
     queue: int
     slot: int
@@ -210,7 +212,8 @@ class Advanced:
 
 @dataclass(frozen=True)
 class Sent:
-    """The device sent a frame of `length` bytes. `back` is the bus address of the write-back, or None."""
+    """The device sent a frame of `length` bytes. `back` is the bus address of the write-back, or None if the device
+    wrote nothing back."""
 
     queue: int
     length: int
@@ -230,7 +233,7 @@ class Fault:
 
 @dataclass(frozen=True)
 class Message:
-    """An interrupt message of a virtual function, or of the physical function if `function` is None."""
+    """An interrupt message from a virtual function, or from the physical function if `function` is None."""
 
     function: int | None
     vector: int
@@ -238,7 +241,7 @@ class Message:
 
 @dataclass(frozen=True)
 class Frame:
-    """A transmitted frame and its queue."""
+    """A transmitted frame, and the queue that sent it."""
 
     queue: int
     data: bytes
@@ -428,7 +431,7 @@ def record(path: str | os.PathLike[str] | None) -> bool:
 
 def _refused(status: int, text: str) -> NicError:
     kind = _REFUSALS.get(status)
-    return kind(f"{kind.__doc__} ({text})") if kind else NicError(f"status {status} of {text}")
+    return kind(f"{kind.__doc__} ({text})") if kind else NicError(f"unknown status {status} from {text}")
 
 
 def _whole(value: int, bits: int, what: str) -> int:
@@ -548,7 +551,8 @@ class _OneOwner:
 
 
 class _Registers:
-    """Access to registers by name or number. Subclasses implement the accesses."""
+    """Access to registers by name, or by number: an address, or a virtual function's offset. Subclasses implement the
+    accesses."""
 
     # Prevents a loop over the registers, which would read them one by one.
     __iter__ = None
@@ -716,7 +720,7 @@ class Memory:
         start, stop = operator.index(part.start), operator.index(part.stop)
         if stop < start:
             raise ValueError(
-                f"a range of memory that ends before it begins: {shown_number(start)} to {shown_number(stop)}"
+                f"the range of memory ends before it begins: {shown_number(start)} to {shown_number(stop)}"
             )
         return start, stop - start
 
@@ -744,7 +748,7 @@ class Memory:
         start, length = self._range(at)
         given = bytes_of(cast("HasBytes", data))
         if len(given) != length:
-            raise ValueError(f"{len(given)} bytes for a range of {length}")
+            raise ValueError(f"{len(given)} bytes don't fit a range of {length} bytes")
         self.write(start, given)
 
     def __contains__(self, at: int) -> bool:
@@ -897,7 +901,7 @@ class Nic(_Registers, _OneOwner):
         """Restores a snapshot of this controller or of another one, as often as you like. Raises OutOfMemory, and
         Closed if the snapshot was dropped; then the controller is unchanged."""
         if kept._library is not self._library:
-            raise ValueError("a snapshot of another library's controller")
+            raise ValueError("the snapshot is from another library, so this controller can't restore it")
         # Set before the call: if a signal handler raises right after it, the bound is still large enough.
         self._most_memory = max(self._most_memory, kept.blocks * BLOCK_BYTES)
         status = self._call("nic_restore", kept._kept)
@@ -994,7 +998,7 @@ class Nic(_Registers, _OneOwner):
     # --- steps ---
 
     def _event(self, call: str, *words: object) -> Event | None:
-        """Runs a step and returns its event; None if it was idle."""
+        """Runs a step and returns its event; None if the step was idle."""
         outcome = _Outcome()
         status = self._call(call, *words, ctypes.byref(outcome))
         if status == statuses.IDLE:
@@ -1024,17 +1028,18 @@ class Nic(_Registers, _OneOwner):
         return self._event("nic_eeprom_step") is not None
 
     def int_step(self, function: int | None = None) -> Message | None:
-        """Sends the next interrupt message of the physical function, or of a virtual one. Raises NoGroup."""
+        """Sends the next interrupt message from the physical function, or from a virtual one. Returns None if there is
+        none. Raises NoGroup."""
         group = 0 if function is None else _whole(function, 8, "virtual function") + 1
         if group > 255:
             raise NoGroup(f"{NoGroup.__doc__} ({group - 1})")
         return cast("Message | None", self._event("nic_int_step", group))
 
     def settle(self, queues: int = QUEUES) -> list[Event]:
-        """Runs the steps that have work, for the queues below `queues`, until none is left. Each round runs the
-        enables of each queue, the EEPROM step, a transmit step per queue, a receive step, and the messages of each
-        group. After every 256 events it begins a new round. Returns the events in order. Raises NoQueue above 128,
-        and OutOfMemory."""
+        """Runs steps for the queues below `queues` until no step has work, and returns the events in order. Each round
+        runs the enables of each queue, the EEPROM step, a transmit step per queue, a receive step, and the messages of
+        each group. A new round begins after every 256 events. Raises NoQueue if `queues` is above 128, and
+        OutOfMemory."""
         events: list[Event] = []
         outcomes, count = (_Outcome * 256)(), ctypes.c_size_t()
         given = _whole(queues, 16, "number of queues")
@@ -1047,9 +1052,9 @@ class Nic(_Registers, _OneOwner):
                 raise _refused(status, f"settle {given}")
 
     def steps(self, queues: int = QUEUES) -> Iterator[Event]:
-        """Runs the steps of `settle` in the same order, each when you ask the iterator for the next event. Your driver
-        can thus act on an event before the device continues, as an interrupt handler does. Raises NoQueue above 128,
-        and OutOfMemory.
+        """Runs the same steps as `settle`, in the same order: one each time you take the next event from the iterator.
+        Your driver can thus act on an event before the device continues, as an interrupt handler does. Raises NoQueue
+        if `queues` is above 128, and OutOfMemory.
 
         >>> with Nic() as nic:
         ...     nic["EIMS"] = nic["EICS"] = 3

@@ -118,14 +118,14 @@ def made(
 
     With `length` but no `payload`, the payload is bytes that count up and fill the frame to that length. Otherwise the
     frame is zero-padded to `length`, and always to at least 60 bytes. Raises ValueError if the addresses are of
-    different IP versions, a port is above 65,535, or something doesn't fit.
+    different IP versions, a port is above 65,535, or the payload or the frame is too long.
     """
     ends, number = _ends(source, destination), {"tcp": TCP, "udp": UDP, "ip": protocol}[kind]
     head = 14 + 4 * len(tags) + (20 if ends[0].version == 4 else 40) + _HEADERS.get(number, 0)
     if payload is None:
         payload = bytes(k & 0xFF for k in range(max(0, (length or 0) - head)))
     elif length is not None and head + len(payload) > length:
-        raise ValueError(f"{len(payload)} bytes of payload after {head} of headers don't fit into {length}")
+        raise ValueError(f"{len(payload)} bytes of payload after {head} bytes of headers don't fit into {length} bytes")
     if not all(0 <= port <= 0xFFFF for port in (source_port, destination_port)):
         raise ValueError("a port is 0 to 65,535")
     if head - 14 - 4 * len(tags) + len(payload) > 0xFFFF:
@@ -148,8 +148,8 @@ ALL_TYPES = frozenset([*_WITH_PORTS.values(), *_PLAIN.values()])
 @dataclass(frozen=True)
 class Rss:
     """Receive side scaling (RSS), as with MRQC bits 3:0 at 1. It has a 40-byte key, a table of queues 0 to 15 that is
-    repeated to 128 entries, and the hashed frame types. docs/DESCRIPTORS.md has the rules. A VLAN-tagged frame has none
-    of the types."""
+    repeated to 128 entries, and the hashed frame types. docs/DESCRIPTORS.md has the rules. A VLAN-tagged frame isn't
+    hashed."""
 
     key: bytes = KEY
     table: tuple[int, ...] = (0,)

@@ -24,7 +24,7 @@ HEADER = struct.pack("<IHHiIII", 0xA1B2C3D4, 2, 4, 0, 0, 0xFFFF, ETHERNET)
 
 
 class NoCapture(Exception):
-    """The bytes aren't a capture, or its frames can't be read."""
+    """The bytes aren't a capture, or the capture's frames can't be read."""
 
 
 def _unpacked(form: str, data: bytes, at: int) -> tuple[int, ...]:

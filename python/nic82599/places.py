@@ -23,7 +23,7 @@ BUILDS_PROGRAM = "a release package contains it, and `pip install ./python` in a
 
 
 class Missing(Exception):
-    """The file isn't in any of the searched places. The one-line message lists the places and says what to do."""
+    """The file isn't at any of the searched paths. The one-line message lists the paths and says what to do."""
 
 
 def clone() -> Path | None:
@@ -40,7 +40,7 @@ def prefix() -> Path | None:
 
 
 def _places(beside: str, in_clone: str, *in_prefix: str) -> list[Path]:
-    """Returns the places to search: next to the package, then in its clone or prefix."""
+    """Returns the paths to search: next to the package, then in the package's clone or prefix."""
     around = [(clone(), in_clone), *((prefix(), it) for it in in_prefix)]
     return [HERE / beside, *(root / name for root, name in around if root)]
 
@@ -73,7 +73,7 @@ def library() -> str:
     if not path and _is_loaded_by_name(SONAME):
         return SONAME
     looked = " and ".join(str(place) for place in places) + ("" if path else f" and no {SONAME} in the system")
-    raise Missing(f"no C library at {looked}: {BUILDS_LIBRARY}; NIC82599_LIBRARY names another")
+    raise Missing(f"no C library at {looked}: {BUILDS_LIBRARY}; or set NIC82599_LIBRARY to its path")
 
 
 def engine() -> str:
@@ -97,7 +97,7 @@ def program() -> str:
             return str(place)
     found = shutil.which("nicbench")
     if found is None:
-        raise Missing(f"no program nicbench in {HERE} or on the PATH: {BUILDS_PROGRAM}; NICBENCH names another")
+        raise Missing(f"no program nicbench in {HERE} or on the PATH: {BUILDS_PROGRAM}; or set NICBENCH to its path")
     return found
 
 

@@ -1,4 +1,4 @@
-"""Formats the controller's answers as `nicbench run` prints them."""
+"""Formats the controller's replies as `nicbench run` prints them."""
 
 from __future__ import annotations
 

@@ -3,8 +3,8 @@ searched.
 
 A failed test may have created controllers, or received them from fixtures. If something is waiting in one of these
 controllers, or it dropped a frame, the test's report has a section for it with the output of `nic.why()`. A controller
-that was closed earlier has a section only if the failure itself closed it, as when it leaves a `with` block. pytest's
-option `-p no:nic82599` disables the plugin.
+that was closed earlier has a section only if the failure itself closed it, for example by leaving a `with` block.
+pytest's option `-p no:nic82599` disables the plugin.
 
     @pytest.mark.nic_schedules(1000)
     def test_poll():
@@ -54,10 +54,10 @@ WORDS = ("runs", "seed", "strategy", "depth", "preemptions", "hang", "shrink", "
 
 def pytest_addoption(parser: pytest.Parser) -> None:
     group = parser.getgroup("nic82599")
-    group.addoption("--nic-out", metavar="FOLDER", help="folder for the schedules of failures")
+    group.addoption("--nic-out", metavar="FOLDER", help="folder for each failure's schedule, script and page")
     group.addoption("--nic-jobs", metavar="N", type=int, help="number of processes for each search")
-    group.addoption("--nic-shard", metavar="K/N", help="this is machine K of N that share each search")
-    group.addoption("--nic-replay", metavar="FILE", help="replays this schedule file instead of searching")
+    group.addoption("--nic-shard", metavar="K/N", help="which part of each search to run: machine K's of N")
+    group.addoption("--nic-replay", metavar="FILE", help="replay this schedule file instead of searching")
 
 
 def pytest_configure(config: pytest.Config) -> None:
@@ -206,7 +206,7 @@ def tell_why(item: pytest.Item, report: pytest.TestReport) -> None:
 def pytest_runtest_makereport(
     item: pytest.Item, call: pytest.CallInfo[None]
 ) -> Generator[None, Result[pytest.TestReport], None]:
-    """Reports a failed schedule without the traceback, because the place where `search` raised it is of no use. To the
+    """Reports a failed schedule without a traceback, which would only show the line in `search` that raised. To the
     report of any other failure, adds why nothing happens."""
     outcome = yield
     if call.when != "teardown" and outcome.get_result().failed:

@@ -69,7 +69,7 @@ class Ring:
         return "<tr>" + "".join(f"<td>{escape(it)}</td>" for it in cells) + "</tr>"
 
     def _repr_html_(self) -> str:
-        """Returns an HTML table of the slots. Of a long ring only a part is shown, starting shortly before the head."""
+        """Returns an HTML table of the slots. A long ring is shown only in part, starting shortly before the head."""
         count = len(self.slots)
         first = self.head - BEFORE if count > ROWS and self.head < count else 0
         shown = [self.slots[(first + row) % count] for row in range(min(count, ROWS))]

@@ -572,7 +572,7 @@ class MemoryOfPackets(unittest.TestCase):
             two = array.array("Q", [1, 2])
             nic.memory[0:16] = two
             self.assertEqual(nic.memory[0:16], two.tobytes())
-            with self.assertRaisesRegex(ValueError, "^16 bytes for a range of 2$"):
+            with self.assertRaisesRegex(ValueError, "^16 bytes don't fit a range of 2 bytes$"):
                 nic.memory[0:2] = two
             nic.memory.write(32, two)
             self.assertEqual(nic.memory[32:48], two.tobytes())

@@ -40,11 +40,11 @@ class Driver(Points):
     applicable.
 
     For one queue, the card calls each of `receive`, `send` and `reclaim` on one thread at a time; calls for other
-    queues may run concurrently. `interrupt` is called at any time between open and close: interrupting any thread or
-    concurrently with all of them. The handler of one vector never runs concurrently with itself. One thread makes all
-    other calls (close, reset, filter, rss, mtu, resize, suspend, resume), and no receive, send or reclaim runs during
-    these calls. `mailbox_send` and `mailbox_receive` are called on one thread at a time; `mailbox_ready` may run
-    concurrently with them.
+    queues may run concurrently. Between open and close, the card may call `interrupt` at any time: the handler
+    interrupts any thread, or runs concurrently with all of them. The handler for a vector never runs concurrently with
+    itself. One thread makes all other calls (close, reset, filter, rss, mtu, resize, suspend, resume), and no receive,
+    send or reclaim runs during these calls. `mailbox_send` and `mailbox_receive` are called on one thread at a time;
+    `mailbox_ready` may run concurrently with them.
     """
 
     name = ""  # 1 to 40 letters, digits, '-' and '_'

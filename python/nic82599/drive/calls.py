@@ -1,5 +1,5 @@
-"""The card's library through ctypes: the calls that a driver makes, the calls that the card makes, and a row as a
-program.
+"""Binds the card's library with ctypes: the calls that a driver makes, the calls that the card makes, and the program
+that runs rows.
 
 Each function of the driver runs on a thread that the library created (c/explore/python). If the schedule ends during a
 call, the call raises `Over`, which unwinds the driver's function; its later actions don't count.

@@ -2,8 +2,8 @@
 
 A `Scenario` is a driver's code as tasks and interrupt handlers that use one controller. Each access by a task is a
 point: another task, a handler, a step of the device, the next frame or a link change may come first. `search` runs
-schedules until one fails; `replay` runs one from a file. The engine is the one for C, so a schedule found for the same
-scenario in C can be replayed here, and vice versa. Tested, not proved.
+schedules until one fails; `replay` runs one from a file. Python and C share the engine, so a schedule found for the
+same scenario in C can be replayed here, and vice versa. Tested, not proved.
 
 Tasks are functions on threads, only one of which runs at any time. A schedule therefore needs no lock around the
 driver's memory, and code between two points isn't interrupted. A search runs in its own processes, forked after the

@@ -2,8 +2,8 @@
 can't reproduce.
 
 Each block of a lent range has its own line, equal data strings are merged, and restoring a snapshot removes the lines
-since the snapshot was taken. The program then runs the script, which is cut before the first answer that differs from
-the recorded one. The remaining lines therefore get the answers that their comments show.
+since the snapshot was taken. The program then runs the script, which is cut before the first reply that differs from
+the recorded one. The remaining lines therefore get the replies that their comments show.
 """
 
 from __future__ import annotations
@@ -105,7 +105,7 @@ def _add(made: Made, recording: Recording, event: int) -> None:
         for block in range(first, min(last, BLOCKS - 1) + 1):
             made.add(f"lend {block}", reply, number)
         if last >= BLOCKS:
-            made.lines.append(f"# left out: lend {max(first, BLOCKS)} to {last}, because nicbench has {BLOCKS} blocks")
+            made.lines.append(f"# omitted: lend {max(first, BLOCKS)} to {last}, because nicbench has {BLOCKS} blocks")
         return
     text, *_ = parts(recording.lines[number - 1])
     if one.op in (Op.POKE, Op.ARRIVE):

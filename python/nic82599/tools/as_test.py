@@ -1,5 +1,5 @@
 """Writes a run of a script as a test: a C program that uses the library, or a Python test. The test makes the same
-calls, and passes if the controller returns the same answers.
+calls as the run, and passes if the controller returns the same results.
 """
 
 from __future__ import annotations
@@ -65,7 +65,7 @@ def used_data(script: Script, steps: list[tuple[int, str]]) -> list[int]:
 
 C_HEAD = """\
 /* A run of {name} on the bench, as a test.
-   Each call must return the same answer as it did in that run.{made}
+   Each call must return the same result as in that run.{made}
 
        cc -std=c99 {file} $(pkg-config --cflags --libs nic82599) && ./a.out    */
 #include <stdint.h>
@@ -244,7 +244,7 @@ def in_c(script: Script, printed: list[str], vfs: int, fifo: int, made: str = ""
 PYTHON_HEAD = '''\
 """A run of {name} on the bench, as a test.
 
-Each call must return the same answer as it did in that run.{made}
+Each call must return the same result as in that run.{made}
 
     python3 -m pytest {file}    or    python3 {file}
 """

@@ -1,4 +1,4 @@
-"""Talks to the control socket of nic82599-vfio-user, for a page that follows a guest: makes the page's requests, and
+"""Talks to the control socket of nic82599-vfio-user, for a page that follows a guest: sends the page's requests, and
 finds the guest's recording."""
 
 from __future__ import annotations
@@ -37,7 +37,7 @@ def is_socket(path: str) -> bool:
 def connected(path: str) -> Iterator[socket.socket]:
     """Connects to the server. Raises Fault."""
     if not hasattr(socket, "AF_UNIX"):
-        raise Fault(f"{path}: this system doesn't support such sockets")
+        raise Fault(f"{path}: this system doesn't support UNIX sockets")
     with socket.socket(socket.AF_UNIX) as it:
         it.settimeout(PATIENCE)
         try:
@@ -68,7 +68,7 @@ def recording_of(path: str) -> str:
 
 
 def ask(path: str, request: str) -> tuple[list[str], str]:
-    """Sends a request. Returns the lines of the answer, and the request's fault, or "". Raises Fault."""
+    """Sends a request. Returns the lines of the reply, and the request's fault, or "". Raises Fault."""
     with connected(path) as it, it.makefile("rb") as lines:
         return _asked(path, it, lines, request)
 
@@ -91,12 +91,12 @@ def _asked(path: str, it: socket.socket, lines: object, request: str) -> tuple[l
                 return answer, line.removeprefix("error: ")
             answer.append(shortened(line, MOST_SHOWN))
     except OSError as error:
-        raise Fault(f"the server at {path} doesn't answer ({error.strerror or error})") from None
-    raise Fault(f"the server at {path} is gone, or its answer is too long")
+        raise Fault(f"the server at {path} doesn't reply ({error.strerror or error})") from None
+    raise Fault(f"the server at {path} closed the connection, or its reply is too long")
 
 
 def asked(path: str, request: str) -> dict[str, object]:
-    """Sends a page's request. Returns the answer as the page expects it: the request, the lines, and what was wrong."""
+    """Sends a page's request. Returns the reply as the page expects it: the request, the lines, and what was wrong."""
     if request == STEP:
         due, wrong = ask(path, "due")
         found = next((it[1] for line in due if (it := DUE.match(line))), None)
@@ -104,6 +104,6 @@ def asked(path: str, request: str) -> dict[str, object]:
             return {"asked": "due", "lines": due or ["no step is due"], "wrong": wrong}
         request = found
     if not MAY_ASK.fullmatch(request):
-        return {"asked": "", "lines": [], "wrong": "not allowed from a page"}
+        return {"asked": "", "lines": [], "wrong": "a page may not send this"}
     lines, wrong = ask(path, request)
     return {"asked": request, "lines": lines or ["nothing"] if request in ("due", "why") else lines, "wrong": wrong}

@@ -187,7 +187,7 @@ def _frame_lines(run: Run, step: Step) -> Iterator[str]:
         for frame in frames:
             shown = run.seen.sent[frame]
             yield f"      {'out' if sign == '+' else 'collected'}: " + (
-                summary(shown.data) if shown.data else f"a frame of queue {shown.queue}"
+                summary(shown.data) if shown.data else f"a frame from queue {shown.queue}"
             )
 
 

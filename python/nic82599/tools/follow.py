@@ -1,4 +1,4 @@
-"""A growing file for a page: a recording while its program writes it, or a script that is rewritten.
+"""Follows a growing file for a page: a recording while its program writes it, or a script that is rewritten.
 
 A page shows a part of a recording: its last events or earlier ones. A part is the page's data as nicview writes it. The
 controller is saved after some of the earlier events, so that showing an earlier part replays few events. About 35 bytes
@@ -108,7 +108,7 @@ class KeepingPlayer(Player):
 
 @dataclass
 class Part:
-    """What a page shows: the data of the events from `before` up to `until`."""
+    """The part of a recording that a page shows: the events from `before` up to `until`, and their data."""
 
     data: dict[str, Any]
     before: int
@@ -214,9 +214,9 @@ def shorter(data: dict[str, Any]) -> dict[str, Any]:
 
 @dataclass
 class State:
-    """The state of a followed file. `number` increases when the file starts over. `total` is its events, and `said` the
-    message to show. `at` is the file's last stat result, and `same` are bytes at a few offsets, to recognize the
-    file."""
+    """The state of a followed file. `number` increases when the file starts over. `total` is the number of its events,
+    and `said` the message to show. `at` is the file's last stat result, and `same` are bytes at a few offsets, which
+    identify the file."""
 
     number: int = 0
     total: int = 0

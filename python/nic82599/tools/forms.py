@@ -212,7 +212,7 @@ class Looker:
                 words = [word for _, word in words_of(line)]
                 if words[:2] == ["data", self.words[2][1]] and len(words) == 3 and len(words[2]) != 32:
                     return self._at(
-                        2, f"poke writes 16 bytes, but {words[1]} at line {number} is {len(words[2]) // 2} long"
+                        2, f"poke writes 16 bytes, but {words[1]} at line {number} is {len(words[2]) // 2} bytes long"
                     )
         if self.words[0][1] == "data":
             return self._at(2, "data must be 1 to 16384 bytes long")

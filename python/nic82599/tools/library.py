@@ -1,7 +1,7 @@
 """Runs instructions on the library, with the replies that `nicbench run` prints. Recordings are replayed with it.
 
 A recording's instructions are consecutive, without jumps. What the debugger of `nicbench` would print therefore follows
-from the replies; to show a register, the controller is brought to that place.
+from the replies. To show a register at an instruction, the controller is first moved to that instruction.
 """
 
 from __future__ import annotations
@@ -231,12 +231,12 @@ class Library(Bench):
 
 
 class Place:
-    """Computes what `nicbench debug` prints for consecutive instructions. To show a register, the controller is
-    brought to the place, from where it is or from the nearest earlier snapshot."""
+    """Computes what `nicbench debug` prints for consecutive instructions. To show a register at an instruction, the
+    controller is moved there, from its current position or from the nearest earlier snapshot."""
 
     def __init__(self, nic: Nic, kept: Snapshot, script: Script, replies: list[str]) -> None:
         self.nic, self.script = nic, script
-        self.at: int | None = None  # where the controller is; None if unknown
+        self.at: int | None = None  # how many instructions the controller has run; None if unknown
         self.count = len(replies)
         snapshots = max(1, ROOM // (nic.blocks * nic82599.BLOCK_BYTES + 1))
         self.apart = max(APART, -(-self.count // snapshots))
@@ -289,7 +289,7 @@ class Place:
         return "NoSuchPc" if name == "clear" and number not in breaks else ""
 
     def _led(self, name: str, number: int, at: int, breaks: set[int]) -> int:
-        """Returns the place that a command leads to."""
+        """Returns the position to which a command moves."""
         if name == "back":
             return at - number
         end = min(at + number, self.count)

@@ -1,8 +1,8 @@
 """Serves a page that follows a growing file: nicview --live.
 
-The page is served only on 127.0.0.1, to clients that know the address, which contains a token. It requests a part of
-the run after it has drawn the previous one, and server-sent events report when there is more. So no data piles up for a
-page that doesn't read.
+The page is served only on 127.0.0.1, to clients that know the address, which contains a token. The page requests a part
+of the run after it has drawn the previous one, and server-sent events report when there is more. So no data piles up
+for a page that doesn't read.
 """
 
 from __future__ import annotations

@@ -162,7 +162,7 @@ class Replay:
         odd = [step for step, answer in own if answer != step.reply]
         if odd:
             self.trace.notes.append(
-                f"the run that reads memory answers step {odd[0].number} differently; its memory isn't shown"
+                f"the run that reads memory has another reply at step {odd[0].number}; its memory isn't shown"
             )
             return []
         return [*asked.values(), answers[count:]]

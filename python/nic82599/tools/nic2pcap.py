@@ -14,7 +14,7 @@ are used.
 
 With --queue only the frames of that queue are written. Standard error says how many frames there were. Status 1: a
 frame line is malformed, or the file can't be written; 2: the arguments are invalid, or RUN is refused or can't be
-read; 4: ./nicbench didn't answer.
+read; 4: ./nicbench can't be started or has failed.
 """
 
 from __future__ import annotations

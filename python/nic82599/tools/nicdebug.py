@@ -8,7 +8,7 @@ recording made by the C library (NIC82599_RECORD), of any length; its last N eve
 is printed after its prompt.
 
 Exit status: 0 the session ended; 2 the script is refused or can't be read; 3 the arguments are invalid; 4 ./nicbench
-didn't answer.
+can't be started or has failed.
 """
 
 from __future__ import annotations

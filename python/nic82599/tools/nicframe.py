@@ -39,7 +39,7 @@ _ARP = 0x0806
 
 
 def read_by(read: Callable[[str], Any]) -> Callable[[str], Any]:
-    """Wraps a parser so that argparse reports its own message."""
+    """Wraps a parser so that argparse reports the parser's own message."""
 
     def value(word: str) -> object:
         try:
@@ -114,20 +114,20 @@ def arguments() -> argparse.Namespace:
     add("ends", nargs="*", metavar="ADDRESS", help="two addresses, with ports for tcp and udp")
     add("--to", type=mac_word, metavar="MAC", help="the destination (02:00:00:00:00:01; ARP requests: broadcast)")
     add("--from", dest="source", type=mac_word, default=frames.SOURCE, metavar="MAC", help="(02:00:00:00:00:02)")
-    add("--tag", type=tag_of, action="append", default=[], metavar="VLAN[:PRIORITY]", help="a tag; may be repeated")
+    add("--tag", type=tag_of, action="append", default=[], metavar="VLAN[:PRIORITY]", help="VLAN tag; may be repeated")
     add("--type", type=read_by(ethertype), default=0x88B5, metavar="N", help="the EtherType for ether (0x88b5)")
     add("--protocol", type=number(0, 255), default=253, metavar="N", help="the protocol number for ip (253)")
-    add("--reply", action="store_true", help="an ARP reply: SENDER is at the address of --from")
+    add("--reply", action="store_true", help="build an ARP reply: SENDER is at the address of --from")
     add("--length", type=number(LEAST, MOST), metavar="N", help=f"the frame's length in bytes, {LEAST} to {MOST:,}")
     add("--payload", type=hexadecimal, metavar="HEX", help="the payload")
     add("--count", type=number(1, MOST_FRAMES), metavar="N", help="number of frames (1)")
-    add("--name", default="frame", metavar="NAME", help="name of the frames (frame)")
+    add("--name", default="frame", metavar="NAME", help="the frame's name, with a number if there are several (frame)")
     add("--rss", action="store_true", help="also print each frame's hash, table entry and queue")
     add("--key", type=hexadecimal, default=frames.KEY, metavar="HEX", help="80 hex digits (the verification suite's)")
-    add("--table", type=table_of, default=(0,), metavar="N,N,..", help="queues of the table's entries, repeated (0)")
+    add("--table", type=table_of, default=(0,), metavar="N,N,..", help="the queues in RETA's entries, repeated (0)")
     form = parser.add_mutually_exclusive_group()
-    form.add_argument("--hex", action="store_true", help="print only hex")
-    form.add_argument("--pcap", metavar="FILE", help="write a capture instead")
+    form.add_argument("--hex", action="store_true", help="print only the frames' bytes, in hex")
+    form.add_argument("--pcap", metavar="FILE", help="write the frames to FILE, as a capture")
     given = parser.parse_args()
     if len(given.ends) != (0 if given.kind == "ether" else 2):
         parser.error(f"{given.kind} takes {'no address' if given.kind == 'ether' else 'two addresses'}")

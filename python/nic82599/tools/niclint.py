@@ -8,7 +8,8 @@ It may also be a recording made by the C library (NIC82599_RECORD), of any lengt
 warnings, and --trace replays its last N events on the library and explains them (--limit N).
 
 Exit status: 0 nothing is wrong; 1 there are warnings, or with --trace a failed expect, a fault, a dropped frame or a
-refused access; 2 the script is refused or can't be read; 3 the arguments are invalid; 4 ./nicbench didn't answer.
+refused access; 2 the script is refused or can't be read; 3 the arguments are invalid; 4 ./nicbench can't be
+started or has failed.
 """
 
 from __future__ import annotations

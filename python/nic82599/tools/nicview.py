@@ -15,14 +15,15 @@ and shown (--limit N).
 
 A page opens at the first step that failed, faulted, dropped a frame or was refused, or otherwise at the last one. The
 explorer's script of a failure opens at the step that failed. With #152 after the page's name, it opens at step 152.
-Steps count from 0. Everything shown comes from ./nicbench.
+Steps count from 0. Everything shown for a script comes from ./nicbench.
 
 With --live the page is served until ctrl-C, on 127.0.0.1 only, to clients that know its address. FILE need not exist
 yet. A script is shown again when it is rewritten. The last N events of a recording are shown (--limit N, default
 1,024), and earlier ones when the page requests them. A guest's card has buttons: hold, step, why, link up and down.
 
-Exit status: 0 it is shown, or ctrl-C ended --live; 1 it is shown, but the script failed or didn't end within --limit
-steps; 2 the script is refused or can't be read; 3 the arguments are invalid; 4 ./nicbench didn't answer.
+Exit status: 0 the run is shown, or ctrl-C ended --live; 1 it is shown, but the script failed or didn't end within
+--limit steps; 2 the script is refused or can't be read; 3 the arguments are invalid; 4 ./nicbench can't be
+started or has failed.
 """
 
 from __future__ import annotations
@@ -114,9 +115,9 @@ def foot(is_recorded: bool) -> str:
     """Returns the foot of a page. It names what ran the steps: the library for a recording, otherwise the program with
     its edition."""
     if is_recorded:
-        return f"Answers of libnic82599 {nic82599.library_version()}, {nic82599.edition()} edition"
+        return f"Replies from libnic82599 {nic82599.library_version()}, {nic82599.edition()} edition"
     edition = Bench.edition()
-    return "Answers of nicbench" + (f", {edition} edition" if edition else "")
+    return "Replies from nicbench" + (f", {edition} edition" if edition else "")
 
 
 def followed(asked: argparse.Namespace) -> int:

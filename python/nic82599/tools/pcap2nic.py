@@ -44,7 +44,7 @@ def arguments() -> argparse.Namespace:
     first = "the number of the first frame to convert (1)"
     parser.add_argument("--first", type=int, default=1, metavar="N", help=first)
     parser.add_argument("--count", type=int, metavar="N", help="the maximum number of frames")
-    parser.add_argument("--name", default="frame", metavar="NAME", help="name of the frames (frame)")
+    parser.add_argument("--name", default="frame", metavar="NAME", help="prefix of the frames' names (frame)")
     parser.add_argument("--step", action="store_true", help="add a receive step after each frame")
     add_version(parser, "pcap2nic")
     return parser.parse_args()

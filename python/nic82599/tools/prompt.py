@@ -1,7 +1,7 @@
 """The commands of tools/nicdebug: a `nicbench debug` session, one command at a time.
 
 The debugger reads all its commands in one go. So a session stores the commands so far and runs them again before each
-new one; they always lead to the same place.
+new one. They always move the machine to the same position.
 """
 
 from __future__ import annotations
@@ -117,7 +117,7 @@ def line_at(session: Session, pc: int) -> str:
 
 
 def view_line(session: Session) -> str:
-    """Describes the machine's place and the next instruction."""
+    """Describes the machine's position and the next instruction."""
     status = session.view.split()[-1]
     return (
         f"{session.view}\n{line_at(session, session.pc)}" if status == "running" else f"{session.view}: {session.last}"
@@ -174,7 +174,7 @@ def word_line(address: int, answer: str) -> str:
 
 
 def moved(session: Session, before: int) -> list[str]:
-    """Returns what the steps between two places did."""
+    """Returns what the steps between two positions did."""
     lines = []
     if session.at > before:
         steps = session.steps[before : session.at]

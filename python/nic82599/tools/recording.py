@@ -673,7 +673,7 @@ def trace(player: Player) -> Trace:
     if recording.before:
         steps[0].lent = [("+", *row) for row in in_rows(lent)]
     if player.others:
-        recording.notes.append(f"{player.others:,} events got answers that differ from the recorded ones")
+        recording.notes.append(f"{player.others:,} events got replies that differ from the recorded ones")
     start = {a: word for a, word in every.items() if word != REGISTERS[a].row.reset}
     start |= {address: every[address] for step in steps for address, _, _ in step.changes}
     made = Trace(bench, script, steps, start, f"ok {len(steps)}", recording.notes)

@@ -20,8 +20,8 @@ LIMIT = 8_388_608
 
 
 class Fault(Exception):
-    """An error that the user can fix; the message is one line that says how. `is_of_program` is set if the program's
-    answer isn't usable."""
+    """An error that the user can fix; the message is one line that says how. `is_of_program` is set if the
+    program can't be started or its output isn't usable."""
 
     def __init__(self, line: str, is_of_program: bool = False) -> None:
         super().__init__(line)
@@ -140,8 +140,8 @@ class Bench:
             self.options += [name, str(value)] if value is not None else []
 
     def call(self, words: list[str], text: bytes) -> tuple[int, bytes]:
-        """Runs the program and returns its status and output. Raises Refused if it refuses the input, Fault if its
-        answer isn't usable."""
+        """Runs the program and returns its status and output. Raises Refused if it refuses the input, Fault if it
+        can't be started or its output isn't usable."""
         with _STARTED:
             if not Bench.is_made:
                 self._call(["--version"], b"")
@@ -168,7 +168,7 @@ class Bench:
         except places.Missing as missing:
             raise Fault(str(missing), True) from None
         except OSError as error:
-            raise Fault(f"{program} can't be started ({error.strerror}): set NICBENCH to another one", True) from None
+            raise Fault(f"{program} can't be started ({error.strerror}): set NICBENCH to another path", True) from None
         with ThreadPoolExecutor(1) as pool:
             said = pool.submit(_hear, ran.stderr)
             out, _ = _talk(ran, text)

@@ -22,7 +22,7 @@ from course_skeletons import ANSWERS, SKELETONS, at  # noqa: E402
 from explore.check import STRICT, Wrong, ran  # noqa: E402
 
 MILESTONES = sorted((HERE / "milestones").glob("*.rows"))
-# Causes by which a skeleton must not lose a row.
+# Causes for which a skeleton must not lose a row.
 NO_NAME = re.compile(r"crash|hang|exit|raised|panic|Error|Exception|traceback|deadlock")
 
 # Lists that are refused: their contents, and the message after the file's name.
@@ -95,7 +95,7 @@ def check_stages(kit: Kit) -> str:
         _, out = kit.card(f"stage{stage}", source, int(stage < len(MILESTONES)), *lists(*tried), *enough)
         expect_points(out, MILESTONES[:stage], MILESTONES[stage:])
     check_causes("driver.c", kit.folder / "card-stage0", len(few))
-    return f"{len(MILESTONES)} milestones, each by its own holes"
+    return f"{len(MILESTONES)} milestones, each earned by its own holes"
 
 
 def rows_of(milestone: Path) -> list[str]:
@@ -182,7 +182,7 @@ def check_refusals(kit: Kit) -> str:
             path.write_bytes(text)
         printed, _ = kit.card("refused", driver, 2, "--require", place)
         if not re.search(f"nicdrive: .*{wanted}", printed) or "\x1b" in printed or len(printed.splitlines()) > 1:
-            raise Wrong(f"--require with {text[:40]!r}: it isn't said that \"{wanted}\":\n{printed}")
+            raise Wrong(f"--require with {text[:40]!r}: nicdrive doesn't print \"{wanted}\":\n{printed}")
     return f"{len(cases)} refusals"
 
 

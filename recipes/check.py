@@ -1,7 +1,7 @@
 #!/usr/bin/env python3
-"""Checks the recipes for CI: two YAML readers agree on each of them, and its commands run here in order.
+"""Checks the recipes for CI: two YAML readers agree on each recipe, and each recipe's commands run here in order.
 
-    recipes/check.py        tries all of them; status 0: all passed; 1: at least one didn't
+    recipes/check.py        checks all recipes; status 0: all passed; 1: at least one didn't
 
 The commands run in a folder that resembles a runner's folder: a repository with a driver, an `apt-get` that records its
 arguments, and a `git` that provides this clone instead of fetching one. A card is produced, but no search runs:
@@ -110,7 +110,7 @@ def parsed(path: Path) -> dict[str, Any]:
     if True in other:  # PyYAML reads `on` as a boolean; runners don't
         other["on"] = other.pop(True)
     if other != made:
-        raise Wrong(f"{path}: PyYAML reads {other}, and the reader here {made}")
+        raise Wrong(f"{path}: PyYAML reads {other}, but this reader reads {made}")
     return made
 
 
@@ -145,7 +145,7 @@ def check_left(job: Job, folder: Path) -> None:
     """Checks that the files to keep exist, and that the recipe installs exactly the packages that it needs."""
     for name in [*job.kept, *job.junit]:
         if not (folder / "repository" / name).exists():
-            raise Wrong(f"{job.name}: it keeps {name}, which no line makes")
+            raise Wrong(f"{job.name}: it keeps {name}, which no command creates")
     asked = (folder / "notes/apt").read_text().split()
     wanted = FOR_A_SEARCH if "search" in job.name else FOR_THE_BENCH
     if asked[:3] != ["install", "-y", "--no-install-recommends"] or set(asked[3:]) != wanted:
@@ -163,7 +163,7 @@ def check_container() -> None:
     lines = [line for line in text.splitlines() if line and not line.startswith("#")]
     kinds = [line.split()[0] for line in lines]
     if kinds != ["FROM", "RUN", "COPY", "RUN", "WORKDIR", "ENTRYPOINT"]:
-        raise Wrong(f"Containerfile: its lines are {kinds}")
+        raise Wrong(f"Containerfile: unexpected instructions: {kinds}")
     install = re.search(r"install -y --no-install-recommends ([a-z0-9 -]+?) +&&", re.sub(r" +", " ", lines[1]))
     if not install or set(install[1].split()) != FOR_THE_BENCH:
         raise Wrong(f"Containerfile: it installs {install and install[1]}")
@@ -175,7 +175,7 @@ def check_reader() -> None:
             made = read(text)
         except Refused:
             continue
-        raise Wrong(f"the reader takes {text!r} for {made}")
+        raise Wrong(f"the reader accepts {text!r} as {made}")
 
 
 def check_jobs(path: Path) -> None:
@@ -193,7 +193,7 @@ def check_jobs(path: Path) -> None:
             if f"status 1 of\n{job.pieces[-1 if 'gitlab' in name else -2]}" in str(fault):
                 return
             raise
-    raise Wrong(f"{name}: the job passes, and a row that is required fails")
+    raise Wrong(f"{name}: the job passes although a required row fails")
 
 
 def main() -> int:

@@ -1,6 +1,6 @@
 """Reads the YAML subset that recipes/ uses: mappings and lists by indentation, plain and quoted scalars, `[a, b]`, and
-blocks after `|` and `>-`. Anything else is refused with its line. PyYAML returns the same, but isn't on every machine
-(recipes/check.py compares them)."""
+blocks after `|` and `>-`. Anything else is refused with its line. PyYAML returns the same values, but isn't on every
+machine (recipes/check.py compares the two)."""
 
 from __future__ import annotations
 

@@ -1,6 +1,6 @@
-/* Measures the CPU time of a C library's calls, so that other load on the machine matters little: register accesses at
-   all addresses and at tails, frames received and sent, snapshots and restores, and the hash. benchmarks/editions links
-   it with several libraries and runs the programs alternately. */
+/* Measures the CPU time of a C library's calls, because other load on the machine affects CPU time little: register
+   accesses at all addresses and at tails, frames received and sent, snapshots and restores, and the hash.
+   benchmarks/editions links this with several libraries and runs the programs alternately. */
 #define MEASURE_CLOCK CLOCK_PROCESS_CPUTIME_ID
 #include "measure.h"
 #include "nic82599.h"
@@ -20,7 +20,7 @@ static nic n;
 static void must(int fact, const char *what)
 {
     if (!fact) {
-        fprintf(stderr, "edition_calls: %s\n", what);
+        fprintf(stderr, "edition_calls: check failed: %s\n", what);
         exit(1);
     }
 }

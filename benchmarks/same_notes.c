@@ -1,6 +1,6 @@
-/* The minimum cost of the driver's notes, in C. It writes a frame's calls, and its bytes as often as notes and records
-   contain them, to memory that is touched for the first time. Prints a line for each measure: its name, the number of
-   frames, and the nanoseconds. */
+/* Measures the minimum cost of the driver's notes, in C. It writes a frame's calls, and the frame's bytes as often as
+   notes and records contain them, to memory that is touched for the first time. Prints a line for each measure: its
+   name, the number of frames, and the nanoseconds. */
 #include <stdlib.h>
 #include <string.h>
 #include <sys/mman.h>

@@ -1,7 +1,8 @@
 /* Threads that share a device through a lock, in C: as many calls per frame, and about as much work and sharing, as in
-   driver_threads.rt.in, but no driver and no device. `shared` is the sharing of a device: its state, the fed frames and
-   its history. In `apart` a thread finds only the lock in another processor's cache. In `batch` a thread holds the lock
-   for all calls of a frame. Prints a line for each measure: its name, the number of frames, and the nanoseconds. */
+   driver_threads.rt.in, but no driver and no device. In `shared` the threads share a device's state, its history and
+   the fed frames. In `apart` a thread finds only the lock in another processor's cache. In `batch` a thread holds the
+   lock for all calls that a frame needs. Prints a line for each measure: its name, the number of frames, and the
+   nanoseconds. */
 #include <pthread.h>
 #include <stdbool.h>
 #include <stdlib.h>
@@ -12,15 +13,15 @@
 
 /* as in driver_threads.rt.in */
 enum { RUNS = 50, SHARE = 120, WORKERS = 4 };
-/* the calls of a worker for one frame; the call that receives it, and the call that sends it */
+/* a worker's calls for one frame; the index of the call that receives the frame, and of the call that sends it */
 enum { CALLS = 10, RECEIVES = 4, SENDS = 8 };
 /* bytes of an entry in the history and in a list of calls */
 enum { ENTRY = 88 };
-/* lines of the device's state that a call reads and writes */
+/* cache lines of the device's state that a call reads and writes */
 enum { READ_LINES = 24, WRITTEN_LINES = 6, LINE = 64 };
 /* steps of a chain of multiplications, for the rest of a call's work under the lock and outside it */
 enum { INSIDE = 24, OUTSIDE = 6 };
-/* tries for the lock, and pauses between two of them, before a thread sleeps, as in device_lock */
+/* attempts to take the lock before a thread sleeps, and pauses between two attempts, as in device_lock */
 enum { TRIES = 100, PAUSES = 2048 };
 enum { LONGEST = 1514, ROOM = 1u << 25 };
 

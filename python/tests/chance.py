@@ -1,4 +1,4 @@
-"""Makes random calls to the Python module and compares each answer with `nicbench run` of the same events."""
+"""Makes random calls to the Python module, and compares each reply with what `nicbench run` prints for the same event."""
 
 from __future__ import annotations
 
@@ -21,7 +21,7 @@ COMMANDS = (0x2B30_0000,) * 12 + (0x2330_0000, 0x2230_0000, 0x2A30_0000, 0x2B20_
 
 
 def answered(call: Callable[[], Event | bool | None]) -> str:
-    """Returns the answer to a step, even if it is refused."""
+    """Returns the reply to a step, even if the step is refused."""
     try:
         event = call()
     except nic82599.NoQueue:
@@ -32,7 +32,7 @@ def answered(call: Callable[[], Event | bool | None]) -> str:
 
 
 class Run:
-    """A controller, the script of the calls made on it, and their answers."""
+    """A controller, a script with the calls made on it, and their replies."""
 
     def __init__(self, seed: int, vfs: int) -> None:
         self.chance, self.vfs = random.Random(seed), vfs
@@ -243,7 +243,7 @@ class Run:
 
 
 def batch(seed: int, vfs: int, folder: Path) -> tuple[int, int]:
-    """Returns how many calls were made and how many answers were compared. Exits at the first difference."""
+    """Returns how many calls were made and how many replies were compared. Exits at the first difference."""
     run = Run(seed, vfs)
     run.set_up()
     while len(run.answers) < MOST_LINES and run.strings < MOST_DATA:
@@ -259,5 +259,5 @@ def batch(seed: int, vfs: int, folder: Path) -> tuple[int, int]:
     got, want = made.stdout.splitlines(), [*run.answers, f"ok {len(run.answers)}"]
     for left, right in zip(got + ["(the end)"], want + ["(the end)"]):
         if left != right:
-            sys.exit(f"seed {seed}, {vfs} virtual functions: nicbench says {left}, and the module {right}")
+            sys.exit(f"seed {seed}, {vfs} virtual functions: nicbench prints {left}, but the module returned {right}")
     return run.calls, len(run.answers)

@@ -1,4 +1,4 @@
-"""Tests of several threads on one controller. No frame is lost or duplicated, no answer goes to another thread, lent
+"""Tests of several threads on one controller. No frame is lost or duplicated, no result goes to another thread, lent
 memory is kept, and closing the controller ends the other threads' calls with `Closed`. Each test runs in its own
 process with faulthandler, because a failure may crash it."""
 
@@ -63,7 +63,7 @@ for _ in range(ROUNDS):
         while (frame := nic.collect()) is not None:
             found.append(frame.data)
     together(*[collect] * 4)
-    assert sorted(found) == sorted(bytes([it]) * (60 + it) for it in range(COUNT)), "frames are lost, or come twice"
+    assert sorted(found) == sorted(bytes([it]) * (60 + it) for it in range(COUNT)), "frames are lost or duplicated"
 """
 
 ARRIVE = """
@@ -188,7 +188,7 @@ for _ in range(ROUNDS):
 
 FORK = """
 import os
-# (a thread has the lock at most forks: their children must not wait for it)
+# (at most forks, another thread holds the lock: the children must not wait for it)
 nic, other, ends = Nic(blocks=2), Nic(blocks=2), []
 def lend():
     while not ends:
@@ -204,7 +204,7 @@ def fork():
                 nic.take(0)
                 nic.close()
                 os._exit(0)
-            assert os.waitpid(child, 0)[1] == 0, "a child waits for ever"
+            assert os.waitpid(child, 0)[1] == 0, "a child waits forever"
     finally:
         ends.append(True)
 together(lend, fork)

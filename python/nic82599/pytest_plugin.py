@@ -13,10 +13,10 @@ pytest's option `-p no:nic82599` disables the plugin.
 The marker takes the arguments of `nic82599.explore.search`: runs, seed, strategy, depth, preemptions, hang, shrink,
 jobs, strict, memory, shard. What never ran in a scenario is reported as a warning and as a property in the JUnit XML;
 with `strict` it is a failure. A failure is reported with its schedule. With --nic-out FOLDER the schedule is also
-written to NAME.schedule there, the device's side to NAME.nic, which nicview draws, and a page to NAME.html.
+written to NAME.schedule there, the device's events to NAME.nic (a script for nicview), and a page to NAME.html.
 --nic-replay FILE replays a schedule instead of searching; tests of other scenarios are then skipped. --nic-jobs N
-searches each scenario with N processes, and --nic-shard K/N selects machine K of N that share all searches. An invalid
-argument of the marker fails its test; an invalid option ends pytest with status 4.
+searches each scenario with N processes. --nic-shard K/N runs only machine K's part of searches that N machines share.
+An invalid argument of the marker fails its test; an invalid option ends pytest with status 4.
 """
 
 from __future__ import annotations

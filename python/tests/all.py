@@ -57,7 +57,7 @@ def texts() -> int:
 def types() -> str:
     """Checks the prompt's example with mypy in strict mode. Exits if mypy reports anything."""
     if not shutil.which("mypy"):
-        return "types not looked at, since mypy isn't installed"
+        return "types not checked: mypy isn't installed"
     with tempfile.TemporaryDirectory() as folder:
         file = Path(folder) / "prompt.py"
         file.write_text("".join(it.source for it in doctest.DocTestParser().get_examples(PROMPT.read_text())))
@@ -65,7 +65,7 @@ def types() -> str:
         made = subprocess.run(["mypy", "--strict", file], env=how, capture_output=True, text=True, check=False)
     if made.returncode:
         sys.exit(made.stdout + made.stderr)
-    return "types of the prompt's example by mypy --strict"
+    return "types of the prompt's example checked by mypy --strict"
 
 
 def units(module: ModuleType) -> int:
@@ -82,7 +82,7 @@ def main() -> None:
     parser.add_argument("--seed", type=int, default=1)
     parser.add_argument("--batches", type=int, default=4)
     given = parser.parse_args()
-    print(f"{texts()} examples of texts")
+    print(f"{texts()} examples in docstrings")
     print(types())
     print(f"{units(calls)} tests of calls")
     print(f"{units(interrupted)} tests of interrupted calls")
@@ -93,8 +93,8 @@ def main() -> None:
     print(f"{units(weak_memory)} tests of weak memory, values and timers")
     print(f"{units(report_card)} tests of the report card")
     print(f"{units(packing)} tests of the package")
-    print(f"{units(ends)} tests of how tools end")
-    print(f"{units(files_by_others)} tests of files that others made")
+    print(f"{units(ends)} tests of how tools exit")
+    print(f"{units(files_by_others)} tests of files from elsewhere")
     print(f"{units(why_nothing)} tests of why nothing happens")
     print(f"{units(telling)} tests of what is reported as it happens")
     made = answers = 0
@@ -102,7 +102,7 @@ def main() -> None:
         for batch in range(given.batches):
             more = chance.batch(given.seed * 1000 + batch, (0, 2, 63)[batch % 3], Path(folder))
             made, answers = made + more[0], answers + more[1]
-    print(f"{made} calls by chance, {answers} answers alike")
+    print(f"{made} random calls, {answers} equal replies")
 
 
 if __name__ == "__main__":

@@ -1,4 +1,4 @@
-"""Makes random calls to the Python module, and compares each reply with what `nicbench run` prints for the same event."""
+"""Makes random calls to the Python module, and compares each reply with what `nicbench run` prints for the event."""
 
 from __future__ import annotations
 

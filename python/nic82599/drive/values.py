@@ -65,5 +65,5 @@ class Rss:
     """The receive side scaling configuration. Types are a bit mask: 1 << code (nic82599.descriptors)."""
 
     key: bytes  # 40 bytes
-    table: bytes  # the queue of each of 128 entries
+    table: bytes  # 128 entries, each a queue
     types: int

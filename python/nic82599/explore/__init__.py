@@ -193,8 +193,9 @@ def search(
     hung. `memory` (strong, weak or tso) overrides the scenario's memory model; None keeps it.
 
     Raises Failure at the first schedule that fails, after shrinking it. The folder `out` receives the schedule as
-    NAME.schedule, the device's side as NAME.nic, and a page as NAME.html. If nothing fails, the report lists what never
-    ran; with `strict`, Vacuous is raised if anything didn't run. Raises BadWord if an argument is invalid."""
+    NAME.schedule, the device's events as NAME.nic (a script for nicview), and a page as NAME.html. If nothing fails,
+    the report lists what never ran; with `strict`, Vacuous is raised if anything didn't run. Raises BadWord if an
+    argument is invalid."""
     plan = _Plan(runs, seed, strategy, depth, preemptions, jobs, shard, seconds, hang, memory)
     plan.check()
     if out is not None:

@@ -238,7 +238,7 @@ class Session:
         _turn.acquire()
         if _open is not None:
             _turn.release()
-            raise Misused(f"scenario {_open.scenario.name} is still open")
+            raise Misused(f"scenario {_open.scenario.name} is still open: close it first")
         _open, it._session = self, self
         it._nic = device
         fault = self.library.nicp_open_scenario(ctypes.byref(given))

@@ -323,5 +323,5 @@ class Advice:
         elif not masked >> (entry & 63) & 1:
             yield self._at(
                 one.pc,
-                f"{side} {queue} raises cause {entry & 63}, which EIMS never enables: it sends no message",
+                f"{side} {queue} raises cause {entry & 63}, which EIMS never enables: the cause sends no message",
             )

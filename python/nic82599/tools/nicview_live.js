@@ -131,7 +131,7 @@ async function askCard(request) {
     const { asked, lines, wrong } = await answer.json();
     shown.textContent = [asked, ...lines, ...(wrong ? [`error: ${wrong}`] : [])].join("\n");
   } catch {
-    shown.textContent = `${request}: nicview doesn't answer`;
+    shown.textContent = `${request}: nicview doesn't reply`;
   }
 }
 function beginLive() {

@@ -28,7 +28,7 @@ show TARGET, r     a register: RDT[3], GPRC, 0x01018    watch TARGET       shows
 showvf N OFFSET    an offset of virtual function N      offsets N          each of its offsets: register, value
 peek ADDRESS [N]   N 16-byte units of lent memory       rings              the rings in use
 why                why the last step was idle, dropped a frame or faulted
-restart            to the start; keeps the breakpoints  where, w           the current place
+restart            to the start; keeps the breakpoints  where, w           the current position
 help, h            these lines                          quit, q            ends the session (also ^D)
 An empty line repeats the last `step`, `back` or `continue`."""
 SHORT = {
@@ -42,7 +42,7 @@ SHORT = {
     "w": "where",
 }
 SHORT |= {"h": "help", "?": "help", "q": "quit", "exit": "quit", "n": "step", "next": "step", "x": "peek"}
-MEANINGS = {"NoSuchPc": ": no such instruction, or no breakpoint there", "TooManyBreaks": ": 32 are set already"}
+MEANINGS = {"NoSuchPc": ": no such instruction, or no breakpoint there", "TooManyBreaks": ": 32 breakpoints are set"}
 SHOWN = 12
 # The kinds of steps at which `continue fault` stops.
 FAULTS = ("fault", "dropped", "failed")
@@ -66,7 +66,7 @@ def of_made(trace: Trace) -> Session:
 
 
 class Session:
-    """The commands so far, and the place that they lead to. `whole` returns the run with its rings and reasons.
+    """The commands so far, and the position that they reach. `whole` returns the run with its rings and reasons.
     `trace` is the run's trace if it already exists."""
 
     def __init__(
@@ -165,7 +165,7 @@ def count_of(words: list[str], default: int) -> int:
 
 
 def word_line(address: int, answer: str) -> str:
-    """Formats the debugger's answer to `show`, with the register's name and fields."""
+    """Formats the debugger's reply to `show`, with the register's name and fields."""
     register, word = regs.register_at(address), answer.split()[1]
     if register is None or word == "stray":
         return answer

@@ -1,7 +1,7 @@
-/* The crates' register table, in C. Addresses are found by binary search, and accesses depend on the row's kind. The
-   hash is computed in two ways: bit by bit, and with precomputed windows of the key. benchmarks/run writes its table
-   from dev/register_table.py. Prints a line for each measure: its name, the number of operations, and the nanoseconds.
-   */
+/* Measures the crates' register table, in C. Addresses are found by binary search, and accesses depend on the row's
+   kind. The hash is computed in two ways: bit by bit, and with precomputed windows of the key. benchmarks/run writes
+   the table from dev/register_table.py. Prints a line for each measure: its name, the number of operations, and the
+   nanoseconds. */
 #include <string.h>
 
 #include "measure.h"

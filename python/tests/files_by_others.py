@@ -104,7 +104,7 @@ class Files(unittest.TestCase):
         snapshots = "".join(f"#: snapshot {k}\n" for k in range(1, 99))
         lines = HEAD + "#: lend 0 to 255 # done\n" + snapshots + "#: restore 1\n"
         path = self.file(lines)
-        refused = rf"{re.escape(str(path))}:10: .*TooMuch its snapshots and frames need more than 4 MiB here"
+        refused = rf"{re.escape(str(path))}:10: .*TooMuch its snapshots and frames need more than 4 MiB, "
         with mock.patch.object(recording, "MOST_HELD", 1 << 22), self.assertRaisesRegex(Fault, refused):
             recording.of_recording(str(path))
         # dropped snapshots don't count

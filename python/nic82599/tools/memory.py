@@ -113,7 +113,7 @@ def is_event(one: Instruction) -> bool:
 
 
 def _leaves_memory(one: Instruction, step: Step) -> bool:
-    """Returns whether a step can be left out of a run that only reads memory and waiting frames."""
+    """Returns whether a run that only reads memory and waiting frames can omit this step."""
     if one.op in (Op.READ, Op.VF_READ, Op.PEEK, Op.INT, Op.COLLECT, Op.EESTEP):
         return True
     return step.reply in UNTOUCHED or step.reply.startswith("stray") or one.op == Op.ARRIVE and step.reply != "done"
@@ -493,8 +493,8 @@ class _Frames:
 
 
 def _forgotten(trace: Trace, replay: Replay, step: Step, waiting: int, front: Frame | None) -> list[int]:
-    """Returns the places of the waiting frames that a step discarded: it was a reset, or it disabled the queue in the
-    middle of a frame."""
+    """Returns the positions of the waiting frames that a step discarded, because it was a reset or disabled the queue
+    in the middle of a frame."""
     one = trace.instruction(step)
     if one.op == Op.WRITE and one.a in (0, 4) and one.b & (1 << 3 | 1 << 26):
         return list(range(waiting))
@@ -531,7 +531,7 @@ def _collect(replay: Replay, sent: list[Frame]) -> None:
 
 
 def _find_queues(trace: Trace, replay: Replay, arrived: list[Frame]) -> None:
-    """Finds the queues of frames for which no reply named one."""
+    """Finds the queue of each frame whose queue no reply named."""
     waiting: list[int] = []
     states: list[tuple[int, list[int]]] = []
     for step in trace.steps:

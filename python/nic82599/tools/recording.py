@@ -435,7 +435,7 @@ class Held:
 
     def _refuse(self) -> None:
         if self.of_kept + self.size > MOST_HELD:
-            raise TooMuch(f"its snapshots and frames need more than {MOST_HELD >> 20:,} MiB here")
+            raise TooMuch(f"its snapshots and frames need more than {MOST_HELD >> 20:,} MiB, the tools' limit")
 
 
 class Player:

@@ -323,7 +323,7 @@ def check_lent(folder: Path, expect: Expect) -> None:
     ended = "the script ends at line 7 of the recording: nicbench prints `not lent`"
     check_tool(["nicview", file, "--script", "-o", made], "", 1, [ended], expect)
     text = made.read_text()
-    is_marked = "# left out: lend 256 to 599" in text and "# CUT: line 7" in text
+    is_marked = "# omitted: lend 256 to 599" in text and "# CUT: line 7" in text
     expect(is_marked, "600 blocks: the script doesn't mark what it omits")
     answers = Bench().run(text, 4_096)
     expect([line.split(" ", 1)[1] for line in answers[-4:]] == ["done", "done", "taken 3", "258"], f"{answers[-4:]}")

@@ -11,7 +11,7 @@
 #define COUNT(list) (sizeof(list) / sizeof *(list))
 #define NAMES_MOST 6 /* maximum number of names in a line */
 
-/* Accesses by one function or by several, by name. */
+/* Counts of accesses, by register name, for one or more functions. */
 struct touched {
     bool is_physical;
     uint64_t all, unnamed, named[COUNT(absent)];

@@ -1,4 +1,4 @@
-/* Registers that guests' drivers accessed but the device doesn't have, by their names on a card. */
+/* Reports registers that guests' drivers accessed but the device doesn't have, with their names on a card. */
 #ifndef VFU_ABSENT_H
 #define VFU_ABSENT_H
 

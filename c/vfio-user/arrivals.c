@@ -51,7 +51,7 @@ void arrivals_fault(struct arrivals *it)
     end(it, 1);
 }
 
-/* If a queue is disabled, the device drops the rest of its frame without reporting it. */
+/* If a queue is disabled, the device silently drops the remaining parts of the queue's frame. */
 void arrivals_check(struct arrivals *it)
 {
     if (it->is_partial && !(bus_peek(it->bus, NIC_RXDCTL(it->queue)) & NIC_RXDCTL_ENABLE))

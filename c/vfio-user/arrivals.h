@@ -14,10 +14,10 @@ struct arrivals {
     uint64_t waiting;
     uint64_t done;   /* numbers of frames that the bus had received and dropped at the last check */
     bool is_partial; /* part of the first frame is written */
-    uint16_t queue;  /* the queue that it is written to */
+    uint16_t queue;  /* queue to which that frame is being written */
 };
 
-/* Starts with no frame waiting: at the beginning, and after a reset. */
+/* Starts with no frame waiting. Call this at the beginning and after a reset. */
 void arrivals_begin(struct arrivals *it, const struct bus *bus);
 /* Restores the number of waiting frames from a snapshot. */
 void arrivals_restore(struct arrivals *it, const struct arrivals *kept);

@@ -32,7 +32,7 @@ static FILE *open_control(const char *path)
     return NULL;
 }
 
-/* Sends one request and prints its answer's lines, except "ok". */
+/* Sends one request and prints the lines of the answer, except "ok". */
 static enum answer ask_one(FILE *control, const char *request)
 {
     char line[LINE_MOST];

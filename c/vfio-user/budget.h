@@ -1,13 +1,13 @@
 /* Limits how much work the server does for one client before other clients have their turn. Work is measured in bytes
-   moved; other work that takes time counts as a number of bytes. Each client pays for its own messages and for what its
-   rings do. In each turn of the server's loop each payer gets BUDGET_PIECE, and a client that has spent it waits for
-   the next turn. The budget can be overdrawn by at most one step: a descriptor with its 65,535 bytes, a message of
-   4,096 bytes, a segment.
+   moved; work that moves none, such as a register access, is charged as a number of bytes. Each client pays for its own
+   messages and for what its rings do. In each turn of the server's loop each payer gets BUDGET_PIECE, and a client that
+   has spent it waits for the next turn. The budget can be overdrawn by at most one step: a descriptor with its 65,535
+   bytes, a message of 4,096 bytes, a segment.
 
    The cost of a message isn't always known: the kernel notifies everything that watches an eventfd or a socket, and a
-   client can have hundreds of thousands of watchers. So time is limited too: after BUDGET_MICROSECONDS the rest of a
-   client's messages, a function's interrupts and the wire's frames wait for the next turn. The first of each is always
-   processed. */
+   client can have hundreds of thousands of watchers. So time is limited too: after BUDGET_MICROSECONDS, a client's
+   remaining messages, a function's remaining interrupts and the wire's remaining frames wait for the next turn. The
+   first of each is always processed. */
 #ifndef VFU_BUDGET_H
 #define VFU_BUDGET_H
 

@@ -101,7 +101,8 @@ static uint32_t half(const struct capture_reader *it, const uint8_t *at)
     return it->is_big ? (uint32_t)at[0] << 8 | at[1] : (uint32_t)at[1] << 8 | at[0];
 }
 
-/* Finds the length of the frame in an enhanced or simple block. Returns whether it is a whole Ethernet frame. */
+/* Finds the length of the frame in an enhanced or simple packet block. Returns whether the block contains a whole
+   Ethernet frame. */
 static bool is_frame(const struct capture_reader *it, uint32_t type, const uint8_t *head, size_t body, size_t room,
                      size_t *length)
 {
@@ -112,7 +113,7 @@ static bool is_frame(const struct capture_reader *it, uint32_t type, const uint8
     return *length == all && *length <= room && *length <= body && interface < 32 && it->ethernet >> interface & 1;
 }
 
-/* Skips at least one byte. Returns false if the file ends before that. */
+/* Skips this many bytes, at least one. Returns false if the file ends before the last of them. */
 static bool skip(FILE *file, size_t length)
 {
     return fseek(file, (long)length - 1, SEEK_CUR) == 0 && fgetc(file) != EOF;

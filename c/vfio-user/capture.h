@@ -1,5 +1,5 @@
-/* Captures: writes the wire's frames in both directions as pcapng, with their direction and nanosecond timestamps; and
-   reads frames of a pcap or pcapng file to send to the card. */
+/* Captures. Writes the wire's frames in both directions as pcapng, with direction and nanosecond timestamp. Reads the
+   frames in a pcap or pcapng file, to send them to the card. */
 #ifndef VFU_CAPTURE_H
 #define VFU_CAPTURE_H
 
@@ -23,7 +23,7 @@ struct capture_reader {
     bool is_ng, is_big;
     /* in a pcapng section: number of interfaces, and a bit for each of the first 32 that is Ethernet */
     unsigned int interfaces, ethernet;
-    uint32_t longest; /* bytes of a frame that its first interface keeps; 0: all */
+    uint32_t longest; /* bytes of each frame that the file's first interface keeps; 0: all */
 };
 
 enum capture_next { CAPTURE_FRAME, CAPTURE_END, CAPTURE_BROKEN };

@@ -91,7 +91,7 @@ static void one_out(void *to, const uint8_t *frame, size_t length)
         it->sink(it->sink_to, it->budget.payer, frame, length);
 }
 
-/* Sends the rest of a TSO packet as far as the budget allows. Returns false if part of it remains. */
+/* Sends the remaining segments of a TSO packet as far as the budget allows. Returns false if some still remain. */
 static bool send_rest(struct card *it, uint16_t queue)
 {
     if (!it->offload || !offload_is_cutting(it->offload, queue))
@@ -100,7 +100,7 @@ static bool send_rest(struct card *it, uint16_t queue)
     return !offload_is_cutting(it->offload, queue);
 }
 
-/* Returns whether to run a step. The queue stays due if its client's budget is spent. */
+/* Returns whether to run a step now. If the budget of the queue's client is spent, the queue remains due. */
 static bool stepping(void *of, bool is_transmit, uint16_t queue)
 {
     struct card *it = of;
@@ -141,8 +141,8 @@ static void sent(void *of, uint16_t queue, const uint8_t *frame, size_t length)
 }
 
 /* Both sockets of a virtual function see its registers, but each client has its own vectors. The message is sent to the
-   client that has set up its vector. If both clients have, it is sent to the virtual function's own guest, whichever
-   client accessed a register last. */
+   client that has set up the message's vector. If both have, it is sent to the virtual function's own guest, even if
+   the other client accessed a register last. */
 static void on_message(void *of, unsigned int number, unsigned int vector)
 {
     const struct card *it = of;
@@ -170,7 +170,7 @@ void card_add(struct card *it, struct function *function)
         sockets[count] = function;
 }
 
-/* Holds the device if it is to be held at this access. */
+/* Holds the device if a client requested that for this access. */
 static void watch(struct card *it, const struct function *function, bool is_write, uint32_t offset, uint32_t word)
 {
     if (!it->stepper.is_held && watch_meets(&it->watch, function->number, is_write, offset, word))
@@ -208,7 +208,7 @@ static void follow_causes(const struct card *it, struct function *function)
         function_line_after_access(function, card_causes(it));
 }
 
-/* Performs a client's register access, and charges the client for the consequences. */
+/* Performs a client's register access, and charges the client for all work that it causes. */
 static void begin_access(struct card *it, struct function *function)
 {
     it->active[function->number] = function;
@@ -272,8 +272,8 @@ void card_write(struct card *it, struct function *function, uint32_t offset, uin
     follow_causes(it, function);
 }
 
-/* Stops all rings of its client, but not the rings of another client that uses the function through its other
-   socket. */
+/* Stops all rings of the function's client. Another client may use the function through its other socket; that client's
+   rings aren't stopped. */
 void card_reset_function(struct card *it, struct function *function)
 {
     it->budget.payer = function->socket;
@@ -388,7 +388,7 @@ uint32_t card_causes(const struct card *it)
     return bus_peek(it->bus, NIC_EICR) & bus_peek(it->bus, NIC_EIMS);
 }
 
-/* A function's message is due only if a cause and its mask are set; usually no message is. */
+/* Returns whether the function may have a due message: a cause and its mask are set. Usually none are. */
 static bool has_cause(const struct card *it, unsigned int function)
 {
     if (function == BUS_PHYSICAL)
@@ -448,7 +448,7 @@ bool card_has_left_some(const struct card *it)
 }
 
 /* Sends the descriptors that tails handed over, even if the queue or the link was off at that time. Returns whether
-   some are left. Each client pays for its queues, which begin where the last turn's budget ended. */
+   some remain. Each client pays for its queues. The first queue is the one at which the last turn's budget ended. */
 static bool transmit_due(struct card *it)
 {
     struct stepper *stepper = &it->stepper;
@@ -470,7 +470,7 @@ static bool transmit_due(struct card *it)
     return left;
 }
 
-/* Receives the waiting frames. The wire's budget pays. */
+/* Receives the waiting frames, at the expense of the wire's budget. */
 static void receive_due(struct card *it)
 {
     it->budget.payer = BUDGET_WIRE;
@@ -486,7 +486,7 @@ bool card_enable(struct card *it, bool is_transmit, uint16_t queue)
     return is_done;
 }
 
-/* Enables and disables some queues as requested. Returns whether requests are left. */
+/* Enables and disables some of the requested queues. Returns whether requests remain. */
 static bool enable_asked(struct card *it)
 {
     struct stepper *stepper = &it->stepper;
@@ -510,7 +510,7 @@ static bool reads_eeprom(const struct card *it)
     return (bus_peek(it->bus, NIC_EERD) & (NIC_EERD_START | NIC_EERD_DONE)) == NIC_EERD_START;
 }
 
-/* Runs or postpones each kind of step, at random. Returns whether something may be left. */
+/* Runs or postpones each kind of step, at random. Returns whether steps may remain. */
 static bool pump_late(struct card *it)
 {
     struct stepper *stepper = &it->stepper;
@@ -559,7 +559,7 @@ bool card_pump(struct card *it)
     return it->is_busy;
 }
 
-/* A pending reset isn't held, because it has already begun. */
+/* A pending reset still completes, because it has already begun. */
 void card_hold(struct card *it)
 {
     if (it->stepper.reset.word)

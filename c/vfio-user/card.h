@@ -19,7 +19,8 @@
 #define CARD_SOCKETS 2        /* sockets of each virtual function */
 #define CARD_FIFO 4096
 
-/* The best kind of interrupts that the physical function supports. It also supports the kinds listed before that. */
+/* The best kind of interrupts that the physical function supports. The function also supports the kinds listed before
+   that. */
 enum card_interrupts { CARD_INTX, CARD_MSI, CARD_MSIX };
 
 struct card_options {
@@ -89,16 +90,17 @@ void card_remapped(struct card *it, const struct function *function);
 void card_rearmed(struct card *it);
 /* Returns the physical function's pending enabled causes. */
 uint32_t card_causes(const struct card *it);
-/* Stops everything that the function's departing client set up. */
+/* Stops everything that the function's client set up. Called when that client disconnects. */
 void card_client_goes(struct card *it, const struct function *function);
-/* Charges a served message of the function's client. Returns false if its budget for this turn is spent. */
+/* Charges the function's client for a served message. Returns false if the client's budget for this turn is spent. */
 bool card_may_serve(struct card *it, const struct function *function);
-/* Like card_may_serve after part of a message, but without a charge. */
+/* Like card_may_serve, but called after part of a message, and without a charge. */
 bool card_may_go_on(struct card *it, const struct function *function);
 
 /* Puts a frame on the link. Returns whether the device accepted it. */
 bool card_arrive(struct card *it, const uint8_t *frame, size_t length);
-/* Return whether there is room for more frames in front of the queues, and whether a frame may arrive in this turn. */
+/* card_has_room returns whether more frames can wait in front of the queues. card_takes_frame returns whether a frame
+   may arrive in this turn. */
 bool card_has_room(const struct card *it);
 bool card_takes_frame(const struct card *it);
 
@@ -108,15 +110,15 @@ void card_begin_turn(struct card *it);
    card_is_busy returns whether to do so immediately. */
 bool card_pump(struct card *it);
 bool card_is_busy(const struct card *it);
-/* Run steps requested at the control socket, as many as BUDGET_ASKED allows. Return the number of descriptors or
-   messages. */
+/* Run steps requested at the control socket, as many as BUDGET_ASKED allows. Return the number of received descriptors
+   or sent messages. */
 unsigned int card_receive(struct card *it);
 unsigned int card_messages(struct card *it);
 void card_transmit(struct card *it, uint16_t queue);
 /* Enables or disables a side of a queue as requested. Returns false if nothing was requested. */
 bool card_enable(struct card *it, bool is_transmit, uint16_t queue);
-/* Returns whether the last of these steps ended because the budget was spent. The remaining work needs another
-   request. */
+/* Returns whether the last of these calls stopped because the budget was spent. Another request then does the remaining
+   work. */
 bool card_has_left_some(const struct card *it);
 
 /* Plugs the cable in or unplugs it. Returns the device's status. */

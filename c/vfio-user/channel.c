@@ -61,7 +61,8 @@ static bool take_files(struct channel *it, struct msghdr *head)
     return fits;
 }
 
-/* The kernel ends a read after the bytes that were sent with files, so the files belong to the last message in it. */
+/* The kernel ends a read after the bytes that were sent with files, so the files belong to the last message that was
+   read. */
 enum channel_state channel_receive(struct channel *it)
 {
     union {

@@ -1,6 +1,6 @@
 /* One client's socket. Bytes and files arrive in chunks of any size, and are read as whole messages. Nothing in this
-   file blocks: the caller polls for a client that sends in pieces. If a client doesn't read, its replies are kept, and
-   it isn't served while they exceed CHANNEL_KEPT bytes. */
+   file blocks: if a message has only partly arrived, the caller polls again. If a client doesn't read, its replies are
+   kept; while they exceed CHANNEL_KEPT bytes, the client isn't served. */
 #ifndef VFU_CHANNEL_H
 #define VFU_CHANNEL_H
 
@@ -45,7 +45,7 @@ struct channel {
 enum channel_state {
     CHANNEL_OPEN,
     CHANNEL_GONE, /* the client has disconnected or can't be reached */
-    CHANNEL_WRONG /* the client sent something that isn't a message, or too many files */
+    CHANNEL_WRONG /* the client sent bytes that aren't a message, or too many files */
 };
 
 void channel_begin(struct channel *it, int file, unsigned int owner);
@@ -53,8 +53,8 @@ void channel_end(struct channel *it);
 
 /* Receives what has arrived, as far as there is room for it. */
 enum channel_state channel_receive(struct channel *it);
-/* Takes the next whole message. Returns true, with *state unchanged. Returns false if there is none yet, or if *state
-   becomes CHANNEL_WRONG and there will be none. */
+/* Takes the next message. Returns true if a whole message has arrived; *state is then unchanged. Otherwise returns
+   false, and sets *state to CHANNEL_WRONG if no valid message can follow. */
 bool channel_next(struct channel *it, struct message *message, enum channel_state *state);
 /* Closes the remaining files of a message. */
 void message_drop_files(struct message *message);

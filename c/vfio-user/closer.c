@@ -9,7 +9,7 @@
 #include <sys/socket.h>
 #include <unistd.h>
 
-#define FILES_AT_ONCE 253 /* the kernel's limit: with less room the kernel would close the rest immediately */
+#define FILES_AT_ONCE 253 /* the kernel's limit: with less room the kernel closes the others immediately */
 
 struct waiting {
     int file;
@@ -57,7 +57,7 @@ static void *close_all(void *queue)
     return NULL;
 }
 
-/* Waits for a new thread: its start makes system calls that a confined process may not make. */
+/* Waits until a new thread runs, because starting it makes system calls that a confined process may not make. */
 static void await(struct queue *it)
 {
     pthread_mutex_lock(&it->lock);
@@ -127,7 +127,7 @@ static void give(struct queue *it, int file, unsigned int owner)
         close(file);
 }
 
-/* Only memory has seals, and the kernel itself answers. */
+/* Only memory files have seals, and the kernel itself answers. */
 bool closer_is_memory(int file)
 {
     return fcntl(file, F_GET_SEALS) >= 0;

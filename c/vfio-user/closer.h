@@ -18,13 +18,12 @@
 /* Starts the threads, once per process. Returns false with errno set if it can't. Before that, files are closed
    directly. */
 bool closer_start(void);
-/* Returns whether a file is the kernel's own memory (memfd, tmpfs, hugetlbfs). No file system is involved in the
-   answer. */
+/* Returns whether a file is the kernel's own memory (memfd, tmpfs, hugetlbfs). Never waits for a file system. */
 bool closer_is_memory(int file);
 /* Closes a file received from an owner, a number below CLOSER_OWNERS. */
 void closer_close(int file, unsigned int owner);
 void closer_close_foreign(int file, unsigned int owner);
-/* Receives bytes like recv. Files that arrive with them aren't wanted, and are closed this way. */
+/* Receives bytes like recv. Closes any files that arrive with the bytes, as closer_close does. */
 ssize_t closer_receive(int file, void *bytes, size_t room, int flags, unsigned int owner);
 /* Returns whether an owner has too many files waiting, so that its client has to wait and no other is accepted. */
 bool closer_is_full(unsigned int owner);

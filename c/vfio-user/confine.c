@@ -130,7 +130,7 @@ static const struct rule serving[] = {
     CALL(rseq),
 #endif
     {SYS_preadv2, ONE_OF, 5, 1, {RWF_NOWAIT}},
-    {SYS_sendto, ONE_OF, 5, 1, {0}}, /* the length of an address: only to the connected peer */
+    {SYS_sendto, ONE_OF, 5, 1, {0}}, /* the length of an address: 0, so only to the connected peer */
     {SYS_mmap, NONE_OF, 2, 1, {PROT_EXEC}},
     {SYS_mprotect, NONE_OF, 2, 1, {PROT_EXEC}},
     {SYS_newfstatat, ONE_OF, 3, 1, {AT_EMPTY_PATH}}, /* the C library's fstat */
@@ -199,7 +199,8 @@ static void put_jump(struct program *it, uint16_t test, uint32_t value, uint8_t 
     put(it, (struct sock_filter)BPF_JUMP((uint16_t)(BPF_JMP | test | BPF_K), value, if_so, if_not));
 }
 
-/* The call's number is loaded before this rule, and is still loaded after it if the rule is for another call. */
+/* Adds the rule of one call. The call's number is loaded before the rule, and stays loaded if the rule is for another
+   call. */
 static void put_rule(struct program *it, const struct rule *rule)
 {
     uint8_t arguments = (uint8_t)(rule->kind == ANY ? 0 : 1 + rule->count + 1);
@@ -282,7 +283,7 @@ void confine_files(enum confine_as what)
     if (KEEPS_RIGHTS)
         return;
     if (prctl(PR_SET_NO_NEW_PRIVS, 1, 0, 0, 0) != 0)
-        log_line(LOG_SERVER, "programs started by this process may gain rights: %s", strerror(errno));
+        log_line(LOG_SERVER, "programs that this process starts may gain privileges: %s", strerror(errno));
     drop_capabilities();
     if (what != CONFINE_JANITOR)
         lock_files();

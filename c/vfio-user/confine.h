@@ -1,5 +1,5 @@
-/* Gives up the rights that the process doesn't need for serving, so that an attacker who takes it over with a message
-   gains little. */
+/* Gives up the rights that the process doesn't need for serving. An attacker who takes over the process by sending a
+   message then gains little. */
 #ifndef VFU_CONFINE_H
 #define VFU_CONFINE_H
 
@@ -12,9 +12,9 @@ enum confine_as {
     CONFINE_JANITOR /* removes names of sockets */
 };
 
-/* Call this before threads start. Programs that it starts get no new privileges, it drops its capabilities, and (except
-   for a janitor) Landlock denies access to files by name. If the kernel lacks one of these, a line says so, and the
-   process continues without it. */
+/* Call this before threads start. Programs that the process starts get no new privileges, the process drops its
+   capabilities, and (except for a janitor) Landlock denies access to files by name. If the kernel doesn't support one
+   of these, a line on standard error says so, and the process continues without it. */
 void confine_files(enum confine_as what);
 /* Call this after threads started. Only listed system calls are allowed, for all threads; others fail with EPERM. */
 void confine_calls(enum confine_as what);

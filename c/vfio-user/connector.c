@@ -20,7 +20,7 @@ union room {
 
 /* ---- in the connector's process ---- */
 
-/* Sends an answer: a file, or none (-1). */
+/* Sends the server an answer: a file, or none (-1). */
 static void answer(int line, int file)
 {
     char byte = file >= 0;
@@ -37,7 +37,7 @@ static void answer(int line, int file)
     }
 }
 
-/* Makes an attempt for each request. */
+/* Tries to connect once for each request. */
 static void call_streams(int line, int file, void *path)
 {
     char byte;
@@ -53,7 +53,7 @@ static void call_streams(int line, int file, void *path)
     }
 }
 
-/* Keeps trying until the line is closed. The first attempt is answered. */
+/* Connects the socket repeatedly until the line is closed. Sends an answer after the first attempt only. */
 static void call_datagrams(int line, int file, void *peer)
 {
     struct sockaddr_un name;

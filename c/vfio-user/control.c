@@ -19,7 +19,7 @@ static const char short_of_memory[] = "out of memory";
 
 /* ---- requests: each returns an error, or null for "ok" ---- */
 
-/* A request, with the rest of its line after the name. */
+/* A request: the server, and the arguments after the request's name. */
 struct request {
     struct server *server;
     const char *rest;
@@ -79,7 +79,7 @@ static const char *turn(struct request *it)
     struct traffic *traffic = &it->server->traffic;
     int end = 0;
     if (sscanf(it->rest, "%7u %7u%n", &traffic->turn_in, &traffic->turn_out, &end) != 2 || it->rest[end])
-        return "turn IN OUT: numbers of frames, 0 for none";
+        return "turn IN OUT: the numbers of a frame to the card and one from it, 0 for none";
     traffic->taken = 0;
     return NULL;
 }
@@ -90,7 +90,7 @@ static const char *came(struct request *it)
     fprintf(it->to, "%u of %u, twice %u, wrong %u\n", expected->good, expected->count, expected->twice,
             expected->wrong);
     if (!numbered_is_ready(expected))
-        fprintf(it->to, "%u of %u have been generated so far\n", expected->made, expected->count);
+        fprintf(it->to, "%u of %u expected frames have been generated so far\n", expected->made, expected->count);
     return NULL;
 }
 
@@ -117,7 +117,7 @@ static const char *hold(struct request *it)
     if (strcmp(it->rest, "at") == 0 || strncmp(it->rest, "at ", 3) == 0)
         return hold_at(it, it->rest + (it->rest[2] ? 3 : 2));
     if (*it->rest)
-        return "hold, hold at PLACE, hold at off, or hold at";
+        return "expected hold, hold at PLACE, hold at off, or hold at";
     card_hold(&it->server->card);
     return NULL;
 }
@@ -131,7 +131,7 @@ static const char *seed(struct request *it)
         return NULL;
     }
     if (!strchr("0123456789", *it->rest) || sscanf(it->rest, "%20" SCNu64 "%n", &number, &end) != 1 || it->rest[end])
-        return "seed N, or seed off";
+        return "expected seed N or seed off";
     card_seed(&it->server->card, &number);
     return NULL;
 }
@@ -175,7 +175,7 @@ static bool one_queue(const char *text, unsigned int *queue)
     return sscanf(text, "%3u%n", queue, &end) == 1 && text[end] == 0 && *queue < BUS_QUEUES;
 }
 
-/* Prints how many descriptors the steps of a request processed, and whether more are left. */
+/* Prints how many descriptors a request's steps processed, and whether more remain. */
 static void tell_steps(struct request *it, uint64_t steps)
 {
     fprintf(it->to, "%" PRIu64 " descriptors%s\n", steps,
@@ -187,7 +187,7 @@ static const char *transmit(struct request *it)
     unsigned int queue;
     uint64_t before = bus_counts(it->server->card.bus)->transmit_steps;
     if (!one_queue(it->rest, &queue))
-        return "tx QUEUE: 0 to 127";
+        return "tx QUEUE: a queue is a number from 0 to 127";
     card_transmit(&it->server->card, (uint16_t)queue);
     tell_steps(it, bus_counts(it->server->card.bus)->transmit_steps - before);
     return NULL;
@@ -210,7 +210,7 @@ static const char *queue_step(struct request *it)
     unsigned int queue;
     bool is_transmit = strncmp(it->rest, "tx ", 3) == 0;
     if ((!is_transmit && strncmp(it->rest, "rx ", 3) != 0) || !one_queue(it->rest + 3, &queue))
-        return "qstep rx QUEUE, or qstep tx QUEUE";
+        return "expected qstep rx QUEUE or qstep tx QUEUE";
     fprintf(it->to, "%s\n", card_enable(&it->server->card, is_transmit, (uint16_t)queue) ? "done" : "idle");
     it->server->card.stepper.has_changed = true;
     return NULL;
@@ -243,14 +243,14 @@ static const struct {
 } requests[] = {
     {"counts", tell, "prints counts of all traffic so far"},
     {"link", link_up_or_down, "link up, link down: plugs or unplugs the cable"},
-    {"frames", frames, "frames COUNT MOST: sends numbered frames of 60 to MOST bytes to the card"},
-    {"expect", expect, "expect COUNT MOST [FROM]: compares what the card sends with these frames from now on"},
-    {"turn", turn, "turn IN OUT: corrupts one byte of these frames, to test the comparison"},
-    {"came", came, "prints how many of the frames have arrived"},
+    {"frames", frames, "frames COUNT MOST: sends COUNT numbered frames of 60 to MOST bytes to the card"},
+    {"expect", expect, "expect COUNT MOST [FROM]: from now on, compares the card's frames with these numbered frames"},
+    {"turn", turn, "turn IN OUT: corrupts a byte in frame IN to the card and OUT from it, to test the comparison"},
+    {"came", came, "prints how many of the expected frames have arrived"},
     {"hold", hold,
-     "holds the device: it takes only requested steps; hold at PLACE: holds it at an access; hold at off"},
-    {"go", go, "ends the hold: the device takes its steps by itself again"},
-    {"seed", seed, "seed N: from now on each step happens immediately or late, depending on this seed; seed off"},
+     "holds the device, which then runs only requested steps; hold at PLACE: holds it at an access; hold at off"},
+    {"go", go, "ends the hold: the device runs its steps by itself again"},
+    {"seed", seed, "seed N: from now on, each step runs immediately or late, at random with this seed; seed off"},
     {"snapshot", snapshot, "snapshot NAME: saves the device's state; without a name: lists the snapshots"},
     {"restore", restore, "restore NAME: restores the device's state, but not the guest's"},
     {"due", due, "lists the steps that are due"},
@@ -321,7 +321,7 @@ static void say(struct control_client *it, const char *text, size_t length)
         drop(it);
 }
 
-/* Returns whether the thread answers the request. */
+/* Returns whether the explaining thread will answer the request. */
 static bool is_for_thread(const struct control_client *it, const struct server *server)
 {
     return !it->is_long && strcmp(it->line, "why") == 0 && explain_file() >= 0 && !server->card.options.is_recorded;
@@ -361,7 +361,7 @@ static void obey(struct control_client *it, struct server *server)
     free(text);
 }
 
-/* Called when the thread has answered. If no client is waiting for the answer any longer, the answer is discarded. */
+/* Passes the thread's answer to the waiting client. If that client has disconnected, discards the answer. */
 static void pass_answer(struct control *it)
 {
     const char *text = explain_text();
@@ -375,7 +375,7 @@ static void pass_answer(struct control *it)
     explain_end();
 }
 
-/* Starts the next client's `why`, about the card as it is now. */
+/* Starts the next client's `why` on the card's current state. */
 static void ask_why(struct control *it, struct server *server)
 {
     for (unsigned int i = 0; i < CONTROL_CLIENTS && explain_is_free(); i++) {
@@ -391,7 +391,7 @@ static void ask_why(struct control *it, struct server *server)
     }
 }
 
-/* Reports that the device is held at a requested access. This is the only line that isn't an answer to a request. */
+/* Reports that the device is held at a requested access. No other line is sent without a request. */
 static void tell_held(struct control *it, struct watch *watch)
 {
     char text[WATCH_TEXT + 32];
@@ -403,7 +403,7 @@ static void tell_held(struct control *it, struct watch *watch)
             say(&it->clients[i], text, (size_t)length);
 }
 
-/* Takes received bytes up to the end of a request, and executes it. */
+/* Executes a client's next request if all of it has been received. */
 static void take(struct control_client *it, struct server *server)
 {
     while (it->in_at < it->in_end) {
@@ -433,7 +433,7 @@ static void receive_requests(struct control_client *it)
         drop(it);
 }
 
-/* Receives more only after all that was received is executed and the answers are sent. */
+/* Receives more requests only after all received ones are executed and their answers sent. */
 static void serve_client(struct control_client *it, short events, struct server *server)
 {
     if (events & POLLOUT)

@@ -27,7 +27,7 @@ struct control_client {
     char line[CONTROL_LINE];
     size_t length;
     bool is_long; /* the line is too long, and is skipped */
-    bool watches; /* the client requested places at which to hold the device, and gets a line when it is held */
+    bool watches; /* the client requested places at which to hold the device, and gets a line at each hold */
     struct buffer out;
 };
 
@@ -42,13 +42,13 @@ struct control {
 const char *control_open(struct control *it, const char *path);
 void control_close(struct control *it);
 void control_polls(const struct control *it, struct pollfd *polls);
-/* Executes one request of each client. Only a client with an unanswered `why` waits. */
+/* Executes one request from each client, except from a client with an unanswered `why`. */
 void control_serve(struct control *it, const struct pollfd *polls, struct server *server);
 /* Returns whether received requests are waiting. */
 bool control_has_more(const struct control *it);
 
-/* Executes the request in a line and writes its answer to `to`; even `why` is answered before it returns. Returns
-   whether the client is to get a line when the device is held. */
+/* Executes the request in a line and writes the answer to `to`, even for `why`. Returns whether the request asks for a
+   line when the device is held. */
 bool control_obey(struct server *server, const char *line, FILE *to);
 
 #endif

@@ -1,6 +1,7 @@
 /* A capability for one client's memory. A function grants it to the rings that its client sets up; descriptors read
-   from a ring, and the buffers that they name, inherit it. Nothing else can reach the memory. The capability dies with
-   its client: the next client on the socket gets a new one, so stale state of the last one can't reach anything. */
+   from a ring, and the buffers that they name, inherit it. Nothing else can reach the memory. The capability ends with
+   its client: the next client on the socket gets a new capability, and the old client's stale state can't reach any
+   memory. */
 #ifndef VFU_DMA_H
 #define VFU_DMA_H
 
@@ -32,11 +33,11 @@ unsigned int dma_function(struct dma it);
 #define DMA_NOBODY 15u
 unsigned int dma_socket(struct dma it);
 
-/* Copies between memory and `bytes`, across ranges. Returns false if some bytes are in no range. */
+/* Copy between a client's memory and `bytes`, across ranges. Return false if some bytes are in no range. */
 bool dma_read(struct dma_address from, uint8_t *bytes, size_t length);
 bool dma_write(struct dma_address to, const uint8_t *bytes, size_t length);
-/* Returns a pointer to bytes that are writable and in one range, such as a descriptor or a head; null if they
-   aren't. */
+/* Returns a pointer to bytes such as a descriptor or a head; null if they aren't writable or aren't all in one
+   range. */
 void *dma_whole(struct dma_address at, size_t length);
 /* Returns whether all of these bytes are readable and in one range. */
 bool dma_has(struct dma_address at, size_t length);

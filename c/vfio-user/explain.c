@@ -47,7 +47,7 @@ static bool copy_card(struct copy *it, struct card *card)
     return false;
 }
 
-/* Frees the copy, which took a device's memory. */
+/* Writes to `text` what blocks the copy's work, or sets `is_short` if memory runs out. Frees the copy. */
 static void look_at_copy(struct copy *it)
 {
     nic device = {NULL};
@@ -73,7 +73,7 @@ static void *answer_all(void *nothing)
         pthread_mutex_unlock(&lock);
         look_at_copy(&asked);
 #ifdef __GLIBC__
-        malloc_trim(0); /* otherwise this thread keeps most of it for the next time */
+        malloc_trim(0); /* otherwise the C library keeps most of the memory for this thread's next copy */
 #endif
         pthread_mutex_lock(&lock);
         state = ANSWERED;
@@ -151,7 +151,7 @@ void explain_end(void)
 {
     uint64_t count;
     if (read(event, &count, sizeof count) < 0) {
-        /* it is read again with the next answer */
+        /* a signal that can't be read now is read with the next answer */
     }
     become(FREE);
 }

@@ -1,6 +1,6 @@
 /* Answers `why`: what blocks the waiting work. A separate thread finds the reasons on a copy of the device and of its
    rings' locations. Examining all that a guest can set up takes seconds of CPU time, and guests are served in the
-   meantime. There is one thread, so clients take turns. */
+   meantime. All clients share one thread, so they take turns. */
 #ifndef VFU_EXPLAIN_H
 #define VFU_EXPLAIN_H
 
@@ -22,7 +22,7 @@ bool explain_is_ready(void);
 const char *explain_text(void);
 void explain_end(void);
 
-/* Answers immediately on this thread, while the explaining thread has no question. A recorded card isn't copied,
+/* Returns the answer, found on the caller's thread. The explaining thread must be free. A recorded card isn't copied,
    because the copy would be in the recording. */
 const char *explain_now(struct card *card);
 

@@ -14,7 +14,7 @@
 
 #define INTEL 0x8086u
 #define VIRTUAL_DEVICE 0x10EDu
-#define NOBODY 0xFFFFu /* a shadow's ID: no scan for devices finds it */
+#define NOBODY 0xFFFFu /* a shadow's ID, which scans for devices skip */
 #define ETHERNET 0x02000001u
 #define COMMANDS 0x0546u
 
@@ -264,7 +264,7 @@ const char *function_listen(struct function *it)
     return local_listen(&it->listener, it->path, 4);
 }
 
-/* Returns whether the client has hung up, so that only earlier messages are left. */
+/* Returns whether the client has hung up, so that only messages sent before that remain. */
 static bool is_leaving(const struct session *it)
 {
     struct pollfd poll_for = {it->channel.file, POLLRDHUP, 0};
@@ -315,8 +315,8 @@ bool function_is_busy(const struct function *it)
     return session_is_busy(&it->session);
 }
 
-/* The rest of the card keeps running, as if this client's machine had been switched off. The next client finds the
-   function freshly reset. */
+/* Resets the function for the next client. The other functions keep running, as if this client's machine had been
+   switched off. */
 static void gone(struct function *it)
 {
     log_client(it->socket, LOG_CLIENT, "%s: its client disconnected", it->path);

@@ -1,6 +1,6 @@
 /* One function of the card as a client sees it: its configuration space, its registers, its interrupts. A virtual
-   function has two sockets. One makes it a separate device for another guest. The other socket is a shadow of it for
-   the guest with the physical function, visible only through SR-IOV. */
+   function has two sockets. One socket presents it as a separate device to another guest. The other, the shadow,
+   presents it to the guest with the physical function, visible only through SR-IOV. */
 #ifndef VFU_FUNCTION_H
 #define VFU_FUNCTION_H
 
@@ -42,7 +42,7 @@ struct function {
     struct function_counts counts;
 };
 
-/* Initializes a function of a card. Its path must already be set, for reports. */
+/* Initializes a function of a card. The path must already be set, because reports contain it. */
 void function_begin(struct function *it);
 /* Listens at its path. Returns null, or why it can't. */
 const char *function_listen(struct function *it);
@@ -50,13 +50,13 @@ const char *function_listen(struct function *it);
 void function_polls(const struct function *it, struct pollfd polls[FUNCTION_POLLS]);
 /* Returns whether received messages are waiting and can be served now. */
 bool function_has_more(const struct function *it);
-/* Returns whether its client is waiting for work that the server still has to do. */
+/* Returns whether the function's client is waiting for work that the server does in several turns. */
 bool function_is_busy(const struct function *it);
 /* Accepts the client that waits at the socket, or rejects it if there is a client already. */
 void function_accept(struct function *it);
 /* Serves its client after these poll events of the socket. */
 void function_serve(struct function *it, short events);
-/* Handles a possible unmasking of the line through its client's eventfd. */
+/* Checks whether the client has unmasked the line through its eventfd. */
 void function_unmask(struct function *it);
 /* Whether its client can receive messages. */
 enum function_ready {
@@ -67,7 +67,7 @@ enum function_ready {
 };
 
 enum function_ready function_ready(const struct function *it, unsigned int vector);
-/* Sends its client a message from the device. */
+/* Sends the function's client a message from the device. */
 void function_message(struct function *it, unsigned int vector);
 /* Returns whether its client is notified of causes through the line or MSI: there is a client, and its MSI-X is off.
    Virtual functions have neither. */

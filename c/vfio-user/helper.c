@@ -25,7 +25,7 @@ static void close_from(int first)
         close(file);
 }
 
-/* Moves a file to this descriptor number. Without a file (-1), the number is closed. */
+/* Moves a file to this descriptor number, or closes the number if there is no file (-1). */
 static void move(int file, int to)
 {
     if (file < 0 || dup2(file, to) < 0)
@@ -45,8 +45,8 @@ static void close_others(int line, int file)
     close_from(ABOVE);
 }
 
-/* Ignores the signals that end the server: a helper exits when its line is closed. A helper that has nothing left to
-   finish is killed when the server exits. */
+/* Ignores the signals that end the server: a helper exits when its line is closed. A helper without `stays` is killed
+   when the server exits. */
 static void take_signals(bool stays)
 {
     static const int ignored[] = {SIGTERM, SIGINT, SIGHUP, SIGQUIT, SIGPIPE};

@@ -12,7 +12,7 @@
 
 static struct helper helper = {-1, -1};
 
-/* Receives names one by one, up to an empty one; then it waits until the server has exited. */
+/* Receives names until an empty one arrives, and then waits until the server has exited. */
 static void tidy(int line, int file, void *given)
 {
     struct local_given name;

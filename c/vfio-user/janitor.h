@@ -7,7 +7,8 @@
 
 struct local_given;
 
-/* Starts it, while this process is still small. Returns false with errno set if it can't. */
+/* Starts the janitor. Call this early, because the janitor is a copy of this process. Returns false with errno set if
+   it can't. */
 bool janitor_start(bool is_confined);
 /* Adds a name for the janitor to remove. No-op if the janitor wasn't started. */
 void janitor_adopt(const struct local_given *given);

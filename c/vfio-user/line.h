@@ -33,13 +33,13 @@ bool line_unmask_by(struct line *it, int file);
 int line_unmask_file(const struct line *it);
 /* Reads the unmask eventfd. Returns whether it was signalled, which unmasks the line. */
 bool line_take_unmask(struct line *it);
-/* Sets the line's level. Returns whether the client was notified. */
+/* Sets the level of the line (INTx). Returns whether the client was notified. */
 bool line_level(struct line *it, bool level);
-/* Sets the pending causes. Returns whether a cause is new, so that MSI was sent. */
+/* Sets the pending causes, for MSI. Returns whether one of them is new, so that the message was sent. */
 bool line_causes(struct line *it, uint32_t causes);
 /* Sets the pending causes after an access. A cause that is no longer pending counts as new when it is raised again. */
 void line_after_access(struct line *it, uint32_t causes);
-/* Called at a reset: no cause has been seen, and no message is waiting. */
+/* Called at a reset: forgets all causes, and discards any waiting message. */
 void line_forget(struct line *it);
 
 #endif

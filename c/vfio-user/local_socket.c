@@ -30,8 +30,8 @@ bool local_name(struct sockaddr_un *name, const char *path)
 
 /* ---- existing names ---- */
 
-/* A connection of a type other than the socket's is refused without its owner noticing: with EPROTOTYPE if a process
-   has the socket open, and with ECONNREFUSED if none does. It doesn't affect a datagram socket. */
+/* Connecting with a type other than the socket's fails without the socket's owner noticing: with EPROTOTYPE if a
+   process has the socket open, with ECONNREFUSED if none does. The attempt has no effect on a datagram socket. */
 static bool is_dead(const struct sockaddr_un *name)
 {
     int file = socket(AF_UNIX, SOCK_DGRAM | SOCK_CLOEXEC | SOCK_NONBLOCK, 0);

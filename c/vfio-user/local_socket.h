@@ -1,6 +1,6 @@
-/* A UNIX socket with a name, accessible only to its user (mode 0600). It takes a name only if the name is free or
-   belongs to a dead socket of this user. When the socket is closed, the name is removed only if it still belongs to
-   this socket. */
+/* A UNIX socket with a name, accessible only to its user (mode 0600). A new socket takes a name only if the name is
+   free or belongs to a dead socket of this user. When the socket is closed, the name is removed only if it still
+   belongs to this socket. */
 #ifndef VFU_LOCAL_SOCKET_H
 #define VFU_LOCAL_SOCKET_H
 
@@ -25,8 +25,8 @@ struct local_given {
 /* Converts a name to a socket address. Returns false if the name is too long. */
 bool local_name(struct sockaddr_un *name, const char *path);
 
-/* Creates a non-blocking socket of this type and binds it to the name. Returns null and sets *file. Otherwise returns
-   why it can't, sets *file to -1, and changes nothing. */
+/* Creates a non-blocking socket of this type and binds it to the name. Returns null and sets *file; or returns the
+   reason for its failure, sets *file to -1, and changes nothing. */
 const char *local_bind(int *file, int type, const char *path);
 /* Like local_bind for a stream; it also listens. */
 const char *local_listen(int *file, const char *path, int backlog);
@@ -36,7 +36,7 @@ int local_connect(const char *path);
    listeners rest for LOCAL_REST_MS. */
 int local_accept(int listener);
 bool local_rests(void);
-/* Adds another process's name for this one to remove. Returns false if there is no room. */
+/* Adds a name that another process bound and this process will remove. Returns false if there is no room. */
 bool local_adopt(const struct local_given *given);
 /* Remove one name, or all names, if they still belong to the sockets bound to them. */
 void local_forget(const char *path);

@@ -145,7 +145,7 @@ void log_client(unsigned int client, enum log_kind kind, const char *format, ...
     va_end(rest);
 }
 
-/* Calls the function for each account with left-out lines. Returns the number of calls. */
+/* Calls a function for each account whose limit suppressed lines. Returns the number of calls. */
 static unsigned int each_left_out(void (*call)(enum log_kind kind, struct account *account))
 {
     unsigned int count = 0;

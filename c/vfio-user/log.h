@@ -1,5 +1,5 @@
-/* The server's lines on standard error, in several kinds. Each kind has a limit for each client, so that no client
-   fills a disk or hides what is reported about others. Logging never waits for the reader of standard error. */
+/* The server's lines on standard error, in several kinds. Each client has a limit for each kind, so no client can fill
+   a disk or hide reports about other clients. Logging never waits for the reader of standard error. */
 #ifndef VFU_LOG_H
 #define VFU_LOG_H
 

@@ -20,7 +20,7 @@
 #include "strays.h"
 #include "tell.h"
 
-#define LAST_WORDS_MS 1000 /* limit for the output on exit */
+#define LAST_WORDS_MS 1000 /* time limit for writing the output on exit */
 
 /* Output of the server while it serves or when it exits; opened before the server gives up its rights. */
 struct written {
@@ -29,7 +29,8 @@ struct written {
 
 /* ---- files ---- */
 
-/* The library writes recordings, and it waits for the reader of a FIFO. */
+/* Returns false after a report if the recording's file isn't regular: the library writes recordings, and would wait for
+   a FIFO's reader. */
 static bool may_record(const char *name)
 {
     struct stat about;

@@ -32,8 +32,8 @@ struct memory_file {
     unsigned int ranges, windows;
 };
 
-/* A piece of a file, mapped once for all ranges in it. A window without ranges is kept for the next one as long as its
-   file has other ranges and there is room. */
+/* A piece of a file, mapped once for all ranges in it. A window without ranges is kept for later ranges while its file
+   has other ranges and room remains. */
 struct memory_window {
     struct memory_file *file;
     uint8_t *at;
@@ -116,7 +116,7 @@ static uint64_t page_of(int file)
     return VFU_PAGE;
 }
 
-/* Finds the client's file, or adds it. */
+/* Finds the file among the client's files, or adds it to them. */
 static int use_file(struct memory_map *it, int file, const struct stat *about, struct memory_file **used)
 {
     *used = known_file(it, about);
@@ -137,7 +137,7 @@ static int use_file(struct memory_map *it, int file, const struct stat *about, s
     return 0;
 }
 
-/* Closes a file without ranges and windows. */
+/* Closes a file if no range or window of it remains. */
 static void leave_file(struct memory_map *it, struct memory_file *file)
 {
     if (file->ranges || file->windows)
@@ -185,7 +185,7 @@ static struct extent wide(struct extent piece, uint64_t file_bytes, uint64_t pag
     return (struct extent){piece.from / grain * grain, to < end ? to : end};
 }
 
-/* Extends it only to whole pages. */
+/* Extends a piece of a file only to whole pages. */
 static struct extent narrow(struct extent piece, uint64_t page)
 {
     return (struct extent){piece.from / page * page, round_up(piece.to, page)};
@@ -204,7 +204,7 @@ static struct memory_window *known_window(const struct memory_map *it, const str
     return NULL;
 }
 
-/* Removes a window from use. The list has room for it, reserved when the window was created. */
+/* Moves a window to the list of those waiting to be unmapped, in which creating the window reserved a slot. */
 static void retire(struct memory_map *it, unsigned int place)
 {
     struct memory_window *window = it->windows[place];
@@ -214,7 +214,7 @@ static void retire(struct memory_map *it, unsigned int place)
     it->retired_bytes += window->size;
 }
 
-/* Removes a file's windows that have no ranges; with null, does so for all files. */
+/* Removes the windows without ranges of one file, or (null) of all files. */
 static void retire_idle(struct memory_map *it, const struct memory_file *file)
 {
     for (unsigned int i = it->window_count; i-- > 0;)
@@ -229,7 +229,7 @@ static bool has_room(const struct memory_map *it, struct extent extent)
            it->window_bytes <= most - bytes;
 }
 
-/* The memory isn't reserved: the client owns its pages, and if huge pages run out, the access is cut off. */
+/* Reserves no memory: the pages are the client's, and if huge pages run out, the window is cut off. */
 static int make_window(struct memory_map *it, struct memory_file *of, int file, struct extent extent, bool is_writable,
                        struct memory_window **made)
 {
@@ -254,7 +254,7 @@ static int make_window(struct memory_map *it, struct memory_file *of, int file, 
     return 0;
 }
 
-/* Finds a window for a piece of a file, or creates one as large as there is room for. */
+/* Finds a window for a piece of a file, or creates one that is as large as the limits allow. */
 static int use_window(struct memory_map *it, struct memory_file *of, int file, struct extent piece, uint64_t file_bytes,
                       bool is_writable, struct memory_window **used)
 {
@@ -283,7 +283,7 @@ static uint64_t bytes_of(const struct memory_range *range)
     return round_up(range->size, range->window->file->page);
 }
 
-/* Finds a window for a range in a file that contains all of it. */
+/* Finds a window for a range. The file must contain the whole range. */
 static int map_file(struct memory_map *it, struct memory_range *range, int file, uint64_t offset)
 {
     struct stat about;
@@ -465,8 +465,8 @@ static struct memory_window *window_at(uintptr_t place)
     return NULL;
 }
 
-/* Replaces a window with zeros from the first page that the file has lost. So a window has at most two mappings, which
-   the limits allow for. The zeros take no memory, because nothing accesses them afterwards. */
+/* Replaces a window with zeros from the first page that the file has lost. A window then has at most two mappings, as
+   the limits assume. The zeros take no memory, because nothing accesses them afterwards. */
 static bool cut(struct memory_window *window, uintptr_t place)
 {
     uint64_t whole = (place - (uintptr_t)window->at) / window->file->page * window->file->page;
@@ -479,8 +479,8 @@ static bool cut(struct memory_window *window, uintptr_t place)
     return true;
 }
 
-/* The signal is raised by a copy out of a window or into it, during which no window changes. Any other SIGBUS ends the
-   process. */
+/* Handles the SIGBUS that a copy out of a window or into one raised. No window changes during such a copy. Any other
+   SIGBUS ends the process. */
 static void on_bus_error(int number, siginfo_t *about, void *context)
 {
     struct memory_window *window = about->si_code == BUS_ADRERR ? window_at((uintptr_t)about->si_addr) : NULL;

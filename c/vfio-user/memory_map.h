@@ -1,8 +1,8 @@
 /* A client's memory as it mapped it for the device: ranges of DMA addresses. Each range is part of a file mapped into
-   this process, or can't be accessed, such as a ROM's range. However many ranges of a file a client has, the file is
-   mapped in a few large pieces, the windows, which its ranges share, because each mapping of a file makes the kernel's
-   work slower when the file is mapped, truncated or unmapped. An unmapped range can't be accessed any longer, and its
-   memory is returned to the kernel in pieces, because that takes time. */
+   this process, or can't be accessed, such as a ROM's range. A file is mapped in a few large pieces, the windows, which
+   all ranges of the file share: each further mapping would make the kernel slower when it maps, truncates or unmaps the
+   file. An unmapped range can't be accessed any longer. Its memory is returned to the kernel piece by piece, because
+   that takes time. */
 #ifndef VFU_MEMORY_MAP_H
 #define VFU_MEMORY_MAP_H
 
@@ -40,7 +40,7 @@ struct memory_map {
 /* The limits of each client. */
 struct memory_limits {
     unsigned int ranges, files, windows;
-    /* of all ranges together; a file this size costs its client nothing, but costs this process address space */
+    /* of all ranges together; a file of this size costs its client nothing, but costs this process address space */
     uint64_t bytes;
     bool trusts_files; /* map any file on a disk; otherwise only the kernel's own memory: memfd, tmpfs, hugetlbfs */
 };
@@ -50,11 +50,11 @@ const struct memory_limits *memory_map_limits(void);
 
 void memory_map_begin(struct memory_map *it, unsigned int owner);
 
-/* Adds a range. Returns 0 or an error of errno.h: EINVAL for addresses, sizes and offsets that aren't multiples of a
-   page, overflow, or are beyond the end of the file, and for a writable range without a file (file -1); EPERM for a
-   file that isn't the kernel's own memory; EACCES for one that isn't open for this access; EMFILE, ENOSPC, EFBIG and
-   ENOBUFS for more files, ranges, bytes or windows than a client may have; EEXIST if it overlaps another; or mmap's
-   error. The caller keeps the file. */
+/* Adds a range. Returns 0 or an error of errno.h, and the caller keeps the file. EINVAL: an address, size or offset
+   isn't a multiple of a page, overflows, or is beyond the end of the file; or the range is writable but has no file
+   (file -1). EPERM: the file isn't the kernel's own memory. EACCES: the file isn't open for this access. EMFILE,
+   ENOSPC, EFBIG and ENOBUFS: more files, ranges, bytes or windows than a client may have. EEXIST: the range overlaps
+   another. Other errors are mmap's. */
 int memory_map_add(struct memory_map *it, const struct memory_range *range, int file, uint64_t offset);
 /* Removes all ranges inside the given one. Returns 0, or EINVAL if a range crosses its boundary. */
 int memory_map_remove(struct memory_map *it, uint64_t address, uint64_t size);
@@ -71,11 +71,11 @@ void memory_map_end(struct memory_map *it);
    becomes the number that is contiguous here. */
 void *memory_map_run(const struct memory_map *it, uint64_t address, size_t *length, bool write);
 
-/* A client may truncate its file; then an access beyond the file's end would end this process with SIGBUS. After this
-   call the access reads zeros instead, and the rest of the window can't be accessed any longer. Ranges added later get
-   another window. */
+/* Survives a client that truncates its file: an access beyond the file's end would end this process with SIGBUS. After
+   this call, such an access reads zeros instead, and the window from there on can't be accessed any longer. Ranges
+   added later get another window. */
 bool memory_map_guard(void);
-/* Returns how many windows were cut off this way. */
+/* Returns how many windows were cut off because a client truncated the file. */
 unsigned long memory_map_cuts(void);
 
 #endif

@@ -14,7 +14,7 @@
 #include <unistd.h>
 
 #define READS 128       /* number of reads for whose results the kernel has room */
-#define READS_A_REAP 64 /* the results are discarded after this many */
+#define READS_A_REAP 64 /* results are discarded when this many have accumulated */
 
 static aio_context_t reads; /* 0: none */
 static int source = -1;     /* opened only for reading; nothing is read from it */
@@ -65,8 +65,8 @@ bool notifier_reads_names(void)
     return !reads;
 }
 
-/* The kernel checks this file first: EINVAL means that it isn't an eventfd, EBADF that the source isn't open for
-   writing. Neither signals the file. */
+/* Asks the kernel, which checks this file first: EINVAL means that the file isn't an eventfd, EBADF that it is one but
+   the source isn't open for writing. Neither error signals the file. */
 bool notifier_takes(int file)
 {
     if (reads)

@@ -7,16 +7,16 @@
 
 #include <stdbool.h>
 
-/* Prepares the module, once per process. Returns false if the kernel has no asynchronous reads. Then notifier_send
-   writes after poll reports that there is room, and a client that fills its counter in between blocks the server until
-   a signal. */
+/* Prepares the module, once per process. Returns false if the kernel has no asynchronous reads. notifier_send then
+   writes when poll reports room in the counter. A client that fills the counter in between blocks the server until a
+   signal arrives. */
 bool notifier_open(void);
-/* Returns whether the kernel has no asynchronous reads, so that notifier_takes reads names of files in /proc. */
+/* Returns whether notifier_takes reads names of files in /proc, because the kernel has no asynchronous reads. */
 bool notifier_reads_names(void);
 /* Returns whether a file is an eventfd. */
 bool notifier_takes(int file);
-/* Adds one to an eventfd. Returns false if the file isn't one. A full counter stays full: its client has signals to
-   read. */
+/* Adds one to an eventfd. Returns false if the file isn't an eventfd. Does nothing if the counter is full, because the
+   client then has signals to read. */
 bool notifier_send(int file);
 
 enum notifier_taken {

@@ -124,7 +124,8 @@ static void begin(struct offload_queue *it, uint64_t second)
     it->length = 0;
 }
 
-/* Appends to a TSO packet. Returns false if there is no room; the TSO packet is then dropped when its frame is sent. */
+/* Appends bytes to a TSO packet. Returns false if there is no room; the packet is then dropped when the device sends
+   its short frame. */
 static bool gather(struct offload_queue *it, const uint8_t *bytes, size_t length)
 {
     if (length > OFFLOAD_LARGEST - it->length)
@@ -226,8 +227,8 @@ static void sum_ip(const struct offload_job *job, uint8_t *frame, size_t length)
     put16(ip + IP_SUM, folded(sum_of(0, ip, job->ip_length)));
 }
 
-/* The driver has stored the pseudo header's sum in the field; `more` is the part of the sum that depends on the
-   length. */
+/* Completes the checksum in a field. The driver has stored the pseudo header's sum there; `more` is the part of the sum
+   that depends on the length. */
 static void sum_l4(const struct offload *it, const struct offload_job *job, uint8_t *frame, size_t length,
                    uint32_t more)
 {
@@ -248,7 +249,7 @@ static void sum_l4(const struct offload *it, const struct offload_job *job, uint
     put16(field, job->l4_type == UDP && sum == 0 ? 0xFFFF : sum);
 }
 
-/* Returns the length of the frame up to the end of the IP packet. Bytes after that are padding, which no sum
+/* Returns the length of the frame up to the end of the IP packet. Bytes after that are padding, which no checksum
    includes. */
 static size_t without_padding(const struct offload_job *job, const uint8_t *frame, size_t length)
 {

@@ -3,9 +3,9 @@
    afterwards, as the Intel 82599 10 GbE Controller Datasheet (331520) describes. This part of the server is tested;
    nothing in it is proved.
 
-   The device sends a TSO packet as one short frame. When that is sent, the server cuts the TSO packet into segments, as
-   many at a time as the budget allows. A request for IPsec, which isn't supported, stays in the descriptor, so that the
-   device refuses it. */
+   The device sends one short frame in place of a TSO packet. When it has sent that frame, the server cuts the TSO
+   packet into segments, as many at a time as the budget allows. A request for IPsec, which isn't supported, stays in
+   the descriptor, so that the device refuses it. */
 #ifndef OFFLOAD_H
 #define OFFLOAD_H
 
@@ -43,7 +43,7 @@ struct offload_queue {
 
 struct offload_counts {
     uint64_t sums, tags, large, segments, dropped;
-    uint64_t given_up; /* TSO packets of queues that were reset or changed owners before all was sent */
+    uint64_t given_up; /* TSO packets in queues that were reset or changed owners before all segments were sent */
 };
 
 struct offload {
@@ -57,22 +57,22 @@ typedef void offload_sink(void *to, const uint8_t *frame, size_t length);
 
 struct offload *offload_new(void);
 void offload_free(struct offload *it);
-/* Like rings_copy and rings_become. */
+/* Copy and restore the state, like rings_copy and rings_become. */
 struct offload *offload_copy(const struct offload *it);
 void offload_become(struct offload *it, struct offload *copy);
 
 /* Reads a context descriptor on its way to the device. */
 void offload_context(struct offload *it, unsigned int queue, uint64_t first, uint64_t second);
-/* Processes a data descriptor with its bytes. Returns the second half that the device gets, and sets *length to the
-   number of bytes that it gets. `legacy` is null, or the checksum that a legacy descriptor requests; then `tag` is its
-   tag. */
+/* Processes a data descriptor with its bytes. Returns the second half of the descriptor for the device, and sets
+   *length to the number of bytes for the device. `legacy` is null, or the checksum that a legacy descriptor requests;
+   then `tag` is that descriptor's tag. */
 uint64_t offload_data(struct offload *it, unsigned int queue, uint64_t second, const uint8_t *bytes, size_t *length,
                       const struct legacy_sum *legacy, uint16_t tag);
 /* Completes a frame that the device sent from this queue, and passes it to the sink. A TSO packet waits to be cut into
    segments. */
 void offload_sent(struct offload *it, unsigned int queue, const uint8_t *frame, size_t length, offload_sink *sink,
                   void *to);
-/* Returns whether segments of a TSO packet wait in this queue: then its next descriptors have to wait too. */
+/* Returns whether segments of a TSO packet wait in this queue. If so, the queue's next descriptors wait too. */
 bool offload_is_cutting(const struct offload *it, unsigned int queue);
 /* Sends segments until the budget is spent or none is left. */
 void offload_cut(struct offload *it, unsigned int queue, struct budget *budget, offload_sink *sink, void *to);

@@ -19,7 +19,7 @@ struct options {
     const char *strays, *trace, *record, *control; /* names of files, or null */
     uint64_t client_memory;                        /* bytes that each client may map; 0: as much as the machine has */
     bool is_quiet;
-    bool trusts_files;            /* clients' memory may be any file */
+    bool trusts_files;            /* any file may be a client's memory */
     bool is_unconfined;           /* the process keeps its rights */
     char wire_text[OPTIONS_TEXT]; /* storage for the wire's paths */
 };

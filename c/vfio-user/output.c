@@ -23,7 +23,7 @@ bool output_create(struct output *it, const char *name)
     return true;
 }
 
-/* Opens the same pipe or terminal again, with flags that belong to this process alone. */
+/* Opens the same pipe or terminal again, with flags that no other process shares. */
 static int open_again(int file)
 {
     char link[64];
@@ -46,8 +46,8 @@ void output_begin(struct output *it, int file)
         it->file = again;
 }
 
-/* Returns the number of bytes written; 0 if none can be now; -1 if none ever will. A pipe that couldn't be opened again
-   gets one chunk at a time, when poll reports room. */
+/* Returns the number of bytes written; 0 if none can be written now; -1 if none can ever be. A pipe that couldn't be
+   opened again gets one chunk at a time, when poll reports room. */
 static ssize_t try_to_write(struct output *it, const uint8_t *bytes, size_t length)
 {
     struct pollfd room = {it->file, POLLOUT, 0};

@@ -1,5 +1,5 @@
 /* A file that is written without waiting for its reader. If a pipe, a terminal or a socket accepts no more, whole
-   records are lost and counted, but never part of a record. A file on a disk accepts everything. */
+   records, never parts, are lost and counted. A file on a disk accepts everything. */
 #ifndef VFU_OUTPUT_H
 #define VFU_OUTPUT_H
 
@@ -30,8 +30,8 @@ void output_begin(struct output *it, int file);
 void output_put(struct output *it, const void *bytes, size_t length);
 /* Writes the kept bytes as far as possible. */
 void output_flush(struct output *it);
-/* Writes the kept bytes as far as possible in this many milliseconds, and closes the file unless output_begin was given
-   it. */
+/* Writes the kept bytes as far as possible in this many milliseconds, and closes the file unless it was passed to
+   output_begin. */
 void output_end(struct output *it, int milliseconds);
 /* Returns a stream that makes each line a record of the output; null if memory runs out. */
 FILE *output_stream(struct output *it);

@@ -14,13 +14,13 @@
 #include "protocol.h"
 
 #define OWN_FILES 40u      /* standard files, control, wire, and outputs */
-#define MEMORY_LEAST 4u    /* memory files of each client */
+#define MEMORY_LEAST 4u    /* files that each client may map as memory */
 #define FILES_MOST 65536u  /* the largest number of files to request */
 #define OWN_MAPPINGS 2048u /* mappings of the program itself */
 #define MAPPINGS_USUAL 65530u
 #define ADDRESSES (UINT64_C(1) << 46) /* bytes for clients' memory, half of a process's address space */
 
-/* Returns the number of files that this process may have, after raising it to the limit. */
+/* Raises the number of files that this process may have to the limit, and returns that number. */
 static uint64_t all_files(void)
 {
     struct rlimit limit;
@@ -52,7 +52,8 @@ static unsigned int between(uint64_t number, unsigned int least, unsigned int mo
     return number < least ? least : number > most ? most : (unsigned int)number;
 }
 
-/* Counts each range as a window of at most two mappings, and leaves room for the windows waiting to be unmapped. */
+/* Returns the ranges that each client may have. Counts each range as a window of at most two mappings, and reserves
+   mappings for windows waiting to be unmapped. */
 static unsigned int ranges_of(unsigned int clients)
 {
     uint64_t all = all_mappings();
@@ -60,7 +61,7 @@ static unsigned int ranges_of(unsigned int clients)
     return between(each > MEMORY_RETIRED_MOST ? each - MEMORY_RETIRED_MOST : 0, MEMORY_RETIRED_MOST, VFU_MAPS_MOST);
 }
 
-/* Returns the limit of a client's memory for the requested limit. Removed memory counts a second time until it is
+/* Returns the bytes that a client may map if `asked` is requested. Removed memory counts a second time until it is
    unmapped. */
 static uint64_t bytes_of(unsigned int clients, uint64_t asked)
 {

@@ -76,7 +76,8 @@ static bool answer_udp(uint8_t *udp, size_t length)
     return true;
 }
 
-/* Answers an unfragmented packet to the address. Swapping the addresses doesn't change the checksum. */
+/* Answers an unfragmented IPv4 packet that is sent to the address. Swapping the addresses doesn't change the
+   checksum. */
 static bool answer_ip(uint8_t *frame, size_t length, uint32_t address)
 {
     uint8_t *ip = frame + ETHERNET, from[4];

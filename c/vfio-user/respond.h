@@ -1,5 +1,5 @@
-/* The simplest other end of a wire: it answers ARP requests for its address and echo requests (ping) to it, and returns
-   UDP datagrams to port 7. */
+/* The simplest other end of a wire: it answers ARP requests for its address and echo requests (ping) to that address,
+   and returns UDP datagrams that are sent to port 7. */
 #ifndef VFU_RESPOND_H
 #define VFU_RESPOND_H
 

@@ -116,7 +116,7 @@ static void refuse(struct rings *it, const char *what, struct dma_address where,
     it->options.refused(it->options.of, what, where.of, queue, where, length);
 }
 
-/* Reports what a client did to a ring, which may be another client's. */
+/* Reports a client's access to a ring, which may belong to another client. */
 static void refuse_ring(struct rings *it, const char *what, struct dma by, const struct ring *ring, uint16_t queue)
 {
     it->counts.refused++;
@@ -145,7 +145,7 @@ static void give_up_place(struct rings *it, struct ring *ring)
     ring->place = ring->blocks = ring->slots = ring->lent = 0;
 }
 
-/* Returns the first of `count` consecutive free blocks; 0 if there are none. */
+/* Returns the first of `count` consecutive free blocks; 0 if no such run exists. */
 static uint32_t find_blocks(const struct rings *it, uint32_t count)
 {
     uint32_t run = 0;
@@ -253,8 +253,8 @@ static void switch_off(struct rings *it, enum side side, uint16_t queue)
     nic_queue_step(it->options.device, side == TRANSMIT, queue, &seen);
 }
 
-/* Takes the ring from its owner, so that it accesses no memory. Its location is kept as long as the device may use it:
-   until a reset, or until a client sets up another ring for the queue. */
+/* Takes the ring from its owner, so that the ring accesses no memory. The ring's location is kept as long as the device
+   may use it: until a reset, or until a client sets up another ring for the queue. */
 static void stop(struct rings *it, enum side side, uint16_t queue)
 {
     struct ring *ring = &it->rings[side][queue];
@@ -305,8 +305,8 @@ static bool check_owner(struct rings *it, enum side side, uint16_t queue, struct
 
 /* ---- register accesses ---- */
 
-/* Makes the device drop frames for a virtual function that has no room. If they waited in front of the queues, they
-   would block all other frames. On the card, the PF's driver does this with QDE, which the device doesn't have. */
+/* Makes the device drop frames for a virtual function that has no free descriptor. Waiting in front of the queues, such
+   frames would block all others. On the card, the PF's driver prevents that with QDE, which the device doesn't have. */
 static uint32_t add_drop(struct ring *ring, struct dma client, uint32_t control)
 {
     ring->has_drop = dma_function(client) && !(control & NIC_SRRCTL_DROP_EN);
@@ -355,7 +355,8 @@ static void enable(struct rings *it, enum side side, uint16_t queue, struct dma 
         start_receiving(it, queue, client);
 }
 
-/* Only the ring's client may set its buffer size: with a larger one, a frame would overrun in that client's memory. */
+/* Only the ring's client may set its buffer size: another client could set a larger one, and frames would overrun
+   buffers in the first client's memory. */
 static uint32_t set_control(struct rings *it, uint16_t queue, struct dma client, uint32_t word)
 {
     struct ring *ring = &it->rings[RECEIVE][queue];
@@ -515,7 +516,7 @@ void rings_tail(struct rings *it, struct dma client, bool is_transmit, uint16_t 
     struct ring *ring = &it->rings[is_transmit][queue];
     if (!is_transmit)
         touch(it, ring);
-    if (ring->slots == 0 && tail == 0) /* a driver clears a register that it doesn't use */
+    if (ring->slots == 0 && tail == 0) /* not reported: drivers also clear registers that they don't use */
         return;
     if (!check_owner(it, is_transmit, queue, client, "tail write to another client's ring, which is now stopped: ring"))
         return;
@@ -535,8 +536,8 @@ void rings_tail(struct rings *it, struct dma client, bool is_transmit, uint16_t 
     ring->next_ahead = tail;
 }
 
-/* A ring's next slot. NO_SLOT: head and tail meet. SLOT_IS_GIVEN: the device has the slot, or can't get it.
-   SLOT_TO_GIVE: the slot is due. */
+/* State of a ring's next slot. NO_SLOT: head and tail are equal. SLOT_IS_GIVEN: the device has the slot, or can't get
+   it. SLOT_TO_GIVE: the slot is due. */
 enum next { NO_SLOT, SLOT_IS_GIVEN, SLOT_TO_GIVE };
 
 /* Finds the slot that the device processes next. */
@@ -594,7 +595,7 @@ static void give_receive(struct rings *it, uint16_t queue)
         note_slot(it, RECEIVE, queue, slot, ring->buffer.at);
         descriptor = (nic_desc){bus_of(place), 0};
     }
-    /* if the guest's descriptor isn't readable, this descriptor points to nothing: a fault */
+    /* if the guest's descriptor isn't readable, this one points to nothing, so the device reports a fault */
     put_slot(it, ring, slot, descriptor);
 }
 

@@ -6,11 +6,11 @@
 
    A ring belongs to the client that set it up: its descriptors and buffers are in that client's memory. When another
    client writes the base or the length, everything about the ring is discarded. When another client writes the tail or
-   the buffer size, or enables the ring, or its own client leaves, the ring stops: the queue is disabled, and any
-   further fetch by the device is a fault.
+   the buffer size or enables the ring, or when the ring's own client leaves, the ring stops: the queue is disabled, and
+   any further fetch by the device is a fault.
 
-   Only the 2 KB of a ring around its next slot are lent to the device. So the cost of keeping, copying or examining the
-   device is bounded by the number of rings.
+   Only the 2 KB of a ring around its next slot are lent to the device. So the number of rings bounds the cost of
+   keeping, copying or examining the device.
 
    Everything is copied and nothing is lent in place, because the guest runs during calls. What the guest polls is
    written last, with a release store: a frame's bytes first, then DD. */
@@ -56,12 +56,12 @@ struct rings *rings_new(const struct rings_options *options);
 void rings_free(struct rings *it);
 const struct rings_counts *rings_counts(const struct rings *it);
 
-/* Returns a copy of the state needed to continue from here, or null if memory runs out. `rings_become` restores a copy
-   and frees it; counts continue. */
+/* rings_copy returns a copy of the state needed to continue from here, or null if memory runs out. rings_become
+   restores a copy and frees it, but doesn't restore the counts. */
 struct rings *rings_copy(const struct rings *it);
 void rings_become(struct rings *it, struct rings *copy);
 
-/* Translate the word of a register access by this client, on its way to the device or back. */
+/* Translate the value in this client's register access: to the device for a write, to the driver for a read. */
 uint32_t rings_to_device(struct rings *it, struct dma client, const struct bus_access *at, uint32_t word);
 uint32_t rings_to_driver(const struct rings *it, const struct bus_access *at, uint32_t word);
 
@@ -75,7 +75,7 @@ void rings_reset(struct rings *it, uint16_t queue);
 void rings_stop_all(struct rings *it, struct dma client);
 /* Called when the client's ranges of memory changed: discards what was read ahead from rings that lost their memory. */
 void rings_remapped(struct rings *it, struct dma client);
-/* Returns the ring's owner; without a function if the ring was stopped or not set up. */
+/* Returns the ring's owner. Its function is null if the ring was stopped or not set up. */
 struct dma rings_owner(const struct rings *it, bool is_transmit, uint16_t queue);
 
 /* Provides the blocks and the descriptor that the device needs for its next step of this queue. Call it before each

@@ -98,7 +98,7 @@ bool server_open(struct server *it)
 {
     if (!share_resources(&it->options))
         return false;
-    if (!wire_open(&it->wire, &it->options.wire)) /* starts its process while this one is small */
+    if (!wire_open(&it->wire, &it->options.wire)) /* its process is a copy of this one */
         return false;
     if (!card_open(&it->card, &it->options.card)) {
         log_line(LOG_SERVER, "out of memory");
@@ -133,8 +133,8 @@ static bool plays(const struct server *it)
     return it->wire.played && bus_peek(it->card.bus, NIC_RXCTRL) & NIC_RXCTRL_RXEN && card_has_room(&it->card);
 }
 
-/* Passes frames from the wire to the card while it has room, and runs the card's steps. Returns whether the card needs
-   another turn soon. */
+/* Passes frames from the wire to the card while the card has room, and runs the card's steps. Returns whether the card
+   needs another turn soon. */
 static bool pass_frames(struct server *it)
 {
     uint64_t began = budget_time();
@@ -167,8 +167,8 @@ static void fill(const struct server *it, struct events *events)
     control_polls(&it->control, events->control);
 }
 
-/* Waits for events for this many milliseconds (-1: forever). Passes only existing files to the kernel, because the
-   kernel accepts at most as many entries as the process may have files. */
+/* Waits up to this many milliseconds for events (-1: forever). Passes only existing files to the kernel, which accepts
+   at most as many entries as the process may have files. */
 static void wait_for(struct events *events, int milliseconds)
 {
     struct pollfd *all = &events->ending, polls[sizeof *events / sizeof(struct pollfd)];
@@ -214,7 +214,7 @@ static bool give_back(struct server *it)
     return left;
 }
 
-/* Returns whether there is work that waits only for the next turn, not for an event. */
+/* Returns whether some work waits only for the next turn, not for an event. */
 static bool has_more(const struct server *it)
 {
     if (card_has_room(&it->card) && (wire_has_more(&it->wire, plays(it)) || traffic_has_more(&it->traffic)))
@@ -281,7 +281,7 @@ void server_run(struct server *it)
     while (!ending_is_asked() && !has_ended(it)) {
         struct events events;
         bool gives_back = give_back(it);
-        int wait = patience(it, is_late); /* before the rest: a file closed after this doesn't wake the loop */
+        int wait = patience(it, is_late); /* checked first: a file closed after this check doesn't wake the loop */
         fill(it, &events);
         wait_for(&events, gives_back || has_more(it) ? 0 : wait);
         card_begin_turn(&it->card);

@@ -27,7 +27,8 @@ struct server {
     bool is_wire_gone; /* the link is down because the wire's other end has disconnected */
 };
 
-/* Opens everything. Returns false after a line on standard error that says what couldn't be opened. */
+/* Opens the card, its sockets and all files. Returns false after a line on standard error that says what couldn't be
+   opened. */
 bool server_open(struct server *it);
 /* Serves until an end is requested (ending.h), or the client of --fd has disconnected. */
 void server_run(struct server *it);

@@ -12,7 +12,7 @@
 
 #define CAPABILITIES_MOST 200 /* maximum size of the JSON string in bytes */
 
-/* A message being answered. `reply` is the number of bytes in the reply's body. */
+/* The message being answered. `reply` is the number of bytes in the reply's body. */
 struct work {
     struct session *session;
     struct message *message;
@@ -20,11 +20,11 @@ struct work {
     uint64_t began; /* start of its turn, by budget_time */
 };
 
-#define GOES_ON (-1) /* instead of an error: the remainder of the message waits for another turn */
+#define GOES_ON (-1) /* instead of an error: the remaining part of the message waits for another turn */
 
 /* ---- common checks ---- */
 
-/* The only place where a range is checked against what exists. */
+/* Returns whether `count` items from `first` on are within `all` items. The session checks every range here. */
 static bool is_inside(uint64_t first, uint64_t count, uint64_t all)
 {
     return count <= all && first <= all - count;
@@ -76,7 +76,7 @@ static void tell_of_memory(struct session *it, const struct vfu_dma_map *asked)
                it->name, asked->address, asked->size);
 }
 
-/* Reports memory with a file that isn't mapped, although the client's request is valid. */
+/* Reports the memory of a valid request whose file the server refuses to map. */
 static void tell_of_file(const struct session *it, const struct vfu_dma_map *asked, int error)
 {
     if (error == EPERM)
@@ -191,7 +191,7 @@ static int irq_info(struct work *it)
     return 0;
 }
 
-/* Returns whether other clients have their turn before the rest of a message. */
+/* Returns whether other clients have their turn before this message is continued. */
 static bool may_not_go_on(const struct work *it)
 {
     return budget_is_late(it->began) || !it->session->calls->may_go_on(it->session->function);
@@ -211,7 +211,7 @@ static int give_files(struct work *it, struct vectors *to, uint32_t start, uint3
     return error;
 }
 
-/* Sets the vectors' files, and sends what waited for them. */
+/* Sets the vectors' files, and sends the messages that waited for them. */
 static int set_files(struct work *it, struct vectors *to, uint32_t start, uint32_t count)
 {
     struct session *session = it->session;
@@ -405,14 +405,14 @@ static enum channel_state reply(struct work *it, int error)
     message->head.flags = VFU_REPLY | (error ? VFU_ERROR : 0);
     message->head.error = (uint32_t)error;
     message->head.size = (uint32_t)sizeof message->head + (error ? 0 : it->reply);
-    /* alignment separates the body from the header, but one call should send both */
+    /* alignment separates the body from the header; this copy lets one call send both */
     uint8_t bytes[VFU_MESSAGE_MOST];
     memcpy(bytes, &message->head, sizeof message->head);
     memcpy(bytes + sizeof message->head, message->body.bytes, message->head.size - sizeof message->head);
     return channel_send(&it->session->channel, bytes, message->head.size);
 }
 
-/* Serves the session's current message, or the rest of it. */
+/* Serves the session's current message, or continues it. */
 static enum channel_state serve_one(struct session *it, uint64_t began)
 {
     struct work work = {.session = it, .message = &it->message, .began = began};
@@ -513,7 +513,7 @@ static bool end_unless_open(struct session *it, enum channel_state state)
     return false;
 }
 
-/* Messages that a client sent before it disconnected are served too, unless they have to wait. */
+/* Also serves messages that a client sent before it disconnected, unless they have to wait. */
 bool session_serve(struct session *it)
 {
     uint64_t began = budget_time();

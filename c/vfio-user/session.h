@@ -21,9 +21,9 @@ struct session_calls {
     void (*remapped)(void *function);
     /* called after the client changed how it receives interrupts while MSI-X is off */
     void (*rearmed)(void *function);
-    /* called after a message was served; returns false if others have their turn before the next message */
+    /* called after a message was served; returns false if other clients have their turn before the next message */
     bool (*may_serve)(void *function);
-    /* called after part of a message; returns false if others have their turn before the rest of it */
+    /* called after part of a message; returns false if other clients have their turn before the message continues */
     bool (*may_go_on)(void *function);
 };
 
@@ -42,7 +42,7 @@ struct session {
     bool has_version, has_reported_memory;
     bool is_stalled;   /* whether received messages are waiting for replies to be sent, or for memory to be unmapped */
     bool is_paused;    /* whether received messages are waiting for the next turn */
-    bool is_continued; /* whether the rest of the current message is also waiting for the next turn */
+    bool is_continued; /* whether the current message itself also continues in the next turn */
     struct message message;
     uint64_t done; /* parts of the current message that are done: writes, or vectors */
     int error;     /* result of the current message so far */
@@ -55,7 +55,8 @@ void session_begin(struct session *it, const struct session_calls *calls, void *
 /* Begins a session with a client that has connected, and takes ownership of the client's socket. */
 void session_open(struct session *it, int file);
 bool session_is_open(const struct session *it);
-/* Serves what has been received. Returns false if the session has ended; if the client is at fault, a line says why. */
+/* Serves what has been received. Returns false if the session has ended; if the client is at fault, a line on standard
+   error says why. */
 bool session_serve(struct session *it);
 /* Sends waiting replies. Returns false as session_serve does. */
 bool session_flush(struct session *it);
@@ -71,7 +72,7 @@ void session_close(struct session *it);
 bool session_is_busy(const struct session *it);
 /* Unmaps part of the client's removed memory. Returns whether some remains. */
 bool session_give_back(struct session *it);
-/* Unmaps everything at the end, after the session was closed. */
+/* Unmaps all of the client's memory on exit, after the session was closed. */
 void session_end(struct session *it);
 
 #endif

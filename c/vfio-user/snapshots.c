@@ -54,7 +54,7 @@ const char *snapshots_take(struct snapshots *it, const struct card *card, const 
     return NULL;
 }
 
-/* Whether the device is held or its steps are delayed follows the last request, and isn't part of a snapshot. */
+/* Restores no hold or seed: whether the device is held or its steps are delayed follows the last request. */
 static void restore_stepper(struct card *card, const struct snapshot *from)
 {
     struct stepper now = card->stepper;

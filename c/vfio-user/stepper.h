@@ -17,7 +17,7 @@ struct stepper {
     bool is_held;                                /* only requested steps run */
     bool has_seed;                               /* each step is run or postponed at random */
     uint64_t state;                              /* state of the random number generator */
-    bool has_changed;                            /* something happened since the last steps that may make steps due */
+    bool has_changed;                            /* since the last steps, something happened that may make steps due */
     bool is_due[STEPPER_QUEUES], any_due;        /* transmit queues with a moved tail */
     uint16_t first_due;                          /* the first queue to have its turn */
     bool is_asked[2][STEPPER_QUEUES], any_asked; /* sides of queues to enable or disable; [1] is transmit */
@@ -26,13 +26,14 @@ struct stepper {
 
 void stepper_begin(struct stepper *it);
 void stepper_seed(struct stepper *it, uint64_t seed);
-/* Returns at random whether to run a step now. */
+/* Decides at random whether to run a step now. */
 bool stepper_toss(struct stepper *it);
 void stepper_tail(struct stepper *it, uint16_t queue);
 /* Notes a request to enable or disable a side of a queue. */
 void stepper_ask(struct stepper *it, bool is_transmit, uint16_t queue);
 
-/* Begins a reset with this value of CTRL. Returns whether a pending reset should already have ended. */
+/* Begins a reset with this value of CTRL. Returns whether an earlier reset is pending that should already have
+   ended. */
 void stepper_reset(struct stepper *it, uint32_t word, uint64_t now);
 bool stepper_is_reset(const struct stepper *it, uint64_t now);
 

@@ -11,7 +11,7 @@
 #include "numbered.h"
 
 #define TRAFFIC_MOST 1000000u /* maximum number of frames */
-#define TRAFFIC_EARLY 65536u  /* frames from the card that may arrive while the expected ones are being built */
+#define TRAFFIC_EARLY 65536u  /* frames that may arrive from the card while the expected frames are being built */
 
 struct traffic {
     uint8_t card[6];

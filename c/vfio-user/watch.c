@@ -21,7 +21,7 @@ static const char *place_of(struct watch_place *it, const char *words, unsigned 
     bool is_virtual = *words == 'v';
     words += is_virtual;
     if ((*words != 'r' && *words != 'w') || words[1] != ' ')
-        return "hold at r REGISTER, w REGISTER, vr FUNCTION REGISTER, vw FUNCTION REGISTER, or off";
+        return "expected hold at r REGISTER, w REGISTER, vr FUNCTION REGISTER, vw FUNCTION REGISTER, or off";
     it->is_write = *words == 'w';
     words += 2;
     if (is_virtual)

@@ -20,11 +20,11 @@ struct watch {
     struct watch_place places[WATCH_PLACES];
     unsigned int count;
     const struct watch_place *met; /* place that was hit and not yet reported; null: none */
-    uint32_t word;                 /* the word written there */
+    uint32_t word;                 /* the value written there */
 };
 
 /* Adds a place, written like a script's access: "w TDT[0]", "r EICR", "vw 1 VFTDT[0]", "vr 0 0x0100". Returns null, or
-   what is wrong. */
+   why the place is refused. */
 const char *watch_add(struct watch *it, const char *words, unsigned int functions);
 void watch_clear(struct watch *it);
 /* Returns whether an access is at one of the places. */

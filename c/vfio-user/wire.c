@@ -16,7 +16,7 @@
 #define LENGTH_BYTES 4u
 #define FRAME_LEAST 60u
 #define STREAM_ROOM (64u << 10)
-#define CAPTURE_END_MS 1000 /* limit for writing the rest of a capture at the end */
+#define CAPTURE_END_MS 1000 /* limit for writing the remaining part of a capture on exit */
 #define SOCKET_BYTES (4 << 20)
 #define PASSED_OVER_MOST 8u /* invalid datagrams before others have their turn */
 
@@ -112,7 +112,8 @@ static void flush_stream(struct wire *it)
 }
 
 /* A datagram is sent whole or not at all. Datagrams wait here while the other end's queue is full, and are lost if the
-   other end doesn't exist. The connector has resolved the other end's name, because a name may lead anywhere. */
+   other end doesn't exist. The connector resolves the other end's name, because that may access a file system that
+   doesn't answer. */
 static void flush_datagrams(struct wire *it)
 {
     while (buffer_waiting(&it->out)) {
@@ -138,7 +139,7 @@ static void flush(struct wire *it)
         flush_stream(it);
 }
 
-/* Stores a frame after its length. Beyond `most` bytes, frames are lost. */
+/* Stores a frame after its length. Drops the frame if more than `most` bytes would wait. */
 static bool keep(struct wire *it, struct buffer *buffer, size_t most, const uint8_t *frame, size_t length)
 {
     uint8_t head[LENGTH_BYTES];
@@ -167,7 +168,8 @@ static void capture(struct wire *it, enum capture_direction direction, const uin
     capture_write(&it->capture, direction, frame, length);
     if (!it->capture.error)
         return;
-    log_line(LOG_WIRE, "can't write %s, so the file stops here: %s", it->options.capture, strerror(it->capture.error));
+    log_line(LOG_WIRE, "can't write %s, so the capture ends here: %s", it->options.capture,
+             strerror(it->capture.error));
     output_end(&it->capture, 0);
 }
 
@@ -223,7 +225,7 @@ static size_t from_local(struct wire *it)
     return length;
 }
 
-/* Returns whether a whole frame has arrived, or bytes that can't be a frame. Until then the stream is read. */
+/* Returns whether the received bytes contain a whole frame, or can't be a frame. If neither, more has to be read. */
 static bool has_frame(const struct wire *it)
 {
     size_t waiting = buffer_waiting(&it->in);
@@ -295,8 +297,8 @@ static size_t from_file(struct wire *it)
         return length;
     }
     if (next == CAPTURE_BROKEN)
-        log_line(LOG_WIRE, "%s: after %llu frames there is no complete Ethernet frame", it->options.play,
-                 (unsigned long long)it->counts.played);
+        log_line(LOG_WIRE, "%s: stopped after %llu frames, because the next one isn't a complete Ethernet frame",
+                 it->options.play, (unsigned long long)it->counts.played);
     fclose(it->played);
     it->played = NULL;
     return 0;

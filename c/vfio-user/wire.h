@@ -15,8 +15,8 @@
 #include "capture.h"
 #include "connector.h"
 
-#define WIRE_FRAME_MOST 65536u  /* bytes: no card sends or accepts a longer frame */
-#define WIRE_LENGTH_MOST 69632u /* QEMU sends no longer frame, so a longer one isn't valid */
+#define WIRE_FRAME_MOST 65536u  /* bytes: the card sends and accepts no longer frame */
+#define WIRE_LENGTH_MOST 69632u /* the longest frame that QEMU sends; a longer one isn't valid */
 #define WIRE_KEPT (16u << 20)
 #define WIRE_COMING_BACK (1u << 20) /* bytes of replies and hairpins kept for each sender */
 #define WIRE_SENDERS BUDGET_PAYERS  /* senders of frames: clients by their sockets, and the other payers */
@@ -64,26 +64,26 @@ bool wire_open(struct wire *it, const struct wire_options *options);
 void wire_close(struct wire *it);
 
 /* With `is_cut`, the card's link goes down: a stream's other end is disconnected, and can't connect until the link is
-   up again. Without it, the link goes up; if it is already up, the only effect is that an end that has disconnected
-   counts as never connected. */
+   up again. Without `is_cut`, the link goes up. If the link is already up, the only effect is that a disconnected other
+   end counts as never connected. */
 void wire_cut(struct wire *it, bool is_cut);
 /* Returns whether a stream's other end was connected and has disconnected. */
 bool wire_is_gone(const struct wire *it);
 
 /* Sends a frame from the card. `sender` is the owner of its ring. */
 void wire_send(struct wire *it, unsigned int sender, const uint8_t *frame, size_t length);
-/* Stores the next frame for the card, padded to 60 bytes, in it->frame. Returns its length; 0 if none is waiting. With
-   `plays`, this includes the file's frames. Replies and hairpins for each sender and frames from the other end take
-   turns, so none starves the others. */
+/* Stores the next frame for the card, padded to 60 bytes, in it->frame. Returns the frame's length; 0 if none is
+   waiting. With `plays`, frames from the played file count too. Each sender's replies and hairpins take turns with the
+   frames from the other end, so none starves the others. */
 size_t wire_next(struct wire *it, bool plays);
 
 /* Fills in WIRE_POLLS entries to poll; unused ones have file -1. `takes`: the card has room for frames. */
 void wire_polls(const struct wire *it, struct pollfd *polls, bool takes);
-/* Handles the results. */
+/* Handles what poll reported in these entries. */
 void wire_serve(struct wire *it, const struct pollfd *polls);
-/* Returns whether frames are waiting that need no poll. With `plays`, this includes the file's frames. */
+/* Returns whether frames are waiting that need no poll. With `plays`, frames from the played file count too. */
 bool wire_has_more(const struct wire *it, bool plays);
-/* Returns the milliseconds until it has to be served without an event, to connect again; -1: never. */
+/* Returns the milliseconds after which the wire connects again even without an event; -1: never. */
 int wire_patience(const struct wire *it);
 
 #endif

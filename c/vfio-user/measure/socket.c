@@ -1,6 +1,6 @@
 /* Measures how long the server takes for a guest's requests, with a client and a server but no guest.
 
-     socket [COUNT]   COUNT reads, posted writes and frames out, several times; prints the best of these */
+     socket [COUNT]   measures COUNT reads, posted writes and sent frames, several times, and prints the best times */
 #define _GNU_SOURCE
 #include <stdio.h>
 #include <stdlib.h>
@@ -36,7 +36,7 @@ static void reads(struct peer *it, unsigned long count)
         peer_read(it, NIC_STATUS);
 }
 
-/* A read after the writes waits until all have arrived. */
+/* Waits until all posted writes have arrived, by a read after them. */
 static void writes(struct peer *it, unsigned long count)
 {
     for (unsigned long i = 0; i < count; i++)
@@ -69,7 +69,7 @@ static void fill_ring(uint64_t bytes)
     }
 }
 
-/* Waits for each batch with a read: the batch's frames are out when it is answered. */
+/* Waits for each batch with a read: when the read is answered, the batch's frames have been sent. */
 static void frames(struct peer *it, unsigned long count)
 {
     static uint32_t tail;

@@ -1,6 +1,6 @@
-/* A guest's requests are served in pieces, with other clients' turns in between, and each request is answered correctly
-   or refused with a reason: endless TSO packets, frames of every length, tails all around a ring, abandoned offloads,
-   IPsec. bounds FOLDER */
+/* Checks that a guest's requests are served in pieces, with other clients' turns in between, and that each request is
+   answered correctly or refused with a reason. Covers endless TSO packets, frames of every length, tails all around a
+   ring, abandoned offloads, and IPsec. bounds FOLDER */
 #define _GNU_SOURCE
 #include <signal.h>
 #include <string.h>
@@ -109,13 +109,13 @@ static void until(struct peer *it, uint32_t address, uint32_t word)
             return;
         usleep(1000);
     }
-    CHECK(!"a register doesn't come");
+    CHECK(!"a register doesn't change to the expected value");
 }
 
 /* ---- frames of every length ---- */
 
-/* Sends a frame of this length, or checks that it is refused: by the device, or as too long for the wire, which is
-   counted. The next frame is sent in any case. */
+/* Sends a frame of this length, or checks that the frame is refused: by the device, or as too long for the wire, which
+   counts it. The next frame is sent in any case. */
 static void one_length(struct peer *it, uint32_t length, bool fits)
 {
     uint64_t refused = peer_count(control, "too long ");
@@ -135,7 +135,7 @@ static void one_length(struct peer *it, uint32_t length, bool fits)
     CHECK(peer_frame(wire, frame, sizeof frame, FRAME_MS) == 60 && memcmp(frame, ram + BUFFER, 60) == 0);
 }
 
-/* A frame of this length arrives, in 16 KB buffers. */
+/* Checks that a frame of this length arrives in 16 KB buffers. */
 static void one_arrival(struct peer *it, uint32_t length)
 {
     const uint32_t slots = 16, each = 0x4000;
@@ -169,8 +169,8 @@ static void lengths(struct peer *it)
 
 /* ---- offloads ---- */
 
-/* Begins a frame that requests an offload. The driver or a fault disables its queue, and the queue is enabled again.
-   The next frame isn't affected. */
+/* Begins a frame that requests an offload. The driver or a fault disables the frame's queue, and the driver enables it
+   again. The next frame must not be affected. */
 static void given_up(struct peer *it, uint64_t asks, bool faults)
 {
     memset(ram + BUFFER, 'o', 200);
@@ -187,7 +187,7 @@ static void given_up(struct peer *it, uint64_t asks, bool faults)
     CHECK(peer_frame(wire, frame, sizeof frame, FRAME_MS) == 100 && memcmp(frame, ram + BUFFER, 100) == 0);
 }
 
-/* An unsupported request isn't performed in part: the device reports a fault, and no byte is sent. */
+/* Checks that an unsupported request isn't partly performed: the device reports a fault and sends no byte. */
 static void ipsec(struct peer *it)
 {
     CHECK(peer_read(it, SECTXSTAT) & SECURITY_OFF && peer_read(it, SECRXSTAT) & SECURITY_OFF);
@@ -252,7 +252,7 @@ static void pass_both_ways(struct peer *host)
     peer_write(host, NIC_FCTRL, NIC_FCTRL_BAM | NIC_FCTRL_UPE | NIC_FCTRL_MPE);
     start(host, NIC_RDBAL(0), receives, 8);
     peer_write(host, NIC_RDT(0), 1);
-    until(host, NIC_RDT(0), 1); /* then the card receives; the wire may be served before a client's messages */
+    until(host, NIC_RDT(0), 1); /* then the card receives; the wire may be served before a client */
     memset(frame, 0xFF, 60);
     CHECK(peer_put_frame(wire, frame, 60));
     until(host, NIC_TDH(100), 1);
@@ -281,7 +281,7 @@ static void endless(struct peer *host, struct peer *function)
     CHECK(strstr(peer_request(control, "go"), "ok"));
 }
 
-/* The server also exits on request. */
+/* Checks that the server also exits on request during the endless work. */
 static void ends(void)
 {
     struct timespec pause = {0, 10000000};
@@ -293,19 +293,19 @@ static void ends(void)
             return;
         }
     kill(server_process(), SIGKILL);
-    CHECK(!"the server doesn't end");
+    CHECK(!"the server doesn't exit");
 }
 
 /* ---- expected frames ---- */
 
-/* The physical function's client gets its answers while a million frames are built. Returns false if the frames were
-   built first, which can happen if this process gets the CPU late. */
+/* Checks that the physical function's client gets its answers while a million frames are built. Returns false if the
+   frames were built first, which can happen if this process gets the CPU late. */
 static bool is_served_meanwhile(struct peer *host)
 {
     CHECK(strstr(peer_request(control, "expect 1000000 9014"), "ok"));
     for (unsigned int i = 0; i < MANY; i++)
         peer_read(host, NIC_STATUS);
-    return strstr(peer_request(control, "came"), " of 1000000 have been generated so far\n");
+    return strstr(peer_request(control, "came"), " of 1000000 expected frames have been generated so far\n");
 }
 
 static void expected(struct peer *host)
@@ -319,8 +319,8 @@ static void expected(struct peer *host)
         ;
 }
 
-/* Frames arrive while the expected ones are built in pieces: some frames before the expected frame with their number is
-   built, some after. */
+/* Sends frames while the expected ones are built in pieces. Some frames arrive before the expected frame with their
+   number is built, some after. */
 static void numbered(void)
 {
     static const uint8_t to[6] = {2, 1}, from[6] = {2, 2}, other[6] = {2, 3};

@@ -1,5 +1,5 @@
-/* The link follows the wire: the card's link goes down when a stream's other end disconnects, and up when it
-   reconnects. `link down` disconnects the other end, so that the peer's link can follow too. */
+/* Checks that the link follows the wire: the card's link goes down when a stream's other end disconnects, and up when
+   it reconnects. The request `link down` disconnects the other end, so that the peer's link can follow too. */
 #define _GNU_SOURCE
 #include <poll.h>
 #include <string.h>
@@ -51,7 +51,7 @@ static void arrives(int file, int control)
     CHECK(peer_count(control, "; in ") == before + 1);
 }
 
-/* Before the first connection the link is up, as if the cable's other end were unknown. */
+/* Checks that the link is up before the first connection, as if the cable's other end were unknown. */
 static int comes_and_goes(void)
 {
     CHECK(is_up());
@@ -67,7 +67,7 @@ static int comes_and_goes(void)
     return second;
 }
 
-/* A connection made while the link is down works as soon as the link is up. */
+/* Checks that a connection made while the link is down works as soon as the link is up. */
 static void is_unplugged(int second, int control)
 {
     arrives(second, control);

@@ -60,7 +60,7 @@ static void wait_for(uint32_t at, uint64_t done)
             return;
         usleep(1000);
     }
-    CHECK(!"a descriptor isn't done");
+    CHECK(!"a descriptor isn't written back");
 }
 
 /* ---- QEMU's requests before the guest runs ---- */
@@ -120,8 +120,8 @@ static void bad_accesses(struct peer *it)
     CHECK(reply[16] == 0xFF && reply[17] == 0xFF);
 }
 
-/* This process keeps neither end of the socket, because the server closes received files later. Until then, an open end
-   here would hide that its client has left. */
+/* Keeps neither end of the socket open in this process. The server closes received files later; until then, an open end
+   here would hide that the socket's client has left. */
 static void map_socket(struct peer *it)
 {
     int other = socket(AF_UNIX, SOCK_STREAM | SOCK_CLOEXEC, 0);
@@ -131,7 +131,7 @@ static void map_socket(struct peer *it)
 
 static void map_memory(struct peer *it)
 {
-    CHECK(peer_map(it, RAM, RAM_BYTES, 0, 3, -1) == EINVAL); /* writable, but no file */
+    CHECK(peer_map(it, RAM, RAM_BYTES, 0, 3, -1) == EINVAL); /* writable, but without a file */
     CHECK(peer_map(it, 0xFFFC0000, 0x40000, 0, 1, -1) == 0); /* read-only without a file, like a ROM */
     CHECK(peer_map(it, RAM, RAM_BYTES + PAGE, 0, 3, ram_file) == EINVAL);
     CHECK(peer_map(it, RAM, RAM_BYTES, PAGE, 3, ram_file) == EINVAL);
@@ -158,7 +158,7 @@ static void until(struct peer *it, uint32_t address, uint32_t mask, uint32_t wor
             return;
         usleep(1000);
     }
-    CHECK(!"a register doesn't come");
+    CHECK(!"a register doesn't change to the expected value");
 }
 
 static void start_queues(struct peer *it)
@@ -204,7 +204,7 @@ static void make_arp(uint8_t *frame)
     memcpy(frame, head, sizeof head);
 }
 
-/* An ARP request in two buffers is sent; the reply and its interrupt arrive. */
+/* Sends an ARP request in two buffers, and checks that the reply and its interrupt arrive. */
 static void pass_one(struct peer *it, uint32_t slot, int event)
 {
     uint64_t count;
@@ -228,7 +228,7 @@ static void pass_one(struct peer *it, uint32_t slot, int event)
     peer_write(it, NIC_EIMS, 1);
 }
 
-/* A driver's mistakes are refused, and the card works again after a reset. */
+/* Checks that a driver's mistakes are refused, and that the card works again after a reset. */
 static void lose_descriptors(struct peer *it)
 {
     peer_write(it, NIC_TDT(0), 1000);
@@ -355,7 +355,7 @@ static void give_frame(struct peer *it, uint32_t slot)
     peer_write(it, NIC_TDT(0), slot + 1);
 }
 
-/* A frame waits before each of its steps until the step is requested. */
+/* Checks that a frame waits before each of its steps until that step is requested. */
 static void held(const char *path, const char *control_path)
 {
     struct peer peer;
@@ -413,7 +413,7 @@ static void hostile_snapshots(void)
     CHECK(says("snapshot more", "error: there are already 16") && says("snapshot s3", "ok") && says("snapshot", "s14"));
 }
 
-/* A restore restores registers, the rings' locations and waiting frames. The guest's memory doesn't change. */
+/* Checks that `restore` restores registers, the rings' locations and waiting frames, but not the guest's memory. */
 static void snapshots(struct peer *it)
 {
     give_frame(it, 0);

@@ -196,7 +196,7 @@ static void give_name(const char *path)
     janitor_adopt(&given);
 }
 
-/* The janitor removes only sockets among the names that it gets, and nothing after the last name. */
+/* Checks that the janitor removes only those names that belong to sockets, and nothing after the last name. */
 static void janitor_keeps_others(void)
 {
     struct sockaddr_un name;

@@ -1,5 +1,6 @@
-/* Clients that try to block the server, run against the program itself. Whatever one client does, another client is
-   answered, the server sleeps when there is nothing to do, and it exits on request. endure PROGRAM FOLDER [TRIAL] */
+/* Clients that try to block the server, run against the program itself. Whatever one client does, another client must
+   be answered, and the server must sleep when it has nothing to do and exit on request. endure PROGRAM FOLDER
+   [TRIAL] */
 #define _GNU_SOURCE
 #include <arpa/inet.h>
 #include <errno.h>
@@ -45,7 +46,7 @@ static void come(struct peer *it, const char *to)
     CHECK(peer_version(it) == 0);
 }
 
-/* Another client, on the virtual function's socket, is answered. */
+/* Checks that another client, on the virtual function's socket, is answered. */
 static void another_is_answered(void)
 {
     struct peer peer;
@@ -160,7 +161,8 @@ static void foreign_file(void)
     close(file);
 }
 
-/* More memory files than a client may have: a line says so, and another client still gets its own. */
+/* Maps more files than a client may have. Checks that a line says so, and that another client can still map its own
+   files. */
 static void many_files(void)
 {
     struct peer peer, other;
@@ -184,7 +186,7 @@ static void many_files(void)
 
 /* ---- files that don't close ---- */
 
-/* A connection whose last close takes five minutes, because its other end accepts nothing. */
+/* Returns a connection whose last close takes five minutes, because its other end accepts nothing. */
 static int lingering(int *other)
 {
     struct sockaddr_in name = {.sin_family = AF_INET, .sin_addr.s_addr = htonl(INADDR_LOOPBACK)};
@@ -232,7 +234,7 @@ static void file_that_does_not_close(void)
     close(other);
 }
 
-/* The file is in the socket of a client that is turned away. */
+/* Sends the file on the socket of a client that the server rejects. */
 static void second_client_with_a_file(void)
 {
     struct peer peer, second;
@@ -247,8 +249,8 @@ static void second_client_with_a_file(void)
     close(other);
 }
 
-/* The file is in the socket of a client that is disconnected before the server reads it. Meanwhile others connect and
-   leave freely. */
+/* Sends the file on the socket of a client that the server disconnects before reading the file. Meanwhile, other
+   clients can connect and leave. */
 static void file_that_nobody_took(void)
 {
     struct peer peer, hostile;
@@ -270,7 +272,7 @@ static void file_that_nobody_took(void)
     close(other);
 }
 
-/* The file arrives over the wire, where the server expects none. */
+/* Sends the file over the wire, where the server expects none. */
 static void file_of_the_wire(void)
 {
     static const char *const kinds[] = {"--wire=listen:", "--wire=dgram:"};
@@ -338,7 +340,7 @@ static void no_file_left(void)
     CHECK(peer_config(&peer, 0, 4) == 0x10F78086 && program_rests(server));
     CHECK(prlimit(server, RLIMIT_NOFILE, &before, NULL) == 0);
     answer = (struct pollfd){next.file, POLLIN, 0};
-    CHECK(poll(&answer, 1, WAIT_MS) == 1); /* the new client is turned away */
+    CHECK(poll(&answer, 1, WAIT_MS) == 1); /* the new client is rejected */
     peer_close(&next);
     end(&peer, server);
 }
@@ -364,7 +366,7 @@ static void too_few_files(void)
 
 /* ---- connections and outputs of the server ---- */
 
-/* A listener with a full backlog that accepts no connection. */
+/* Connects the wire to a listener that has a full backlog and accepts no connection. */
 static void full_listener(void)
 {
     struct sockaddr_un name = {.sun_family = AF_UNIX};
@@ -386,7 +388,7 @@ static void full_listener(void)
     unlink(name.sun_path);
 }
 
-/* Endless faults, each worth a line. Standard error is a pipe that isn't read before the end. */
+/* Causes faults endlessly, each of which prints a line. Standard error is a pipe that isn't read before the end. */
 static void unread_errors(void)
 {
     struct peer peer;
@@ -420,7 +422,7 @@ static void unread_errors(void)
     close(file);
 }
 
-/* With a FIFO without a reader, the server doesn't start. If a FIFO's reader doesn't read, lines are lost. */
+/* Checks that the server doesn't start if a FIFO has no reader, and that lines are lost if the reader doesn't read. */
 static void fifos(void)
 {
     static const char *const texts[] = {"--trace=", "--capture=", "--record=", "--strays="};
@@ -448,7 +450,7 @@ static void short_files(void)
     CHECK(setrlimit(RLIMIT_FSIZE, &limit) == 0);
 }
 
-/* A file at its size limit. */
+/* Writes an output file that reaches the process's limit for file sizes. */
 static void limited_file(void)
 {
     struct peer peer;
@@ -517,7 +519,7 @@ static void confined(void)
     end(&peer, server);
 }
 
-/* However the server exits, the names of its sockets are removed. */
+/* Checks that the names of the server's sockets are removed however the server exits. */
 static void killed(void)
 {
     struct peer peer;

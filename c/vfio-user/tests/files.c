@@ -48,7 +48,7 @@ static void looks_like_the_card(struct peer *it)
     CHECK(peer_version(it) == 0 && peer_config(it, 0, 4) == 0x10F78086);
 }
 
-/* A client's socket: the program exits when the client has disconnected. */
+/* Passes a client's socket: the program must exit when the client has disconnected. */
 static void connected(void)
 {
     static const char *const words[] = {"server", WORD, NULL};
@@ -62,7 +62,8 @@ static void connected(void)
     CHECK(status_of(child) == 0);
 }
 
-/* A listening socket: clients come and go until SIGTERM. Its name stays, because another process created it. */
+/* Passes a listening socket: clients can connect and leave until SIGTERM. The socket's name must remain, because
+   another process created it. */
 static void listening(void)
 {
     static const char *const words[] = {"server", WORD, "--quiet", NULL};
@@ -82,7 +83,7 @@ static void listening(void)
     CHECK(status_of(child) == 0 && access(name.sun_path, F_OK) == 0 && unlink(name.sun_path) == 0);
 }
 
-/* Requests from the command line, with a server and without one. */
+/* Sends requests from the command line, with and without a running server. */
 static void asked(void)
 {
     char socket_word[64], control_word[128], ask_word[128];

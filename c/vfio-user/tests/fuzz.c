@@ -267,7 +267,7 @@ static void come(struct client *it)
     came++;
 }
 
-/* The server still serves the messages sent before. */
+/* Disconnects after sending; the server must still serve the messages sent before. */
 static void leave(struct client *it)
 {
     shutdown(it->peer.file, SHUT_WR);
@@ -299,7 +299,7 @@ static void one_message(struct client *it)
 static struct peer wire = {-1, 0}, control = {-1, 0};
 static char wire_path[120], control_path[120];
 
-/* Sends as much as fits now; a frame that is sent only in part is corrupt. */
+/* Sends as much as fits now; a frame of which only a part fits arrives corrupted. */
 static void send_some(struct peer *it, const char *path, const uint8_t *bytes, size_t count)
 {
     if (it->file < 0)

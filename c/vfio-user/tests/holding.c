@@ -1,6 +1,5 @@
-/* Slow operations: closing a client's eventfd and connecting the wire, which wait in the kernel and are blocked there,
-   and `why` for a large device. Guests are answered nevertheless. Runs against the program itself: holding PROGRAM
-   FOLDER */
+/* Checks that guests are answered during slow operations: closing a client's eventfd and connecting the wire, both
+   blocked in the kernel, and `why` for a large device. Runs against the program itself: holding PROGRAM FOLDER */
 #define _GNU_SOURCE
 #include <dirent.h>
 #include <errno.h>
@@ -82,7 +81,8 @@ static void give_and_hold(int said)
     pause();
 }
 
-/* One client is answered while another one blocks. The limit of a minute allows for slow machines. */
+/* Checks that one client is answered while another one's file blocks. The limit of a minute allows for slow
+   machines. */
 static void is_answered(const char *name, uint32_t identity)
 {
     struct vfu_access access = {0, VFU_CONFIG_REGION, 4};
@@ -161,8 +161,8 @@ static unsigned int signal_children(pid_t process, int number)
     return count;
 }
 
-/* The server's processes for its wire and its names are stopped, as if a name led into a file system that doesn't
-   answer. */
+/* Stops the server's helper processes, which connect the wire and remove names, as if a name were in a file system that
+   doesn't answer. */
 static void connection_that_waits(const char *wire)
 {
     pid_t server = start(program_path(wire, "other"));
@@ -213,7 +213,7 @@ static void tells_all(const char *answer)
     CHECK(strcmp(answer + strlen(answer) - 3, "ok\n") == 0);
 }
 
-/* While `why` is being answered, another client and other requests are answered too. */
+/* Checks that another client and other requests are answered while `why` is being answered. */
 static void others_are_answered(int first, int second, struct peer *other)
 {
     unsigned int answers = 0;
@@ -227,7 +227,7 @@ static void others_are_answered(int first, int second, struct peer *other)
     tells_all(peer_answer(first));
 }
 
-/* A client's requests after `why` are answered after it. */
+/* Checks that a client's requests sent after `why` are answered after `why`. */
 static void are_in_order(int control)
 {
     static char answers[1u << 16];

@@ -1,5 +1,5 @@
-/* Interrupts go to the client that set up their vectors, no matter which client accessed a register last. A virtual
-   function has two sockets: one for its own guest, and its shadow in the PF's guest. */
+/* Checks that interrupts go to the client that set up their vectors, no matter which client accessed a register last. A
+   virtual function has two sockets: one for its own guest, and its shadow in the PF's guest. */
 #define _GNU_SOURCE
 #include <stdlib.h>
 #include <string.h>

@@ -1,4 +1,5 @@
-/* A guest with its MSI-X off: the line (INTx) follows the level of EICR & EIMS, and MSI is sent for each new cause. */
+/* Checks a guest whose MSI-X is off: the line (INTx) follows the level of EICR & EIMS, and MSI is sent for each new
+   cause. */
 #define _GNU_SOURCE
 #include <string.h>
 #include <sys/eventfd.h>
@@ -23,7 +24,7 @@ enum { NONE = 1, BOOL = 2, EVENTFD = 4, MASK = 0x08, UNMASK = 0x10, TRIGGER = 0x
 #define CAUSE_B NIC_EICS_MAILBOX
 
 static struct peer peer;
-static int event, unmask; /* notifies the client; the client signals `unmask` to unmask the line */
+static int event, unmask; /* `event` notifies the client; the client signals `unmask` to unmask the line */
 
 static uint32_t set_of(struct peer *of, uint32_t kind, uint32_t flags, uint32_t count, const int *file, uint8_t named)
 {

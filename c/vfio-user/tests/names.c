@@ -1,5 +1,6 @@
-/* Names of sockets, with the program itself. The program takes over only a dead socket of its user, its sockets are
-   accessible only to that user, and a server that exits doesn't remove another server's name. names PROGRAM FOLDER */
+/* Checks the names of sockets with the program itself. The program takes over only a dead socket of its user, its
+   sockets are accessible only to that user, and a server that exits doesn't remove another server's name. names PROGRAM
+   FOLDER */
 #define _GNU_SOURCE
 #include <fcntl.h>
 #include <signal.h>
@@ -73,7 +74,7 @@ static void wait_for_name(void)
     CHECK(access(path, F_OK) == 0);
 }
 
-/* A file, a folder and a link are kept. */
+/* Checks that the program keeps an existing file, folder or link. */
 static void other_things(const struct way *way, bool is_long)
 {
     int file = open(path, O_WRONLY | O_CREAT | O_EXCL | O_CLOEXEC, 0600);
@@ -90,7 +91,8 @@ static void other_things(const struct way *way, bool is_long)
     CHECK(unlink(path) == 0);
 }
 
-/* A socket that a process has open is kept, even if no process listens on it. A dead one is replaced. */
+/* Checks that a socket is kept while a process has it open, even if no process listens on it, and that a dead socket is
+   replaced. */
 static void other_sockets(const struct way *way, bool is_long)
 {
     const int types[] = {way->type, SOCK_DGRAM, SOCK_SEQPACKET};
@@ -156,7 +158,7 @@ static void is_no_client(void)
     close(ends[0]);
 }
 
-/* The module itself: names that are too long, and a listener that rests when no file descriptor is left. */
+/* Checks the module itself: it refuses names that are too long, and listeners rest when no file descriptor is left. */
 static void module(void)
 {
     char longer[200];

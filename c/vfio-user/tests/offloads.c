@@ -1,4 +1,4 @@
-/* Processes descriptors as the device and the server do: reads lines, and prints the frames that go on the wire.
+/* Processes descriptors as the device and the server do: reads lines, and prints the frames that are sent on the wire.
 
      context FIRST SECOND          a context descriptor, both halves in hex
      forget                        resets the queue
@@ -108,7 +108,7 @@ int main(void)
         else if (strcmp(line, "forget\n") == 0)
             forget();
         else
-            CHECK(!"a line isn't known");
+            CHECK(!"unknown line");
     }
     offload_free(offload);
     return 0;

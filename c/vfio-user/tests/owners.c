@@ -23,7 +23,7 @@
 #define HEAD 0x2000u
 #define SENT 0x4000u /* bytes that a client's own descriptors send */
 #define RECEIVED 0x10000u
-#define SECRET 0x20000u /* bytes that none of the client's descriptors names */
+#define SECRET 0x20000u /* bytes to which none of the client's descriptors points */
 #define BYTES 0x40000u
 #define COMMON 0x80000000u /* second address of each client's memory */
 #define FROM_WIRE 0x77
@@ -32,7 +32,7 @@
 
 enum side { RECEIVE, TRANSMIT };
 
-/* The bytes in a memory identify the memory. */
+/* Each memory contains bytes that identify it. */
 static uint8_t *memories[MEMORIES];
 static int files[MEMORIES];
 static struct peer peers[GUESTS];
@@ -93,7 +93,7 @@ static void check_memories(void)
     }
 }
 
-/* A frame contains bytes of only one memory, and no secret ones. */
+/* Checks that a frame contains bytes from only one memory, and no secret ones. */
 static void check_frame(const uint8_t *frame, size_t length)
 {
     unsigned int whose = MEMORIES;
@@ -253,7 +253,7 @@ static void frame_arrives(void)
     frames_in += peer_put_frame(wire, frame, 64 + below(1400));
 }
 
-/* Acts as a driver: enables its ring, with its descriptors in it. */
+/* Enables a guest's ring with the guest's descriptors in it, as a driver does. */
 static void work(unsigned int guest, uint32_t queue, enum side side)
 {
     uint32_t at = base_register(queue, side);
@@ -360,8 +360,8 @@ static void open_all(const char *path, const char *wire_path, const char *contro
     control = peer_stream(control_path);
 }
 
-/* For each guest, the clients of its two memories have together sent frames, and a frame from the wire is in at least
-   one of the two memories. Otherwise nothing was tested. */
+/* Checks that something was tested: for each guest, the clients of its two memories have together sent frames, and at
+   least one of the two memories contains a frame from the wire. */
 static void check_traffic(void)
 {
     for (unsigned int guest = 0; guest < GUESTS; guest++) {

@@ -1,4 +1,5 @@
-/* The server works in pieces when it unmaps ranges of memory, writes lines and records, and serves messages. */
+/* Checks that the server works in pieces when it unmaps ranges of memory, writes lines and records, and serves
+   messages. */
 #define _GNU_SOURCE
 #include <errno.h>
 #include <fcntl.h>
@@ -148,8 +149,8 @@ static void open_for(void)
     close(file);
 }
 
-/* A client has a maximum number of windows. Windows without ranges make room for others. The windows aren't adjacent in
-   the file, because a kernel that allocates memory upwards lists adjacent mappings as one. */
+/* A client has a maximum number of windows. Windows without ranges are removed to make room for others. The windows
+   aren't adjacent in the file, because a kernel that allocates memory upwards lists adjacent mappings as one. */
 static void windows_most(void)
 {
     const struct memory_limits before = *memory_map_limits();
@@ -228,7 +229,7 @@ static bool huge(void)
     return true;
 }
 
-/* For a reader that doesn't read, whole records are lost, and it never gets part of a record. */
+/* Checks that a reader that doesn't read loses whole records, and never gets part of a record. */
 static void records(void)
 {
     struct output output;
@@ -346,6 +347,6 @@ int main(void)
     records();
     lines();
     slow_messages();
-    printf("pieces: passed%s\n", has_huge ? "" : "; no huge page is kept here, so none was tried");
+    printf("pieces: passed%s\n", has_huge ? "" : "; this machine reserves no huge page, so none was tried");
     return 0;
 }

@@ -1,5 +1,5 @@
-/* A frame that is too long for the card only because of its VLAN tag is received, as on silicon. The driver's limits
-   remain. */
+/* Checks that a frame is received, as on silicon, if only its VLAN tag makes it too long for the card. The driver's
+   limits don't change. */
 #define _GNU_SOURCE
 #include <string.h>
 #include <sys/mman.h>
@@ -45,8 +45,8 @@ static void set_up(void)
     CHECK(peer_read(&peer, NIC_RXDCTL(0)) & NIC_RXDCTL_ENABLE);
 }
 
-/* Returns whether each byte of a frame of this length reaches the driver's memory. The registers with its limits don't
-   change. */
+/* Returns whether each byte of a frame of this length reaches the driver's memory. Checks that the registers with the
+   driver's limits don't change. */
 static bool comes_in(size_t length, bool is_tagged, uint8_t second)
 {
     uint8_t frame[LARGEST + TAG];

@@ -1,4 +1,5 @@
-/* The work for one client, or for the wire's other end, in one turn is bounded. The rest follows later, in order. */
+/* Checks that the work for one client, or for the wire's other end, is bounded in each turn. The remaining work follows
+   in later turns, in order. */
 #define _GNU_SOURCE
 #include <errno.h>
 #include <signal.h>
@@ -34,7 +35,7 @@ static uint64_t region_bytes(void *function, uint32_t region)
     return region == 0 ? 0x10000 : 0;
 }
 
-/* Each write arrives once and in order. */
+/* Checks that each write arrives once and in order. */
 static bool access_region(void *function, uint32_t region, uint64_t offset, uint8_t *bytes, uint32_t length, bool write)
 {
     uint32_t word;
@@ -148,7 +149,7 @@ static uint64_t raised(int event)
     return read(event, &count, sizeof count) == (ssize_t)sizeof count ? count : 0;
 }
 
-/* Serves until nothing is left, with at most one interrupt in each turn. Returns the number of interrupts. */
+/* Serves until no work remains, with at most one interrupt in each turn. Returns the number of interrupts. */
 static uint64_t interrupts(int event)
 {
     uint64_t all = 0, now;
@@ -186,8 +187,7 @@ static void many_interrupts(void)
     close(event);
 }
 
-/* A client disconnects halfway through its messages, and the next client is served, beginning with its own first
-   message. */
+/* Disconnects a client halfway through its messages. The next client must be served from its own first message on. */
 static void one_goes(void)
 {
     struct peer peer = begin();

@@ -1,5 +1,5 @@
-/* Frames waiting in front of the queues: a virtual function's guest that doesn't want them, turns them into faults, or
-   disables its queue halfway through a frame doesn't block frames for others. */
+/* Checks that a virtual function's guest can't block frames for others that wait in front of the queues: by posting no
+   buffers, by causing faults, or by disabling its queue halfway through a frame. */
 #define _GNU_SOURCE
 #include <poll.h>
 #include <string.h>
@@ -116,7 +116,7 @@ static void begin(void)
     CHECK(!some_wait());
 }
 
-/* A ring in memory that the guest doesn't have: a fault for each frame. */
+/* Sets up a ring outside the guest's memory, so that each frame ends in a fault. */
 static void faults(void)
 {
     begin();
@@ -130,8 +130,9 @@ static void faults(void)
     }
 }
 
-/* After the first KB of a frame is written, its queue is disabled and the rest is dropped: by a write, by a reset of
-   the virtual function, or because its client leaves. The queue's next frame begins at its own start. */
+/* Disables a queue after the first KB of a frame is written: by a write, by a reset of the virtual function, or because
+   its client leaves. The rest of the frame must be dropped, and the queue's next frame must arrive from its first byte
+   on. */
 static void off_in_the_middle(unsigned int how)
 {
     begin();
@@ -157,7 +158,7 @@ static void off_in_the_middle(unsigned int how)
     CHECK(!some_wait());
 }
 
-/* A guest posts no buffers, sets DROP_EN to any value, and reads back what it wrote. */
+/* Lets a guest post no buffers and set DROP_EN to any value. The guest must read back what it wrote. */
 static void nothing_posted(uint32_t control_word)
 {
     begin();

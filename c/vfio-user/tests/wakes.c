@@ -1,6 +1,6 @@
-/* Threads close files, so a client may become ready to be served at any moment, even between two checks in the server's
-   loop, and then the loop must not sleep. In this test, after memory was removed, the closer reports "full" exactly N
-   times, for each N. The linker replaces the server's own calls (--wrap). */
+/* Checks that the server's loop never sleeps while a client is ready. Because threads close files, a client may become
+   ready at any moment, even between two checks in the loop. In this test, after memory was removed, the closer reports
+   "full" exactly N times, for each N. The linker replaces the server's own calls (--wrap). */
 #define _GNU_SOURCE
 #include <poll.h>
 #include <sys/mman.h>

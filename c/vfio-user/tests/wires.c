@@ -1,5 +1,5 @@
-/* The wire's ends: QEMU's formats with the test as the peer, the responder, captures written and read, and counts of
-   lost frames. wires FOLDER */
+/* Tests the wire's kinds of other end: QEMU's formats with the test as the peer, and the responder. Also tests captures
+   that are written and read, and counts of lost frames. wires FOLDER */
 #define _GNU_SOURCE
 #include <errno.h>
 #include <fcntl.h>
@@ -79,8 +79,8 @@ static void passes_a_stream(int peer)
     CHECK(wire_next(&wire, false) == 0 && !wire_has_more(&wire, false));
 }
 
-/* Sends a frame of this length in two pieces, the first ending `after` bytes after 65,536, and checks in between:
-   reading continues, whatever the length. */
+/* Sends a frame of this length in two pieces, of which the first ends `after` bytes after 65,536. Checks in between
+   that the server continues to read, whatever the length. */
 static void in_two_pieces(int peer, size_t length, size_t after)
 {
     static uint8_t bytes[4 + 80000];
@@ -170,8 +170,8 @@ static void streams(void)
     wire_close(&wire);
 }
 
-/* For an end that doesn't read, a limited number of bytes is kept and arrives whole; the remaining frames are lost and
-   counted. */
+/* Checks an other end that doesn't read: a limited number of bytes is kept and arrives in whole frames; the remaining
+   frames are lost and counted. */
 static void a_full_end(void)
 {
     const struct wire_options listens = {.kind = WIRE_LISTEN, .path = first_path};
@@ -332,7 +332,7 @@ static void spoilt_captures(void)
 
 /* ---- the responder ---- */
 
-/* Random requests: an answer has the request's length, and is sent back to the sender. */
+/* Sends random requests: each answer must have the request's length and go back to the sender. */
 static void answers(void)
 {
     static const uint8_t own[6] = {2, 0, 0, 0, 0, 1};

@@ -1,4 +1,4 @@
-/* What a kernel may lack. */
+/* Features that a kernel may not have. */
 #ifndef PEER_KERNEL_H
 #define PEER_KERNEL_H
 
@@ -8,8 +8,8 @@
 #include <sys/syscall.h>
 #include <unistd.h>
 
-/* Returns whether there are asynchronous reads, with which the server reads an eventfd's signal without waiting. QEMU's
-   user emulation has none. The server then works without them, and tests that need them are skipped. */
+/* Returns whether the kernel supports asynchronous reads, with which the server reads an eventfd's signal without
+   waiting. QEMU's user emulation doesn't. The server then works without them, and tests that need them are skipped. */
 static inline bool kernel_has_reads(void)
 {
     aio_context_t reads = 0;

@@ -83,7 +83,7 @@ int peer_stream(const char *path)
         close(file);
         usleep(10000);
     }
-    CHECK(!"the server doesn't listen");
+    CHECK(!"the server doesn't listen at its socket");
     return -1;
 }
 

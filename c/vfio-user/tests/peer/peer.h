@@ -17,11 +17,11 @@ struct peer {
 /* Starts a server with these arguments, null-terminated, in addition to the argument for its socket. Returns the
    socket's name. */
 const char *server_start(const char *const *words);
-/* Ends it with SIGTERM, and checks that it succeeded. */
+/* Ends the server with SIGTERM, and checks that its exit status is 0. */
 void server_stop(void);
 pid_t server_process(void);
 
-/* Connects, even while a server is just starting. */
+/* Connects to the server, even if it is just starting. */
 void peer_open(struct peer *it, const char *path);
 void peer_close(struct peer *it);
 
@@ -32,7 +32,7 @@ uint16_t peer_send(struct peer *it, uint16_t command, uint32_t flags, const void
    hung up. */
 bool peer_try(struct peer *it, uint16_t command, uint32_t flags, const void *body, size_t length, const int *files,
               unsigned int count, uint32_t size);
-/* Receives a reply, with up to `room` bytes of its body. Returns its error. */
+/* Receives a reply, with up to `room` bytes of its body. Returns the error in the reply. */
 uint32_t peer_reply(struct peer *it, uint16_t id, void *body, size_t room);
 /* Sends a message and receives its reply. */
 uint32_t peer_ask(struct peer *it, uint16_t command, const void *body, size_t length, const int *files,

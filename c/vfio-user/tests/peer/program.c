@@ -14,7 +14,7 @@
 #include "../../../tests/check.h"
 
 #define MINUTES_MS 600000 /* number of checks at least; each takes a millisecond, longer on a busy machine */
-#define RESTS 20          /* number of consecutive checks in which it sleeps */
+#define RESTS 20          /* number of consecutive checks in which the program sleeps */
 #define PATHS 32
 #define PATH_BYTES 200
 
@@ -71,7 +71,7 @@ int program_status(pid_t process)
     }
     kill(process, SIGKILL);
     waitpid(process, &status, 0);
-    CHECK(!"the program doesn't end");
+    CHECK(!"the program doesn't exit");
     return -1;
 }
 

@@ -1,4 +1,4 @@
-/* The program itself, as its users have it, in a separate process. */
+/* Runs the program itself, as users run it, in a separate process. */
 #ifndef PROGRAM_H
 #define PROGRAM_H
 
@@ -18,9 +18,9 @@ int program_status(pid_t process);
 int program_end(pid_t process);
 /* Stops it with SIGSTOP, and waits until it has stopped; SIGCONT continues it. */
 void program_stop(pid_t process);
-/* Returns whether it sleeps for more than a moment. Watches the process for up to a few minutes. */
+/* Returns whether the process stays asleep for more than a moment. Watches it for up to a few minutes. */
 bool program_rests(pid_t process);
-/* Returns a number in /proc/PID/status, in this base; -1 if there is no such line. */
+/* Returns a number, in this base, from /proc/PID/status; -1 if the file has no such line. */
 long long program_number(pid_t process, const char *name, int base);
 
 #endif

@@ -3,7 +3,7 @@
 
      allowed ptrace | personality | executable-memory | low-memory=MEBIBYTES ..
 
-   Status 0 if everything named is allowed. Otherwise one line on standard output says what is refused and why, and the
+   Status 0 if everything named is allowed. If not, one line on standard output says what is refused and why, and the
    status is 2. The status is 3 for an unknown argument. */
 #define _GNU_SOURCE
 #include <errno.h>

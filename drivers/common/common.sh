@@ -1,9 +1,10 @@
 # shellcheck shell=bash
-# Shared by the scripts drivers/*/run: Debian's packages and sources, the C library, what the machine allows, checksums.
+# Functions shared by the scripts drivers/*/run: they fetch Debian's packages and sources, find the C library, check
+# what the machine allows, and compare checksums.
 #
 # apt's lists, cache and source lines are kept in a private folder. The system's apt isn't changed, and only installing
-# a package needs root. The sourcing script sets NAME, the prefix of messages, and ROOT, the repository. All files that
-# runs keep are in the folder WORK.
+# a package needs root. The sourcing script sets NAME, the prefix of messages, and ROOT, the repository. Runs keep all
+# their files in the folder WORK.
 
 WORK=${DRIVERS_WORK:-${XDG_CACHE_HOME:-${HOME:-/tmp}/.cache}/zinggapul-drivers}
 
@@ -39,8 +40,8 @@ allowed() {
     [ -z "$refused" ] || die "this needs $refused"
 }
 
-# compare_sums FILE "PACKAGE VERSION" FOLDER: prints which C files in FOLDER differ from the checksums in FILE. Its
-# first line names the package and version that the checksums belong to.
+# compare_sums FILE "PACKAGE VERSION" FOLDER: prints which C files in FOLDER differ from the checksums in FILE. FILE's
+# first line names the package and version to which the checksums belong.
 compare_sums() {
     local changed
     if [ "$(head -n 1 "$1")" != "# $2" ]; then
@@ -76,7 +77,7 @@ write_system_lines() {
     done
 }
 
-# write_suite_line FOLDER: writes the source line of SUITE to FOLDER, whichever suite the system is.
+# write_suite_line FOLDER: writes the source line of SUITE to FOLDER, even if the system is another suite.
 write_suite_line() {
     cat >"$1/suite.sources" <<LINES
 Types: deb-src
@@ -173,8 +174,8 @@ install_package() {
 # out_folder NAME: prints this checkout's build folder. Each checkout has a different one.
 out_folder() { echo "$WORK/$1-$(printf %s "$ROOT" | sha256sum | cut -c 1-8)"; }
 
-# has_sanitizers FOLDER: whether a program that is built with the compiler's sanitizers runs. It doesn't run under an
-# emulator or where tracing is refused.
+# has_sanitizers FOLDER: whether a program that is built with the compiler's sanitizers runs here. Such a program
+# doesn't run under an emulator or if tracing is refused.
 has_sanitizers() {
     echo 'int main(void) { return 0; }' >"$1/empty.c"
     gcc -fsanitize=address,undefined -o "$1/empty" "$1/empty.c" 2>/dev/null && "$1/empty" 2>/dev/null && return

@@ -30,7 +30,7 @@ static void put(uint32_t address, uint32_t word)
     bus_write(run_bus, BUS_PHYSICAL, address, word);
 }
 
-/* Sets the receive address after the physical function's own, for the virtual function's pool alone. */
+/* Sets the receive address that follows the physical function's own. Only the virtual function's pool accepts it. */
 static void set_address(const uint8_t mac[6])
 {
     unsigned int entry = host.vf + 1, pair = 2 * entry;
@@ -139,7 +139,7 @@ void function_host_written(void *of, const struct bus_access *access)
     put(NIC_PFMAILBOX(host.vf), NIC_PFMAILBOX_ACK);
     unsigned int words = answer_of(message);
     if (!send(message, words))
-        problem("virtual function %u keeps the mailbox, so its request isn't answered", host.vf);
+        problem("virtual function %u still holds its mailbox, so its request isn't answered", host.vf);
 }
 
 bool function_host_ping(void)

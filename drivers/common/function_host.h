@@ -14,7 +14,7 @@
    receives broadcast frames. */
 void function_host_begin(unsigned int vf, const uint8_t mac[6]);
 
-/* For the bus's callback `written`: replies to the virtual function's request if one is waiting. */
+/* Replies to the virtual function's request if one is waiting. Call it from the bus's callback `written`. */
 void function_host_written(void *of, const struct bus_access *access);
 
 /* Sends a control message, as after a link change, so that the virtual function reads the link state. Returns false if

@@ -19,8 +19,8 @@ junit_record() {
     { printf '%s\n' "$@" && cat "$RECORDS/said"; } >"$RECORDS/$COUNT"
 }
 
-# judged NAME COMMAND..: does one run. A failure ends the script, unless runs are recorded: then the script continues,
-# and junit_end returns 1.
+# judged NAME COMMAND..: executes one run. A failure ends the script, unless runs are recorded: then the script
+# continues, and junit_end returns 1.
 judged() {
     local name=$1 status begun=${EPOCHREALTIME/[.,]/}
     shift
@@ -36,8 +36,8 @@ judged() {
     [ $status = 0 ] || FAILED=1
 }
 
-# junit_end SUITE STATUS: writes the file if --junit was given, and returns the script's status, or 1 if a run failed. A
-# script that exits with status 2 gets a test case for that.
+# junit_end SUITE STATUS: writes the file if --junit was given, and returns the script's status, or 1 if a run failed.
+# If the script exits with status 2, the file contains a test case for that.
 junit_end() {
     [ -n "$JUNIT" ] || return "$2"
     if [ "$2" -gt 1 ]; then
@@ -45,7 +45,7 @@ junit_end() {
         echo "$NAME exited with status $2 before its runs were complete" >"$RECORDS/said"
         junit_record "what the runs need" 0 "$2"
     fi
-    python3 "$ROOT/drivers/common/junit.py" "$RECORDS" "$JUNIT" "$1" || say "$JUNIT isn't written"
+    python3 "$ROOT/drivers/common/junit.py" "$RECORDS" "$JUNIT" "$1" || say "can't write $JUNIT"
     rm -rf "$RECORDS"
     [ "$2" = 0 ] || return "$2"
     return $FAILED

@@ -13,8 +13,8 @@ void legacy_begin(void);
 void legacy_end(void);
 
 /* Translates a value that the driver writes: an SRRCTL of type 0 (legacy) becomes type 1 (one buffer). A tail write
-   turns the legacy transmit descriptors before the tail into advanced ones. One that requests a checksum or a VLAN tag
-   isn't translated, so it is a fault. */
+   turns the legacy transmit descriptors before the tail into advanced ones. A descriptor that requests a checksum or a
+   VLAN tag isn't translated, so the device reports a fault. */
 uint32_t legacy_writing(void *memory, const struct bus_access *access, uint32_t word);
 uint32_t legacy_read(void *memory, const struct bus_access *access, uint32_t word);
 

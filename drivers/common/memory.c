@@ -46,7 +46,7 @@ static bool lend_in_place(const struct dma_memory *it, uint64_t bus, void *host,
     return nic_lend_memory(bus_device(it->bus), bus, host, length) == NIC_DONE;
 }
 
-/* Lends blocks that the device owns, to be filled by copies. */
+/* Lends blocks of the bench's own memory, which copies fill. */
 static bool lend_blocks(const struct dma_memory *it, uint64_t bus, size_t length)
 {
     if (bus % NIC_BLOCK_BYTES || length % NIC_BLOCK_BYTES)

@@ -1,5 +1,5 @@
-/* The hash and queue that a frame should get, from the datasheet's section on receive side scaling. Written
-   independently of the library, so that a run's expectation doesn't come from the code under test. */
+/* Computes the hash and queue that a frame should get, as the datasheet's section on receive side scaling specifies.
+   Written independently of the library, so that a run's expectation doesn't come from the code under test. */
 #ifndef DRIVERS_RSS_H
 #define DRIVERS_RSS_H
 

@@ -12,16 +12,16 @@
 extern struct bus *run_bus;
 extern struct dma_memory run_memory;
 
-/* Opens the bus, with memory in place or copied. Returns false if memory runs out. The options' callbacks get
-   &run_memory as their first argument. Adds the callbacks that the memory (memory_calls) and problem reports
-   (verdict.h) need. */
+/* Opens the bus, with memory in place or copied. Returns false if memory runs out. Adds the callbacks that the memory
+   (memory_calls) and problem reports (verdict.h) need. Callbacks in the options get &run_memory as their first
+   argument. */
 bool run_open(const struct bus_options *options, bool is_copied);
 void run_close(void);
 
 /* Prints accesses by phase, device steps and bytes. */
 void run_tell_counts(void);
-/* Reports a problem if a copy was refused, or if the number of dropped frames or faults isn't the one expected. Also
-   prints a line if no frame was transferred, because such a run tested little. */
+/* Reports a problem if a copy was refused, or if the number of dropped frames or faults isn't the expected one. Prints
+   a line if no frame was transferred, because such a run tested little. */
 void run_check_counts(uint64_t drops_expected, uint64_t faults_expected);
 
 /* Writes the strays to a file of this name. Returns false and reports a problem if it can't. */

@@ -1,5 +1,5 @@
 #!/usr/bin/env python3
-"""Reports the registers outside the bench's table that a driver touched, by families.
+"""Reports, by families, the registers outside the bench's table that a driver accessed.
 
     drivers/common/strays.py FILE
 

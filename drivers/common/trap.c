@@ -31,7 +31,7 @@ static struct trap_hooks hooks;
 static struct sigaction former_segv, former_bus;
 static uint64_t count;
 
-/* A faulting instruction, as far as it has been decoded. */
+/* A faulting instruction, and the part of it that has been decoded. */
 struct instruction {
     const uint8_t *at, *next;
     greg_t *saved;
@@ -157,8 +157,8 @@ static void on_fault(int signal_number, siginfo_t *info, void *context)
 
 bool trap_open(const struct trap_hooks *given)
 {
-    /* A hook, or a callback of the bus, may itself fault. With SA_NODEFER that fault is reported too, instead of ending
-       the process silently. */
+    /* A hook or a bus callback may itself fault. With SA_NODEFER that fault is reported too, instead of ending the
+       process silently. */
     struct sigaction action = {.sa_sigaction = on_fault, .sa_flags = SA_SIGINFO | SA_NODEFER};
     hooks = given ? *given : (struct trap_hooks){0};
     count = 0;

@@ -1,12 +1,14 @@
 /* Trapping register windows (window.h). A compiled driver accesses its registers with plain 32-bit loads and stores.
-   Each of them faults, is performed on the bus, and is then skipped. For Linux on x86-64, with one thread. */
+   Each such access faults; the bus performs it, and the instruction is skipped. For Linux on x86-64, with one
+   thread. */
 #ifndef DRIVERS_TRAP_H
 #define DRIVERS_TRAP_H
 
 #include <stdbool.h>
 #include <stdint.h>
 
-/* Ring 0 instructions that a driver may execute. If a hook is null, or ports are off, the instruction ends the run. */
+/* Ring 0 instructions that a driver may execute. An instruction whose hook is null, or a port access while ports are
+   off, ends the run. */
 struct trap_hooks {
     void (*halt)(void); /* HLT: time passes */
     bool has_ports;     /* IN returns all ones and OUT does nothing, as if no device answered */

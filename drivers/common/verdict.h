@@ -5,11 +5,11 @@
 #include <stdbool.h>
 #include <stdint.h>
 
-/* Reports a problem on standard error. Only the first twenty are printed in full; the others are counted. */
+/* Reports a problem on standard error. Only the first twenty problems are printed; all are counted. */
 void problem(const char *format, ...) __attribute__((format(printf, 1, 2)));
 unsigned int problems(void);
 
-/* Compares a reported count with the run's own. Returns whether they are equal; if not, reports a problem. */
+/* Returns whether a reported count equals the run's own count. If it doesn't, reports a problem. */
 bool same(const char *what, uint64_t reported, uint64_t counted);
 
 /* Prints "nothing is wrong", or the number of problems. Returns the run's status, 0 or 1. */

@@ -1,5 +1,5 @@
-/* Register windows in the address space of a driver that runs in this process. No access may reach these addresses: one
-   that isn't rerouted to the bus ends the run. */
+/* Register windows in the address space of a driver that runs in this process. The addresses are inaccessible: an
+   access that isn't rerouted to the bus ends the run. */
 #ifndef DRIVERS_WINDOW_H
 #define DRIVERS_WINDOW_H
 
@@ -16,8 +16,8 @@ void *window_of(unsigned int function);
 /* Whether an address is in the windows or between them. */
 bool window_has(const volatile void *address);
 
-/* Finds the function and register offset of an address. An address in no window is a problem, and is reported as the
-   physical function's, beyond its registers. */
+/* Finds the function and register offset of an address. An address outside all windows is reported as a problem; the
+   result is then an offset past the physical function's registers. */
 void window_find(const volatile void *address, unsigned int *function, uint32_t *offset);
 
 #endif

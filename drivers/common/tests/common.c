@@ -263,7 +263,7 @@ static void memory_is_copied(void)
     run_close();
 }
 #else
-/* Memory in place: the device reads the driver's stores without a tail write, and the driver reads the device's
+/* Tests memory in place: the device reads the driver's stores without a tail write, and the driver reads the device's
    stores. */
 static void memory_is_one(void)
 {
@@ -278,7 +278,8 @@ static void memory_is_one(void)
 }
 #endif
 
-/* Disabling a queue takes effect at the write: the device doesn't overwrite what the driver then stores in its ring. */
+/* Tests that disabling a queue takes effect at the write: the device doesn't overwrite what the driver then stores in
+   its ring. */
 static void a_queue_goes_off_at_the_write(void)
 {
     static struct frame frame;
@@ -299,7 +300,7 @@ static void a_queue_goes_off_at_the_write(void)
     run_close();
 }
 
-/* Counts the ring's descriptors that differ between the device's copy and the driver's. */
+/* Returns the number of the ring's descriptors that differ between the device's copy and the driver's. */
 static unsigned int unlike(unsigned int slots)
 {
     unsigned int count = 0;
@@ -640,7 +641,7 @@ static void strays_are_kept(void)
     run_close();
 }
 
-/* Two buses are open at the same time, and neither serves accesses to the other. */
+/* Opens two buses at the same time, and tests that neither serves accesses to the other. */
 static void buses_are_apart(void)
 {
     const struct bus_options options = {.fifo = 16, .functions = 1, .answers = BUS_ALL};
@@ -664,7 +665,8 @@ static void buses_are_apart(void)
     bus_close(other);
 }
 
-/* A run without names or an address. No frame is transferred, and that is reported; the script checks for it. */
+/* Opens a run without names or an address. It transfers no frame and prints a line that says so; the script checks for
+   that line. */
 static void a_bus_needs_no_names(void)
 {
     unsigned int wrong = problems();

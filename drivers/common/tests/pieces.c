@@ -81,7 +81,7 @@ static void addresses_are_read_whole(void)
     run_close();
 }
 
-/* An access that the bus can't serve is reported, and ends the process with status 4. */
+/* Tests that an access that the bus can't serve is reported and ends the process with status 4. */
 static void ends(void (*does)(void))
 {
     int status = 0;
@@ -238,7 +238,7 @@ static void legacy_descriptors_send(void)
     put(RING, FIRST_BUS + BUFFER);
     put(RING + 8, 0x0B000000 | LENGTH); /* EOP, IFCS, RS */
     bus_write(run_bus, BUS_PHYSICAL, NIC_TDT(QUEUE), 1);
-    /* DD, in the legacy place */
+    /* DD, at its legacy position */
     CHECK(frames_sent == 1 && sent[1] == 77 && legacy_sent() == 1 && get(RING + 8) >> 32 & 1);
     put(RING + 16, FIRST_BUS + BUFFER);
     put(RING + 24, 0x0F000000 | LENGTH); /* with a checksum: a fault, because it isn't translated */

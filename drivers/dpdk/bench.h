@@ -1,5 +1,6 @@
-/* The bench that a program's driver runs on: either the bus, whose device works in the driver's memory (bench_bus.c),
-   or the guest server's card in this process, which copies rings and has offloads (server/bench_card.c). */
+/* The bench on which a program's driver runs. It is either the bus, whose device works in the driver's memory
+   (bench_bus.c), or the guest server's card in this process, which copies rings and supports offloads
+   (server/bench_card.c). */
 #ifndef BENCH_H
 #define BENCH_H
 

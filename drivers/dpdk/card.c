@@ -104,7 +104,8 @@ static struct rte_pci_driver *driver_of(uint16_t device_id)
     return NULL;
 }
 
-/* An interrupt handle of a type that needs no kernel. Nothing writes to its descriptor: the run calls the handlers. */
+/* Creates an interrupt handle of a type that needs no kernel. Nothing writes to its descriptor: the run calls the
+   handlers. */
 static struct rte_intr_handle *silent_interrupt(void)
 {
     struct rte_intr_handle *handle = rte_intr_instance_alloc(RTE_INTR_INSTANCE_F_PRIVATE);
@@ -115,7 +116,7 @@ static struct rte_intr_handle *silent_interrupt(void)
     return handle;
 }
 
-/* A new eventfd for each vector: the driver closes them when it stops. */
+/* Creates a new eventfd for each vector, because the driver closes them when it stops. */
 void card_give_vectors(unsigned int function, unsigned int vectors)
 {
     struct rte_intr_handle *handle = cards[function].device.intr_handle;

@@ -6,7 +6,7 @@
 #include <stdbool.h>
 #include <stdint.h>
 
-/* Has the driver for `device_id` probe a function, with that function's window as its registers. Returns 0, or the
+/* Makes the driver for `device_id` probe a function, with that function's window as its registers. Returns 0, or the
    driver's error. `max_vfs` is the number of virtual functions of the physical function. `vectors` is the number of
    MSI-X vectors for queues, in addition to the one for other causes; 0 for a single interrupt without MSI-X. */
 int card_probe(unsigned int function, uint16_t device_id, uint16_t max_vfs, unsigned int vectors);

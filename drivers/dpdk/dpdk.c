@@ -31,7 +31,7 @@ const uint8_t rss_key[RSS_KEY_BYTES] = {
 };
 static bool is_up, is_open;
 
-/* Each lcore may run on any of the processors. */
+/* Lets each lcore run on any processor. */
 static void tell_lcores(char *text, size_t room, unsigned int more)
 {
     long last = sysconf(_SC_NPROCESSORS_ONLN) - 1;
@@ -40,7 +40,8 @@ static void tell_lcores(char *text, size_t room, unsigned int more)
         length += snprintf(text + length, room - (size_t)length, ",%u@(0-%ld)", lcore, last);
 }
 
-/* DPDK's memory is below 128 MiB, the bench's limit for bus addresses. No huge pages, no PCI and no files. */
+/* Starts DPDK with its memory below 128 MiB, the bench's limit for bus addresses, and without huge pages, PCI or
+   files. */
 static int start_layer(const struct dpdk_options *options)
 {
     char cores[96], mebibytes[16];
@@ -99,7 +100,7 @@ bool dpdk_start(const struct dpdk_options *options)
         return false;
     }
     if (rte_memseg_list_walk(lend, &lent) != 0) {
-        problem("DPDK's memory isn't below 128 MiB");
+        problem("DPDK's memory isn't below 128 MiB, the bench's limit");
         return false;
     }
     printf("%zu MiB of DPDK's memory are lent to the device\n", lent >> 20);

@@ -1,4 +1,4 @@
-/* Starts DPDK on the bench, and contains the functions for ports that every run needs. */
+/* Starts DPDK on the bench. Also contains the port functions that every run needs. */
 #ifndef DPDK_H
 #define DPDK_H
 
@@ -29,8 +29,8 @@ extern struct rte_mempool *pool;
 extern const uint8_t rss_key[RSS_KEY_BYTES];
 extern const uint8_t card_mac[6], peer_mac[6];
 
-/* Starts DPDK, opens the bus with its windows, lends DPDK's memory to the device and creates a pool of packets. Returns
-   false, and reports a problem, if one of them fails. */
+/* Starts DPDK, opens the bus with its windows, lends DPDK's memory to the device, and creates a pool of packets.
+   Returns false, and reports a problem, if one of these actions fails. */
 bool dpdk_start(const struct dpdk_options *options);
 /* Ends the run: saves strays, closes the bus, reports problems and cleans up DPDK. Returns the run's status. */
 int dpdk_end(const struct dpdk_options *options);

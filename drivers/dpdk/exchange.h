@@ -13,7 +13,7 @@
 extern unsigned int frames_of_pass; /* each way */
 extern bool in_segments;            /* frames span several buffers, both ways */
 
-/* Parts of the run: frames in and out, the driver's counters, and the frames that the filters accept. */
+/* Parts of the run. They check frames in and out, the driver's counters, and which frames the filters accept. */
 void traffic(uint16_t port);
 void counters(uint16_t port);
 void filters(uint16_t port);

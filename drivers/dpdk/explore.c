@@ -1,5 +1,5 @@
-/* `explore NAME [turn|order] [the explorer's arguments ..]`: puts one of DPDK's receive or send functions, or its
-   mailbox, under the explorer. `turn` and `order` plant a bug (enum plant). */
+/* `explore NAME [turn|order] [the explorer's arguments ..]`: searches the schedules of one of DPDK's receive or send
+   functions, or of its mailbox, with the explorer. `turn` and `order` plant a bug (enum plant). */
 #include <stdio.h>
 #include <string.h>
 

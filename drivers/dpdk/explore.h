@@ -1,4 +1,4 @@
-/* DPDK's own receive, transmit and mailbox code, under the explorer (nic82599_explore.h). */
+/* DPDK's own receive, transmit and mailbox code, as scenarios for the explorer (nic82599_explore.h). */
 #ifndef EXPLORE_H
 #define EXPLORE_H
 
@@ -10,8 +10,8 @@
 
 #include "nic82599_explore.h"
 
-/* A bug planted in a run to show that the run catches it. TURN changes a byte on its way to or from the driver. ORDER
-   delays the last store before a tail write until after the write. */
+/* A bug planted in a run to show that the run reports it. TURN changes a byte in transit to or from the driver. ORDER
+   delays the last store before a tail write until after that write. */
 enum plant { NOTHING_PLANTED, TURN, ORDER };
 extern enum plant planted;
 
@@ -47,7 +47,7 @@ const char *layer_pool(unsigned int count);
 /* Creates the port in its state before any setup, with the driver's own functions for an 82599. Returns null, or why it
    failed. */
 const char *layer_port(unsigned int virtual_functions);
-/* During bring-up, each register read first runs the device's steps. */
+/* Begins or ends bring-up, during which each register read first runs the device's steps. */
 void seam_bring_up(bool begins);
 
 /* ---- the runs ---- */

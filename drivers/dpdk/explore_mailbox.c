@@ -36,7 +36,7 @@ static void function(void *argument)
     struct ixgbe_hw *hw = &functions[vf];
     nicx_check(hw->mac.ops.reset_hw(hw) == 0, "a virtual function's reset isn't answered");
     nicx_check(!memcmp(hw->mac.perm_addr, host_knows(vf)->vf_mac_addresses, 6),
-               "a virtual function got an address that differs from its host's entry");
+               "a virtual function got an address that differs from the host's entry for it");
     nicx_check(ixgbevf_negotiate_api_version(hw, ixgbe_mbox_api_13) == 0,
                "a virtual function and its host don't agree on a version");
     nicx_check(ixgbevf_get_queues(hw, &classes, &first) == 0, "a virtual function doesn't get its number of queues");
@@ -46,7 +46,7 @@ static void function(void *argument)
     done++;
 }
 
-/* Does what the driver's own handler does: masks causes, serves the mailbox, and unmasks them again. */
+/* Does what the driver's own handler does: masks the causes, serves the mailbox, and unmasks the causes again. */
 static void serve(void *unused)
 {
     (void)unused;

@@ -1,6 +1,5 @@
-/* DPDK's functions that receive and send (ixgbe_rxtx.c, ixgbe_rxtx_vec_sse.c), each in its own scenario. Frames
-   arrive or are sent one by one, more of them than a ring has slots. Each must arrive in order with its bytes
-   unchanged. */
+/* DPDK's receive and send functions (ixgbe_rxtx.c, ixgbe_rxtx_vec_sse.c), each in its own scenario. Frames arrive or
+   are sent one at a time, more than a ring has slots. Each frame must arrive in order with its bytes unchanged. */
 #include <rte_ring.h>
 #include <rte_vect.h>
 #include <string.h>
@@ -60,8 +59,8 @@ static size_t fill_for_driver(uint8_t *bytes, unsigned int number)
 
 /* ---- receiving ---- */
 
-/* Reads the bytes of a packet, segment by segment. Reading a segment's first bytes is a point. Its other bytes are
-   read without one, to keep scripts short. */
+/* Reads the bytes of a packet, segment by segment. Reading a segment's first bytes is a point. Reading the other bytes
+   isn't, to keep scripts short. */
 static size_t read_packet(const struct rte_mbuf *packet, uint8_t *bytes)
 {
     size_t length = 0;
@@ -151,12 +150,12 @@ static void transmit(void *unused)
             count++;
             done++;
         }
-        nicx_check(count != 0, "no packet is free: the driver keeps them all");
+        nicx_check(count != 0, "no packet is free: the driver keeps all of them");
         send_all(some, count);
     }
 }
 
-/* Called as `end`: checks that each frame went out once and in order. */
+/* The scenario's `end`: checks that each frame was sent once and in order. */
 static const char *went_out(void)
 {
     uint8_t bytes[MOST_LENGTH], wanted[MOST_LENGTH];

@@ -9,7 +9,7 @@
 #include "verdict.h"
 
 /* Whether a frame to this address reaches the driver unchanged. Polls for a whole burst, because the driver's vector
-   functions return nothing to a caller that wants a single packet. */
+   functions return nothing if a caller requests a single packet. */
 static bool comes_in(uint16_t port, const struct rte_ether_addr *to)
 {
     struct frame frame;

@@ -1,5 +1,5 @@
-/* Runs DPDK's ixgbe driver for the physical function on the bench, and its driver for virtual functions on virtual
-   functions of the same device, all in one process. drivers/dpdk/run --vf compiles and calls it.
+/* Runs DPDK's two ixgbe drivers on the bench in one process: one drives the physical function, the other drives virtual
+   functions of the same device. drivers/dpdk/run --vf compiles and calls it.
 
      functions [--max-vfs N] [--functions N] [--queues N] [--vf-queues N] [--no-rss] [--slots N] [--frames N]
                [--handlers messages | line | late=N] [--with ANSWER] [--without ANSWER]
@@ -35,7 +35,7 @@
 #define RESET 1         /* a virtual function's first request */
 #define POLLS_MOST 1999 /* the driver itself polls 2,000 times */
 #define FRAMES_MOST 1000000
-#define DIFFERENT 1000 /* frames for the differences between bench and card */
+#define DIFFERENT 1000 /* frames with which each known difference between bench and card is shown */
 
 struct words {
     struct dpdk_options options;
@@ -110,7 +110,7 @@ static bool restart_function(void)
     return true;
 }
 
-/* The physical function stops and starts while its virtual functions stay live; they are restarted afterwards. */
+/* Stops and starts the physical function while its virtual functions run; restarts them afterwards. */
 static bool restart_host_alone(void)
 {
     printf("-- the host is restarted while its virtual functions stay live\n");
@@ -123,8 +123,8 @@ static bool restart_host_alone(void)
     return true;
 }
 
-/* The virtual functions stop first. The last one is removed, and probed again after the physical function has
-   started. */
+/* Restarts the host after stopping the virtual functions. The last virtual function is removed, and probed again after
+   the physical function has started. */
 static bool restart_host_after_functions(void)
 {
     printf("-- the host is restarted, and then a virtual function is probed\n");

@@ -1,5 +1,5 @@
-/* Decides when the drivers' interrupt handlers are called. They run one after another, as on one processor, and never
-   nested. */
+/* Decides when the drivers' interrupt handlers are called. Handlers run one after another, as on one processor, and
+   never nested. */
 #ifndef HANDLERS_H
 #define HANDLERS_H
 

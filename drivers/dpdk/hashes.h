@@ -10,8 +10,8 @@
 
 enum hash { HASH_NONE, HASH_RIGHT, HASH_WRONG };
 
-/* NONE: the frame should have no hash, and has no hash. WRONG: the caller reports a problem; the reason is printed
-   here. */
+/* NONE: the frame should have no hash, and has none. WRONG: the hash is wrong; this module prints why, and the caller
+   reports a problem. */
 enum hash hash_compare(const struct rte_mbuf *packet, const struct frame *frame, const struct rss *rss);
 
 /* Sets a redirection table over `queues` queues that differs from the driver's own. Fills `rss` with the settings that

@@ -18,7 +18,7 @@
 #include "window.h"
 
 enum { MEBIBYTES = 32, MOST_KEPT = 512, SEED = 82599, BACKPLANE = 0x10F7, MOST_QUEUES = 1 };
-/* not in the register table; without an answer the driver polls it 4,000 times */
+/* not in the register table, so the shim answers it: otherwise the driver polls it 4,000 times */
 enum { SECRXSTAT = 0x08D04, SECRX_READY = 1 };
 
 struct rte_eth_dev *port;

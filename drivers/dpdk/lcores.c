@@ -25,7 +25,7 @@ enum { LCORES = 2, FIFO = 64, MEBIBYTES = 48, PACKETS = 4095, BUFFER = 2048, FRA
 #define REST 10               /* microseconds */
 #define PATIENCE 20           /* seconds without a frame before a run gives up */
 
-/* A queue each way. `in`, which the wire fills, and frames sent are accessed only while the device is acquired. */
+/* A queue each way. `in`, which the wire fills, and sent frames are accessed only while the device is acquired. */
 static struct lcore {
     uint16_t queue;
     struct line_up in, out;
@@ -150,7 +150,7 @@ static void watch(unsigned int *before, double *since)
     if (now != *before)
         *since = seconds();
     else if (seconds() - *since > PATIENCE && !atomic_exchange(&is_given_up, true))
-        problem("no frame has passed for %d s", PATIENCE);
+        problem("no frame was received or sent for %d s", PATIENCE);
     *before = now;
 }
 

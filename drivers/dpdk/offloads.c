@@ -141,7 +141,7 @@ static void ask(const struct packet *it, struct rte_mbuf *head)
     }
 }
 
-/* The payload continues in as many buffers as it takes. */
+/* Puts the payload into as many buffers as it needs. */
 static bool put_payload(const struct packet *it, struct rte_mbuf *head, uint32_t number)
 {
     struct rte_mbuf *part = head;
@@ -254,7 +254,7 @@ static bool is_l2_right(const struct packet *it, const uint8_t *frame)
            type[1] == (it->is_v6 ? 0xDD : 0x00);
 }
 
-/* Returns what is wrong with a frame that was sent, or null. */
+/* Returns which part of a sent frame is wrong; null if none is. */
 static const char *compare(const struct packet *it, uint32_t number, unsigned int segment, bool is_last)
 {
     const uint8_t *frame = out[segment].bytes;

@@ -14,7 +14,7 @@
 #define TAG_AT 12
 #define TAG_BYTES 4
 #define TAG_TYPE 0x8100
-#define SOME 16 /* frames to each of two ports at a time */
+#define SOME 16 /* frames sent to each of two ports in a row */
 
 /* frames that a port received and sent in a pass */
 struct tally {
@@ -275,7 +275,7 @@ static void make_one(struct frame *frame, const uint8_t to[6], uint16_t tag)
     frame->length += TAG_BYTES;
 }
 
-/* The frames that may reach a port; any other frame is a problem. */
+/* The frames that may reach a port; any other frame that arrives is a problem. */
 struct known {
     unsigned int which, many;
     const struct frame *frames;

@@ -6,20 +6,21 @@
 #include <stdint.h>
 
 /* Sends setting.frames frames to and from each of these ports. Checks their bytes, their order on each queue, and their
-   hashes. Each frame must be on the queue that its hash selects, or that sent it. */
+   hashes. Each received frame must be on the queue that its hash selects, and each sent frame on the queue that it was
+   given to. */
 void pass(unsigned int first, unsigned int last);
 
 /* Compares the drivers' counters with all passes so far. */
 void pass_counters(void);
 
-/* Prints how many frames went each way unchanged in all passes, and how many hashes were right. */
+/* Prints how many frames arrived unchanged each way in all passes, and how many hashes were correct. */
 void pass_totals(void);
 
 /* Sends one frame to this address, with a VLAN tag unless `tag` is 0. Returns the number of the port that receives it,
    or -1 if none does. A duplicate, or a frame with different bytes, is a problem. */
 int who_gets(const uint8_t to[6], uint16_t tag);
 
-/* Sends one frame from a port to an address. Returns the number of frames that go out as a result. */
+/* Sends one frame from a port to an address. Returns how many frames the device then sends. */
 unsigned int send_one(unsigned int which, const uint8_t to[6]);
 
 /* Sends frames to two ports' addresses alternately. Adds the numbers of frames that the first and the second port

@@ -1,10 +1,11 @@
 /* Turns each driver access to a descriptor ring into an explorer point. The driver's files that touch rings are
    compiled with -fsanitize=thread, so the compiler calls the functions below before each memory access. The sanitizer's
-   own library isn't linked: these are its only functions. Accesses outside the rings are ignored.
+   own library isn't linked: this file defines all of its functions that are called. Accesses outside the rings are
+   ignored.
 
    A ring has two copies: the process's copy, which the driver accesses, and the bench's copy. Before a load, the bytes
-   to load are copied from the bench. The bench sees a store at the next access to any address; no other task runs in
-   between. */
+   to load are copied from the bench. A store is copied to the bench at the next access to any address; no other task
+   runs in between. */
 #include <string.h>
 
 #include "explore.h"

@@ -90,9 +90,9 @@ bool port_probe(unsigned int which)
     return !failed("the driver's probe", probe(which)) && greet(which);
 }
 
-/* Before the physical function is started, the mailbox works only if the shim always answers virtual functions, as the
-   card does, and the interrupt line calls the PF's handler. Messages can't call it yet, because no vector is
-   assigned. */
+/* Probes a virtual function and checks the result. Before the physical function is started, the mailbox works only if
+   the shim always answers virtual functions, as the card does, and the interrupt line calls the PF's handler. Messages
+   can't call that handler yet, because no vector is assigned. */
 void port_probe_early(unsigned int which)
 {
     uint64_t before = bus_counts(run_bus)->absent_reads;

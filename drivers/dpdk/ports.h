@@ -56,8 +56,8 @@ unsigned int port_queues(unsigned int which);
 /* Returns the device's queue for a port's queue. */
 uint16_t device_queue(unsigned int which, uint16_t queue);
 
-/* Each of these prints its action. It returns false, and reports a problem, if the action fails. A port that exists
-   isn't probed again. */
+/* Each of these functions prints its action, and returns false and reports a problem if the action fails. A port that
+   exists isn't probed again. */
 bool port_probe(unsigned int which);
 bool port_start(unsigned int which); /* configures the port first if needed */
 bool port_stop(unsigned int which);
@@ -66,8 +66,8 @@ bool port_remove(unsigned int which);
 /* Like port_probe, but reports no problem. Returns 0, or the driver's error. */
 int port_try_probe(unsigned int which);
 
-/* Probes a virtual function while the physical function isn't started. The VF driver gives up unless the shim answers
-   it. */
+/* Probes a virtual function before the physical function is started. The VF driver gives up unless the shim answers its
+   accesses. */
 void port_probe_early(unsigned int which);
 
 /* Receives the frames waiting in a port's queues, as take_packets does, if the port is started. Returns their

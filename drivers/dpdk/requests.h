@@ -1,4 +1,4 @@
-/* Requests from virtual functions to the PF's driver, and the PF driver's actions on them. */
+/* Requests from virtual functions to the PF's driver, and the PF driver's actions that affect virtual functions. */
 #ifndef REQUESTS_H
 #define REQUESTS_H
 
@@ -12,7 +12,7 @@ void requests(void);
    are dropped in the process. */
 uint64_t limits(void);
 
-/* Checks that each mailbox request during the passes was answered and acknowledged. */
+/* Checks that each mailbox request made during the passes was answered and acknowledged. */
 void requests_tell(void);
 
 #endif

@@ -18,7 +18,7 @@
 #define rte_write32_wc(word, address) seam_write(word, address)
 #define rte_write32_wc_relaxed(word, address) seam_write(word, address)
 
-/* waits, which take no time because nothing happens on the bench by itself */
+/* waits, which take no time because the bench runs no step by itself */
 #define rte_delay_us_sleep(microseconds) seam_wait(microseconds)
 
 /* where the driver registers with the PCI bus */

@@ -1,5 +1,5 @@
-/* All calls that replace accesses by DPDK's driver (reroute.h). This file is included before each of the driver's
-   sources. */
+/* Declares all calls that replace accesses by DPDK's driver (reroute.h). This file is included before each of the
+   driver's sources. */
 #ifndef SEAM_H
 #define SEAM_H
 

@@ -113,7 +113,7 @@ int measure(uint16_t card, uint16_t null)
     tell("ixgbe's driver, the bench", bench);
     tell("the null driver, nothing", nothing);
     if (gone == 0)
-        problem("no frame went out");
+        problem("no frame was sent");
     rte_eth_dev_stop(null);
     rte_eth_dev_close(null);
     return 0;

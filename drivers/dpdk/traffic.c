@@ -35,7 +35,7 @@ static void make_next(struct line_up *list, struct frame *frame, const uint8_t *
         frame_make(frame, number, FRAME_MAX, to, from);
         return;
     }
-    problem("there was an unexpected frame");
+    problem("an unexpected frame arrived");
     frame->length = 0;
     frame->kind = FRAME_OTHER;
 }
@@ -263,7 +263,7 @@ static void restart_transmit(uint16_t port)
         problem("transmit queue 0 didn't start again");
     hand_over(port, 0, 0, BURST);
     printf("  transmit queue 0: %" PRIu64 " of %u frames are sent after the restart\n", sent[0] - before, BURST);
-    same("frames out of the queue that was started again", sent[0] - before, BURST);
+    same("frames sent by the queue that was started again", sent[0] - before, BURST);
 }
 
 /* Delivers the next frame for this queue, starting the search at `*number`. Returns how many descriptors the device

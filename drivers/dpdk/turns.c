@@ -7,8 +7,8 @@ static bool is_shared;
 static pthread_rwlock_t lock;
 static _Thread_local bool is_inside;
 
-/* Threads that wait for the device take precedence over threads that enter the driver. Otherwise pollers would starve
-   them. */
+/* Threads that wait for the device take precedence over threads that enter the driver. Otherwise polling threads would
+   starve the waiting ones. */
 void turns_share(void)
 {
     pthread_rwlockattr_t attributes;

@@ -1,6 +1,6 @@
-/* Lets lcores share the device. The device has one user at a time. During a call to it, no thread may store into the
-   driver's memory, which is lent in place (nic_lend_memory). So threads in the driver hold a lock in shared mode; a
-   call to the device holds it exclusively. */
+/* Lets lcores share the device. Only one thread may call the device at a time. During a call to it, no thread may store
+   into the driver's memory, which is lent in place (nic_lend_memory). So threads in the driver hold a lock in shared
+   mode; a call to the device holds it exclusively. */
 #ifndef TURNS_H
 #define TURNS_H
 

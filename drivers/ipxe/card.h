@@ -13,7 +13,8 @@ struct card_setting {
     const char *trace;          /* file for each access; null for none */
 };
 
-/* Opens everything. Returns false, with a line on standard error, if something isn't available. */
+/* Opens the bus, the windows and the trace. Returns false, with a line on standard error, if one of them isn't
+   available. */
 bool card_open(const struct card_setting *setting);
 void card_close(void);
 

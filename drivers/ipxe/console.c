@@ -1,4 +1,4 @@
-/* A console: prints the application's output and types keys to it. */
+/* A console: prints the application's output, and types keys for the application. */
 #include <stdio.h>
 
 #include "efi.h"

@@ -10,7 +10,7 @@
 #include <stddef.h>
 #include <stdint.h>
 
-/* UEFI calls have a separate calling convention, whatever this process uses. */
+/* UEFI calls use their own calling convention, whichever one this process uses. */
 #define CALL EFI_STATUS EFIAPI
 
 /* Memory shared by application, driver and device. Addresses equal bus addresses. */
@@ -21,9 +21,9 @@
 
 struct efi_setting {
     const char *image;      /* the application's file */
-    const char *keys;       /* keys to type at its console */
+    const char *keys;       /* keys to type at the application's console */
     void (*on_start)(void); /* called when the application starts an image */
-    bool is_silent;         /* whether to hide its console */
+    bool is_silent;         /* whether to hide the console's output */
 };
 
 /* Runs an application. Returns whether it succeeded: false, with a line on standard error, if it can't be loaded. */
@@ -38,7 +38,7 @@ extern const EFI_GUID efi_pci_io, efi_root_bridge, efi_device_path, efi_loaded_i
 
 EFI_HANDLE handle_new(void);
 void handle_add(EFI_HANDLE handle, const EFI_GUID *protocol, void *interface);
-/* Returns the interface of a protocol on any handle, or null if there is none. */
+/* Returns the interface of a protocol on any handle; null if no handle has that protocol. */
 void *handle_find(const EFI_GUID *protocol);
 void handles_serve(EFI_BOOT_SERVICES *services);
 void handles_end(void);

@@ -1,4 +1,4 @@
-/* The only file that the application may start. Starting it calls the run's own code. */
+/* The only file that the application may start; starting that file calls the run's own code. */
 #include <string.h>
 
 #include "efi.h"

@@ -13,7 +13,7 @@ struct protocol {
 struct handle {
     struct handle *next;
     struct protocol *protocols;
-    EFI_DRIVER_BINDING *driver; /* the driver that manages it */
+    EFI_DRIVER_BINDING *driver; /* the driver that manages this handle */
 };
 
 const EFI_GUID efi_pci_io = {0x4CF5B200, 0x68B8, 0x4CA5, {0x9E, 0xEC, 0xB2, 0x3E, 0x3F, 0x50, 0x02, 0x9A}};

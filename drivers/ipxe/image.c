@@ -67,8 +67,8 @@ static bool fix(struct bytes image, uint64_t at, unsigned int kind, uint64_t by)
     return true;
 }
 
-/* Applies the relocations. Each block contains a page's address, the block's length, and two bytes for each place in
-   that page. */
+/* Applies the relocations. Each block contains a page's address, the block's length, and two bytes for each relocation
+   in that page. */
 static bool relocate(struct bytes image, uint64_t at, uint64_t length, uint64_t by)
 {
     uint64_t end = at + length;

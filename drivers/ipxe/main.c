@@ -93,7 +93,7 @@ int main(int count, char **given)
     struct efi_setting setting = {
         .image = words.image, .keys = keys, .on_start = traffic_run, .is_silent = !words.shows_console};
     if (!efi_run(&setting))
-        problem("iPXE didn't exit as it should");
+        problem("iPXE didn't exit successfully");
     tell(&words);
     printf("%.2f s\n", seconds());
     card_close();

@@ -53,11 +53,11 @@ static void compare_in(const uint8_t *bytes, size_t length)
     if (frame_is(&frame, bytes, length))
         alike_in++;
     else
-        problem("frame %u arrived with %zu bytes, but differs from the frame sent, which has %u", number, length,
+        problem("frame %u arrived with %zu bytes, but differs from the sent frame, which has %u", number, length,
                 frame.length);
 }
 
-/* Delivers frames while the ring has room, only a few ahead of the driver. Returns the next number. */
+/* Delivers frames while the ring has room, only a few ahead of the driver. Returns the number of the next frame. */
 static uint32_t give(uint32_t next, uint32_t end)
 {
     static struct frame frame;
@@ -105,11 +105,11 @@ static void sent(void *of, uint16_t queue, const uint8_t *bytes, size_t length)
     if (frame_is(&frame, bytes, length))
         alike_out++;
     else
-        problem("frame %u was sent with %zu bytes, but differs from the frame expected, which has %u", number, length,
+        problem("frame %u was sent with %zu bytes, but differs from the expected frame, which has %u", number, length,
                 frame.length);
 }
 
-/* Collects the buffers of sent frames. Returns how many there were. */
+/* Collects the buffers of sent frames. Returns their number. */
 static unsigned int recycle(void)
 {
     unsigned int count = 0;
@@ -150,13 +150,13 @@ static void go_out(uint32_t first)
     printf("out: %u of %u frames correct, byte by byte and in order; %u buffers returned\n", alike_out, frames,
            recycled);
     if (alike_out != frames || recycled != frames)
-        problem("of %u frames, %u were accepted, %u were sent, and %u buffers came back", frames, taken, alike_out,
+        problem("of %u frames, %u were accepted, %u were sent, and %u buffers were returned", frames, taken, alike_out,
                 recycled);
 }
 
 /* ---- other requests ---- */
 
-/* Receives frames until the driver has had none for a while. Returns how many there were. */
+/* Receives frames until the driver has had none for a while. Returns their number. */
 static unsigned int poll_all(void)
 {
     static uint8_t room[ROOM];
@@ -177,7 +177,7 @@ static void arrives(const char *what, const uint8_t to[6], bool is_wanted)
     bool is_let_in = bus_arrive(run_bus, frame.bytes, frame.length);
     unsigned int got = poll_all();
     if (is_let_in != is_wanted || got != is_wanted)
-        problem("a frame for %s: the device accepted %d, and the driver received %u", what, is_let_in, got);
+        problem("a frame to %s: the device accepted %d, and the driver received %u", what, is_let_in, got);
 }
 
 static void addresses(void)
@@ -199,8 +199,8 @@ static void link_changes(void)
     }
 }
 
-/* Sends more frames at once than fit. A virtual function's ring fills up, and the device drops the rest because of
-   DROP_EN. */
+/* Delivers more frames at once than fit. A virtual function's ring fills up, and the device drops the other frames
+   because of DROP_EN. */
 static void burst(void)
 {
     static struct frame frame;

@@ -1,6 +1,6 @@
 /* The register self-test of Linux's ixgbe driver, on the bench. The table and patterns come from the driver (table.py);
    the code is our own. The driver stops at the first register that fails. This program continues: for each row of the
-   table it prints how many registers pass, and how the others differ. After each write the device takes all steps that
+   table it prints how many registers pass, and how the others differ. After each write the device runs all steps that
    it can, as a card does by itself.
 
      selftest [--turn]        --turn: one bit of one value read is changed, to test the report
@@ -230,7 +230,7 @@ int main(int count, char **words)
         return 3;
     }
     if (nic_open(&device, 0, 64, 1) != NIC_DONE) {
-        fprintf(stderr, "selftest: no device: out of memory\n");
+        fprintf(stderr, "selftest: can't create the device: out of memory\n");
         return 2;
     }
     try_status();

@@ -1,5 +1,5 @@
 /* The guest's only program. It brings up the drivers' interfaces, passes and compares frames, reports its verdict to
-   the card's process, and turns the machine off. Its options are words of the kernel's command line, which it gets as
+   the card's process, and turns the machine off. Its options are words on the kernel's command line, which it gets as
    environment variables:
 
      frames=N queues=N functions=N parts=PART,PART..
@@ -141,7 +141,7 @@ static void driver_test(const struct interface *it)
     order(ORDER_PHASE, PHASE_TEST);
     errors[REGISTER].known = 1;
     unsigned int count = interface_test(it, results, TESTS);
-    equal("tests that the driver has, and that are known", count, sizeof known / sizeof *known);
+    equal("tests that the driver reports, and known tests", count, sizeof known / sizeof *known);
     for (unsigned int i = 0; i < count && i < sizeof known / sizeof *known; i++) {
         bool is_known = strncmp(results[i].name, known[i].begins, strlen(known[i].begins)) == 0;
         printf("guest: %s: %-24s %s\n", it->name, results[i].name, results[i].value ? "fails" : "passes");
@@ -330,7 +330,7 @@ static void check_log(void)
         bool is_warning = strstr(line, "WARNING:") || strstr(line, "BUG:") || strstr(line, "Oops");
         if ((is_error && !is_known(line)) || is_warning) {
             wrong++;
-            printf("guest: the kernel says %s\n", line);
+            printf("guest: the kernel reports %s\n", line);
         } else if (wanted & LOG) {
             printf("guest: %s\n", line);
         }
@@ -392,7 +392,7 @@ int main(void)
     }
     struct timespec clock;
     clock_gettime(CLOCK_MONOTONIC, &clock);
-    printf("guest: the end, at %ld.%03ld s on its clock\n", (long)clock.tv_sec, clock.tv_nsec / 1000000);
+    printf("guest: done, at %ld.%03ld s on its clock\n", (long)clock.tv_sec, clock.tv_nsec / 1000000);
     sync();
     reboot(RB_POWER_OFF);
     return 0;

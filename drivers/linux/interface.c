@@ -150,7 +150,7 @@ void interface_set_queues(const struct interface *it, unsigned int queues)
     if (!error)
         error = ethtool(it, &channels);
     tell_failure(it, "its queues", error);
-    equal("queues that the driver has, and queues requested", channels.combined_count, queues);
+    equal("queues that the driver supports, and queues requested", channels.combined_count, queues);
 }
 
 void interface_set_key(const struct interface *it)
@@ -170,7 +170,7 @@ void interface_redirect(const struct interface *it, unsigned int queues)
         struct ethtool_rxfh_indir head;
         uint32_t entries[TABLE_MOST];
     } table = {.head = {.cmd = ETHTOOL_GRXFHINDIR}};
-    int error = ethtool(it, &table); /* returns only the size */
+    int error = ethtool(it, &table); /* this request returns only the size */
     for (uint32_t i = 0; i < table.head.size && i < TABLE_MOST; i++)
         table.entries[i] = i % queues;
     table.head.cmd = ETHTOOL_SRXFHINDIR;

@@ -20,8 +20,8 @@ void interface_begin(void);
 bool equal(const char *what, uint64_t reported, uint64_t counted);
 unsigned int compared(void);
 
-/* Finds a function's interface by its driver's name and its place on the bus. Returns false, without a problem, if
-   there is none. */
+/* Finds a function's interface by the driver's name and the function's slot on the bus. Returns false, without
+   reporting a problem, if it has none. */
 bool interface_find(struct interface *it, const char *driver, unsigned int function);
 
 void interface_set_up(const struct interface *it, bool up);
@@ -50,8 +50,8 @@ struct test_result {
 };
 unsigned int interface_test(const struct interface *it, struct test_result *results, unsigned int most);
 
-/* Sets an address, and the peer's address on the same network, for UDP through the kernel's stack. A null address
-   removes it. */
+/* Sets an interface's IP address, and the peer's on the same network, for UDP through the kernel's stack. A null
+   address removes the interface's address. */
 void interface_set_address(const struct interface *it, const char *address, const char *peer, const uint8_t mac[6]);
 
 /* Opens a socket for an interface's raw frames. Returns -1, and reports a problem, if it can't. */

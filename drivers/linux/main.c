@@ -80,7 +80,7 @@ static bool open_trace(const char *name, FILE **file)
     if (name && !*file)
         fprintf(stderr, "can't write %s: %s\n", name, strerror(errno));
     if (*file)
-        setvbuf(*file, NULL, _IOLBF, 0); /* so that a user of a debugger sees the last line */
+        setvbuf(*file, NULL, _IOLBF, 0); /* flushes each line, so that a user of a debugger sees the last one */
     return !name || *file;
 }
 

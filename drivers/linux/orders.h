@@ -1,6 +1,7 @@
 /* Orders from the guest's program to the card's process. They are registers in the physical function's configuration
-   space that no card has; driver and network don't see them. The guest writes the arguments, then the order. The order
-   is carried out before that write ends. Then the guest reads the results. Both sides include this file. */
+   space that no card has; the driver and the network stack don't see them. The guest writes the arguments and then the
+   order, which is carried out before that write ends. Then the guest reads the results. Both programs include this
+   file. */
 #ifndef LINUX_ORDERS_H
 #define LINUX_ORDERS_H
 

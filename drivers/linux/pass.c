@@ -113,7 +113,7 @@ static unsigned int out_batch(int socket, const struct interface *it, uint32_t f
             problem("%s: frame %u wasn't sent: %s", it->name, first + i, strerror(errno));
     }
     uint32_t alike = order(ORDER_SENT, 0);
-    equal("frames that came out of the card, and frames sent", get_word(ORDER_RESULT_2), count);
+    equal("frames that the card sent, and frames that the guest sent", get_word(ORDER_RESULT_2), count);
     return alike;
 }
 
@@ -298,7 +298,7 @@ void pass_offloaded(const struct interface *it, unsigned int count)
         sleep(RESET_SECONDS);
     }
     close_datagrams(it, file);
-    equal("datagrams that went out, none expected", order(ORDER_ECHOES, 0) - echoes, 0);
+    equal("datagrams that were sent, none expected", order(ORDER_ECHOES, 0) - echoes, 0);
     equal("faults, and datagrams", order(ORDER_FAULTS, count) - faults, count);
     printf("guest: %s: %u UDP datagrams through the kernel's stack with the driver's offloads: each is a fault\n",
            it->name, count);
@@ -332,7 +332,7 @@ static const struct {
     {"address removed", -1, NULL, {true, false, false, false, true}},
 };
 
-/* Whether one frame reaches the socket. */
+/* Sends one frame, and returns whether it reaches the socket. */
 static bool comes_in(int socket, const uint8_t to[6], uint32_t number)
 {
     struct pollfd file = {.fd = socket, .events = POLLIN};

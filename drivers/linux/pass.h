@@ -19,15 +19,15 @@ uint32_t order_of(enum order what, unsigned int function);
 bool order_one(const uint8_t to[6], uint32_t number);
 void order_verdict(uint32_t wrong, uint32_t compared_things);
 
-/* Sends `count` frames out and as many in, of up to `most` bytes. Checks their bytes, their order if there is one
+/* Sends `count` frames of up to `most` bytes, and receives as many. Checks their bytes, their order if there is one
    queue, the driver's statistics and interrupts. Prints a line. */
 void pass(const struct interface *it, unsigned int count, unsigned int most, unsigned int queues);
 
 /* Sends `count` datagrams through the kernel's stack; the peer sends them back. */
 void pass_datagrams(const struct interface *it, unsigned int count);
 
-/* Sends `count` datagrams that each request a checksum from the card. No datagram is sent, and each is a fault. Waits
-   after each until the driver has reset its card. */
+/* Passes `count` datagrams to the driver, each of which requests a checksum from the card. The card sends none of them,
+   and reports a fault for each. Waits after each datagram until the driver has reset its card. */
 void pass_offloaded(const struct interface *it, unsigned int count);
 
 /* Checks which destination addresses are received as the interface's filters change. */

@@ -156,7 +156,7 @@ static bool send_one(struct function *it, unsigned int vector)
     return true;
 }
 
-/* Sends messages that are due and unmasked while the guest has buffers. */
+/* Sends due, unmasked messages as long as the guest has buffers for them. */
 static void send_due(struct function *it)
 {
     bool any = false;
@@ -215,7 +215,7 @@ static void carry_out(struct function *it)
 static void read_config(struct function *it, uint64_t at, uint8_t *to, uint32_t size)
 {
     it->config_reads++;
-    if (it->number == BUS_PHYSICAL) { /* results may change after their order */
+    if (it->number == BUS_PHYSICAL) { /* results may change after the order was carried out */
         memcpy(it->config + ORDER_RESULT, &order_words.result, 4);
         memcpy(it->config + ORDER_RESULT_2, &order_words.result_2, 4);
     }

@@ -16,7 +16,7 @@ bool pci_open(const char *path, uint16_t device, unsigned int functions);
 void pci_serve(void);
 void pci_close(void);
 
-/* The handler of writes to ORDER_WHAT, which the run sets. */
+/* The handler for writes to ORDER_WHAT, which the run sets. */
 struct order_words {
     uint32_t count, first, most;
     uint16_t function;

@@ -29,7 +29,7 @@ static struct {
     uint32_t next, left; /* frames left to send */
     uint16_t most, function;
     uint8_t to[6];
-    /* frames expected: count, first number; frames that arrived; of these, unchanged */
+    /* expected frames: count, first number; frames that arrived; number of those that were unchanged */
     uint32_t expected, first, came, alike;
     uint16_t expected_most;
     uint8_t from[6];
@@ -94,7 +94,7 @@ static bool send_one(uint32_t number)
     return true;
 }
 
-/* Sends frames while there is room. If there is none, the guest's next tail write continues this. */
+/* Sends frames while the rings have room. When they are full, the guest's next tail write continues this. */
 static void go_on(void)
 {
     while (now.left && bus_least_room(run_bus) > ROOM_KEPT) {

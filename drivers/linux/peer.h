@@ -17,7 +17,7 @@ void peer_goes_on(void *of, const struct bus_access *access);
 
 void peer_orders(uint32_t what, struct order_words *words);
 
-/* Prints what went over the wire, and compares it with the bus's counts. */
+/* Prints the counts of frames on the wire, and compares them with the bus's counts. */
 void peer_tell(void);
 
 /* Returns the number of offload faults that the guest expects. */

@@ -228,11 +228,11 @@ static void set_memory(const struct request_message *message)
 {
     const struct region *region = &message->body.memory.regions[0];
     if (message->body.memory.count == 0 || message->file_count == 0) {
-        problem("the guest named no memory");
+        problem("the guest reported no memory");
         return;
     }
     if (memory.at)
-        return; /* another device of the same guest has set it */
+        return; /* another device of the same guest has already set it */
     void *at = mmap(NULL, region->size, PROT_READ | PROT_WRITE, MAP_SHARED, message->files[0], (off_t)region->offset);
     if (at == MAP_FAILED) {
         problem("the guest's memory can't be mapped: %s", strerror(errno));
@@ -309,7 +309,8 @@ bool vhost_serve(struct vhost *vhost)
 
 /* ---- rings ---- */
 
-/* Adds the bytes of one descriptor. Returns false if they aren't in the guest's memory, or too many. */
+/* Adds the bytes of one descriptor to a message. Returns false if they aren't in the guest's memory or make the message
+   too long. */
 static bool add_part(struct vhost_chain *chain, const struct ring_descriptor *part)
 {
     uint8_t *bytes = vhost_memory(part->address, part->length);

@@ -20,7 +20,7 @@ struct vhost_ring {
 struct vhost {
     int listener, socket, calls; /* file descriptors; -1: none */
     struct vhost_ring rings[VHOST_RINGS];
-    void (*kicked)(void *owner, unsigned int ring); /* called when the guest has put something into a ring */
+    void (*kicked)(void *owner, unsigned int ring); /* called when the guest has added entries to a ring */
     void *owner;
 };
 
@@ -44,12 +44,13 @@ bool vhost_listen(struct vhost *vhost, const char *path);
 bool vhost_accept(struct vhost *vhost);
 void vhost_close(struct vhost *vhost);
 
-/* Serves one request from the guest. Returns false if the connection has ended. A malformed request is a problem. */
+/* Serves one request from the guest. Returns false if the connection has ended. A malformed request is reported as a
+   problem. */
 bool vhost_serve(struct vhost *vhost);
 
 /* Takes the next entry that the guest put into a ring. Returns false if there is none. */
 bool vhost_take(struct vhost *vhost, unsigned int ring, struct vhost_chain *chain);
-/* Returns the entry to the guest, with the number of bytes written. */
+/* Returns an entry to the guest, with the number of bytes written. */
 void vhost_give(struct vhost *vhost, unsigned int ring, const struct vhost_chain *chain, uint32_t written);
 /* Interrupts the guest for a ring. */
 void vhost_call(struct vhost *vhost, unsigned int ring);

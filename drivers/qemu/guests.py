@@ -53,7 +53,7 @@ def started(words: Sequence[str | Path], **how: Any) -> subprocess.Popen[bytes]:
 
 
 def end_all() -> None:
-    """Has QEMU exit by itself, so that it restores the terminal."""
+    """Makes QEMU exit by itself, so that it restores the terminal."""
     for process in processes:
         if process.poll() is None:
             process.terminate()
@@ -66,7 +66,7 @@ def end_all() -> None:
 
 
 def end_on_signals() -> None:
-    """Makes SIGTERM, SIGHUP and SIGINT end this process so that the others end too."""
+    """Makes SIGTERM, SIGHUP and SIGINT end this process so that the processes it started end too."""
     for number in (signal.SIGTERM, signal.SIGHUP, signal.SIGINT):
         signal.signal(number, lambda got, _: sys.exit(128 + got))
 
@@ -110,7 +110,7 @@ class Place:
 
 
 def begin(place: Place) -> None:
-    """Makes sure that, however this process exits, the other processes end and their folder is then removed."""
+    """Makes sure that, however this process exits, the processes it started end and their folder is then removed."""
     atexit.register(place.forget)
     atexit.register(end_all)
     end_on_signals()
@@ -164,7 +164,7 @@ class Server:
 
 
 class Peer(Protocol):
-    """Something that answers a guest's requests: a server, or another process with the same control protocol."""
+    """A process that answers a guest's requests: a server, or another process with the same control protocol."""
 
     folder: Path
 
@@ -222,8 +222,8 @@ class Guest:
             is_over = time.time() > end or not self.reader.is_alive()
 
     def end(self) -> str:
-        """Waits until the guest's script is over. Returns all lines. (A guest that switches itself off may lose the
-        last lines.)"""
+        """Waits until the guest's script is over, and returns all lines. (If the guest switches itself off, the last
+        lines may be lost.)"""
         try:
             self.wait_for("guest: end at", max(1, self.began + SECONDS - time.time()))
         finally:
@@ -285,7 +285,7 @@ class Machine:
     more: Callable[[Initrd], None] | None = None  # adds to its initial file system
 
     def initrd(self, to: Path) -> None:
-        """Writes its initial file system."""
+        """Writes the guest's initial file system."""
         tools = self.place.fetched / "tools/root"
         initrd = Initrd(self.place.modules(self.kernel), tools / "bin/busybox")
         for module in self.modules:
@@ -299,7 +299,7 @@ class Machine:
         initrd.write(to)
 
     def start(self, name: str, server: Peer, *devices: str) -> Guest:
-        """Boots it with these devices."""
+        """Boots the guest with these devices."""
         file = server.folder / f"{name}.initrd"
         self.initrd(file)
         words = [
@@ -352,7 +352,7 @@ def seconds_of(text: str) -> str:
 
 @contextmanager
 def running(server: Server, *guests: Guest) -> Iterator[None]:
-    """Ends the server and the guests, whatever happens."""
+    """Ends the server and the guests in any case."""
     try:
         yield
     finally:
@@ -450,7 +450,7 @@ def four_queues(place: Place) -> str:
 
 
 def without_msix(kind: str) -> Callable[[Place], str]:
-    """A card without MSI-X: the stock driver uses the single MSI message, or the interrupt line."""
+    """Gives a guest a card without MSI-X: the stock driver uses the single MSI message, or the interrupt line."""
 
     def run(place: Place) -> str:
         script = TRAFFIC + "grep -E 'eth0|ixgbe' /proc/interrupts\n"
@@ -625,7 +625,7 @@ def two_guests(mtu: int) -> Callable[[Place], str]:
 
 
 def flipped(place: Place) -> str:
-    """One byte is changed each way, which must be reported."""
+    """Changes one byte each way, which must be reported."""
     script = TRAFFIC.replace("passes 1514", "echo '@control turn 77 99'\npasses 1514")
     text, _ = alone(Machine(place, "kernel-6.1", script))
     count = FRAMES - 1

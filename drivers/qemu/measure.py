@@ -3,8 +3,8 @@
 
     measure.py FETCHED OUT SERVER TURNS
 
-drivers/qemu/run --measure calls it. The cards take turns, and the best of each figure is printed, because other work on
-the machine can only make a figure worse. The output is a Markdown table.
+drivers/qemu/run --measure calls it. The cards take turns. The output is a Markdown table with the best value of each
+figure, because other work on the machine can only make a figure worse.
 """
 
 from __future__ import annotations

@@ -6,8 +6,8 @@
    Each line on standard input is a request, like those of nic82599-vfio-user's control socket:
 
      frames COUNT MOST   sends COUNT frames of 60 to MOST bytes to the card
-     expect COUNT MOST   expects as many from it
-     came                prints how many have arrived, and how long that took
+     expect COUNT MOST   expects COUNT frames of 60 to MOST bytes from the card
+     came                prints how many of them have arrived, and in which time
 
    Each answer ends with "ok". The program ends when standard input does. */
 #define _POSIX_C_SOURCE 200809L
@@ -51,7 +51,7 @@ static void obey(const char *line)
         printf("%u of %u, twice %u, wrong %u, in %.6f s\n", expected->good, expected->count, expected->twice,
                expected->wrong, last - first);
     } else {
-        puts("error: frames COUNT MOST, expect COUNT MOST, or came");
+        puts("error: expected frames COUNT MOST, expect COUNT MOST, or came");
         return;
     }
     puts("ok");

@@ -10,7 +10,7 @@ debian_uri() {
         | sed -nE 's/^URIs: *([^ ]*).*/\1/p;s/^deb +(\[[^]]*\] +)?([^ ]*) .*/\2/p' | grep -m 1 -E "/debian/?$" || :
 }
 
-# megabytes FOLDER: prints its size.
+# megabytes FOLDER: prints the folder's size in MB.
 megabytes() { du -sm "$1" 2>/dev/null | cut -f1; }
 
 # watched TOTAL WHAT FOLDER LOG COMMAND..: runs the command in the folder, and prints the folder's size every five
@@ -49,7 +49,7 @@ suite() {
     touch "$at/read"
 }
 
-# Removes the lists, no matter how the run ends.
+# Removes the lists when the run ends for any reason.
 forget_lists() { rm -rf "$FETCHED/lists"; }
 
 # archives NAME SUITE WORDS..: prints the size of the packages that apt-get fetches for these words, fetches and unpacks

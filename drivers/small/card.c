@@ -18,8 +18,8 @@ enum {
 /* Device IDs of the 82599's physical function. */
 static const uint16_t devices[] = {0x10F7, 0x10FB, 0x10F8, 0x10F9, 0x10FC};
 
-/* A descriptor as four words. This processor reads 64 bits with two loads in any order, so the length could be read
-   before DD and be stale. */
+/* A descriptor as four words. A 64-bit read takes two loads on this processor, in any order, so the length could be
+   read before DD and be stale. */
 struct slot {
     volatile uint32_t words[4];
 };
@@ -234,7 +234,8 @@ bool card_send(const uint8_t *frame, uint16_t length)
 
 /* --- interrupts --- */
 
-/* Reading EICR clears the causes and lowers the line. They stay masked until card_unmask, so the main loop can poll. */
+/* Reading EICR clears the causes and lowers the line. The causes stay masked until card_unmask, so the main loop can
+   poll. */
 void line_is_up(void)
 {
     uint32_t causes = read(NIC_EICR);

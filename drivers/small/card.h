@@ -6,7 +6,7 @@
 
 enum { FRAME_ROOM = 2048 };
 
-/* Finds the card and sets it up. Returns false if there is none or it doesn't respond. */
+/* Finds the card and sets it up. Returns false if the machine has no card or the card doesn't respond. */
 bool card_open(void);
 /* Returns the card's MAC address. */
 const uint8_t *card_address(void);

@@ -1,5 +1,5 @@
-"""The far end of the small kernel's wire: checks that each frame sent comes back correctly, even after the wire was
-unplugged.
+"""The far end of the small kernel's wire: sends frames, and checks that each comes back correctly, even after the wire
+was unplugged.
 
 drivers/small/run calls it with the script that boots a kernel, the kernel, the number of frames to send, and arguments
 for QEMU. The wire uses the format of QEMU's `-netdev stream`: each frame follows its length, four bytes in big-endian
@@ -21,7 +21,7 @@ import time
 from collections.abc import Sequence
 from pathlib import Path
 
-SECONDS = 120.0  # seconds to wait for a line of the kernel, or for a frame
+SECONDS = 120.0  # seconds to wait for a line from the kernel, or for a frame
 FETCHING = 3600.0  # seconds to wait until QEMU has been fetched
 ON_THE_WAY = 32  # frames in flight: fewer than the kernel's ring has slots
 LATER = 200  # frames after the wire is plugged in again

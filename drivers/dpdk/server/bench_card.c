@@ -1,5 +1,5 @@
-/* The guest server's card without a server. This process is its one client, and its memory is accessed in place. The
-   file replaces c/vfio-user's dma.c, function.c, log.c and watch.c. */
+/* The guest server's card without a server. This process is the card's only client, and the card accesses this
+   process's memory in place. The file replaces c/vfio-user's dma.c, function.c, log.c and watch.c. */
 #include "bench_card.h"
 
 #include <stdarg.h>

@@ -1,4 +1,4 @@
-/* The guest server's card as a program's bench. Frames that go out have passed its offloads. */
+/* The guest server's card as a program's bench. The card performs its offloads on all frames that it sends. */
 #ifndef BENCH_CARD_H
 #define BENCH_CARD_H
 

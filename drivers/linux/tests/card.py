@@ -1,5 +1,5 @@
 #!/usr/bin/env python3
-"""Tests the program `card` without a kernel. It plays a guest: the vhost-user protocol, and its PCI bus.
+"""Tests the program `card` without a kernel. The test plays a guest: the vhost-user protocol, and the guest's PCI bus.
 
     drivers/linux/tests/card.py CARD
 
@@ -210,19 +210,19 @@ def try_access(program: str) -> None:
     card = Card(program, 1)
     host, function = card.guests
     expect("vendor and device", host.read(CONFIG_READ, 0) == 0x10F78086)
-    expect("a function's vendor is nobody", function.read(CONFIG_READ, 0, 2) == 0xFFFF)
+    expect("a function's vendor ID reads all ones", function.read(CONFIG_READ, 0, 2) == 0xFFFF)
     host.write(CONFIG_WRITE, 0x10, 0xFFFFFFFF)
-    expect("the window of registers has 128 KB", host.read(CONFIG_READ, 0x10) == 0xFFFE0000)
+    expect("the register window has 128 KB", host.read(CONFIG_READ, 0x10) == 0xFFFE0000)
     host.write(CONFIG_WRITE, 0x0, 0x12345678)
-    expect("vendor and device stay", host.read(CONFIG_READ, 0) == 0x10F78086)
+    expect("vendor and device are read-only", host.read(CONFIG_READ, 0) == 0x10F78086)
     expect("one function by SR-IOV", host.read(CONFIG_READ, 0x16E, 2) == 1)
     host.write(MEMORY_WRITE, RSSRK, 0xCAFE1234)
     expect("a register keeps what is written", host.read(MEMORY_READ, RSSRK) == 0xCAFE1234)
     expect("SWSM is answered: free, then taken", [host.read(MEMORY_READ, SWSM) & 1 for _ in range(2)] == [0, 1])
-    expect("a function is there without a pool", function.read(MEMORY_READ, STATUS) != 0xFFFFFFFF)
+    expect("a function without a pool answers accesses", function.read(MEMORY_READ, STATUS) != 0xFFFFFFFF)
     for _ in range(200):
         host.write(MEMORY_WRITE, RSSRK, 1)
-    expect("every message is given back", host.used() == host.put & 0xFFFF)
+    expect("every message's buffer is returned", host.used() == host.put & 0xFFFF)
     expect("the guest is called after many writes", len(host.calls.recv(4096)) >= 20)
     host.verdict(0, 7)
     status, said = card.end()
@@ -241,9 +241,9 @@ def try_interrupts(program: str) -> None:
     host.offer()
     expect("no message without MSI-X", host.used(1) == 0)
     host.write(CONFIG_WRITE, MSIX_CONTROL, MSIX_ENABLED, 2)
-    expect("no message of a masked vector", host.used(1) == 0)
+    expect("no message for a masked vector", host.used(1) == 0)
     host.write(MEMORY_WRITE, 16 * 3 + 12, 0, bar=TABLE_BAR)
-    expect("the message, once it may", host.used(1) == 1)
+    expect("the message, after its vector is unmasked", host.used(1) == 1)
     message = struct.unpack_from("<BBHIQI", host.memory, INTERRUPT)
     expect("with the table's address and data", message == (7, 0, 0, 4, 0xFEE00000, 77), message)
     expect("and the guest is called", struct.unpack("<IIIII", host.calls.recv(20))[3] == 1)
@@ -259,19 +259,19 @@ def try_frames(program: str) -> None:
     host.drive()
     host.order(EXPECT, 2, 6)
     host.send(0, frame(6, PEER_MAC, CARD_MAC))
-    expect("one of two frames has come out, alike", host.order(SENT, 0, 0) == (1, 1))
+    expect("one of two frames has come out unchanged", host.order(SENT, 0, 0) == (1, 1))
     host.order(SEND, 1, 6)
     host.order(SEND, 1, 13)
-    expect("two frames come in, alike", [host.received(slot) for slot in range(2)]
+    expect("two frames come in unchanged", [host.received(slot) for slot in range(2)]
            == [frame(number, CARD_MAC, PEER_MAC) for number in (6, 13)])
-    expect("one by itself", host.order(ONE, 1, 20)[0] == 1 and host.received(2) == frame(20, CARD_MAC, PEER_MAC))
+    expect("one single frame", host.order(ONE, 1, 20)[0] == 1 and host.received(2) == frame(20, CARD_MAC, PEER_MAC))
     host.write(MEMORY_WRITE, FCTRL, 0)
     host.write(MEMORY_WRITE, RXCTRL, 0)
-    expect("none while receiving is off", host.order(ONE, 1, 20)[0] == 0)
+    expect("no frame while receiving is off", host.order(ONE, 1, 20)[0] == 0)
     host.verdict(0, 1)
     status, said = card.end()
-    expect("all of it has status 0", status == 0 and "the peer sent 3 frames; by queue 0:3" in said, said)
-    for what, number in (("an unlike frame", 13), ("a frame that nobody was to send", None)):
+    expect("the whole test has status 0", status == 0 and "the peer sent 3 frames; by queue 0:3" in said, said)
+    for what, number in (("a changed frame", 13), ("a frame that wasn't expected", None)):
         card = Card(program)
         host = card.guests[0]
         host.drive()
@@ -290,10 +290,10 @@ def try_faults(program: str) -> None:
         host.drive()
         host.order(FAULTS, expected, 0)
         host.send(0, frame(6, PEER_MAC, CARD_MAC), CHECKSUM)
-        expect("a frame that asks for a checksum is a fault", host.order(FAULTS, expected, 0)[0] == 1)
+        expect("a frame that requests a checksum causes a fault", host.order(FAULTS, expected, 0)[0] == 1)
         host.verdict(0, 1)
         status, said = card.end()
-        expect(f"one fault has status {wanted}, where {expected} are expected", status == wanted, said)
+        expect(f"one fault has status {wanted} if {expected} are expected", status == wanted, said)
 
 
 def try_turns(program: str) -> None:
@@ -315,7 +315,7 @@ def try_turns(program: str) -> None:
 
 
 def try_ends(program: str) -> None:
-    """Status 1: a missing verdict, a bad one, malformed messages."""
+    """Checks what ends with status 1: a missing verdict, a bad one, malformed messages."""
     for what, wrong in (("no verdict", None), ("a bad verdict", 3)):
         card = Card(program)
         if wrong is not None:
@@ -327,7 +327,7 @@ def try_ends(program: str) -> None:
         "a short message": lambda it: it.message(b"\0" * 5, 4),
         "an unknown operation": lambda it: it.read(77, 0),
         "too few bytes": lambda it: it.message(struct.pack("<BBHIQ", MEMORY_WRITE, 0, 0, 4096, 0), 0),
-        "an access beyond the window": lambda it: it.read(MEMORY_READ, 0x20000),
+        "an access past the end of the window": lambda it: it.read(MEMORY_READ, 0x20000),
         "an access that isn't aligned": lambda it: it.read(MEMORY_READ, 0x2),
         "an unknown order": lambda it: it.write(CONFIG_WRITE, WHAT, 99),
     }

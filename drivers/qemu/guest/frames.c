@@ -1,7 +1,7 @@
 /* Runs in a guest: sends frames computed from their numbers (c/bus/frames.h), or receives and compares them.
 
      frames send INTERFACE COUNT MOST            numbers 1 to COUNT, of 60 to MOST bytes, to 02:00:00:00:00:01
-     frames receive INTERFACE COUNT MOST SECONDS waits for these from 02:00:00:00:00:01, at most SECONDS
+     frames receive INTERFACE COUNT MOST SECONDS receives these from 02:00:00:00:00:01, for at most SECONDS
 
    It prints how many were correct. Status 0: all were. */
 #define _GNU_SOURCE

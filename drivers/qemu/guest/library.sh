@@ -8,7 +8,7 @@ load() {
 
 now() { cut -d' ' -f1 /proc/uptime; }
 
-# carrier [INTERFACE]: waits for the carrier, longer in a patient search.
+# carrier [INTERFACE]: waits for the carrier, longer in a search with --patience.
 carrier() {
     n=0
     while [ "$(cat "/sys/class/net/${1:-eth0}/carrier" 2>/dev/null)" != 1 ] && [ $n -lt $((200 * ${PATIENCE:-1})) ]; do

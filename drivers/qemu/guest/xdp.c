@@ -2,7 +2,8 @@
 
        xdp INTERFACE pass|drop|tx MILLISECONDS
 
-   Status 0: it was attached and is detached again; 1: the driver refused it; 125: this kernel doesn't support XDP. */
+   Status 0: the program was attached and is detached again; 1: the driver refused it; 125: this kernel doesn't support
+   XDP. */
 #include <errno.h>
 #include <linux/bpf.h>
 #include <linux/if_link.h>
@@ -70,7 +71,7 @@ int main(int count, char **words)
     }
     int link = attach(program, interface);
     if (link < 0) {
-        fprintf(stderr, "xdp: %s accepts no program: %s\n", words[1], strerror(errno));
+        fprintf(stderr, "xdp: can't attach a program to %s: %s\n", words[1], strerror(errno));
         return 1;
     }
     usleep((useconds_t)(1000 * atoi(words[3])));

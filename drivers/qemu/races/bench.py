@@ -29,13 +29,13 @@ from verdict import (  # noqa: E402
 )
 from workload import Plan, script  # noqa: E402
 
-# Limits of a search that isn't patient; --patience multiplies each.
+# Time limits of a search without --patience, which multiplies each of them.
 BOOT_SECONDS = 300
 SILENT_SECONDS = 90  # a healthy guest prints something within this many seconds
 LOCKED_SECONDS = 60  # after a reported lockup, a guest that recovers begins another operation within this time
 STUCK_SECONDS = 40  # limit for an operation
 WATCHDOG_SECONDS, WATCHDOG_MOST = 5, 60  # the kernel's threshold, and its maximum
-STALL_SECONDS = 21  # until RCU complains, the kernel's default
+STALL_SECONDS = 21  # the kernel's default time until RCU reports a stall
 FUNCTION_MAC = "02:00:00:00:00:55"
 REQUEST = re.compile(r"@(control|await|search|host) (.*)$")
 WORKLOAD = LIBRARY + (HERE / "guest.sh").read_text()
@@ -112,7 +112,7 @@ class Outcome:
     output: str = field(default="", repr=False)
     why: str = field(default="", repr=False)
     record: Path | None = None
-    again: Outcome | None = None  # the result when tried alone, in a fresh guest; None if that wasn't tried
+    again: Outcome | None = None  # the result of a second try, alone in a fresh guest; None without a second try
 
     @property
     def is_fatal(self) -> bool:
@@ -197,7 +197,7 @@ def is_locked(lines: Sequence[str]) -> bool:
 
 @dataclass
 class Bench:
-    """One server and its guests, until something breaks."""
+    """One server and its guests, used until one of them fails."""
 
     place: Place
     kernel: Kernel

@@ -7,8 +7,8 @@ from dataclasses import dataclass
 
 @dataclass(frozen=True)
 class Case:
-    """A defect: the kernel and driver that have it, the verdict that shows it, and the number of seeds within which
-    it shows."""
+    """A defect: the kernel and driver that contain it, the verdict and pattern that identify it, and the number of
+    seeds within which it appears."""
 
     kernel: str
     driver: str
@@ -22,7 +22,7 @@ CASES = {
     "ixgbe-down-lockup": Case(
         "linux-6.1", "ixgbe", "lockup", "ixgbe_clean_tx_ring", 20,
         "ixgbe_watchdog_subtask checks __IXGBE_DOWN, finds that the link is up, and wakes the transmit queues. "
-        "Between the check and the wake, ixgbe_down, which doesn't wait for it, stops the queues and empties their "
-        "rings. A frame then enters such a ring, and the next ixgbe_down loops over it forever",
+        "Between the check and the wake, ixgbe_down, which doesn't wait for the watchdog, stops the queues and empties "
+        "their rings. A frame then enters such a ring, and the next ixgbe_down loops over it forever",
     ),
 }  # fmt: skip

@@ -91,8 +91,8 @@ def workloads() -> None:
 
 
 def own_workloads(folder: Path) -> None:
-    """A reporter's script replaces the drawn operations in a seed's script, or runs concurrently without changing them.
-    Its output and status are found."""
+    """Checks that a reporter's script replaces the drawn operations in a seed's script, or runs concurrently without
+    changing them, and that the search finds the script's output and status."""
     own = folder / "own.sh"
     own.write_text("exit 0\n")
     drawn = script(7, Plan(rounds=1)).splitlines()
@@ -121,7 +121,7 @@ def seed(number: int, kind: str, text: str = "", lines: Sequence[str] = ()) -> O
 
 
 def statuses(folder: Path) -> None:
-    """A search's status for each result of its seeds, including for `git bisect run`."""
+    """Checks a search's status for each result of its seeds, including for `git bisect run`."""
     loop = seed(1, "lockup", "soft lockup, in ixgbe_clean_tx_ring")
     hung = seed(2, "hung task", "ip blocked", ["RIP: 0010:ixgbe_clean_tx_ring+0x90"])
     quiet, lost = seed(3, ""), seed(4, "frames", "out: 299 of 300")
@@ -145,7 +145,7 @@ def statuses(folder: Path) -> None:
 
 
 def fetches() -> None:
-    """Only the packages that the arguments need are fetched."""
+    """Checks that only the packages that the arguments need are fetched."""
     assert needs(read_words([])) == ["qemu", "tools", "kernel-6.1"]
     assert needs(read_words(["linux-sid", "--function"])) == ["qemu", "tools", "kernel-sid"]
     assert needs(read_words(["--kernel", "/bin/sh", "--modules", "/"])) == ["qemu", "tools"]
@@ -195,7 +195,7 @@ def reports(folder: Path) -> None:
 
 
 def own_guests() -> None:
-    """Arguments for the server and for QEMU are kept apart. A missing file or an unknown argument is named."""
+    """Checks that arguments for the server and for QEMU are separated, and that errors name the faulty option."""
     words = ["--kernel", "vmlinuz", "--server=--wire=none", "--gdb", "--server=--bare", "--", "-m", "--kernel"]
     given = {"--kernel": "vmlinuz", "--gdb": ""}
     assert own_words(words) == (given, ["--wire=none", "--bare"], ["-m", "--kernel"])

@@ -1,5 +1,5 @@
-# For the guest with the virtual function, read after guest.sh. Broadcasts don't reach it, so it sets ARP entries
-# itself.
+# Commands for the guest with the virtual function, read after guest.sh. Broadcasts don't reach the virtual function, so
+# the guest sets ARP entries itself.
 start() {
     load ixgbevf
     ip link set eth0 address 02:00:00:00:00:55
@@ -11,7 +11,7 @@ start() {
 }
 
 # After a reset, the PF's driver spreads frames over more queues than the virtual function has. The driver polls every
-# two seconds, so the wait is longer. During the reset it refuses an MTU.
+# two seconds, so the wait here is longer. During the reset the driver refuses MTU changes.
 calm() {
     host ethtool -X eth0 equal 1
     sleep 5

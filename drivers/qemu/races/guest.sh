@@ -83,8 +83,8 @@ own() {
     own=$!
 }
 
-# own_ends: called when the drawn operations are over. Waits for the script, then ends the processes that it left in the
-# background.
+# own_ends: called when the drawn operations are over. Waits for the script to end, then ends the processes that the
+# script left in the background.
 own_ends() {
     doing own_ends "$own_round"
     : >/tmp/over
@@ -194,8 +194,8 @@ finish() {
     done
 }
 
-# Reports the state of each process and processor if one operation takes longer than 40 seconds. A patient search
-# multiplies that time, and the reporter's script extends it.
+# Reports the state of each process and processor if one operation takes longer than 40 seconds. --patience multiplies
+# that time, and the reporter's script extends it.
 watcher() {
     last=
     same=0

@@ -164,8 +164,8 @@ class Search:
         return self.tell_case() if self.case else self.status()
 
     def status(self) -> int:
-        """0: quiet; 1: found; 2: nothing could be tried. For `git bisect run`, 125 if the guest or the script
-        couldn't be tried; if the server ended, a status that ends the bisect."""
+        """Returns the search's status. 0: no failure counted; 1: one did; 2: nothing could be tried. For `git bisect
+        run`, 125 if the guest or the script couldn't be tried; if the server ended, a status that ends the bisect."""
         if any(self.counts(it) for it in self.outcomes):
             return 1
         untried = [it for it in self.outcomes if it.is_untried or it.is_broken]
@@ -178,7 +178,7 @@ class Search:
     def tell_case(self) -> int:
         assert self.case
         if not self.found:
-            print(f"{NAME}: {self.words.case} didn't occur with these seeds")
+            print(f"{NAME}: {self.words.case} didn't appear with these seeds")
             return 1
         print(f"{self.words.case}: {self.case.text}.\n"
               f"  {self.found} contains the console log, the recording, and the recording as a page")
@@ -196,7 +196,7 @@ def plan_of(given: argparse.Namespace) -> Plan:
 
 
 def kernel_of(place: Place, given: argparse.Namespace) -> Kernel:
-    """Debian's kernel, or the author's own."""
+    """Returns Debian's kernel, or the author's own."""
     if not given.kernel:
         name = given.linux or "linux-6.1"
         package = KERNELS[name]

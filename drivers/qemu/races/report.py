@@ -67,7 +67,7 @@ def line(it: Outcome) -> str:
 
 
 def table(outcomes: Sequence[Outcome]) -> str:
-    """By kernel and driver: seeds, rounds, and the number of seeds with each kind of finding."""
+    """Returns a table by kernel and driver: seeds, rounds, and the number of seeds with each kind of finding."""
     groups: dict[tuple[str, str], list[Outcome]] = {}
     for it in outcomes:
         groups.setdefault((it.kernel, it.driver), []).append(it)

@@ -24,7 +24,7 @@ KINDS = {
     "kernel": "the kernel reported a BUG, an oops or a warning",
     "hung task": "a process hung in the kernel",
     "stuck": "the guest's script hung",
-    "hung unit": "a transmit queue wasn't cleared in time",
+    "hung unit": "the driver or the kernel found a hung transmit queue",
     "no link": "the interface had no carrier at the end",
     "no answer": "no echo reply arrived at the end",
     "frames": "frames were lost or changed after the traffic stopped",
@@ -59,7 +59,7 @@ SPOKEN: Sequence[tuple[str, str]] = (
                r"|not cleared|Failed to|PF still (resetting|in reset)"),
 )  # fmt: skip
 SCRIPT = "script: "  # prefix of each line that the reporter's script prints
-FINE, WRONG, UNTRIED, KILLED = 0, 1, 125, 137  # the script's statuses; the last one means that it was killed
+FINE, WRONG, UNTRIED, KILLED = 0, 1, 125, 137  # statuses of the script; the last one means that the script was killed
 RIP = re.compile(r"RIP: \S*?:?([A-Za-z_]\w*)\+0x")
 WARNED = re.compile(r"WARNING: CPU.* at (\S+)|WARNING: (\S+) at (\S+)")
 COUNTED = {

@@ -1,5 +1,5 @@
 """Windows in which a driver has its card down: a recording's accesses between RXCTRL = 0 and RXCTRL.RXEN. The driver
-must not give the card a frame in this time. Reports tails that moved nevertheless."""
+must not give the card a frame during a window. This module reports tails that moved nevertheless."""
 
 from __future__ import annotations
 
@@ -53,7 +53,7 @@ class Access:
 
 @dataclass
 class Window:
-    """The accesses while the card was down, and the accesses right before."""
+    """The accesses made while the card was down, and those right before."""
 
     before: list[Access]
     accesses: list[Access] = field(default_factory=list)

@@ -21,7 +21,7 @@ NOT_TRIED, ENDS_BISECT = 125, 128
 
 
 class Words(argparse.ArgumentParser):
-    """With unknown arguments, the search exits with status 3, as everywhere in drivers/."""
+    """A parser that exits with status 3 for unknown arguments, like all scripts in drivers/."""
 
     status = 3
 

@@ -1,9 +1,10 @@
-/* DMA memory, of one of two kinds: - in place: the device works in the driver's memory, and each device step sees what
-   the driver stored before it. - copied, for memory that another process may store into during a step: copies.c keeps
-   the driver's copy and the
-     bench's up to date. A tail write copies its descriptors, and the buffers of transmit descriptors, to the device.
-     Each range that a device step reports as written is copied to the driver. A change without a tail write isn't
-     seen. */
+/* DMA memory, of one of two kinds:
+
+     in place   The device works in the driver's memory, and each device step sees what the driver stored before it.
+     copied     For memory that another process may store into during a step: copies.c keeps the driver's copy and the
+                bench's up to date. A tail write copies its descriptors, and the buffers of transmit descriptors, to the
+                device. Each range that a device step reports as written is copied to the driver. The device doesn't see
+                a change that the driver makes without a tail write. */
 #ifndef DRIVERS_DMA_MEMORY_H
 #define DRIVERS_DMA_MEMORY_H
 

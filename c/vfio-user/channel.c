@@ -38,7 +38,7 @@ static void settle(struct channel *it)
     it->in_at = 0;
 }
 
-/* Called when files arrived with the last of the bytes up to in_end. Closes the files for which there is no room. */
+/* Keeps files that arrived with the last of the bytes up to in_end. Closes the files for which no room is left. */
 static bool take_files(struct channel *it, struct msghdr *head)
 {
     bool fits = !(head->msg_flags & MSG_CTRUNC);

@@ -17,7 +17,7 @@ struct connector {
     uint64_t asked; /* time of the last request, by budget_time */
 };
 
-/* Initially there is no process. */
+/* Initializes a connector without a process. */
 void connector_begin(struct connector *it);
 /* Starts the process, for a stream to this path. Returns false with errno set if it can't. */
 bool connector_start_stream(struct connector *it, const char *path, bool is_confined);
@@ -35,7 +35,7 @@ int connector_file(const struct connector *it);
 int connector_take(struct connector *it);
 /* Like connector_take, but waits up to a second, and works for datagrams too. Called when the server starts. */
 int connector_wait(struct connector *it);
-/* Returns the milliseconds until the next request is allowed; -1 if an answer is pending or there is no process. */
+/* Returns the milliseconds until the next request is allowed; -1 if an answer is pending or no process was started. */
 int connector_patience(const struct connector *it);
 
 #endif

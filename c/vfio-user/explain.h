@@ -10,13 +10,13 @@
 
 /* Starts the thread, once per process. Returns false with errno set if it can't. */
 bool explain_start(void);
-/* Returns a file that becomes readable when there is an answer; -1 if there is no thread. */
+/* Returns a file that becomes readable when an answer is ready; -1 if the thread wasn't started. */
 int explain_file(void);
 /* Returns whether the thread is free for a question. */
 bool explain_is_free(void);
 /* Starts explaining the card's current state. Returns false if memory runs out. */
 bool explain_ask(struct card *card);
-/* Returns whether there is an answer. */
+/* Returns whether the answer is ready. */
 bool explain_is_ready(void);
 /* Returns the answer, valid until explain_end; null if memory ran out. */
 const char *explain_text(void);

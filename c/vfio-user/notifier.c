@@ -50,7 +50,7 @@ static void reap(void)
     results = 0;
 }
 
-/* If there are no asynchronous reads, compares the kernel's name for the file, which doesn't access the file itself. */
+/* Without asynchronous reads, compares the kernel's name for the file, which doesn't access the file itself. */
 static bool is_named_eventfd(int file)
 {
     char link[64], name[64];

@@ -8,8 +8,8 @@
 
    The shim's answers are SWSM and ANLP1 (on by default), EICS, EERD and ABSENT. The courses are `whole` (the physical
    function with two virtual functions), `traffic` (frames alone), and three known differences from the card. Each
-   difference must have the outcome that docs/CARD.md says. Status 0: all was correct; 1: something was wrong; 2: a file
-   can't be written; 3: unknown arguments. */
+   difference must have the result that docs/CARD.md describes. Status 0: all was correct; 1: something was wrong; 2: a
+   file can't be written; 3: unknown arguments. */
 #include <errno.h>
 #include <inttypes.h>
 #include <stdio.h>

@@ -218,7 +218,7 @@ static bool allocate_port(void)
 const char *layer_port(unsigned int virtual_functions)
 {
     if (!allocate_port())
-        return "there is no room for a port";
+        return "DPDK has no room for another port";
     struct ixgbe_adapter *adapter = port->data->dev_private;
     card.max_vfs = (uint16_t)virtual_functions;
     card.id = (struct rte_pci_id){RTE_CLASS_ANY_ID, 0x8086, BACKPLANE, 0x8086, 0};

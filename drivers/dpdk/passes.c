@@ -25,7 +25,7 @@ static struct line_up in[BUS_FUNCTIONS][PORT_QUEUES], out[BUS_FUNCTIONS][PORT_QU
 static struct tally tallies[BUS_FUNCTIONS];
 static uint64_t all_in[BUS_FUNCTIONS], all_out[BUS_FUNCTIONS];
 static uint64_t alike_in, alike_out, hashes;
-static unsigned int gone; /* frames that went out without being compared */
+static unsigned int gone; /* frames that were sent without being compared */
 
 /* Each port has a separate range of frame numbers. */
 static uint32_t number_of(unsigned int which, unsigned int frame)

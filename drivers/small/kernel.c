@@ -45,7 +45,7 @@ void kernel(void)
 {
     say("\nkernel: started\n");
     if (!card_open()) {
-        say("kernel: there is no card\n");
+        say("kernel: no card found\n");
         return;
     }
     say("kernel: card ");

@@ -87,7 +87,7 @@ static uint64_t pending(struct guest *it)
     return reply.bits;
 }
 
-/* Each client gets the messages of the vectors that it set up, no matter which client writes registers. */
+/* Checks that each client gets the messages of the vectors that it set up, no matter which client writes registers. */
 static void each_has_its_own(void)
 {
     set_up(&own, 0);
@@ -101,8 +101,8 @@ static void each_has_its_own(void)
     CHECK(pending(&own) == 0 && pending(&shadow) == 0);
 }
 
-/* If both clients set up a vector, its messages go to the virtual function's own guest, until this guest removes its
-   eventfd. */
+/* Checks that if both clients set up a vector, its messages go to the virtual function's own guest, until that guest
+   removes its eventfd. */
 static void both_have_it(void)
 {
     set_up(&shadow, 0);
@@ -114,7 +114,8 @@ static void both_have_it(void)
     take_away(&shadow, 0);
 }
 
-/* If neither client set up a vector, its message waits for one of the clients, and the other client never gets it. */
+/* Checks that if neither client has set up a vector, its message waits until one does, and the other client never gets
+   it. */
 static void nobody_has_it(void)
 {
     raise(&shadow, 2);
@@ -125,7 +126,7 @@ static void nobody_has_it(void)
     CHECK(raised(&own, 2) == 1 && raised(&shadow, 2) == 0 && pending(&own) == 0);
 }
 
-/* If a client leaves, or turns its MSI-X off, the other client gets the messages. */
+/* Checks that if a client leaves or turns its MSI-X off, the other client gets the messages. */
 static void one_goes(void)
 {
     peer_set_config(&own.peer, MSIX_CONTROL, 2, 0);
@@ -140,7 +141,7 @@ static void one_goes(void)
     CHECK(raised(&own, 2) == 0 && raised(&shadow, 2) == 1);
 }
 
-/* The physical function's interrupts go only to its own client. */
+/* Checks that the physical function's interrupts go only to its own client. */
 static void host_is_apart(void)
 {
     int event = eventfd(0, EFD_CLOEXEC | EFD_NONBLOCK);

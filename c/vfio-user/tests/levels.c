@@ -95,7 +95,7 @@ static void kinds(void)
     CHECK(peer_config(&peer, PIN, 1) == 1);
 }
 
-/* The client is notified of the level once, and each time it unmasks the line while the level is high. */
+/* Checks that the client is notified of the level once, and each time it unmasks the line while the level is high. */
 static void level(void)
 {
     begin();
@@ -111,8 +111,8 @@ static void level(void)
     CHECK(informed() == 1);
 }
 
-/* The line stays down if EIMS doesn't enable the cause, the command register disables it, or the client masks it.
-   Unmasking zero lines is a no-op. */
+/* Checks that the line stays down if EIMS doesn't enable the cause, if the command register disables the line, or if
+   the client masks it. Unmasking zero lines is a no-op. */
 static void kept_down(void)
 {
     begin();
@@ -131,8 +131,8 @@ static void kept_down(void)
     CHECK(informed() == 1);
 }
 
-/* A client that passes its eventfd late is notified at that time. Without an eventfd no client is notified, and nothing
-   waits. */
+/* Checks that a client that passes its eventfd late is notified at that time. Without an eventfd, no client is
+   notified, and nothing waits. */
 static void eventfd_comes_and_goes(void)
 {
     begin();
@@ -144,9 +144,8 @@ static void eventfd_comes_and_goes(void)
     CHECK(set(INTX, EVENTFD | TRIGGER, 1) == 0 && informed() == 0);
 }
 
-/* A client unmasks the line with an eventfd, as QEMU does with KVM. Each signal unmasks the line once, and is read even
-   if the line isn't masked. Reading the eventfd would block (it isn't O_NONBLOCK), but the server doesn't wait for
-   it. */
+/* Unmasks the line with an eventfd, as QEMU does with KVM. Each signal unmasks the line once, and is read even if the
+   line isn't masked. Reading the eventfd would block (it isn't O_NONBLOCK), but the server doesn't wait for it. */
 static void unmasked_by_an_eventfd(void)
 {
     begin();
@@ -238,7 +237,7 @@ static void messages(void)
     peer_set_config(&peer, MSI_CONTROL, 2, 0);
 }
 
-/* With MSI-X on there is no line, and causes without a vector notify no client. */
+/* Checks that with MSI-X on, the line isn't used, and that causes without a vector notify no client. */
 static void with_msix(void)
 {
     begin();
@@ -250,7 +249,7 @@ static void with_msix(void)
     CHECK(informed() == 1);
 }
 
-/* Invalid requests are refused. A virtual function has neither a line nor MSI. */
+/* Checks that invalid requests are refused, and that a virtual function has neither a line nor MSI. */
 static void refused(struct peer *function)
 {
     CHECK(set(INTX, EVENTFD | MASK, 1) != 0 && set(INTX, NONE | TRIGGER | MASK, 1) != 0);

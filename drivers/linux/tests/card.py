@@ -22,10 +22,10 @@ from pathlib import Path
 
 MEMORY = 1 << 20
 SLOTS = 16
-GUEST_STEP = 0x10000  # distance between two functions' places in memory
+GUEST_STEP = 0x10000  # distance between two functions' ranges of memory
 DESCRIPTORS, AVAILABLE, USED, MESSAGES = 0x1000, 0x2000, 0x3000, 0x8000
 INTERRUPT = 0xC000
-RING_STEP = 0x800  # distance between ring 0's places and ring 1's
+RING_STEP = 0x800  # distance between the addresses of ring 0 and ring 1
 VERSION, REPLY, NEEDS_REPLY = 1, 4, 8
 NEXT, WRITTEN = 1, 2
 CONFIG_READ, CONFIG_WRITE, MEMORY_READ, MEMORY_WRITE = 1, 2, 3, 4
@@ -56,7 +56,7 @@ def frame(number: int, to: bytes, sender: bytes) -> bytes:
 
 
 class Guest:
-    """One function's connection. All functions share the memory; each has its own places, starting at `base`."""
+    """One function's connection. All functions share the memory; each uses its own range, which starts at `base`."""
 
     def __init__(self, path: str, file: int, base: int) -> None:
         self.socket = socket.socket(socket.AF_UNIX, socket.SOCK_STREAM)

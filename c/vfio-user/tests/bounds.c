@@ -213,7 +213,7 @@ static void offloads(struct peer *it)
 
 /* ---- pieces ---- */
 
-/* When a tail moves around the longest ring, the server reads only a few descriptors each time. */
+/* Checks that when a tail moves around the longest ring, the server reads only a few descriptors each time. */
 static void tails(struct peer *it)
 {
     start_host(it, SLOTS_MOST);
@@ -239,7 +239,7 @@ static uint32_t make_endless(void)
     return slot;
 }
 
-/* The physical function's client sends a frame from its own queue, and gets one from the wire. */
+/* Sends a frame from the physical function's own queue, and receives one from the wire. */
 static void pass_both_ways(struct peer *host)
 {
     const uint32_t sends = BUFFER + 0x20000, receives = BUFFER + 0x21000, buffer = BUFFER + 0x30000;
@@ -260,8 +260,8 @@ static void pass_both_ways(struct peer *host)
     CHECK(memcmp(ram + buffer, frame, 60) == 0);
 }
 
-/* During the virtual function's endless work, the physical function's client is served and its frames pass. A request
-   at the control socket is completed. */
+/* Checks that during the virtual function's endless work, the physical function's client is served, its frames pass,
+   and a request at the control socket is completed. */
 static void endless(struct peer *host, struct peer *function)
 {
     uint32_t tail = make_endless();

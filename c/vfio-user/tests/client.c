@@ -475,8 +475,8 @@ static void held_at(struct peer *it, const char *function_path)
     wait_for(TX_RING + 56, NIC_TXWB_DD);
 }
 
-/* With a seed, resets take time, and writes during a reset are lost and counted. If the server gets the CPU late, the
-   reset may already be over, so this retries until it isn't. */
+/* Checks that with a seed, resets take time, and that writes during a reset are lost and counted. If the server gets
+   the CPU late, the reset may already be over, so this retries until a write falls into a reset. */
 static void seeded_resets(struct peer *it)
 {
     bool is_late = false, loses = false;

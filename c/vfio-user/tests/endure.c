@@ -84,7 +84,7 @@ static int memory(uint64_t bytes, uint8_t **at)
 
 /* ---- eventfds ---- */
 
-/* After passing the eventfd, the client clears the eventfd's flag and fills its counter. */
+/* Lets a client pass an eventfd, and then clear the eventfd's flag and fill its counter. */
 static void full_eventfd(void)
 {
     struct peer peer;
@@ -113,7 +113,7 @@ static void start_queue(struct peer *it)
     }
 }
 
-/* The client truncates a file with more separate pages than a process may have mappings. */
+/* Lets a client truncate a file with more separate pages than a process may have mappings. */
 static void cut_file(void)
 {
     struct peer peer;
@@ -142,7 +142,7 @@ static void cut_file(void)
     close(file);
 }
 
-/* A file on a disk is refused with EPERM, unless files are trusted. */
+/* Checks that a file on a disk is refused with EPERM, unless files are trusted. */
 static void foreign_file(void)
 {
     static const char *const more[] = {NULL, "--trust-files"};
@@ -296,7 +296,7 @@ static void file_of_the_wire(void)
 
 /* ---- sockets ---- */
 
-/* A client doesn't read its replies and stops sending, while another client waits at the socket. */
+/* Lets a client stop sending without reading its replies, while another client waits at the socket. */
 static void half_closed(void)
 {
     struct peer peer, next;
@@ -326,7 +326,7 @@ static unsigned int next_file(pid_t process)
     }
 }
 
-/* The process has no free file descriptor when a client connects. */
+/* Connects a client while the process has no free file descriptor. */
 static void no_file_left(void)
 {
     struct peer peer, next;

@@ -1,7 +1,7 @@
-/* Three guests of one card, each with its own memory: one has the physical function, one a virtual function, and one
-   the shadow of that virtual function. At random they set up rings, even in each other's queues, name each other's
-   addresses, leave and connect. No byte of one guest's memory may be sent in another guest's frame or arrive in another
-   guest's memory.
+/* Runs three guests of one card, each with its own memory: one has the physical function, one a virtual function, and
+   one the shadow of that virtual function. At random they set up rings, even for each other's queues, use each other's
+   addresses, disconnect and connect. No byte of one guest's memory may be sent in another guest's frame or arrive in
+   another guest's memory.
 
      owners SEED STEPS FOLDER */
 #define _GNU_SOURCE
@@ -84,7 +84,7 @@ static bool is_filled(const uint8_t *at, uint8_t byte, size_t length)
     return at[0] == byte && memcmp(at, at + 1, length - 1) == 0;
 }
 
-/* These bytes must stay unchanged, because no client uses them in its memory. */
+/* Checks that these bytes are unchanged, because no client uses them in its memory. */
 static void check_memories(void)
 {
     for (unsigned int memory = 0; memory < MEMORIES; memory++) {
@@ -144,7 +144,7 @@ static void leave(unsigned int guest)
     come(guest);
 }
 
-/* The physical function's driver assigns queues to the virtual function, and enables reception. */
+/* Assigns queues to the virtual function and enables reception, as the physical function's driver does. */
 static void set_up_card(void)
 {
     struct peer *host = &peers[0];
@@ -303,8 +303,8 @@ static void step(void)
     }
 }
 
-/* A guest posts a buffer that ends where its secret begins. Another guest sets the queue's buffer size to 16 KB, before
-   or after the guest sets up the ring. No frame may overrun. */
+/* Posts a guest's buffer that ends where its secret begins. Another guest sets the queue's buffer size to 16 KB, before
+   or after the first guest sets up the ring. No frame may overrun the buffer. */
 static void foreign_size(unsigned int guest, unsigned int other, bool is_before)
 {
     const uint32_t at = base_register(0, RECEIVE), small = NIC_SRRCTL_DESCTYPE_IS(1) | NIC_SRRCTL_BSIZEPACKET_IS(2),

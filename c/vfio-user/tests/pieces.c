@@ -67,7 +67,7 @@ static unsigned int mappings(void)
     return count;
 }
 
-/* A large range is unmapped in pieces of 16 MiB; ranges of many files are unmapped in pieces of 64 windows. */
+/* Checks that a large range is unmapped in pieces of 16 MiB, and ranges of many files in pieces of 64 windows. */
 static void ranges(void)
 {
     size_t length = PAGE;
@@ -99,7 +99,8 @@ static uint64_t number_at(uint64_t address)
     return number;
 }
 
-/* However many ranges a file has, it is mapped in a few pieces, and each range is at its own place. */
+/* Checks that a file is mapped in a few pieces, however many ranges it has, and that each range shows its own part of
+   the file. */
 static void shared_windows(void)
 {
     size_t length = PAGE;
@@ -129,7 +130,7 @@ static void shared_windows(void)
     close(file);
 }
 
-/* A file that isn't open for its range's access is refused, whether it is already mapped or not. */
+/* Checks that a file that isn't open for its range's access is refused, whether it is already mapped or not. */
 static void open_for(void)
 {
     char name[64];
@@ -149,7 +150,7 @@ static void open_for(void)
     close(file);
 }
 
-/* A client has a maximum number of windows. Windows without ranges are removed to make room for others. The windows
+/* Checks the limit for a client's windows. Windows without ranges are removed to make room for others. The windows
    aren't adjacent in the file, because a kernel that allocates memory upwards lists adjacent mappings as one. */
 static void windows_most(void)
 {
@@ -182,7 +183,8 @@ static void windows_most(void)
     close(others[1]);
 }
 
-/* At and after the page at which a file was truncated, nothing is accessible; the part before that page still is. */
+/* Checks that a truncated file remains accessible before the page at which it was cut, and isn't accessible from that
+   page on. */
 static void cut(void)
 {
     size_t length = PAGE;
@@ -270,8 +272,8 @@ static unsigned int times(const char *text, const char *words)
     return count;
 }
 
-/* Lines of a kind are limited, without affecting other kinds. Lines left out are counted. Control characters don't
-   reach a terminal. */
+/* Checks that the lines of one kind are limited without affecting other kinds, that lines left out are counted, and
+   that control characters don't reach a terminal. */
 static void lines(void)
 {
     static char said[1u << 16];
@@ -310,7 +312,7 @@ static bool always(void *function)
     return true;
 }
 
-/* Slow messages are served one per turn, whatever they cost. */
+/* Checks that slow messages are served one per turn, whatever they cost. */
 static void slow_messages(void)
 {
     static const struct session_calls calls = {.reset = slow_reset, .may_serve = always};

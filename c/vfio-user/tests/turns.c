@@ -110,8 +110,8 @@ static bool has_reply(const struct peer *peer)
     return recv(peer->file, &byte, 1, MSG_PEEK | MSG_DONTWAIT) == 1;
 }
 
-/* A limited number of accesses is performed per turn. The reply follows the last access, and precedes the next
-   message's reply. */
+/* Checks that a limited number of accesses is performed in each turn. The reply follows the last access, and precedes
+   the next message's reply. */
 static void many_writes(bool is_wrong)
 {
     struct peer peer = begin();
@@ -162,8 +162,8 @@ static uint64_t interrupts(int event)
     return all;
 }
 
-/* Covers interrupts that are sent immediately, and interrupts that waited for their file. The kernel notifies
-   everything that watches an eventfd, and a client can have any number of watchers. */
+/* Checks interrupts that are sent immediately, and interrupts that waited for their file. Their cost isn't known: the
+   kernel notifies everything that watches an eventfd, and a client can have any number of watchers. */
 static void many_interrupts(void)
 {
     static const struct session_calls slowly = {.rearmed = nothing, .may_serve = always, .may_go_on = never};
@@ -236,7 +236,8 @@ static void long_datagrams(const char *folder)
 
 #define GIBIBYTE (UINT64_C(1) << 30)
 
-/* Each client maps as much of one file as its limit allows, and no more. The file costs the client nothing. */
+/* Checks that each client can map as much of one file as its limit allows, and no more. The file costs the client
+   nothing. */
 static void bytes_of_memory(void)
 {
     static const char *const words[] = {"--functions=1", "--client-memory=1", "--quiet", NULL};
@@ -270,7 +271,7 @@ static bool says(const char *said, const char *line)
     return strstr(said, line) != NULL;
 }
 
-/* The lines of one client and kind don't count against another client or another kind. */
+/* Checks that the lines of one client and kind don't count against another client or another kind. */
 static void lines(void)
 {
     static char said[1u << 16];

@@ -45,7 +45,7 @@ static void set_address(uint32_t entry, const uint8_t mac[6], uint32_t pool)
         peer_write(&host, NIC_MPSAR(2 * entry + half), pool / 32 == half ? 1u << pool % 32 : 0);
 }
 
-/* The physical function has pool 63, and the virtual function pool 0. */
+/* Gives the physical function pool 63 and the virtual function pool 0. */
 static void set_up_card(void)
 {
     peer_write(&host, NIC_CTRL, NIC_CTRL_RST);
@@ -172,7 +172,7 @@ static void nothing_posted(uint32_t control_word)
     CHECK(!some_wait());
 }
 
-/* The physical function's own queues behave as its driver configures them. */
+/* Checks that the physical function's own queues behave as its driver configures them. */
 static void host_waits(void)
 {
     begin();

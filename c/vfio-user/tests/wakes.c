@@ -11,7 +11,7 @@
 #include "nic82599.h"
 #include "peer/peer.h"
 
-#define TIMES_MOST 40u /* more than the number of the loop's checks in two turns */
+#define TIMES_MOST 40u /* more checks than the loop makes in two turns */
 #define PAGE 4096u
 #define REPLY_MS 60000 /* for slow machines: a sleeping server never replies */
 

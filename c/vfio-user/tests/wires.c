@@ -51,7 +51,7 @@ static void take(int file, uint8_t *bytes, size_t length)
 
 /* ---- streams ---- */
 
-/* Outgoing frames follow their lengths. Incoming frames arrive whole, in pieces and several at a time. */
+/* Checks that outgoing frames follow their lengths. Incoming frames arrive whole, in pieces and several at a time. */
 static void passes_a_stream(int peer)
 {
     uint8_t frame[2000], bytes[4 + 2000];
@@ -101,7 +101,8 @@ static void in_two_pieces(int peer, size_t length, size_t after)
     CHECK(wire_has_more(&wire, false));
 }
 
-/* A frame too long for any card is skipped. A length that no frame can have ends the connection. */
+/* Checks that a frame too long for any card is skipped, and that a length that no frame can have ends the
+   connection. */
 static void bad_lengths(int peer)
 {
     static uint8_t bytes[68];
@@ -255,7 +256,8 @@ static void send_ten(int peer, uint8_t mark)
     CHECK(send(peer, bytes, sizeof bytes, 0) == sizeof bytes);
 }
 
-/* A full queue of hairpins for one sender blocks neither another sender's hairpins nor frames from the other end. */
+/* Checks that a full queue of hairpins for one sender blocks neither another sender's hairpins nor frames from the
+   other end. */
 static void turns(void)
 {
     const struct wire_options listens = {.kind = WIRE_LISTEN, .path = first_path, .has_hairpin = true};
@@ -308,7 +310,8 @@ static void captures(void)
     wire_close(&wire);
 }
 
-/* A capture that is cut anywhere, or has any byte changed, ends early or is refused, with no other effect. */
+/* Checks that a capture that is cut anywhere, or has any byte changed, ends early or is refused, with no other
+   effect. */
 static void spoilt_captures(void)
 {
     static uint8_t bytes[4096], frame[WIRE_FRAME_MOST];

@@ -10,7 +10,7 @@ const GUEST = {
   Hold: "hold", Step: "step", Go: "go", Due: "due", Why: "why", "Link up": "link up", "Link down": "link down",
 };
 const GUEST_TITLES = {
-  Hold: "the device takes only requested steps", Go: "the device takes its steps by itself again",
+  Hold: "the device takes only requested steps", Go: "the device runs its steps by itself again",
   Step: "takes the first step that is due", Due: "lists the steps that are due",
   Why: "why pending work doesn't proceed",
 };

@@ -1,18 +1,22 @@
-//! Laws about a driver's whole life so far: the driver was started, and since then it has received and sent. The module
-//! `starting` is about the driver's start, and about both halves after the start.
+//! Laws about a driver's whole life so far: the driver was started, and since then it has received and sent packets.
+//! The module `starting` contains the laws about the driver's start, and about its receive and transmit halves after
+//! the start.
 //!
-//! Each law is the contract of a function that does nothing. `specs/Course` defines the histories over which a driver
-//! is started, and when packets and frames are in order. `specs/Life` defines a life by the calls of the driver's pass,
-//! and `specs/Reported` by what the driver's calls return. `specs/Lends` is about the blocks that the driver lends.
+//! Each law is the contract of a function that does nothing. A driver begins well in a history if two conditions hold
+//! just before its first access. Its port and queue number identify the watched queue, and the device's frame limit is
+//! the driver's packet limit (`specs/Start`). `specs/Course` defines the histories over which a driver is started, and
+//! when packets and frames are in order. `specs/Life` defines a life by the calls of the driver's pass, and
+//! `specs/Reported` by what the driver's calls return. `specs/Lends` is about the blocks that the driver lends.
 //! `specs/InHand` defines the history of a device in hand. `specs/Order` states what holds for a life over a history of
-//! a shared device. `specs/Faultless` states that neither the driver's start nor its calls find the device at fault.
+//! a shared device. `specs/Faultless` states that neither the driver's start nor its calls fail with `DeviceFault`.
 //! `specs/Looks` is about polls that find no packet, and `specs/Waits` about polls that find a packet waiting.
-//! `specs/Places` states where the driver's blocks are, and `specs/FullRing` how many slots of a full ring are taken.
-//! `specs/Ends` is about the records that a stopped driver returns, and `specs/Stopped` about the calls of its stop.
-//! `specs/Silent` is about the time after these calls have switched the driver's queue off. `specs/Refused` is about a
-//! refused start, and `specs/Room` about an arena with room for a driver's rings. `specs/Beside` is about a driver
-//! whose author makes any other calls alongside it. For such a driver, `specs/BesideApart` is about its blocks,
-//! `specs/BesideRoom` about its full ring, `specs/BesideStart` about its start, and `specs/BesideStop` about its stop.
+//! `specs/Places` states where the driver's blocks are, and `specs/FullRing` how many slots are taken when a ring is
+//! reported as full. `specs/Ends` is about the records that a stopped driver returns, and `specs/Stopped` about the
+//! calls of its stop. `specs/Silent` states that nothing is delivered or sent after these calls have switched both
+//! sides of the queue off. `specs/Refused` is about a refused start, and `specs/Room` about an arena with room for a
+//! driver's rings. `specs/Beside` is about a driver whose author makes any other calls alongside it. For such a driver,
+//! `specs/BesideApart` is about its blocks, `specs/BesideRoom` about its full ring, `specs/BesideStart` about its
+//! start, and `specs/BesideStop` about its stop.
 #![tactic(auto)]
 
 ghost use Rattle.driver_laws.specs.Beside as beside;
@@ -41,19 +45,20 @@ pub mod starting;
 
 /// The laws in this crate are about histories that begin in any state that a device can be in, new or used, with or
 /// without an installed EEPROM image. The calls through a `pmd_access::Direct` form such a history; all of them belong
-/// to pass 0. They follow the history's earlier part: what is known to have happened to the device before it came into
-/// hand. Pass 0 made no call in that earlier part. The calls through an `Interleaved` form such a history too: its own
-/// calls belong to pass 0, the foreign calls to pass 1. The history leads to the device in hand. The laws require that,
-/// when the `Direct` or `Interleaved` was created, the device was in the state that the earlier part leads to. For a
-/// new one, clause `began` ensures this, and each driver call preserves it. The laws also require that the history
-/// leaves the queue alone. For a `Direct`, the result of `device_lock::left_alone` is enough in any state. For an
-/// `Interleaved`, that result is enough if the device had no image and no pool mode when the history began.
+/// to pass 0. They follow the history's earlier part, which contains what is known to have happened to the device
+/// before it came into hand. Pass 0 made no call in that earlier part. The calls through an `Interleaved` form such a
+/// history too: its own calls belong to pass 0, the foreign calls to pass 1. The history leads to the device in hand.
+/// The laws require that, when the `Direct` or `Interleaved` was created, the device was in the state that the earlier
+/// part leads to. For a newly created `Direct` or `Interleaved`, the clause `began` ensures this, and each driver call
+/// preserves it. The laws also require that the history leaves the queue alone. For a `Direct`, it is enough that
+/// `device_lock::left_alone` returns true, whatever the device's state. For an `Interleaved`, this is enough if the
+/// device had no image and no pool mode when the history began.
 ///
 /// The calls through a `pmd_access::ThroughLock` form a history of a device that was new. It is the history that
-/// `close` returned for the device's passes, up to the last of these calls. The pass may have any tag. The premise is
-/// that `left_alone`, called on the result of `close`, is true for that tag and the queue. The closed history contains
-/// these calls, up to an entry of that pass. `pmd::begins_well` reports whether a driver starts at a point that meets
-/// the laws' requirements, as `pmd::laws::worker_begins_well` says.
+/// `close` returned for the device's passes, cut after the last of these calls. The pass may have any tag. The premise
+/// is that `left_alone`, called on the result of `close`, returns true for that tag and the queue. The closed history
+/// contains all of these calls. Unless it is empty, the part before the cut ends with an entry of that pass.
+/// `pmd::begins_well` reports whether a driver begins well, as `pmd::laws::worker_begins_well` says.
 pub fn calls_in_hand_are_a_history()
     ensures direct { DirectIsHistory }
     ensures interleaved { InterleavedIsHistory }
@@ -61,14 +66,14 @@ pub fn calls_in_hand_are_a_history()
     ensures closed { ClosedIsHistory }
 {}
 
-/// Take a legal history of any sound device. The history leaves the driver's queue alone and begins well. In it, the
-/// driver's pass made the calls of a start that brought both rings up, then calls of the two halves. Between these, the
-/// pass may make harmless calls: they lend, take and poke no block and write no register that a queue relies on. The
-/// packets that the driver handed out are a prefix of those delivered on its queue. If the next poll finds none, each
-/// delivered packet was handed out, or is complete and will be handed out when the tail advances. If the next poll
-/// finds none and no packet is complete, all were handed out. The frames sent on the queue are a prefix of those that
-/// the driver accepted. If no packet is outstanding, all accepted frames were sent. Packets and frames are counted
-/// since the sides were last enabled.
+/// Take a legal history of any sound device. The history leaves the driver's queue alone, and the driver begins well in
+/// it. The driver's pass made the calls of a start that brought both rings up, then calls of the two halves. Between
+/// these calls, the pass may have made harmless calls, which lend, take and poke no block and write no register that a
+/// queue relies on. The packets that the driver handed out are a prefix of those delivered on its queue. If the next
+/// poll finds its slot not done, each delivered packet was handed out, or is complete and will be handed out when the
+/// tail advances. If, in addition, no packet is complete, all delivered packets were handed out. The frames sent on the
+/// queue are a prefix of those that the driver accepted. If no packet is outstanding, all accepted frames were sent.
+/// Packets and frames are counted since the sides were last enabled.
 pub fn life_in_order()
     ensures handed { HandedIsPrefix }
     ensures taken { NoneIsAllTaken }
@@ -84,34 +89,36 @@ pub fn lives_lend_apart()
     ensures { LifeLendsApart }
 {}
 
-/// After the driver's start, no call to `rx`, `tx`, `reap`, `rx_burst` or `tx_burst` ends with the device at fault. A
-/// `tx_burst` that returns the number of accepted packets doesn't find the device at fault either. The premises: The
-/// history is legal, leaves the queue alone and begins well. Between the driver's calls, the driver's author may make
-/// any harmless calls through the same pass. Just before the driver's first access, the frames that wait for the queue
-/// fit a packet of the driver. At that point, no block of the driver's arena that the driver's pass tries to lend is
-/// lent. After the pass's first entry, no other pass tries to lend any of these blocks.
+/// After the driver's start, no call to `rx`, `tx`, `reap`, `rx_burst` or `tx_burst` gets a reply that no healthy queue
+/// sends, and so none fails with `DeviceFault`. Nor does a `tx_burst` that returns the number of accepted packets get
+/// such a reply. The premises: The history is legal and leaves the queue alone, and the driver begins well in it.
+/// Between the driver's calls, the driver's author may make any harmless calls through the same pass. Just before the
+/// driver's first access, each frame that waits for the queue fits the blocks of one of the driver's packets. At that
+/// point, none of the arena's blocks that the driver's pass tries to lend is already lent. After the pass's first
+/// entry, no other pass tries to lend any of these blocks.
 pub fn no_call_finds_the_device_at_fault()
     ensures finds { NoCallFindsFault }
     ensures meets { NoBurstMeetsFault }
 {}
 
-/// No start ends with the device at fault, whether while it fills its receive ring or at any other of its events. The
-/// premises are those of `no_call_finds_the_device_at_fault`. In addition, just before the driver's first access, both
-/// sides of the queue are off with no enable request pending.
+/// No start fails with `DeviceFault` after its first event, whether it is filling its receive ring at the time or not.
+/// The premises are those of `no_call_finds_the_device_at_fault`. In addition, just before the driver's first access,
+/// both sides of the queue are off with no enable request pending.
 pub fn no_start_finds_the_device_at_fault()
     ensures filling { NoFillingFindsFault }
     ensures during { NoStartFindsFault }
 {}
 
-/// Take a legal history of any sound device. The history leaves the queue alone and begins well; in it, a `start`
-/// returned a driver and the driver's calls followed. Each block that one of the driver's halves has out is lent to the
-/// device. Now take the blocks of the driver's arena that the driver's pass tries to lend. Suppose that none of these
-/// blocks is lent just before the driver's first access, and that no other pass tries to lend any of them after the
-/// pass's first entry. Then each of these blocks that is lent to the device is out with one of the halves. Together
-/// with the accounting of `calls_keep_the_books`, this means that each block is in one place: free in the arena, in
-/// hand, or lent to the device. This holds for each block that was free in the arena handed to the driver, or that was
-/// out of the arena then, for example in hand. Others may have lent blocks that were out then, or that the driver
-/// handed out.
+/// Take a legal history of any sound device. The history leaves the queue alone, and the driver begins well in it. In
+/// the history, a `start` returned a driver, and the driver's calls followed. A block is out if one of the driver's
+/// halves still has it in use; such a block isn't free in the arena. Each block that is out is lent to the device. Now
+/// take the blocks of the driver's arena that the driver's pass tries to lend. Suppose that none of these blocks is
+/// lent just before the driver's first access. Suppose also that no other pass tries to lend any of them after the
+/// pass's first entry. Then each of them that is lent to the device is out. Together with the accounting of
+/// `calls_keep_the_books`, this means that each block is in one place: free in the arena, in hand, or lent to the
+/// device. This holds for each block that was free in the arena when the arena was handed to the driver. It also holds
+/// for each block that was outside the arena at that time, for example in hand. Others may have lent blocks that were
+/// outside the arena then, or that the driver handed out.
 pub fn blocks_out_are_lent_at_the_device()
     ensures lent { OutIsLent }
     ensures known { LentIsOut }
@@ -120,8 +127,8 @@ pub fn blocks_out_are_lent_at_the_device()
 
 /// If some blocks of an arena are in hand when a driver starts with that arena, the driver has all blocks of the arena
 /// except these. If the driver has all blocks except those in hand before one of its calls, the same is true after the
-/// call, by the call's clause `blocks`. After the call, the blocks that it handed out are in hand too. The blocks that
-/// were passed to the call are no longer in hand, even if they were in hand when the driver started.
+/// call, by the call's clause `blocks`. After the call, the blocks that the call handed out are in hand too. The blocks
+/// that were passed to the call are no longer in hand, even if they were in hand when the driver started.
 pub fn calls_keep_the_books()
     ensures { BooksGoOn }
 {}
@@ -129,16 +136,16 @@ pub fn calls_keep_the_books()
 /// Suppose that a `start` returned a driver, the driver's calls followed, and then `tx` reports that the ring is full.
 /// Then the outstanding packets have fewer parts than the ring has descriptors (the number given to the start).
 /// Together with the parts of the packet passed to `tx`, there are at least as many parts as descriptors. So if that
-/// packet has one part, all slots except one are taken. The same holds after a call to `tx_burst` that returns 0, with
-/// the parts of the first packet that the call leaves.
+/// packet has one part, all slots except one are taken. The same bounds hold after a call to `tx_burst` that returns 0
+/// and leaves packets; the parts counted are then those of the first packet left.
 pub fn full_ring_has_no_room()
     ensures reported { FullHasNoRoom }
     ensures none { NoneHasNoRoom }
 {}
 
-/// Suppose that a pass made the calls in a list, and perhaps more calls after them. Then an entry of the history has
+/// Suppose that a pass made the calls in a list, and perhaps more calls after them. Then the history has an entry with
 /// the event and the reply of the list's last call. Before that entry, the pass made exactly the other calls in the
-/// list. The law doesn't promise that the entry belongs to the pass.
+/// list. The law doesn't state that the entry belongs to the pass.
 pub fn calls_end_at_an_entry()
     ensures { CallsEnd }
 {}
@@ -154,23 +161,23 @@ pub fn empty_look_leaves_nothing()
 {}
 
 /// Suppose that a driver call in a life ends with a packet outstanding, as a call to `reap` does if it doesn't report
-/// idle. Then the call's last event was a poll. Before the call's own first event, not everything that the driver had
-/// accepted was sent. Before that event, other passes may have made any calls, and the driver's own pass may have made
-/// harmless calls. The same follows from what the calls of a `pmd_driver::Pmd` return, without any other knowledge of
-/// the calls.
+/// idle. Then the call's last event was a poll. When the call's own first event occurred, some of what the driver had
+/// accepted had not yet been sent. Before that event, other passes may have made any calls, and the driver's own pass
+/// may have made harmless calls. The same follows only from what the calls of a `pmd_driver::Pmd` return; nothing else
+/// about the calls needs to be known.
 pub fn waiting_look_leaves_some_unsent()
     ensures before { WaitingIsNotAllBefore }
     ensures reported { WaitingIsNotAllAsReported }
 {}
 
-/// Packets and frames are in order over a history as in `life_in_order`. This law derives that only from what the calls
-/// of a `pmd_driver::Pmd` return. A `start` returned the driver. Calls to `rx`, `tx`, `reap`, `rx_burst`, `tx_burst`,
-/// `packet` and `release` followed, in any order and with any results. Between these calls, there may be harmless calls
-/// through the same pass, for example arrivals of frames. The packets that the driver handed out are a prefix of those
-/// delivered. Suppose that `rx` returns none, or that `rx_burst` returns 0 although packets were requested. Then the
-/// packets handed out are all those delivered before the call's last poll, and so all those delivered before the call's
-/// first event. The frames sent are a prefix of those that the driver accepted. If no packet is outstanding, for
-/// example if `reap` reports this, all accepted frames were sent.
+/// Packets and frames are in order over a history as in `life_in_order`. Unlike that law, this one assumes nothing
+/// about the driver's calls except what the calls of a `pmd_driver::Pmd` return. A `start` returned the driver. Calls
+/// to `rx`, `tx`, `reap`, `rx_burst`, `tx_burst`, `packet` and `release` followed, in any order and with any results.
+/// Between these calls, the pass may have made harmless calls, for example arrivals of frames. The packets that the
+/// driver handed out are a prefix of those delivered. Suppose that `rx` returns none, or that `rx_burst` returns 0
+/// although packets were requested. Then the packets handed out are all those delivered before the call's last poll,
+/// and so all those delivered before the call's first event. The frames sent are a prefix of those that the driver
+/// accepted. If no packet is outstanding, for example if `reap` reports this, all accepted frames were sent.
 pub fn driver_in_order()
     ensures handed { reported.HandedIsPrefix }
     ensures none { reported.NoneIsAllBefore }
@@ -184,12 +191,13 @@ pub fn driver_in_order()
 /// must meet the conditions for other passes: if each of them carried another pass's tag instead, the history would
 /// leave the queue alone. So after the first entry of the driver's pass, the author's calls write no row of the queue
 /// and no setting, and don't reset the queue's pool. They lend, take and poke no block that the driver itself lends.
-/// Just before its own first access, the driver begins well. In the retagged history, which has these other tags, the
-/// driver's pass makes only the driver's own calls. These are reported as the driver's clauses say (`reported`), and
-/// belong to a life (`lived`). So the laws on reported drivers and lives apply, and what they state about packets and
-/// frames also holds for the original history. For a device in hand, marks say which calls are the driver's own
-/// (`in_hand`, `interleaved`). The marks may also span several `Direct`s or `Interleaved`s in succession, for example
-/// if a `Direct` is finished and another one steps the other driver's queue.
+/// The history with these other tags is the retagged history. The driver must begin well in it. In the retagged
+/// history, the driver's pass makes only the driver's own calls. For these calls by themselves, the driver's clauses
+/// hold (`reported`), and the calls form a life (`lived`). So the laws about a driver's reports and about its life
+/// apply to the retagged history. What they state about packets and frames also holds for the original history. For a
+/// device in hand, marks say which calls are the driver's own (`in_hand`, `interleaved`). The marks may also span
+/// several `Direct`s or `Interleaved`s in succession, for example if a `Direct` is finished and another one steps the
+/// other driver's queue.
 pub fn driver_among_any_calls_in_order()
     ensures reported { beside.OwnAreReported }
     ensures lived { beside.ReportedIsLived }
@@ -203,12 +211,13 @@ pub fn driver_among_any_calls_in_order()
     ensures interleaved { beside.InterleavedIsRetagged }
 {}
 
-/// No call of a driver as in `driver_among_any_calls_in_order` finds the device at fault, provided that two conditions
-/// hold. Neither another pass nor the driver's author, in calls alongside the driver, tries to lend a block of the
-/// driver's arena that the driver tries to lend. Just before the driver's first access, none of these blocks is lent,
-/// and the frames that wait for the driver's queue fit the driver's packets. The blocks that the driver has out are
-/// lent to the device. Each block that the driver tries to lend is out if it is lent to the device. Each block is in
-/// one place.
+/// Take a driver as in `driver_among_any_calls_in_order`, and suppose that two conditions hold. Neither another pass
+/// nor the driver's author, in calls alongside the driver, tries to lend a block of the driver's arena that the driver
+/// tries to lend. Just before the driver's first access, none of these blocks is lent, and the frames that wait for the
+/// driver's queue fit the driver's packets. Then no call of the driver gets a reply that no healthy queue sends, and so
+/// none fails with `DeviceFault`. Each block that the driver still has in use (that is out) is lent to the device.
+/// Conversely, each block that the driver tries to lend is out if it is lent to the device. Each block is in one place,
+/// as in `blocks_out_are_lent_at_the_device`.
 pub fn driver_among_any_calls_keeps_its_blocks()
     ensures finds { apart.NoCallFindsFault }
     ensures meets { apart.NoBurstMeetsFault }
@@ -217,11 +226,11 @@ pub fn driver_among_any_calls_keeps_its_blocks()
     ensures once { apart.EachInOnePlace }
 {}
 
-/// No start of a driver as in `driver_among_any_calls_in_order` ends with the device at fault at any of its events,
+/// No start of a driver as in `driver_among_any_calls_in_order` fails with `DeviceFault` after its first event,
 /// whatever calls the driver's author made before. The conditions are those of
 /// `driver_among_any_calls_keeps_its_blocks`. In addition, just before the driver's first access, both sides of its
-/// queue are off with no enable request pending. A start that comes up adds calls to those already made, and the
-/// driver's first access is among the added calls.
+/// queue are off with no enable request pending. A start that brings both rings up adds calls to those already made,
+/// and the driver's first access is among the added calls.
 pub fn driver_among_any_calls_starts()
     ensures adds { start.StartAdds }
     ensures filling { start.NoFillingFindsFault }
@@ -237,30 +246,32 @@ pub fn full_ring_among_any_calls_has_no_room()
 
 /// Suppose that a driver as in `driver_among_any_calls_in_order` is stopped. At any point during the calls of its stop,
 /// and at their end, the packets that the driver handed out are a prefix of those delivered. If the stop takes blocks
-/// back only after both sides were seen off, the frames sent are a prefix of those that the driver accepted. After the
-/// stop's calls have switched both sides off, nothing more is delivered or sent on the queue. The calls that a stop
-/// makes meet these conditions, as `stop_calls_ask_for_no_side` and `stops_take_blocks_once_off` state.
+/// back only after both sides have read as off, the frames sent are a prefix of those that the driver accepted. After
+/// the stop's calls have switched both sides off, nothing more is delivered or sent on the queue. A stop never requests
+/// that a side be enabled, as `stop_calls_ask_for_no_side` states. It takes blocks back only after both sides have read
+/// as off, as `stops_take_blocks_once_off` states.
 pub fn driver_among_any_calls_stops_in_order()
     ensures handed { stop.HandedIsPrefix }
     ensures sent { stop.SentIsPrefix }
     ensures silent { stop.SilentOnceOff }
 {}
 
-/// Take a legal history that leaves the queue alone and begins well. The history ends where a driver that lived was
-/// about to stop, as `pmd::run_worker` states for its driver. The packets that the driver's stop returns as handed out
-/// are a prefix of those delivered. The frames sent are a prefix of those that the stop returns as accepted. The same
-/// holds over a history that continues to any point during the stop, or to the end of the stop, successful or not.
+/// Take a legal history that leaves the queue alone and in which the driver begins well. The driver's start brought
+/// both rings up, and the history ends just before the driver's stop, as `pmd::run_worker` states for its driver. The
+/// packets that the driver's stop returns as handed out are a prefix of those delivered. The frames sent are a prefix
+/// of those that the stop returns as accepted. The same holds if the history continues to any point during the stop, or
+/// to the end of the stop, successful or not.
 pub fn what_is_left_is_in_order()
     ensures before { LeftIsPrefix }
     ensures handed { HandedOverStop }
     ensures sent { SentOverStop }
 {}
 
-/// Suppose that, over a history as in `what_is_left_is_in_order`, a driver's start was refused, as `pmd::run_worker`
-/// states for a driver that never lived. Just before the start's first event, port and queue name the queue, and both
-/// sides are off with no enable request pending. From that event on, nothing is sent on the queue, neither during the
-/// start nor during the stop of a driver that the start returned. So at any point up to the end of the start and the
-/// stop, the packets returned as handed out and the frames sent since that event are in order too.
+/// Suppose that a driver's start was refused, as `pmd::run_worker` states for a driver that never ran. The history is
+/// legal and leaves the queue alone. Just before the start's first event, the driver begins well, and both sides are
+/// off with no enable request pending. From that event on, nothing is sent on the queue, neither during the start nor
+/// during the stop of a driver that the start returned. So packets and frames are also in order, at any point up to the
+/// end of the start and the stop: the packets returned as handed out, and the frames sent since that event.
 pub fn refused_start_sends_nothing()
     ensures sent { RefusedSendsNothing }
     ensures left { LeftOfRefusedIsPrefix }
@@ -268,25 +279,25 @@ pub fn refused_start_sends_nothing()
 
 /// Suppose that a life as in `life_in_order` is followed by calls of a stop, none of which requests that a side be
 /// enabled. The packets that the driver had handed out are a prefix of those delivered in the whole history, including
-/// everything delivered after the life. If the stop's calls take blocks back only after both sides were seen off, the
-/// frames sent on the queue are in order too. In the whole history, they are a prefix of those that the driver had
+/// everything delivered after the life. Suppose also that the stop's calls take blocks back only after both sides have
+/// read as off. Then the frames sent on the queue in the whole history are a prefix of those that the driver had
 /// accepted.
 pub fn stopped_life_in_order()
     ensures handed { stopped.HandedIsPrefix }
     ensures sent { stopped.SentIsPrefix }
 {}
 
-/// When a `pmd_driver::Pmd` stops, its calls, with device steps between them, never request that a side be enabled. Nor
-/// do the calls of a failed stop.
+/// The calls of a stop of a `pmd_driver::Pmd`, including the device steps between them, never request that a side be
+/// enabled. Nor do the calls of a failed stop.
 pub fn stop_calls_ask_for_no_side()
     ensures stops { stopped.StopEnds }
     // Nor do the calls of a failed stop.
     ensures fails { stopped.FailedStopEnds }
 {}
 
-/// The calls of a stop take blocks back only after both sides were seen off, and so do the calls of a failed stop. If
-/// this is true for some earlier calls, it is true for these calls followed by the stop's calls. It is also true if
-/// there are no calls at all.
+/// The calls of a stop take blocks back only after both sides have read as off, and so do the calls of a failed stop.
+/// If this is true for some earlier calls, it is true for the earlier calls followed by the stop's calls. It is also
+/// true if there are no calls at all.
 pub fn stops_take_blocks_once_off()
     ensures none { stopped.NoCallTakes }
     ensures stops { stopped.StopTakesOnceOff }
@@ -294,10 +305,10 @@ pub fn stops_take_blocks_once_off()
 {}
 
 /// Suppose that a life as in `life_in_order` is followed by calls of a stop that take blocks back only after both sides
-/// were seen off. After these calls have switched both sides off, nothing more is delivered or sent on the queue, as
-/// long as the driver's pass makes only calls of a stop. The same holds for a driver that lived and was stopped, as
-/// `pmd::run_worker` states for its driver. It holds from the point where the stop had switched both sides off, up to
-/// any point during the stop and up to the end of the stop, successful or not.
+/// have read as off. After these calls have switched both sides off, nothing more is delivered or sent on the queue, as
+/// long as the driver's pass makes only calls of a stop. The same holds for a driver that was started and later
+/// stopped, as `pmd::run_worker` states for its driver. In that case, nothing is delivered or sent from the point where
+/// the stop has switched both sides off. This includes the rest of the stop and its end, successful or not.
 pub fn switched_off_queue_is_silent()
     ensures once { SilentOnceOff }
     ensures over { SilentOverStop }

@@ -1,11 +1,12 @@
-//! Laws about a driver on a queue of a shared device, whatever others do in between. After the driver's start, the
-//! device and the driver agree on both sides of the driver's queue. The laws also state why a start is refused, and
-//! what holds after a start for both halves of the driver, for receiving and for sending.
+//! Laws about a driver on a queue of a shared device, whatever other passes do between the driver's calls. After the
+//! driver's start, the device and the driver agree on both sides of the driver's queue. The laws also state why a start
+//! is refused, and what holds after a start for the driver's receive half and transmit half.
 //!
 //! Each law is the contract of a function that does nothing. `specs/Along` defines the histories that the laws are
-//! about, and `specs/Histories` which of these drive both halves. Crate `pmd_driver` states how the state of the halves
-//! follows from the calls of a driver's pass. `specs/Agreeing` defines what the device and both halves agree on.
-//! `specs/Healthy` defines the histories over which the device never replies as a queue at fault does.
+//! about. `specs/Histories` defines in which of these the driver's pass makes the calls of both halves. Crate
+//! `pmd_driver` states how the state of the halves follows from the calls of a driver's pass. `specs/Agreeing` defines
+//! what the device and both halves agree on. `specs/Healthy` defines the histories over which the driver gets only
+//! replies that a healthy queue sends.
 
 ghost use Rattle.pmd_driver.specs.NicDevice.DmaRing.declared.dir.Dir.TheVariants.{Rx, Tx};
 ghost use Rattle.pmd_driver.specs.Halves.{ReceivingDrives, SendingDrives, OthersDrive, DrivesOn};
@@ -39,7 +40,7 @@ ghost use Rattle.driver_laws.specs.TimedOut.{TimeoutsPoll};
 ghost use Rattle.driver_laws.specs.Waiting.{WaitingIsNotAll};
 ghost use Rattle.driver_laws.specs.Words.{WordsAreTaken};
 
-/// The register numbers that a driver uses at its port name the registers of the driver's queue. At the physical
+/// The register numbers that a driver uses at its port identify the registers of the driver's queue. At the physical
 /// function, the queue may be any of the device's queues, given by its number. At a virtual function, it may be any
 /// queue of the function's pool, given by its number counted from the pool's first queue.
 #[tactic(auto, using(crate::proofs::Ground::named_queue_has_the_numbers))]
@@ -55,22 +56,23 @@ pub fn set_up_is_written()
     ensures bytes { BytesAreLowestFirst }
 {}
 
-/// A start is refused before any event with the first of these faults. `BadSize`: a ring would have fewer than 8
-/// descriptors, more than 1,024, or a number that isn't a multiple of 8; or the limit on a frame's length would be
-/// below 1,518 or above 9,728 bytes. `NoBuffer`: too few blocks are free. The start needs one for each slot except one,
-/// plus one for each 128 descriptors of both rings. `DeviceFault`: these blocks and two runs for the rings are free,
-/// but the port can't name the queue. A packet is refused for the first of these reasons. `BadSize`: the packet is
-/// empty, longer than the limit, or longer than the total of its 2,048-byte blocks. `ForeignBlock`: the packet's blocks
-/// can't be returned to the arena, or another ring has one of them. A full ring: with this packet, no slot of the ring
-/// would be left free.
+/// If a start is refused before any event, its fault is the first of the following that applies. `BadSize`: a ring
+/// would have fewer than 8 descriptors, more than 1,024, or a number that isn't a multiple of 8; or the limit on a
+/// frame's length would be below 1,518 or above 9,728 bytes. `NoBuffer`: too few blocks are free. The start needs one
+/// for each slot except one, plus one for each 128 descriptors of both rings. `DeviceFault`: these blocks and two runs
+/// for the rings are free, but the queue number is beyond those that the port can address. A packet is refused for the
+/// first of the following reasons. `BadSize`: the packet is empty, longer than the limit, or longer than the total of
+/// its 2,048-byte blocks. `ForeignBlock`: the packet's blocks can't be returned to the arena, or another ring has one
+/// of them. Full ring: with this packet, no slot of the ring would be left free.
 pub fn refusals_have_an_order()
     ensures starts { StartsHaveAnOrder }
     ensures packets { PacketsHaveAnOrder }
 {}
 
-/// The limit on a frame's length is 1,518 to 9,728 bytes, including the frame's 4-byte check sequence. Four numbers
-/// just inside and just outside this range show it. The frame's packet takes at most as many 2,048-byte blocks as the
-/// frame needs without these 4 bytes: one for up to 2,052 bytes of the frame, two for up to 4,100, and five at most.
+/// The limit on a frame's length is 1,518 to 9,728 bytes, including the frame's 4-byte check sequence. The law states
+/// this for the four numbers just inside and just outside this range. The frame's packet takes at most as many
+/// 2,048-byte blocks as the frame needs without these 4 bytes: one for up to 2,052 bytes of the frame, two for up to
+/// 4,100, and five at most.
 #[tactic(auto, using(crate::proofs::Refusals::frames_are))]
 pub fn frames_have_their_numbers()
     ensures { FramesAre }
@@ -93,17 +95,18 @@ pub fn standing_sides_are_left()
 {}
 
 /// Suppose that a driver lays out the empty transmit ring of a queue while the queue's transmit side is disabled, and
-/// only then requests that the side be enabled. Over a legal history that leaves the queue alone, nothing is sent on
-/// the queue during this time, whether the side is enabled yet or not. The premises: The driver's pass writes only
-/// registers of its queue. It lays the ring out while the side is disabled with no enable request pending: the length
-/// first, then head and tail. Just before the first of these calls, the driver begins well.
+/// only then requests that the side be enabled. The history is legal and leaves the queue alone. Then nothing is sent
+/// on the queue from the first of these calls on, whether the side becomes enabled or not. The premises: The driver's
+/// pass writes only registers of its queue. When it begins to lay the ring out, the side is disabled with no enable
+/// request pending. It writes the length first, then head and tail. Just before the first of these calls, the driver's
+/// port and queue number identify the queue, and the device's frame limit is the driver's packet limit.
 pub fn laid_queue_is_silent()
     ensures { LaidQueueIsSilent }
 {}
 
-/// A driver's own accesses preserve this state: each side is disabled, or enabled with an empty ring. A value written
-/// to a register of a side takes effect. If a side's enable word is read with bit 25 set, the side is enabled. When a
-/// zero-filled block is lent, it becomes one of the driver's blocks.
+/// Suppose that each side of a queue is disabled, or enabled with an empty ring. A driver's own accesses preserve this
+/// state. A value written to a register of a side takes effect. If a side's enable word is read with bit 25 set, the
+/// side is enabled. When a zero-filled block is lent, it becomes one of the driver's blocks.
 pub fn accesses_keep_sides_standing()
     ensures receive_write { WriteStands Rx }
     ensures transmit_write { WriteStands Tx }
@@ -112,34 +115,35 @@ pub fn accesses_keep_sides_standing()
     ensures lend { LendStands }
 {}
 
-/// Suppose that the register values of a fresh ring are written, the ring's blocks are lent and all zero, and the
-/// driver's number for the tail names the side's tail. Then the device and the driver agree, whether the side is
-/// enabled or disabled. On the receive side, they agree that nothing is posted. On the transmit side, they agree that
-/// nothing is sent, if the device's frame limit is the driver's.
+/// Suppose that the register values of a fresh ring are written, and that the ring's blocks are lent and all zero. The
+/// tail number that the driver uses identifies the side's tail register. Then the device and the driver agree, whether
+/// the side is enabled or disabled. On the receive side, they agree that nothing is posted. On the transmit side, they
+/// agree that nothing is sent, if the device's frame limit is the driver's.
 pub fn fresh_sides_agree()
     ensures receive { FreshReceiveAgrees }
     ensures transmit { FreshTransmitAgrees }
 {}
 
-/// After the receive side's enable word is written with bit 25 clear, no enable request is in effect for the side. This
-/// stays true over every event that leaves the queue alone. If a later read returns bit 25 as 0, the side is disabled.
-/// If both sides are disabled with no enable request pending, they stay as they are.
+/// After the receive side's enable word is written with bit 25 clear, no enable request is in effect for the side.
+/// Every event that leaves the queue alone preserves this. If a later read of the enable word returns bit 25 as 0, the
+/// side is disabled. If both sides are disabled with no enable request pending, they stay as they are.
 #[tactic(auto, using(crate::proofs::SwitchedOff::off_sides_stand, crate::proofs::SwitchedOff::receive_guard_is_off))]
 pub fn guarded_receive_side_is_off()
     ensures guard { ReceiveGuardIsOff }
     ensures stand { OffSidesStand }
 {}
 
-/// Take a legal history that leaves the queue alone. Wherever the driver's pass has made the accesses that find both
-/// sides disabled, both are disabled with no enable request pending; and they stay as they are. The premise: Just
-/// before the first of these accesses, the driver begins well.
+/// Take a legal history that leaves the queue alone, and a point where the driver's pass has made the accesses by which
+/// it finds both sides disabled. At that point, both sides are disabled with no enable request pending, and they stay
+/// as they are. The premise: Just before the first of these accesses, the driver begins well.
 pub fn both_sides_are_seen_off()
     ensures quieting { QuietingLeads }
     ensures stand { QuietSidesStand }
 {}
 
-/// In a legal history that leaves the queue alone, take a point where the state of the sides is known. Wherever the
-/// driver's pass has made some accesses since that point, the sides are in the state that these accesses lead to.
+/// In a legal history that leaves the queue alone, take a point where the state of the sides is known. After that
+/// point, the driver's pass makes accesses that keep the sides at rest. At each point where it has made these accesses,
+/// the sides are in the state that these accesses lead to.
 pub fn accesses_lead_over_a_history()
     ensures { AccessesLead }
 {}
@@ -147,8 +151,8 @@ pub fn accesses_lead_over_a_history()
 /// Take a legal history that leaves the queue alone, and a point where the driver's pass has made the calls that set up
 /// both rings and enabled both sides. At that point, the device and the driver agree on both sides, with nothing posted
 /// or sent yet. Both sides are enabled, nothing was received or sent since they were enabled, and no part of a frame
-/// for the queue is written yet. This holds whether or not the receive ring is filled next. The premise: Just before
-/// its first access, the driver begins well.
+/// for the queue is written yet. All of this holds whether or not the receive ring is filled next. The premise: Just
+/// before its first access, the driver begins well.
 pub fn switched_sides_agree()
     ensures agree { SwitchedSidesAgree }
     ensures on { SwitchedSidesGoOn }
@@ -158,55 +162,55 @@ pub fn switched_sides_agree()
 /// Take a legal history that leaves the queue alone, and a point where the driver's pass has made the calls by which
 /// its start enabled both sides. At that point, the device and the driver agree on both sides: nothing is posted or
 /// sent yet. Both sides are enabled, and nothing was received or sent since they were enabled. The premise: Just before
-/// the driver's first access, its port and queue name this queue, and the device's frame limit is the driver's packet
-/// limit.
+/// the driver's first access, its port and queue number identify this queue, and the device's frame limit is the
+/// driver's packet limit.
 pub fn start_leaves_sides_that_agree()
     ensures agree { StartAgrees }
     ensures on { StartGoesOn }
 {}
 
-/// A start that returns `StartTimeout` made reads of its queue's RXDCTL and TXDCTL, of which 1,000 in total returned
-/// bit 25 as 0 after an enable request. That is, the read follows a write to the same register, and the last such write
-/// before the read set bit 25.
+/// A start that returns `StartTimeout` polled its queue's RXDCTL and TXDCTL. In total, 1,000 of these reads returned
+/// bit 25 as 0 after an enable request: the last write to the same register before the read had set bit 25.
 #[tactic(auto, using(crate::proofs::TimedOut::timeouts_poll))]
 pub fn timeouts_poll_a_thousand_times()
     ensures { TimeoutsPoll }
 {}
 
-/// The reads in `timeouts_poll_a_thousand_times` are among the calls made by the start's pass, with the numbers that
-/// RXDCTL and TXDCTL have at the start's port.
+/// The reads in `timeouts_poll_a_thousand_times` are among the calls made by the start's pass. These calls use the
+/// register numbers that RXDCTL and TXDCTL have at the start's port.
 #[tactic(auto, using(crate::proofs::TimedOut::polls_are_reported))]
 pub fn polls_of_a_timeout_are_reported()
     ensures { PollsAreReported }
 {}
 
-/// If port and queue name a queue of the device, a start isn't refused with `DeviceFault` before any event, because the
-/// port can name the queue.
+/// If port and queue number identify a queue of the device, the port can address that queue. So a start isn't refused
+/// with `DeviceFault` before any event.
 #[tactic(auto, using(crate::proofs::Ground::named_queues_pass))]
 pub fn named_queues_pass_the_gate()
     ensures { NamedQueuesPass }
 {}
 
-/// If port and queue name a queue of the device, a driver's reads of the queue's registers return values, and its
-/// writes to these registers are done. A read of a disabled side's enable word returns bit 25 as 0.
+/// If port and queue number identify a queue of the device, a driver's reads of the queue's registers return values,
+/// and its writes to these registers get the reply `done`. If both sides are disabled with no enable request pending, a
+/// read of an enable word returns bit 25 as 0.
 pub fn replies_at_a_start_are_healthy()
     ensures registers { NamedRegistersReply }
     ensures off { OffSidesAreSeenOff }
 {}
 
-/// No start finds the device at fault while it sets up its rings, one after the other, or enables both sides. The
-/// premises: The history is legal and leaves the queue alone. Just before the start's first call, port and queue name
-/// the queue, and both sides of the queue are disabled with no enable request pending. No block that the start lends is
-/// already lent.
+/// No start fails with `DeviceFault` while it sets up its two rings, one after the other, or while it enables both
+/// sides. The premises: The history is legal and leaves the queue alone. Just before the start's first call, the driver
+/// begins well, and both sides of the queue are disabled with no enable request pending. No block that the start lends
+/// is already lent.
 pub fn starts_find_no_device_at_fault()
     ensures receive { ReceiveIsReady }
     ensures transmit { TransmitIsReady }
     ensures switch { SwitchingIsNeverStray }
 {}
 
-/// If a start returns `DeviceFault` during its events, it does so before both sides are enabled, or while it fills its
-/// receive ring. Over a history as in `starts_find_no_device_at_fault`, the first case never occurs. Over such a
-/// history, the device and the driver agreed on both sides when the start began to fill the ring.
+/// If a start fails with `DeviceFault` after its first event, it fails before both sides are enabled, or while it fills
+/// its receive ring. Over a history as in `starts_find_no_device_at_fault`, it never fails before both sides are
+/// enabled. Over such a history, the device and the driver agreed on both sides when the start began to fill the ring.
 pub fn faults_at_a_start_come_filling()
     ensures cases { FaultsAreEarlyOrFilling }
     ensures early { NoFaultIsEarly }
@@ -214,8 +218,8 @@ pub fn faults_at_a_start_come_filling()
 {}
 
 /// The calls made by one half change that half's state and leave the other half unchanged. Device steps leave both
-/// halves unchanged. Sequences of calls compose. So the state of both halves follows from any calls of a running
-/// driver, if each call that belongs to neither half is a device step.
+/// halves unchanged. One sequence of calls followed by another changes the halves as both do in turn. So if each call
+/// that belongs to neither half is a device step, the state of both halves follows from a running driver's calls.
 pub fn calls_lead_both_halves()
     ensures receiving { ReceivingDrives }
     ensures sending { SendingDrives }
@@ -224,14 +228,15 @@ pub fn calls_lead_both_halves()
 {}
 
 /// Take a history of any sound device that leaves the driver's queue alone, and a point where the device agrees with
-/// both halves. At that point, the receive side has just been enabled, and no request to disable it is pending. After
-/// that point, the pass makes the calls of the halves, and calls that leave the queue alone. The packets that the
-/// driver returned are a prefix of those delivered since that point. If the next poll finds none, each delivered packet
-/// was returned, or is complete and will be returned when the tail advances. If the next poll finds none and no packet
-/// is complete, all were returned. If, in addition, none was returned since some point in between, all those delivered
-/// before that second point were returned by then. The frames sent since the first point are a prefix of those that the
-/// driver accepted, and all of them if no packet is outstanding. If the transmit side is enabled at the first point,
-/// all of these frames are counted since the side was enabled.
+/// both halves. At that point, the receive side has just been enabled, and no request to disable the side is pending.
+/// After that point, the driver's pass makes only the calls of the halves and calls that leave the queue alone. The
+/// packets that the driver returned are a prefix of those delivered since that point. If the next poll finds its slot
+/// not done, each delivered packet was returned, or is complete and will be returned when the tail advances. If, in
+/// addition, no packet is complete, all delivered packets were returned. Now suppose that no packet was returned since
+/// a second, later point either. Then all packets delivered before that second point had been returned by then. The
+/// frames sent since the first point are a prefix of those that the driver accepted, and all of them if no packet is
+/// outstanding. If the transmit side is enabled at the first point, all of these frames are counted since the side was
+/// enabled.
 pub fn both_sides_in_order()
     ensures handed { HandedIsPrefix }
     ensures taken { NoneIsAllTaken }
@@ -243,8 +248,8 @@ pub fn both_sides_in_order()
 {}
 
 /// Suppose that the device agrees with both halves of a driver, and any value is written to the enable register of
-/// either side of the driver's queue. Then the device still agrees with both halves, provided that nothing is
-/// outstanding if the value requests that the transmit side be enabled. A stopping driver makes writes of this kind.
+/// either side of the driver's queue. Then the device still agrees with both halves. The premise: if the value requests
+/// that the transmit side be enabled, no packet is outstanding. A stopping driver makes writes of this kind.
 pub fn enable_words_keep_the_agreement()
     ensures { EnableWordsKeep }
 {}
@@ -252,9 +257,9 @@ pub fn enable_words_keep_the_agreement()
 /// Harmless calls leave every queue alone and both halves unchanged. They lend, take and poke no block. Through the
 /// physical function, they write no register that a queue relies on; through a virtual function, they write no register
 /// at all. The device steps that a `Nic` runs before the driver's calls are harmless. Some calls that the driver's own
-/// author makes through the same pass are harmless too, for example the arrival of a frame or a write of EIMS. So
-/// nothing more is required of a pass if its calls that belong to neither half are harmless. A call through a `Nic`
-/// adds only harmless calls if its event is harmless, or if the call is refused.
+/// author makes through the same pass are harmless too, for example the arrival of a frame or a write of EIMS. So if
+/// all calls of a pass that belong to neither half are harmless, the pass meets the requirements on such calls. A call
+/// through a `Nic` adds only harmless calls if its event is harmless, or if the call is refused.
 pub fn harmless_calls_leave_the_queue_alone()
     ensures called { CallsAddHarmless }
     ensures refused { StepsAddHarmless }
@@ -264,50 +269,53 @@ pub fn harmless_calls_leave_the_queue_alone()
     ensures alone { HarmlessLeaveAlone }
 {}
 
-/// This law lists which events are harmless, by address. Writes to FCTRL, at 0x05080, and EIMS, at 0x00880, are
-/// harmless. Writes to CTRL, HLREG0, MAXFRS, GCR_EXT or a ring's registers aren't, as the first and the last of their
-/// addresses show. A write to PVFCTRL that sets bit 26 isn't harmless either. No write by a virtual function is
-/// harmless. No event that lends, takes or pokes a block is harmless. Every other event is harmless.
+/// This law lists which events are harmless; for writes by the physical function, it uses register addresses. Writes to
+/// FCTRL, at 0x05080, and EIMS, at 0x00880, are harmless. Writes to CTRL, HLREG0, MAXFRS, GCR_EXT and a ring's
+/// registers aren't. For CTRL and the ring registers, the law states this for the first and the last of their
+/// addresses. A write to PVFCTRL that sets bit 26 isn't harmless either. No write by a virtual function is harmless,
+/// nor is an event that lends, takes or pokes a block. Every event that isn't a write and doesn't lend, take or poke a
+/// block is harmless.
 pub fn harmless_events_are_listed()
     ensures address { HarmlessByAddress }
     ensures others { OthersAre }
 {}
 
-/// Take a history as in `both_sides_in_order`. If the next read finds the oldest outstanding packet not done, what was
-/// sent up to any earlier point isn't everything that the driver accepted.
+/// Take a history as in `both_sides_in_order`. If the next read finds the oldest outstanding packet not done, then at
+/// each earlier point, some of what the driver has accepted had not yet been sent.
 pub fn waiting_packets_are_not_all_sent()
     ensures { WaitingIsNotAll }
 {}
 
 /// Take a history of any sound device, and a point in it, as in `both_sides_in_order`. From that point on, each call
-/// made by either half gets a reply that a healthy queue sends, under these conditions. At that point, the frames for
-/// the queue in the receive list fit as many blocks as the driver takes for a packet, as do frames that the device
-/// accepts. At that point, the only blocks of the driver's arena that are lent are those that the driver has lent. From
-/// there on, no other pass tries to lend any block of the arena. The halves lend as the clause `drives` of a driver's
-/// calls says: only blocks of the arena, and none that the other half has lent.
+/// made by either half gets a reply that a healthy queue sends, if the following conditions hold. At that point, the
+/// frames for the queue in the receive list fit as many blocks as the driver takes for a packet. So do all frames that
+/// the device accepts. At that point, the only blocks of the driver's arena that are lent are those that the driver has
+/// lent. After that point, no other pass tries to lend any block of the arena. The halves lend as the clause `drives`
+/// of a driver's calls says: only blocks of the arena, and none that the other half has lent.
 #[tactic(auto, using(crate::proofs::Healthy::own_replies_are_healthy))]
 pub fn own_replies_are_healthy()
     ensures { OwnRepliesAreHealthy }
 {}
 
-/// It follows that, over a history as in `own_replies_are_healthy`, no driver call ends with the device at fault, as
-/// `finds` in the call's clauses describes it. This holds for calls that receive, send or reap.
+/// Over a history as in `own_replies_are_healthy`, no driver call that receives, sends or reaps ends with a reply that
+/// no healthy queue sends. The clause `finds` of each of these calls states that a call that returns `DeviceFault` ends
+/// with such a reply.
 pub fn no_call_finds_the_device_at_fault()
     ensures { NoFault }
 {}
 
-/// These clauses are about the entries before the first point in `both_sides_in_order`, for example those of the
-/// driver's start. Over entries that write no setting, the frames for the queue in the receive list keep fitting the
-/// same number of blocks. If no other pass lends a block of the driver's arena, the only blocks of the arena that are
-/// lent are those that were lent before or that the driver's pass lent.
+/// This law is about the entries before the first point in `both_sides_in_order`, for example those of the driver's
+/// start. If these entries write no setting, the frames for the queue in the receive list keep fitting the same number
+/// of blocks. Suppose that no other pass tries to lend a block of the driver's arena. Then the only blocks of the arena
+/// that are lent are those that were lent before these entries or that the driver's pass lent.
 pub fn entries_before_lead_there()
     ensures short { FramesStayShortAlong }
     ensures lent { OnlyPassLent }
 {}
 
 /// A history's tags identify the pass that made each call; nothing else depends on them. With other tags, a history
-/// contains the same calls. A legal history of events that a driver can make remains one with other tags. It leads to
-/// the same state, and it delivers and sends the same on each queue.
+/// contains the same calls. With other tags, a legal history of events that a driver can make remains such a history.
+/// It leads to the same state, and it delivers and sends the same packets on each queue.
 pub fn history_is_retagged()
     ensures retagged { RetaggedIsSame }
     ensures legal { SameIsLegal }

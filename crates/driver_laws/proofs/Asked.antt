@@ -1,4 +1,4 @@
--- Of the blocks in its arena, a driver lends only those that its calls try to lend.
+-- Lemmas: of the blocks in its arena, a driver lends only those that its calls try to lend.
 use Rattle.driver_laws.specs.Before.{asks_for, is_asked}
 use Rattle.pmd_driver.specs.{Apart.LendsApart, Apart.MayLend, Halves.after_call}
 use Rattle.pmd_driver.specs.PmdTx.Sending.{Elsewhere}

@@ -1,4 +1,4 @@
--- The blocks that some calls try to lend are among those that more calls try to lend.
+-- The blocks that some calls try to lend are among those that a longer list of calls tries to lend.
 use Rattle.driver_laws.specs.{Before.asks_for, Before.is_asked, StartPrelude.Call}
 use Rattle.std.proofs.Common.{Bool, List, [], false, refl, true, ℕ, ◌++◌, ◌||◌, ◌∷◌, ◌≡◌}
 use Rattle.std.proofs.lemmas.Bool.{or_left, or_right}

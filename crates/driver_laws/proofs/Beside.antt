@@ -40,10 +40,10 @@ pub goes_on : {origin : State} {before reported : List Entry} (was : WasReported
 goes_on {origin = origin} {before = before} {reported = reported} was es calls own device began same =
     grind (arith, common_steps, events-append, legal-append, calls_joined, own_are, leads-append)
 
--- A driver whose author makes other calls alongside it is reported by its own calls alone, over the retagged history.
--- So are its start and its stop.
+-- Take a driver whose author makes other calls alongside it. Over the retagged history, what the clauses of the
+-- driver's calls report holds with the driver's own calls alone. The same is true of its start and its stop.
 
--- A running driver continues from one moment to the next by its own calls alone.
+-- Each step of a running driver from one moment to the next depends only on the driver's own calls.
 
 drove_again : (a b : Rings) (old new since own : List Call) → new ≡ old ++ since
     → WhereUp a b (λ r s. DrivesRings old r new s) → WhereUp a b (λ r s. DrivesRings own r (own ++ since) s)
@@ -64,7 +64,7 @@ all_again m own (n ∷ later) then (next, goes, more) =
     let (others, follow, ends) = all_again n next later then more in
     (by_own next n ∷ others, (follows_again m own n next goes, follow), ends)
 
--- The driver's own calls since its start, after earlier calls.
+-- The driver's own calls are its earlier calls followed by those since its start.
 pub own_again : {q : AtPort} {size frame : ℕ} {old : List Call} {a : Numbers} {m : Moment} {later : List Moment}
     {ahead own : List Call} (x : IsReportedBy q size frame old a m later ahead own)
     → IsReportedAgain q size frame old a m later ahead own x
@@ -89,7 +89,8 @@ own_again {q = q} {old = old} {m = m} {later = later} {ahead = ahead} {own = own
 pub retagged_along : {w : Watched} {origin : State} {h g : List Entry} → IsRetagged w origin h g → IsAlong w origin g
 retagged_along {origin = origin} {h = h} {g = g} x = grind (arith, common_steps, events_same, legal_same)
 
--- Lemmas about a start just before which none of its blocks is lent. Such a start never finds the device at fault.
+-- Lemmas about a start that never fails with `DeviceFault` after its first event, because none of its blocks is lent
+-- just before it.
 
 abbrev apart : BeginsBeside → BeginsApart
 apart x = record {
@@ -115,12 +116,13 @@ never_beside x (inr f) =
     filling_never (apart x) f (x.ahead ++ on.since) (on.following x.ahead)
     (ap (λ (l : List Call). x.ahead ++ l) same ∙ sym (append_assoc x.ahead on.since following))
 
--- The driver is reported over the retagged history.
+-- Lemmas about a driver that is reported over the retagged history.
 module _ (x : Beside) where
   abbrev again_reported : IsReportedAgain x.q x.size x.frame x.old x.a x.m x.later x.ahead x.own x.reported
   again_reported = own_again x.reported
 
-  -- What held just before the driver's first access still holds.
+  -- What held just before the driver's first access in the course `x` also holds just before that access as reported
+  -- again.
   pub at_access : (P : State → Type 0) → BeforeLast x.w x.origin x.g (x.ahead ++ x.reported.first) P
       → BeforeLast x.w x.origin x.g again_reported.reported.started.2.receive.quiet.0 P
   at_access P = subst (λ (l : List Call). BeforeLast x.w x.origin x.g l P) (sym again_reported.access)

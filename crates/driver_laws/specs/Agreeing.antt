@@ -7,7 +7,7 @@ use Rattle.driver_laws.specs.StartPrelude.{Agree, Blocks, Halves, Piece, State, 
 abbrev pub AreApart : Halves → Type 0
 AreApart h = (number : ℕ) → IsTrue (has_lent h.transmit number) → Each h.receive (λ b. b ≢ number)
 
--- All blocks that the halves have lent are in `mine`.
+-- `mine` contains all blocks that the halves have lent.
 pub record AreLent (mine : Blocks) (h : Halves) : Type 0 where
   pub receive : Each h.receive (λ b. IsTrue (mine b))
   pub transmit : (number : ℕ) → IsTrue (has_lent h.transmit number) → IsTrue (mine number)

@@ -1,5 +1,5 @@
--- Legal histories of a sound device that leave a queue alone, and what holds at each point where the driver's pass has
--- made given calls.
+-- Legal histories of a sound device that leave a queue alone, and what holds at each point of such a history where the
+-- driver's pass has made certain calls.
 use Rattle.std.specs.Prelude.{[], ◌++◌, ◌<◌, ◌∷◌, ◌≡◌, List, ℕ}
 use Rattle.pmd_driver.specs.DeviceLock.History.{AreEvents, IsLegal}
 use Rattle.ring_laws.specs.Alone.{LeavesAloneFrom}
@@ -7,8 +7,8 @@ use Rattle.driver_laws.specs.StartPrelude.{Block, Blocks, Call, Entry, Event, Is
 use Rattle.driver_laws.specs.StartPrelude.{call_in, calls_of, leads_to, reply_to}
 use Rattle.driver_laws.specs.{Moves.IsMet, Standing.IsLeft}
 
--- The history begins with a sound device in any state. The device has this number of virtual functions, and the history
--- is legal and leaves the queue alone.
+-- The history begins with a sound device in any state, which has as many virtual functions as `w` says. The history is
+-- legal and leaves the queue alone.
 pub record IsAlong (w : Watched) (origin : State) (h : List Entry) : Type 0 where
   pub small : w.queue < 128
   pub sound : IsSound origin
@@ -26,17 +26,17 @@ AtEntries w h calls P =
 abbrev pub AtCalls : Watched → State → List Entry → List Call → (State → Type 0) → Type 0
 AtCalls w origin h calls P = AtEntries w h calls (λ done. P (leads_to origin done))
 
--- `P` holds just before the pass makes the last of these calls.
+-- `P` holds just before the pass makes the last of the given calls.
 abbrev pub BeforeLast : Watched → State → List Entry → List Call → (State → Type 0) → Type 0
 BeforeLast w origin h calls P =
     (done rest : List Entry) (e : Entry) → done ++ e ∷ rest ≡ h → e.pass ≡ w.pass →
     calls_of w.pass done ++ call_in e ∷ [] ≡ calls → P (leads_to origin done)
 
--- Each event that leaves the queue alone keeps `P`.
+-- If `P` holds before an event that leaves the queue alone, it holds after the event.
 abbrev pub IsKept : Watched → Blocks → (State → Type 0) → Type 0
 IsKept w mine P = (s : State) (e : Event Block) → IsLeft w mine s e → P s → P (after s e)
 
--- If the driver's own call can be made in a state where `P` holds, `Q` holds after the call.
+-- If the driver's pass makes the call `c` in a state where `P` holds, `Q` holds after the call.
 abbrev pub Leads : ℕ → Call → (State → Type 0) → (State → Type 0) → Type 0
 Leads queue c P Q =
     (s : State) → IsMet queue s → IsEvent c.event → c.reply ≡ reply_to s c.event → P s → Q (after s c.event)

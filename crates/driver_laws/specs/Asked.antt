@@ -1,5 +1,5 @@
--- Which blocks of an arena belong to the arena's driver over a history. Others may have the remaining blocks in hand,
--- and lend them.
+-- Which blocks of an arena the arena's driver tries to lend over a history. Others may have the arena's remaining
+-- blocks in hand, and lend them.
 use Rattle.std.specs.Prelude.{◌&&◌, ◌++◌, ◌∷◌, ◌≡◌, ◌≢◌, IsTrue, List, ℕ}
 use Rattle.driver_laws.specs.{Before.is_asked, StartPrelude.Blocks, StartPrelude.Entry, StartPrelude.Numbers}
 use Rattle.driver_laws.specs.{StartPrelude.Watched}

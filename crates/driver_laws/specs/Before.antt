@@ -6,7 +6,7 @@ use Rattle.driver_laws.specs.StartPrelude.{OnlyLent, State}
 use Rattle.driver_laws.specs.StartPrelude.{WritesNoSetting, after, either, leads_to, lent_by}
 use Rattle.pmd_driver.specs.NicDevice.declared.event.Event.TheVariants as event
 
--- The frames that wait for a queue fit `most` blocks, and longer ones aren't accepted.
+-- Each frame that waits for a queue fits `most` blocks, and the device accepts no longer frame.
 pub record AreShort (queue most : ℕ) (s : State) : Type 0 where
   pub limit : frame_limit s.registers ≤ 2048 * most
   pub waiting : All (FitsBlocks queue most) s.waiting
@@ -16,12 +16,13 @@ abbrev pub NoneSets : State → List Entry → Type 0
 NoneSets s [] = ⊤
 NoneSets s (e ∷ es) = WritesNoSetting s e.event × NoneSets (after s e.event) es
 
--- No other pass tries to lend any of these numbers.
+-- No other pass tries to lend a block of `own`.
 abbrev pub OnlyPassLends : ℕ → Blocks → List Entry → Type 0
 OnlyPassLends pass own [] = ⊤
 OnlyPassLends pass own (e ∷ es) = (e.pass ≢ pass → LendsNone own e.event) × OnlyPassLends pass own es
 
--- Whether an event tries to lend the block with this number, and whether one of these calls did, whatever the reply.
+-- `asks_for` says whether an event tries to lend the block with this number, whatever the reply. `is_asked` says
+-- whether one of the given calls did.
 
 abbrev pub asks_for : Event Block → Blocks
 asks_for (event.Lend block) number = block.number == number
@@ -31,13 +32,13 @@ abbrev pub is_asked : List Call → Blocks
 is_asked [] number = false
 is_asked (c ∷ calls) number = asks_for c.event number || is_asked calls number
 
--- Over entries that write no setting, the frames that wait for a queue keep fitting `most` blocks.
+-- If the entries write no setting, each frame that waits for a queue still fits `most` blocks after them.
 abbrev pub FramesStayShortAlong : Type 0
 FramesStayShortAlong =
     (queue most : ℕ) (s : State) (es : List Entry) → AreShort queue most s → NoneSets s es →
     AreShort queue most (leads_to s es)
 
--- Of these numbers, only those are lent that were lent before or that the pass lent.
+-- Of the blocks `own`, only those are lent that were lent before these entries or that the pass lent.
 abbrev pub OnlyPassLent : Type 0
 OnlyPassLent =
     (pass : ℕ) (own known : Blocks) (s : State) (es : List Entry) → IsLegal s es → AreEvents es →

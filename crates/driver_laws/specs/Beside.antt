@@ -1,4 +1,4 @@
--- A driver alongside any calls that its author makes through the same way to the device, such as the calls of a second
+-- A driver whose author makes any other calls through the same `Nic` alongside it, such as the calls of a second
 -- driver.
 use Rattle.std.specs.Prelude.{[], ◌++◌, ◌<◌, ◌∷◌, ◌≡◌, ◌≢◌, ◌⊎◌, Bool, List, ℕ, length}
 use Rattle.driver_laws.specs.{Harmless.AddsHarmless, Retagged.AreSame}
@@ -13,7 +13,7 @@ use Rattle.pmd_driver.specs.PmdAccess.{Begun.began_in_hand, Made.InHand, Schedul
 use Rattle.pmd_driver.specs.{PmdAccess.Scheduled.own_calls, Started.HasStarted}
 
 -- A legal history of a sound device in any initial state, and the retagged form of that history. The retagged form
--- contains the same calls, but those that the driver's author made alongside the driver carry another pass's tag.
+-- contains the same calls, but the calls that the driver's author made alongside the driver carry another pass's tag.
 pub record WasReported (origin : State) (h g : List Entry) : Type 0 where
   pub sound : IsSound origin
   pub events : AreEvents h
@@ -29,11 +29,11 @@ pub record IsRetagged (w : Watched) (origin : State) (h g : List Entry) : Type 0
   pub was : WasReported origin h g
   pub alone : LeavesAloneFrom w origin g
 
--- From one moment of a running driver to the next, given the calls so far that were the driver's own. In the first
--- case, there was a call to `rx`, `tx`, `reap`, `rx_burst` or `tx_burst`, as its clause `drives` says; then all calls
--- are the driver's own. In the second case, there were any calls of the author, through any `Nic`, with at most one
--- call to `packet` or `release`, as its clause `halves` says. In the second case, the `Nic`'s record of its calls may
--- start fresh, for example if a `Direct` is finished and another one is created.
+-- How one moment of a running driver follows another, and which calls were the driver's own by then. In the first case
+-- (`DroveBy`), there was a call to `rx`, `tx`, `reap`, `rx_burst` or `tx_burst`, as its clause `drives` says; all calls
+-- that were added are the driver's own. In the second case (`KeepsBy`), there were any calls of the author, through any
+-- `Nic`, with at most one call to `packet` or `release`, as its clause `halves` says. In the second case, the `Nic`'s
+-- record of its calls may start fresh, for example if a `Direct` is finished and another one is created.
 
 abbrev pub DroveBy : Moment → List Call → Moment → List Call → Type 0
 DroveBy m own n then = Drove m n × (since : List Call) × (n.made ≡ m.made ++ since) × (then ≡ own ++ since)
@@ -49,20 +49,21 @@ AllFollowBy m own [] then = then ≡ own
 AllFollowBy m own (n ∷ later) then = (next : List Call) × FollowsBy m own n next × AllFollowBy n next later then
 
 -- A `start` brought the driver up, as its clause `started` says, and the other moments follow the moment when the start
--- returned. The driver's own calls are the calls of its start and its calls since then. Other calls of its pass may
--- precede these, no matter which of the calls made before the start are reported as the pass's.
+-- returned. The driver's own calls are the calls of its start and its calls since then. In the retagged history, other
+-- calls of its pass (`ahead`) may precede these. They need not be the calls that the pass had made according to the
+-- start's report (`old`).
 pub record IsReportedBy (q : AtPort) (size frame : ℕ) (old : List Call) (a : Numbers) (m : Moment) (later : List Moment)
     (ahead own : List Call) : Type 0 where
   pub started : HasStarted q size frame old a m.made m.driver
-  -- The calls of the start, and its first calls, up to its first access.
+  -- The calls of the start, and the first of these calls, up to the start's first access.
   pub start : List Call
   pub made : m.made ≡ old ++ start
   pub first : List Call
   pub access : started.2.receive.quiet.0 ≡ old ++ first
   pub since : AllFollowBy m (ahead ++ start) later own
 
--- A driver that is reported this way, over a retagged history. Just before the driver's first access, its port and
--- queue name this queue, and the device's frame limit is the driver's packet limit.
+-- A driver that is reported in this way, over a retagged history. Just before the driver's first access, its port and
+-- queue number identify the watched queue, and the device's frame limit is the driver's packet limit.
 pub record Beside : Type 0 where
   pub course : Course
   pub open course use *
@@ -83,7 +84,7 @@ now x = last x.m x.later
 abbrev pub IsReportedBeside : Beside → Type 0
 IsReportedBeside x = calls_of x.w.pass x.g ≡ x.own
 
--- The same moments, reported for the driver's own calls alone. At each of them, the driver is the same.
+-- The same moments, each with only the driver's own calls. The driver's state at each moment is unchanged.
 abbrev pub by_own : List Call → Moment → Moment
 by_own own m = record m { made = own }
 
@@ -102,7 +103,7 @@ OwnAreReported =
     (ahead own : List Call) (x : IsReportedBy q size frame old a m later ahead own) →
     IsReportedAgain q size frame old a m later ahead own x
 
--- All laws of a life apply too: the retagged history is one of the driver's life.
+-- All laws of a life apply too, because the driver's own calls form a life over the retagged history.
 
 abbrev pub again : Beside → Course
 again x = record x.course { h = x.g; old = x.ahead }
@@ -129,15 +130,15 @@ IdleIsAllSent =
     (x : Beside) → IsReportedBeside x → HasNoneOut (now x).driver.rings →
     IsAllSent x.course (accepted_of (now x).driver.rings)
 
--- After the last moment, the driver's next call made the calls in `since`. In the retagged history, the pass has made
--- the driver's own calls so far at some entry, whatever comes after it.
+-- After the last moment, the driver's next call made the calls in `since`. In the retagged history, the last of these
+-- calls is at some entry, before which the pass made exactly the driver's other own calls. Any entries may follow.
 pub record IsCalledBeside (x : Beside) (n : Moment) : Type 0 where
   pub since : List Call
   pub made : n.made ≡ (now x).made ++ since
   pub look : EndsAt x.w.pass x.g (x.own ++ since)
 
 -- If that call polls in vain, what the driver had handed out is everything delivered before the entry of the call's
--- last poll. The entries counted are the original history's entries that correspond to the retagged ones.
+-- last poll. What was delivered is counted over the original history's entries that correspond to the retagged ones.
 abbrev pub NoneIsAllBefore : Type 0
 NoneIsAllBefore =
     (x : Beside) (n : Moment) (called : IsCalledBeside x n) → LooksInVain (now x) n →
@@ -153,8 +154,8 @@ NoneIsAllAtFirst =
     AddsHarmless x.own (calls_of x.w.pass before) → AreSame early before →
     handed_of (now x).driver.rings ≡ delivered x.w.queue x.origin early
 
--- If that call ends with a packet outstanding, not everything that the driver had accepted was sent before the call's
--- first event.
+-- If that call ends with a packet outstanding, some of what the driver had accepted had not yet been sent when the
+-- call's first event occurred.
 abbrev pub WaitingIsNotAll : Type 0
 WaitingIsNotAll =
     (x : Beside) (n : Moment) (called : IsCalledBeside x n) → Waits (now x) n →
@@ -162,8 +163,8 @@ WaitingIsNotAll =
     AddsHarmless x.own (calls_of x.w.pass before) → AreSame early before →
     bytes_of (accepted_of (now x).driver.rings) ≢ sent_since x.w.queue x.origin [] early
 
--- Entries that follow a retagged history and are retagged too. In them, pass 0 made these calls, and they lead to the
--- given device.
+-- The entries `es` follow a history, and their retagged form `again` follows the retagged history. In the retagged
+-- entries, pass 0 made the given calls. The whole history leads to the given device.
 pub record GoesOn (origin : State) (before reported es again : List Entry) (calls : List Call) (device : State) :
     Type 0 where
   pub was : WasReported origin (before ++ es) (reported ++ again)

@@ -1,6 +1,6 @@
 -- A driver whose author makes any other calls alongside it. Suppose that nobody else lends a block of the driver's
--- arena that the driver tries to lend. Then none of its calls finds the device at fault, and each block is in one
--- place.
+-- arena that the driver tries to lend. Then none of the driver's calls gets a reply that no healthy queue sends, and
+-- each block is in one place.
 use Rattle.std.specs.Prelude.{if◌then◌else◌, ◌+◌, ◌++◌, ◌≡◌, IsTrue, List, ℕ}
 use Rattle.driver_laws.specs.StartPrelude.{Call, arena_of, calls_of}
 use Rattle.driver_laws.specs.StartPrelude.{halted_of, has_block, is_free, is_own, places_of}
@@ -10,10 +10,10 @@ use Rattle.driver_laws.specs.{Places.is_out, Places.memory_after, Prelude.Before
 use Rattle.driver_laws.specs.Beside.{Beside, IsReportedBeside, now}
 use Rattle.driver_laws.specs.Faultless.{FindsFault, IsFresh, MeetsFault, NoneLent}
 
--- In the retagged history, the driver's own calls up to its last moment were made, then one more of its calls, and
--- perhaps others after that call. Just before the driver's first access, the waiting frames were short and the blocks
--- of its arena that it tries to lend weren't lent. After the first entry of the driver's pass, neither another pass nor
--- the author tries to lend any of these blocks.
+-- In the retagged history, the pass made the driver's own calls up to its last moment, then the calls of one more
+-- driver call, and perhaps more calls. Just before the driver's first access, the waiting frames fit the driver's
+-- packets, and the blocks of its arena that it tries to lend weren't lent. After the first entry of the driver's pass,
+-- neither another pass nor the author tries to lend any of these blocks.
 pub record IsCalledApart (x : Beside) (n : Moment) : Type 0 where
   pub fresh :
       BeforeLast x.w x.origin x.g (x.ahead ++ x.reported.first) (IsFresh x.w.queue x.frame (asked_of x.w x.a x.g))
@@ -23,7 +23,8 @@ pub record IsCalledApart (x : Beside) (n : Moment) : Type 0 where
   pub more : List Call
   pub all : calls_of x.w.pass x.g ≡ (x.own ++ since) ++ more
 
--- In no history of this kind does a call find the device at fault, or a burst meet the device at fault.
+-- In a history of this kind, no driver call ends with a reply that no healthy queue sends. No `tx_burst` gets such a
+-- reply, whatever it returns.
 
 abbrev pub NoCallFindsFault : Type 0
 NoCallFindsFault = (x : Beside) (n : Moment) → FindsFault (now x) n → ¬ IsCalledApart x n
@@ -31,7 +32,7 @@ NoCallFindsFault = (x : Beside) (n : Moment) → FindsFault (now x) n → ¬ IsC
 abbrev pub NoBurstMeetsFault : Type 0
 NoBurstMeetsFault = (x : Beside) (n : Moment) → MeetsFault (now x) n → ¬ IsCalledApart x n
 
--- Each block that the driver has out is lent to the device.
+-- Each block that the driver still has in use (that is out) is lent to the device.
 abbrev pub OutIsLent : Type 0
 OutIsLent =
     (x : Beside) → IsReportedBeside x → (number : ℕ) → IsTrue (is_out (now x).driver.rings number) →
@@ -50,8 +51,8 @@ LentIsOut =
     (x : Beside) → IsAloneBeside x → (number : ℕ) → IsTrue (asked_of x.w x.a x.g number) →
     IsTrue (has_block (memory_after x.origin x.h) number) → IsTrue (is_out (now x).driver.rings number)
 
--- Each block that was free in the arena handed to the driver, or that was out of the arena then, is in one place.
--- Others may have lent those of these blocks that were out, or that the driver handed out.
+-- When the arena was handed to the driver, some of its blocks were free in it and some were outside it. Each of these
+-- blocks is in one place. Others may have lent blocks that were outside the arena then, or that the driver handed out.
 abbrev pub EachInOnePlace : Type 0
 EachInOnePlace =
     (x : Beside) → IsAloneBeside x → (outside hand elsewhere : List ℕ) →

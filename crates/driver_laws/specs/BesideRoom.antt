@@ -15,7 +15,8 @@ FullHasNoRoom =
     (outstanding (last m later).driver.rings < size)
     × (size ≤ outstanding (last m later).driver.rings + parts_for p.len)
 
--- The same bounds hold after a call to `tx_burst` that returns 0, with the parts of the first packet that it leaves.
+-- The same bounds hold after a call to `tx_burst` that returns 0 and leaves packets; the parts counted are then those
+-- of the first packet left.
 abbrev pub NoneHasNoRoom : Type 0
 NoneHasNoRoom =
     (q : AtPort) (size frame : ℕ) (old : List Call) (a : Numbers) (m : Moment) (later : List Moment)

@@ -1,12 +1,12 @@
--- A driver alongside any calls that its author makes, followed by the calls of its stop.
+-- A driver that is stopped, and whose author made any other calls alongside it.
 use Rattle.std.specs.Prelude.{◌++◌, ◌≡◌, List}
 use Rattle.driver_laws.specs.StartPrelude.{Call, Entry, accepted_of, calls_of, handed_of}
 use Rattle.driver_laws.specs.Retagged.{AreSame}
 use Rattle.driver_laws.specs.{Beside.Beside, Beside.now, Course.IsHandedInOrder, Course.IsSentInOrder}
 use Rattle.driver_laws.specs.Prelude.{Ends, EndsOnceOff, IsSilent, TakesOnceOff}
 
--- In the retagged history, the driver's own calls up to the last moment were made, followed by some or all calls of its
--- stop. `new` contains all calls that were made when the stop returned.
+-- In the retagged history, the pass made the driver's own calls up to the last moment, followed by some or all calls of
+-- its stop. `new` contains all calls that had been made when the stop returned.
 pub record IsStoppedBeside (x : Beside) (new : List Call) : Type 0 where
   pub ends : Ends x.q (now x).made new
   pub since : List Call
@@ -19,7 +19,7 @@ abbrev pub HandedIsPrefix : Type 0
 HandedIsPrefix =
     (x : Beside) (new : List Call) → IsStoppedBeside x new → IsHandedInOrder x.course (handed_of (now x).driver.rings)
 
--- If the stop takes blocks back only after both sides were seen off, what was sent is a prefix of what the driver
+-- If the stop takes blocks back only after both sides have read as off, what was sent is a prefix of what the driver
 -- accepted.
 abbrev pub SentIsPrefix : Type 0
 SentIsPrefix =

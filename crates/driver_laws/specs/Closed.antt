@@ -1,9 +1,10 @@
--- The passes that close a history, and where the calls of one of these passes are in the history.
+-- The passes that close a history, and which part of the history contains the calls that one of these passes had made.
 use Rattle.std.specs.Prelude.{[], ◌++◌, ◌∷◌, ◌≡◌, Contains, List, ℕ}
 use Rattle.driver_laws.specs.StartPrelude.{Call, Entry, calls_of}
 use Rattle.pmd_driver.specs.DeviceLock.{Closing.Closes, Pass.PassValue}
 
--- The passes include this pass, with the calls that it had made and perhaps more after them.
+-- The list contains this pass in its final state: it has made the calls that it had made here, and perhaps more after
+-- them.
 pub record IsAmong (ps : List PassValue) (pass : PassValue) : Type 0 where
   pub later : PassValue
   pub among : Contains ps later
@@ -22,8 +23,9 @@ pub record UpTo (tag : ℕ) (h : List Entry) (calls : List Call) : Type 0 where
 abbrev pub EndOwn : ℕ → List Entry → Type 0
 EndOwn tag done = (before : List Entry) (e : Entry) → before ++ e ∷ [] ≡ done → e.pass ≡ tag
 
--- If passes close a history, the calls that one of these passes had made are in the history, up to the last of these
--- calls.
+-- Suppose that passes close a history, and take the calls that one of these passes had made at some time. The history
+-- has an initial part in which the pass made exactly these calls. Unless the part is empty, it ends with the pass's own
+-- entry.
 abbrev pub CallsStand : Type 0
 CallsStand =
     (bench count : ℕ) (h : List Entry) (ps : List PassValue) (pass : PassValue) → Closes bench count h ps →

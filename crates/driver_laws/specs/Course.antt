@@ -1,4 +1,4 @@
--- A driver that is started over a history.
+-- A driver's start, and the history over which its queue is watched.
 use Rattle.std.specs.Prelude.{ℕ, ◌≡◌, List, []}
 use Rattle.driver_laws.specs.StartPrelude.{Numbers, State, Watched, Call, Entry, AtPort, delivered, bytes_of}
 use Rattle.driver_laws.specs.StartPrelude.{sent_since}

@@ -1,4 +1,4 @@
--- Words written to the enable registers of a driver's queue.
+-- Values written to the enable registers of a driver's queue.
 use Rattle.std.specs.Prelude.{[], ⊤, ◌≡◌, List, true, ℕ}
 use Rattle.driver_laws.specs.Agreeing.{BothAgree}
 use Rattle.driver_laws.specs.StartPrelude.{Dir, Halves, IsEvent, Piece, Port, Register, Rx, State, Tx, after}
@@ -6,14 +6,14 @@ use Rattle.driver_laws.specs.StartPrelude.{enable_row}
 use Rattle.driver_laws.specs.StartPrelude.{has_bit, named, place}
 use Rattle.pmd_driver.specs.NicDevice.declared.event.Event.TheVariants as event
 
--- If the word requests that the transmit side be enabled, nothing is outstanding. For the receive side, every word is
--- allowed.
+-- If the value requests that the transmit side be enabled, no packet is outstanding. For the receive side, every value
+-- is allowed.
 abbrev pub MayAsk : Dir → ℕ → Halves → Type 0
 MayAsk Rx word h = ⊤
 MayAsk Tx word h = has_bit 25 word ≡ true → h.transmit.outstanding ≡ []
 
--- If a word that meets this condition is written to a side's enable register, the device agrees with both halves as
--- before.
+-- If a value that meets this condition is written to a side's enable register, the device still agrees with both
+-- halves.
 abbrev pub EnableWordsKeep : Type 0
 EnableWordsKeep =
     (queue : ℕ) (s : State) (side : Dir) (port : Port) (number word : ℕ) (out : List Piece) (sent : List (List ℕ))

@@ -5,12 +5,12 @@ use Rattle.driver_laws.specs.StartPrelude.{has_bit}
 use Rattle.driver_laws.specs.StartPrelude.{is_driven, is_step}
 use Rattle.pmd_driver.specs.NicDevice.declared.event.Event.TheVariants as event
 
--- `P` holds for each of these calls.
+-- `P` holds for each call in the list.
 abbrev pub Each : (Call → Type 0) → List Call → Type 0
 Each P [] = ⊤
 Each P (c ∷ cs) = P c × Each P cs
 
--- At the driver's port, the number names a register of the driver's queue.
+-- The port is the driver's, and the number identifies a register of the driver's queue.
 abbrev pub NamesDriven : AtPort → Port → ℕ → Type 0
 NamesDriven q port number =
     (row : RowId) × (port ≡ q.port) × (is_driven row ≡ true) × IsNumberOf q.port row q.queue number
@@ -20,15 +20,15 @@ abbrev pub IsPlain : AtPort → Event Block → Type 0
 IsPlain q (event.Write port number word) = NamesDriven q port number
 IsPlain q other = ⊤
 
--- An event that requests that a side be off or observes it: a write of an enable word of the queue with bit 25 clear, a
--- register read, or a device step.
+-- An event by which a driver disables a side or waits for that: a write that clears bit 25 of one of the queue's enable
+-- words, a register read, or a device step.
 abbrev pub IsAsking : AtPort → Event Block → Type 0
 IsAsking q (event.Write port number word) =
     (side : Dir) × (port ≡ q.port) × IsFalse (has_bit 25 word) × IsNumberOf q.port (enable_row side) q.queue number
 IsAsking q (event.Read port number) = ⊤
 IsAsking q e = IsTrue (is_step e)
 
--- An event of a stop: one that requests that a side be off or observes it, or one that takes a block.
+-- An event of a stop: one by which a driver disables a side or waits for that, or one that takes a block.
 abbrev pub IsEnding : AtPort → Event Block → Type 0
 IsEnding q (event.Take number) = ⊤
 IsEnding q e = IsAsking q e

@@ -1,11 +1,12 @@
--- What a driver that lived and was stopped handed out and sent.
+-- What a driver that was started and later stopped handed out and sent.
 use Rattle.std.specs.Prelude.{◌≡◌, List, ◌++◌, Option}
 use Rattle.driver_laws.specs.StartPrelude.{calls_of, Call, left_accepted, left_handed, Rest, PmdFault}
 use Rattle.driver_laws.specs.Course.{Course, IsHandedInOrder, IsSentInOrder}
 use Rattle.driver_laws.specs.Prelude.{IsAlong, BeginsWell}
 use Rattle.pmd_driver.specs.Life.{HasLived}
 
--- A driver that lived and was stopped, over a legal history of a sound device that leaves the queue alone.
+-- A driver whose start brought both rings up, and which was later stopped. The history is a legal history of a sound
+-- device and leaves the queue alone.
 pub record Ended : Type 0 where
   pub course : Course
   pub open course use *
@@ -16,7 +17,7 @@ pub record Ended : Type 0 where
   pub along : IsAlong w origin h
   pub begins : BeginsWell w origin h q size frame old a lived.lives.made lived.lives.fresh lived.lives.up
 
--- The history ends where the driver was about to stop.
+-- The history ends just before the driver's stop.
 abbrev pub IsToStop : Ended → Type 0
 IsToStop x = calls_of x.w.pass x.h ≡ x.lived.made
 
@@ -38,8 +39,8 @@ LeavesSent x = IsSentInOrder x.course (left_accepted x.left)
 abbrev pub LeftIsPrefix : Type 0
 LeftIsPrefix = (x : Ended) → IsToStop x → LeavesHanded x × LeavesSent x
 
--- Packets and frames are also in order during and after the stop, including everything delivered and sent in the
--- meantime.
+-- Packets and frames are also in order during and after the stop, including everything delivered and sent since the
+-- stop began.
 
 abbrev pub HandedOverStop : Type 0
 HandedOverStop = (x : Ended) → IsOver x → LeavesHanded x

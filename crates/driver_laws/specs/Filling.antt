@@ -1,4 +1,4 @@
--- How far a start had come that ends with the device at fault.
+-- How far a start had come when it failed with `DeviceFault`.
 use Rattle.std.specs.Prelude.{[], ⊤, ◌≡◌, ◌⊎◌, List, true, ℕ}
 use Rattle.pmd_driver.specs.PmdRx.Filling.{StopsFilling}
 use Rattle.ring_laws.specs.ReceiveUp.{IsUp}
@@ -11,13 +11,13 @@ use Rattle.driver_laws.specs.{FaultlessStart.NoneIsLent}
 use Rattle.driver_laws.specs.{On.AreOn, Quieting.IsQuiet}
 use mathlib.Core.Logic.{inl, inr}
 
--- The receive ring isn't ready; some of its blocks may be out.
+-- The start fails before the receive ring is ready; some of the ring's blocks may already be lent.
 pub record FaultsBeforeOne (q : AtPort) (size : ℕ) (old : List Call) (a : Numbers) (new : List Call) : Type 0 where
   pub arena : Numbers
   pub out : List ℕ
   pub fails : ReceiveFails DeviceFault q size old a new arena out
 
--- The receive ring is ready, but the transmit ring isn't.
+-- The start fails after the receive ring is ready and before the transmit ring is.
 pub record FaultsAfterOne (q : AtPort) (size frame : ℕ) (old : List Call) (a : Numbers) (new : List Call) : Type 0 where
   pub made : List Call
   pub ready_arena : Numbers
@@ -27,7 +27,7 @@ pub record FaultsAfterOne (q : AtPort) (size frame : ℕ) (old : List Call) (a :
   pub receive : IsReceiveReady q size frame old a made ready_arena empty
   pub fails : PreparingFails DeviceFault q Tx size made ready_arena new arena out
 
--- Both rings are ready, but the sides aren't enabled.
+-- The start fails after both rings are ready and before both sides are enabled.
 pub record FaultsSwitching (q : AtPort) (size frame : ℕ) (old : List Call) (a : Numbers) (new : List Call) : Type 0
   where
     pub ready_made : List Call
@@ -40,7 +40,7 @@ pub record FaultsSwitching (q : AtPort) (size frame : ℕ) (old : List Call) (a 
     pub transmit : IsTransmitReady q size frame ready_made ready_arena both_made both_arena sender
     pub fails : SwitchFails DeviceFault q both_made new true 1000
 
--- Both sides are on, and the receive ring is partly filled.
+-- The start fails when both sides are on, while it fills the receive ring.
 pub record FaultsFilling (q : AtPort) (size frame : ℕ) (old : List Call) (a : Numbers) (new : List Call) : Type 0 where
   pub mid : List Call
   pub empty : Receive
@@ -55,28 +55,32 @@ abbrev pub FaultsEarly : AtPort → ℕ → ℕ → List Call → Numbers → Li
 FaultsEarly q size frame old a new =
     FaultsBeforeOne q size old a new ⊎ FaultsAfterOne q size frame old a new ⊎ FaultsSwitching q size frame old a new
 
--- When a block of a ring is lent, none of the blocks that are free then is lent.
+-- If the start fails while it prepares a ring, take the blocks that are still free in the arena and that the calls try
+-- to lend. None of these is lent just before the last call.
 abbrev pub LendsFresh : (w : Watched) (origin : State) (h : List Entry) (q : AtPort) (size frame : ℕ) (old : List Call)
     (a : Numbers) (new : List Call) → FaultsEarly q size frame old a new → Type 0
 LendsFresh w origin h q size frame old a new (inl x) = NoneIsLent w origin h new x.arena
 LendsFresh w origin h q size frame old a new (inr (inl x)) = NoneIsLent w origin h new x.arena
 LendsFresh w origin h q size frame old a new (inr (inr x)) = ⊤
 
--- A start that returns `DeviceFault` during its events either fails early or fails while it fills the receive ring.
+-- A start that fails with `DeviceFault` after its first event fails either before both sides are on or while it fills
+-- the receive ring.
 abbrev pub FaultsAreEarlyOrFilling : Type 0
 FaultsAreEarlyOrFilling =
     (q : AtPort) (size frame : ℕ) (old : List Call) (a : Numbers) (new : List Call) (e : StartRefused) →
     StopsStarting q size frame old a new e → e.fault ≡ DeviceFault →
     FaultsEarly q size frame old a new ⊎ FaultsFilling q size frame old a new
 
--- A start never fails early if its queue is off just before its first call.
+-- A start never fails with `DeviceFault` before both sides are on, under two conditions. Both sides are off with no
+-- enable request pending just before its first call, and `LendsFresh` holds.
 abbrev pub NoFaultIsEarly : Type 0
 NoFaultIsEarly =
     (w : Watched) (q : AtPort) (origin : State) (h : List Entry) (size frame : ℕ) (old : List Call) (a : Numbers)
     (new : List Call) → IsAlong w origin h → BeforeNext w origin h old (IsQuiet w.queue q frame) →
     (x : FaultsEarly q size frame old a new) → LendsFresh w origin h q size frame old a new x → Never w origin h new
 
--- When the start began to fill the ring, the device and the driver agreed on both sides, and the receive side was up.
+-- Suppose that a start fails while it fills the receive ring. When it began to fill the ring, the device and the driver
+-- agreed on both sides, and the receive side was up.
 abbrev pub FillingBeginsWell : Type 0
 FillingBeginsWell =
     (w : Watched) (q : AtPort) (origin : State) (h : List Entry) (size frame : ℕ) (old : List Call) (a : Numbers)

@@ -1,4 +1,4 @@
--- How many slots are taken if a driver's ring is reported as full.
+-- How many slots are taken when a driver's ring is reported as full.
 use Rattle.std.specs.Prelude.{◌+◌, ◌<◌, ◌∷◌, ◌≤◌, List, Ok, ℕ, length}
 use Rattle.driver_laws.specs.StartPrelude.{AtPort, Call, Down, Numbers, Packet, Rings, Up, WhereUp, parts_for}
 use Rattle.pmd_driver.specs.Bursts.{IsSendBurst}
@@ -15,9 +15,9 @@ abbrev pub outstanding : Rings → ℕ
 outstanding (Up r) = length r.transmit.outstanding
 outstanding (Down h) = 0
 
--- Fewer parts are outstanding than the ring has descriptors (the number given to the driver's start). Together with the
--- parts of the packet passed to `tx`, there are at least as many parts as descriptors. So if that packet has one part,
--- all slots except one are taken.
+-- When a call to `tx` reports that the ring is full, fewer parts are outstanding than the ring has descriptors (the
+-- number given to the driver's start). Together with the parts of the packet passed to `tx`, there are at least as many
+-- parts as descriptors. So if that packet has one part, all slots except one are taken.
 abbrev pub FullHasNoRoom : Type 0
 FullHasNoRoom =
     (q : AtPort) (size frame : ℕ) (old : List Call) (a : Numbers) (m : Moment) (later : List Moment) (n : Moment)
@@ -25,7 +25,8 @@ FullHasNoRoom =
     (outstanding (last m later).driver.rings < size)
     × (size ≤ outstanding (last m later).driver.rings + parts_for p.len)
 
--- A call to `tx_burst` accepted no packet, returned no fault and left this packet first, as its clause `sent` says.
+-- A call to `tx_burst` accepted no packet and returned no fault, and `p` is the first packet that it left, as its
+-- clause `sent` says.
 abbrev pub AcceptsNone : Moment → Moment → Packet → Type 0
 AcceptsNone m n p =
     WhereUp m.driver.rings n.driver.rings

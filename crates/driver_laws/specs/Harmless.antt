@@ -44,7 +44,7 @@ abbrev pub AreHarmless : List Call → Type 0
 AreHarmless [] = ⊤
 AreHarmless (c ∷ calls) = IsTrue (is_harmless c.event) × AreHarmless calls
 
--- Only harmless calls were added.
+-- `new` is `old` followed by harmless calls.
 abbrev pub AddsHarmless : List Call → List Call → Type 0
 AddsHarmless old new = (more : List Call) × (new ≡ old ++ more) × AreHarmless more
 
@@ -58,7 +58,8 @@ CallsAddHarmless =
 abbrev pub StepsAddHarmless : Type 0
 StepsAddHarmless = (old new : List Call) → AddsSome old new → AddsHarmless old new
 
--- The calls that belong to neither half are harmless. Calls after the last doer belong to neither.
+-- The calls that belong to neither half are harmless. The doers say which half makes each call; calls after the last
+-- doer belong to neither half.
 abbrev pub OthersHarmless : List Doer → List Call → Type 0
 OthersHarmless [] calls = AreHarmless calls
 OthersHarmless (d ∷ doers) [] = ⊤
@@ -71,12 +72,12 @@ Leads old h new k =
     (doers : List Doer) × (since : List Call) × (new ≡ old ++ since) × AllOwn h doers since
     × (k ≡ played_by h doers since) × OthersHarmless doers since
 
--- The driver's calls lead the halves on, because the calls that belong to neither half are device steps.
+-- The driver's calls lead the halves in this way, because those that belong to neither half are device steps.
 abbrev pub DrivesLead : Type 0
 DrivesLead = (old new : List Call) (h k : Halves) → Drives old h new k → Leads old h new k
 
--- Harmless calls alone lead the halves on. So do two sequences of calls in succession, if each of them leads the halves
--- on.
+-- Harmless calls by themselves leave both halves unchanged. One sequence of calls that leads the halves on, followed by
+-- another such sequence, leads the halves on.
 abbrev pub HarmlessLead : Type 0
 HarmlessLead = (old new : List Call) (h : Halves) → AddsHarmless old new → Leads old h new h
 

@@ -21,10 +21,9 @@ AreHealthy h (d ∷ doers) (n ∷ calls) = IsHealthy h d n × AreHealthy (after_
 abbrev pub lent_by : Halves → Blocks
 lent_by h = either (received.has_lent h.receive) (sending.has_lent h.transmit)
 
--- A history that drives the halves and shares these numbers with no other pass: no other pass tries to lend a block
--- with one of these numbers. At the end of the history's first entries, the frames that wait for the queue fit the
--- blocks that the driver takes for a packet. Of the blocks with these numbers, only those that the halves have lent are
--- lent.
+-- A history that drives the halves, and in which no other pass tries to lend a block of `own` after the first entries
+-- (`start`). At the end of these first entries, the frames that wait for the queue fit the blocks that the driver takes
+-- for a packet. At that point, only the blocks of `own` that the halves have lent are lent.
 pub record IsUnshared (w : Watched) (origin : State) (start rest : List Entry) (h : Halves) (doers : List Doer)
     (own : Blocks) : Type 0 where
   pub driven : IsDriven w origin start rest h doers
@@ -32,8 +31,8 @@ pub record IsUnshared (w : Watched) (origin : State) (start rest : List Entry) (
   pub known : OnlyLent own (lent_by h) (leads_to origin start).memory
   pub others : OnlyPassLends w.pass own rest
 
--- Suppose that the halves lend only blocks with these numbers, and neither lends a block that the other half has lent,
--- as the clause `drives` of a driver's calls says. Then each call made by either half gets a healthy reply.
+-- Suppose that the halves lend only blocks of `own`, and neither lends a block that the other half has lent, as the
+-- clause `drives` of a driver's calls says. Then each call made by either half gets a healthy reply.
 abbrev pub OwnRepliesAreHealthy : Type 0
 OwnRepliesAreHealthy =
     (w : Watched) (origin : State) (start rest : List Entry) (h : Halves) (doers : List Doer) (own : Blocks) →

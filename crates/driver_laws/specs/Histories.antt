@@ -11,8 +11,8 @@ use Rattle.ring_laws.specs.Delivered as receive
 use Rattle.ring_laws.specs.ReceiveUp as receiving
 use Rattle.ring_laws.specs.Laws as transmit
 
--- Which half an entry belongs to, and the doers that remain after that entry. The entries of the driver's pass belong
--- to the doers in turn; entries of other passes belong to neither half.
+-- Which half an entry belongs to (its doer), and the doers that remain after that entry. The entries of the driver's
+-- pass belong to the doers in turn; entries of other passes belong to neither half.
 abbrev pub doer_of : Bool → List Doer → Doer
 doer_of false doers = Sends Elsewhere
 doer_of true [] = Sends Elsewhere
@@ -31,9 +31,9 @@ OthersLeaveAlone w mine s doers (e ∷ es) =
     → LeavesRegisters w (mode_in s.registers) e.event × LeavesBlocks mine e.event)
     × OthersLeaveAlone w mine (after s e.event) (doers_after (e.pass == w.pass) doers) es
 
--- A history that leaves the queue alone, in two parts. At the end of the first entries, the queue's receive side has
--- been enabled and is up, nothing is written yet, and the device agrees with both halves. Among the remaining entries,
--- those of the driver's pass belong to the halves or leave the queue alone.
+-- A history that leaves the queue alone, in two parts: `start` and `rest`. At the end of `start`, the queue's receive
+-- side has been enabled and is up, no piece has been written since, and the device agrees with both halves. In `rest`,
+-- each entry of the driver's pass belongs to one of the halves or leaves the queue alone.
 pub record IsDriven (w : Watched) (origin : State) (start rest : List Entry) (h : Halves) (doers : List Doer) :
     Type 0 where
   pub along : IsAlong w origin (start ++ rest)
@@ -53,8 +53,8 @@ HandedIsPrefix =
     receive.IsPrefixOf (played_by h doers (calls_of w.pass rest)).receive.handed
     (delivered w.queue origin (start ++ rest))
 
--- If the next poll finds its slot not done, everything delivered was taken: it was returned, or is complete and
--- returned when the tail advances. If no packet is complete, everything was returned.
+-- If the next poll finds its slot not done, everything delivered was taken: it was returned, or is complete and will be
+-- returned when the tail advances. If, in addition, no packet is complete, everything was returned.
 
 abbrev pub NoneIsAllTaken : Type 0
 NoneIsAllTaken =
@@ -85,8 +85,8 @@ NoneIsAllBefore =
     (played_by h early (calls_of w.pass before)).receive.handed
     ≡ delivered w.queue origin (start ++ before)
 
--- What was sent on the queue after the first entries is a prefix of what the driver accepted, and all of it if no
--- packet is outstanding.
+-- What was sent on the queue in `rest` is a prefix of what the driver accepted, and all of it if no packet is
+-- outstanding.
 abbrev pub SentIsPrefix : Type 0
 SentIsPrefix =
     (w : Watched) (origin : State) (start rest : List Entry) (h : Halves) (doers : List Doer) →
@@ -102,8 +102,8 @@ IdleIsAllSent =
     bytes_of (played_by h doers (calls_of w.pass rest)).transmit.accepted
     ≡ sent_in w.queue (leads_to origin start) rest
 
--- If the queue's transmit side is up at the end of the first entries, everything sent after them is counted since that
--- side was last enabled.
+-- If the queue's transmit side is up at the end of `start`, everything sent in `rest` was sent since that side was last
+-- enabled.
 abbrev pub CountedWhereUp : Type 0
 CountedWhereUp =
     (w : Watched) (origin : State) (start rest : List Entry) (h : Halves) (doers : List Doer) →

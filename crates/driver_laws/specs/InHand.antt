@@ -12,8 +12,8 @@ use Rattle.pmd_driver.specs.PmdAccess.Made.{InHand}
 use Rattle.pmd_driver.specs.PmdAccess.Scheduled.{Handled, made_of}
 use Rattle.pmd_driver.specs.PmdAccess.Stepped.{AtLock}
 
--- What is known to have happened to a device since this state and before it came into hand, possibly nothing: a legal
--- history, with no entry of pass 0. The state is any that a device can be in, new or used, with or without an installed
+-- What is known to have happened to a device before it came into hand, possibly nothing. This is a legal history
+-- without entries of pass 0. It begins in any state that a device can be in, new or used, with or without an installed
 -- EEPROM image.
 pub record WasMade (s : State) (before : List Entry) : Type 0 where
   pub sound : IsSound s
@@ -26,23 +26,24 @@ abbrev pub in_hand : State → ℕ → Watched
 in_hand s queue = record { vfs = s.vfs; pass = 0; queue = queue }
 
 -- The history that begins in state `s` is legal and leaves the queue alone (`IsAlong`), pass 0 made these calls in it,
--- and it leads to the device.
+-- and it leads to this device state.
 pub record IsHistoryOf (s : State) (queue : ℕ) (h : List Entry) (calls : List Call) (device : State) : Type 0 where
   pub along : IsAlong (in_hand s queue) s h
   pub made : calls_of 0 h ≡ calls
   pub leads : leads_to s h ≡ device
 
--- The calls through a `Direct`, after the calls made before, form a history that leaves a queue alone, if they leave it
--- alone. The reports of a history's entries suffice for this, whatever the state. All entries after the first one of
--- pass 0 belong to that pass, so the only requirement concerns what steps wrote for other queues.
+-- The earlier entries, followed by the calls through a `Direct`, form a history that leaves a queue alone, if
+-- `left_alone` is true of these entries. Whatever the state, this test needs only the entries and their replies. All
+-- entries after the first one of pass 0 belong to that pass. So the only requirement concerns what device steps wrote
+-- for other queues.
 abbrev pub DirectIsHistory : Type 0
 DirectIsHistory =
     (s : State) (queue : ℕ) (before : List Entry) (d : InHand) → queue < 128 → WasMade s before →
     began_in_hand d (From (leads_to s before)) → LeavesAlone (in_hand s queue) (before ++ entries_in d.calls) →
     IsHistoryOf s queue (before ++ entries_in d.calls) d.calls d.device
 
--- The calls through an `Interleaved`, together with the foreign events, form a history too, if they leave the queue
--- alone from that state on.
+-- The earlier entries, followed by the own and foreign calls through an `Interleaved`, form a history too, if they
+-- leave the queue alone starting from the state `s`.
 abbrev pub InterleavedIsHistory : Type 0
 InterleavedIsHistory =
     (s : State) (queue : ℕ) (before : List Entry) (i : Handled) → queue < 128 → WasMade s before →
@@ -51,7 +52,7 @@ InterleavedIsHistory =
     IsHistoryOf s queue (before ++ marked_entries i.calls i.own) (made_of i) i.device
 
 -- A new device with this number of virtual functions, and room for this many frames, was shared. These passes closed
--- its history, as `close` says, and `history` says of the result.
+-- its history, as the clauses of `close` and of `history` say.
 pub record IsClosed (vfs fifo : ℕ) (h : List Entry) (ps : List PassValue) : Type 0 where
   -- As `Shared::new` requires.
   pub device : (vfs ≤ 63) × (0 < fifo) × (fifo ≤ 4096)

@@ -1,4 +1,5 @@
--- How far a driver has laid out the empty transmit ring of a queue that is off. In the meantime, nothing is sent on it.
+-- How far a driver has laid out the empty transmit ring of a queue whose transmit side is off. While the driver does
+-- this, nothing is sent on the queue.
 use Rattle.std.specs.Prelude.{[], ⊤, ◌%◌, ◌++◌, ◌<◌, ◌^◌, ◌∷◌, ◌≡◌, ◌≤◌, IsFalse, List, true, ℕ}
 use Rattle.ring_laws.specs.Sent.{sent_in}
 use Rattle.driver_laws.specs.StartPrelude.{AtPort, Block, Call, Entry, Event, IsNumberOf, Rdbah, Rdbal, Rdh, Rdlen, Rdt}
@@ -8,23 +9,24 @@ use Rattle.driver_laws.specs.{Along.IsAlong, Points.HasGround}
 use Rattle.pmd_driver.specs.NicDevice.declared.event.Event.TheVariants as event
 use Rattle.ring_laws.specs.Off as transmit
 
--- The side is off; or it is off and its ring has a length; or its head is the first slot too; or its ring is empty, and
--- the side is on or off.
+-- `Off`: the side is off. `Sized`: the side is off, and its ring has a length. `Headed`: in addition, the ring's head
+-- is the first slot. `Empty`: the ring is empty, and the side is on or off.
 pub data Laid : Type 0 where
   Off : Laid
   Sized : Laid
   Headed : Laid
   Empty : Laid
 
--- The state after a word is written to one of the queue's registers.
+-- The state after a value is written to one of the queue's registers.
 abbrev pub laid_by : RowId → Laid → Laid
 laid_by Tdlen l = Sized
 laid_by Tdh l = Headed
 laid_by Tdt l = Empty
 laid_by other l = l
 
--- The values that may be written: the values of the ring's registers, in their order, while the side is off; a request
--- to enable the side, only if its ring is empty; and any value to a register of the receive side.
+-- The values that may be written. While the side is off, the values of the ring's registers are written in a fixed
+-- order. A request to enable the side is allowed only if the side's ring is empty. Any value may be written to a
+-- register of the receive side.
 
 abbrev pub MayRing : RowId → Laid → ℕ → Type 0
 MayRing Tdbal l word = (l ≡ Off) × (word % 128 ≡ 0)
@@ -50,21 +52,23 @@ MayLay Srrctl l word = ⊤
 MayLay Rxdctl l word = ⊤
 MayLay row l word = MayRing row l word
 
--- An event of the driver's pass leads from `l` to `m`: it writes a word of this kind to the queue, or no register.
+-- An event of the driver's pass leads from `l` to `m`: it writes one of these values to the queue, or writes no
+-- register.
 abbrev pub Lays : AtPort → Laid → Event Block → Laid → Type 0
 Lays q l (event.Write port number word) m =
     (row : RowId) × (port ≡ q.port) × (is_driven row ≡ true) × IsNumberOf q.port row q.queue number
     × MayLay row l word × (m ≡ laid_by row l)
 Lays q l e m = m ≡ l
 
--- Calls lead from `l` to `last`, in turn.
+-- The calls, in this order, lead from `l` to `last`.
 abbrev pub LaysOn : AtPort → Laid → List Call → Laid → Type 0
 LaysOn q l [] last = last ≡ l
 LaysOn q l (c ∷ cs) last = (m : Laid) × Lays q l c.event m × LaysOn q m cs last
 
 -- Over a legal history that leaves the queue alone, take a call of the driver's pass. Just before that call, port and
--- queue name the queue, and the queue's transmit side is off. If that call and the pass's calls after it lay out the
--- ring in this order, nothing is sent on the queue from that call on.
+-- queue number identify the queue, and the device's frame limit is the driver's packet limit. The queue's transmit side
+-- is off with no enable request pending. If that call and the pass's calls after it lay out the ring in this order,
+-- nothing is sent on the queue from that call on.
 abbrev pub LaidQueueIsSilent : Type 0
 LaidQueueIsSilent =
     (w : Watched) (q : AtPort) (frame : ℕ) (origin : State) (h done rest : List Entry) (e : Entry) (last : Laid) →

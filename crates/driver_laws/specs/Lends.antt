@@ -4,13 +4,13 @@ use Rattle.std.specs.Prelude.{ℕ, List}
 use Rattle.driver_laws.specs.StartPrelude.{Numbers, is_own, Call, Halves, halves_of, Running, AtPort, DrivesApart}
 use Rattle.pmd_driver.specs.Life.{Lives}
 
--- The halves when both sides are on: nothing is posted yet.
+-- The halves at the point where both sides are on and nothing is posted yet.
 abbrev pub first_of : (q : AtPort) (size frame : ℕ) (old : List Call) (a : Numbers) (new : List Call) (r : Running)
     → Lives q size frame old a new r → Halves
 first_of q size frame old a new r x = record { receive = x.up.empty; transmit = x.fresh.transmit }
 
--- Once both sides are on, each call is made by one of the halves or is a device step. Each half lends only blocks of
--- that arena that the other half hasn't lent.
+-- After both sides are on, each call of the driver's pass is made by one of the halves or is a device step. Each half
+-- lends only blocks of the driver's arena that the other half hasn't lent.
 abbrev pub LifeLendsApart : Type 0
 LifeLendsApart =
     (q : AtPort) (size frame : ℕ) (old : List Call) (a : Numbers) (new : List Call) (r : Running)

@@ -5,7 +5,8 @@ use Rattle.pmd_driver.specs.PmdRx.Plays as receiving
 use Rattle.driver_laws.specs.Harmless.{AddsHarmless}
 use Rattle.driver_laws.specs.Life.{Life}
 
--- An entry of a history with the last of these calls, before which the pass has made exactly the others.
+-- An entry of a history that contains the last of the calls. Before this entry, the pass has made exactly the other
+-- calls.
 pub record EndsAt (pass : ℕ) (h : List Entry) (calls : List Call) : Type 0 where
   pub before : List Entry
   pub entry : Entry
@@ -20,13 +21,14 @@ CallsEnd =
     (pass : ℕ) (h : List Entry) (calls more : List Call) (c : Call) →
     calls_of pass h ≡ (calls ++ c ∷ []) ++ more → EndsAt pass h (calls ++ c ∷ [])
 
--- After a life, one driver call polled the slots of a packet and found the last of them not done, at an entry of the
--- history.
+-- After a life, one driver call polled the slots of a packet. Its last poll, at an entry of the history, found a slot
+-- not done.
 pub record LooksInVain (x : Life) (new : List Call) (v : Receive) : Type 0 where
   pub looks : receiving.LooksInVain x.made x.k.receive new v
   pub look : EndsAt x.w.pass x.h new
 
--- What the driver had handed out is everything delivered before the entry of that last poll, whatever came after it.
+-- What the driver had handed out is everything delivered before the entry of that last poll, whatever entries follow
+-- it.
 abbrev pub NoneIsAllBefore : Type 0
 NoneIsAllBefore =
     (x : Life) (new : List Call) (v : Receive) (looked : LooksInVain x new v) →

@@ -1,4 +1,4 @@
--- What a driver's own accesses do to sides at rest, and the final state of these sides.
+-- What a driver's own accesses do to sides at rest, and the state in which they leave these sides.
 use Rattle.std.specs.Prelude.{[], ◌*◌, ◌+◌, ◌<◌, ◌==◌, ◌||◌, ◌≡◌, ◌≤◌, Bool, IsFalse, None, true, ℕ}
 use Rattle.pmd_driver.specs.NicDevice.Named.{named}
 use Rattle.ring_laws.specs.Joint.{IsNamed}
@@ -15,7 +15,7 @@ use Rattle.pmd_driver.specs.NicDevice.declared.event.Reply.TheVariants as reply
 use Rattle.pmd_driver.specs.PmdRx.Receive as receive
 use Rattle.pmd_driver.specs.PmdTx.Sending as transmit
 
--- A device in which a driver makes its accesses.
+-- What a driver's accesses require of the device: it is sound, and the queue's number is below 128.
 pub record IsMet (queue : ℕ) (s : State) : Type 0 where
   pub small : queue < 128
   pub sound : IsSound s
@@ -24,8 +24,8 @@ pub record IsMet (queue : ℕ) (s : State) : Type 0 where
 abbrev pub MayGoOn : Side → Type 0
 MayGoOn x = x.wanted ≡ true → is_empty x.ring ≡ true
 
--- A value is written to a register of a side for which no enable request is in effect. It takes effect, provided that
--- the side's ring is empty if the value requests that the side be enabled.
+-- If no enable request is in effect for a side, a value written to a register of the side takes effect. The premise: if
+-- the value requests that the side be enabled, the side's ring is empty.
 abbrev pub WriteStands : Dir → Type 0
 WriteStands dir =
     (queue : ℕ) (s : State) (sides : Dir → Side) (rings : Blocks) (port : Port) (number word : ℕ) (row : RowId) →
@@ -33,14 +33,14 @@ WriteStands dir =
     MayGoOn (side_with dir row word (sides dir)) → NamesRow s port number row queue →
     Stand queue (λ d. side_with d row word (sides d)) rings (after s (event.Write port number word))
 
--- A side after a read of a register that returns bit 25 as `on`. If the register is the side's enable word and bit 25
--- is set, the side is enabled.
+-- What is known of a side after a read of a register that returns bit 25 as `on`. If the register is the side's enable
+-- word and bit 25 is set, the side is enabled.
 abbrev pub side_seen : Dir → RowId → Bool → Side → Side
 side_seen Rx Rxdctl on x = record x { on = x.on || on }
 side_seen Tx Txdctl on x = record x { on = x.on || on }
 side_seen dir other on x = x
 
--- The enable word of a side is read.
+-- A read of a side's enable word keeps both sides at rest. If the read returns bit 25 as 1, the side is enabled.
 abbrev pub ReadStands : Dir → Type 0
 ReadStands dir =
     (queue : ℕ) (s : State) (sides : Dir → Side) (rings : Blocks) (port : Port) (number word : ℕ) →
@@ -49,7 +49,7 @@ ReadStands dir =
     Stand queue (λ d. side_seen d (enable_row dir) (has_bit 25 word) (sides d)) rings
     (after s (event.Read port number))
 
--- A lent block of zero bytes becomes one of these blocks.
+-- A block of zero bytes that is lent becomes one of the zero-filled blocks `rings`.
 
 abbrev pub and_one : ℕ → Blocks → Blocks
 and_one ring rings number = (number == ring) || rings number
@@ -78,8 +78,8 @@ pub record IsSized (ring size : ℕ) : Type 0 where
   pub few : size ≤ 1024
   pub low : ring + blocks_for size ≤ 65536
 
--- If the sides have fresh rings that are lent, device and driver agree: on the receive side, with nothing posted; on
--- the transmit side, with nothing sent.
+-- If the sides have fresh rings and the rings' blocks are lent, the device and the driver agree: on the receive side,
+-- that nothing is posted; on the transmit side, that nothing is sent.
 
 abbrev pub FreshReceiveAgrees : Type 0
 FreshReceiveAgrees =

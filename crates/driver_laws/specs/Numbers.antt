@@ -1,4 +1,4 @@
--- Which queue of the device a port and a queue number at that port name.
+-- Which queue of the device is identified by a port and a queue number at that port.
 use Rattle.std.specs.Prelude.{◌+◌, ◌≡◌, None, Option, Some, if◌then◌else◌, nat_lt, true, ℕ}
 use Rattle.pmd_driver.specs.NicDevice.{VfMap.Pools.queues_of, VfMap.declared.mode.Mode.Mode}
 use Rattle.driver_laws.specs.StartPrelude.{AtPort, IsNumberOf, Pf, Port, RowId, State, Vf, is_driven, mode_in}
@@ -14,16 +14,16 @@ abbrev pub queue_at : Mode → (vfs : ℕ) → Port → ℕ → Option ℕ
 queue_at mode vfs Pf number = if nat_lt number 128 then Some number else None
 queue_at mode vfs (Vf v) number = if nat_lt v vfs then queue_in (queues_of mode v) number else None
 
--- Port and number name this queue, given how the device's queues are separated into pools.
+-- Port and queue number identify this queue, given how the device's queues are separated into pools.
 abbrev pub NamesQueue : State → AtPort → ℕ → Type 0
 NamesQueue s q queue = queue_at (mode_in s.registers) s.vfs q.port q.queue ≡ Some queue
 
--- The numbers that a driver uses at its port name this queue's registers.
+-- The register numbers that a driver uses at its port identify this queue's registers.
 abbrev pub NumbersName : State → AtPort → ℕ → Type 0
 NumbersName s q queue =
     (row : RowId) (number : ℕ) → is_driven row ≡ true → IsNumberOf q.port row q.queue number →
     NamesRow s q.port number row queue
 
--- The numbers name these registers if port and queue name the queue.
+-- If port and queue number identify the queue, the driver's register numbers identify the queue's registers.
 abbrev pub NamedQueueHasTheNumbers : Type 0
 NamedQueueHasTheNumbers = (s : State) (q : AtPort) (queue : ℕ) → NamesQueue s q queue → NumbersName s q queue

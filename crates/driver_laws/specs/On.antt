@@ -19,16 +19,17 @@ pub record AreOn (q : AtPort) (size frame : ℕ) (old : List Call) (a : Numbers)
   pub transmit : IsTransmitReady q size frame ready_made ready_arena both_made both_arena t
   pub switched : IsSwitched q both_made new true 1000
 
--- Over a history that leaves the queue alone, `P` holds wherever both sides were enabled in this way. The premise: Just
--- before the driver's first access, port and queue name the queue, and the device's frame limit is the driver's packet
--- limit.
+-- Over a history that leaves the queue alone, `P` holds if the driver enabled both sides in this way. The premise: Just
+-- before the driver's first access, port and queue number identify the queue, and the device's frame limit is the
+-- driver's packet limit.
 abbrev pub WhereOn : (Watched → State → List Entry → List Call → Receive → Sender → Type 0) → Type 0
 WhereOn P =
     (w : Watched) (origin : State) (h : List Entry) (q : AtPort) (size frame : ℕ) (old : List Call) (a : Numbers)
     (new : List Call) (v : Receive) (t : Sender) (up : AreOn q size frame old a new v t) → IsAlong w origin h →
     BeforeLast w origin h up.receive.quiet.0 (HasGround w.queue q frame) → P w origin h new v t
 
--- Wherever the pass has made these calls, the device and the driver agree on both sides: nothing is posted or sent yet.
+-- At each point where the pass has made exactly these calls, the device and the driver agree on both sides: nothing is
+-- posted or sent yet.
 abbrev pub SwitchedSidesAgree : Type 0
 SwitchedSidesAgree =
     WhereOn (λ w origin h new v t. AtCalls w origin h new (λ s. Agree w.queue s [] v × Agrees s w.queue [] t))

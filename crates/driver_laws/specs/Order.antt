@@ -12,8 +12,8 @@ abbrev pub HandedIsPrefix : Type 0
 HandedIsPrefix =
     (x : Life) → IsLived x → IsHandedInOrder x.course x.k.receive.handed
 
--- If the next poll finds its slot not done, everything delivered was taken: it was handed out, or is complete and
--- handed out when the tail advances. If no packet is complete, everything was handed out.
+-- If the next poll finds its slot not done, everything delivered was taken: it was handed out, or is complete and will
+-- be handed out when the tail advances. If, in addition, no packet is complete, everything was handed out.
 
 abbrev pub NoneIsAllTaken : Type 0
 NoneIsAllTaken =
@@ -26,7 +26,7 @@ NoneIsAll =
     x.k.receive.handed ≡ delivered x.w.queue x.origin x.h
 
 -- What was sent on the queue since its transmit side was last enabled is a prefix of what the driver accepted, and all
--- of it if none is outstanding.
+-- of it if no packet is outstanding.
 abbrev pub SentIsPrefix : Type 0
 SentIsPrefix =
     (x : Life) → IsLived x → IsSentInOrder x.course x.k.transmit.accepted

@@ -1,4 +1,4 @@
--- Where a driver's blocks are. The blocks that are out with the driver's halves are lent to the device, and no other
+-- Where a driver's blocks are. The blocks that the driver's halves still have in use are lent to the device. No other
 -- block that the driver tries to lend is lent.
 use Rattle.std.specs.Prelude.{[], if◌then◌else◌, ◌&&◌, ◌+◌, ◌++◌, ◌≡◌, Bool, IsTrue, List, ℕ, false, not}
 use Rattle.driver_laws.specs.{Before.is_asked, Healthy.lent_by, StartPrelude.Call, StartPrelude.calls_of}
@@ -10,8 +10,8 @@ use Rattle.driver_laws.specs.Reported.{IsReportedOf, Reported, now}
 use Rattle.pmd_driver.specs.Blocks.{KeepsBlocks, KeepsEach}
 use Rattle.pmd_driver.specs.{Halted.all_out, PmdAccess.Home.AreOut}
 
--- Whether a running driver has this block out with a half: the block belongs to a ring, is posted or about to be, or is
--- a lent part of an outstanding packet.
+-- Whether one of a running driver's halves has this block in use, so that it isn't free in the arena. Such a block
+-- belongs to a ring, is posted or about to be posted, or is a lent part of an outstanding packet.
 abbrev pub is_out : Rings → ℕ → Bool
 is_out (Up r) n = lent_by (halves_of r) n
 is_out (Down h) n = false
@@ -39,15 +39,17 @@ LentIsOut =
     (x : Reported) → IsReportedAlone x → (number : ℕ) → IsTrue (asked_of x.w x.a x.h number) →
     IsTrue (has_block (memory_after x.origin x.h) number) → IsTrue (is_out (now x).driver.rings number)
 
--- When an arena was handed to a driver, these of its blocks were out of it, each once: in hand, or lent by others. Each
--- of these blocks, and each that was free in the arena, is now free in it, out, or in hand. No other block is.
+-- Which blocks a driver's arena accounts for. When the arena was handed to the driver, the blocks `outside` were
+-- outside it, each once: in hand, or lent by others. Each block that was free in the arena or outside it then is now
+-- free in the arena, out, or in hand. No other block is.
 pub record Balances (a : Numbers) (outside : List ℕ) (h : Halted) (hand : List ℕ) : Type 0 where
   pub once : AreOut a outside
   pub all : KeepsEach a outside h.arena (all_out h ++ hand)
 
--- The blocks balance when the driver starts, with the blocks in hand that were out of the arena. They balance after
--- each call, as the call's clause `blocks` says. What was passed to the call is no longer in hand; what the call hands
--- out, or leaves in a list that was passed to it, is in hand. The order of the blocks in hand doesn't matter.
+-- The blocks balance when the driver starts, with the blocks that were outside the arena counted as in hand. They
+-- balance after each call, as the call's clause `blocks` says. The blocks that were passed to the call are no longer in
+-- hand. The blocks that the call hands out, or leaves in a list that was passed to it, are in hand. The order of the
+-- blocks in hand doesn't matter.
 pub record BooksGoOn : Type 0 where
   pub start :
       (a : Numbers) (outside : List ℕ) (h : Halted) → AreOut a outside → HasAll a h []
@@ -60,15 +62,16 @@ pub record BooksGoOn : Type 0 where
       → ((number : ℕ) → times_in_hand hand number ≡ times_in_hand other number) → Balances a outside h hand
       → Balances a outside h other
 
--- 1 if a block is lent that these calls don't try to lend, because others had the block in hand and lent it; otherwise
--- 0.
+-- 1 if the block is lent but these calls don't try to lend it, because others had the block in hand and lent it;
+-- otherwise 0.
 abbrev pub lent_elsewhere : List Call → Memory → ℕ → ℕ
 lent_elsewhere calls m number = if has_block m number && not (is_asked calls number) then 1 else 0
 
--- It follows that each block that was free in the arena handed to the driver, or that was out of the arena then, is in
--- one place: free in the arena, in hand, or lent to the device. No other block of the arena is in any of these places.
--- Blocks of packets that the driver holds, complete or not, count as in hand too, as do the blocks of parts that wait
--- to be lent. Of the blocks that were out of the arena, or that the driver handed out, some may be lent elsewhere.
+-- When the arena was handed to the driver, some of its blocks were free in it and some were outside it. Each of these
+-- blocks is in one place: free in the arena, in hand, or lent to the device. No other block of the arena is in any of
+-- these places. Blocks of packets that the driver holds, complete or not, count as in hand too, as do the blocks of
+-- parts that wait to be lent. Others may have lent some of the blocks that were outside the arena or that the driver
+-- handed out.
 abbrev pub EachInOnePlace : Type 0
 EachInOnePlace =
     (x : Reported) → IsReportedAlone x → (outside hand elsewhere : List ℕ) →

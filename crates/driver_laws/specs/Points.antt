@@ -5,13 +5,13 @@ use Rattle.driver_laws.specs.StartPrelude.{Side, State, Txdctl, Watched, frame_l
 use Rattle.driver_laws.specs.{Along.AtCalls, Along.IsAlong, Moves.MayGoOn, Moves.side_seen, Numbers.NamesQueue}
 use Rattle.driver_laws.specs.{Standing.Stand, Words.Fits, Words.side_with}
 
--- What a driver relies on in addition to its sides: port and queue name this queue, and the device's frame limit is the
--- driver's packet limit.
+-- What a driver relies on in addition to its sides: its port and queue number identify this queue, and the device's
+-- frame limit is the driver's packet limit.
 pub record HasGround (queue : ℕ) (q : AtPort) (frame : ℕ) (s : State) : Type 0 where
   pub names : NamesQueue s q queue
   pub limit : frame_limit s.registers ≡ packet_limit frame
 
--- The two sides and the lent blocks.
+-- The state of the two sides, and the lent blocks of their rings.
 pub record Sides : Type 0 where
   pub side : Dir → Side
   pub rings : Blocks
@@ -36,8 +36,8 @@ abbrev pub after_accesses : List Access → Sides → Sides
 after_accesses [] p = p
 after_accesses (a ∷ rest) p = after_accesses rest (after_access a p)
 
--- An access that keeps the sides at rest: the read of an enable word, or a value written to a side for which no enable
--- request is in effect.
+-- An access that keeps the sides at rest: a read of an enable word, or a write to a register of a side for which no
+-- enable request is in effect.
 
 abbrev pub IsEnable : RowId → Type 0
 IsEnable Rxdctl = ⊤
@@ -57,8 +57,9 @@ abbrev pub AllMay : List Access → Sides → Type 0
 AllMay [] p = ⊤
 AllMay (a ∷ rest) p = May a p × AllMay rest (after_access a p)
 
--- Over a history that leaves the queue alone, let the sides be in a known state where the pass has made some calls. If
--- the pass then makes accesses that keep the sides at rest, the sides are in the state to which these accesses lead.
+-- Over a history that leaves the queue alone, the sides are in a known state after the pass has made some calls. If the
+-- pass then makes accesses that keep the sides at rest, the sides are afterwards in the state to which these accesses
+-- lead.
 abbrev pub AccessesLead : Type 0
 AccessesLead =
     (w : Watched) (q : AtPort) (frame : ℕ) (origin : State) (h : List Entry) (known : Sides → Bool) (F : Sides → Sides)

@@ -11,7 +11,7 @@ same_port Pf Pf = true
 same_port (Vf v) (Vf u) = v == u
 same_port p other = false
 
--- A port, and the numbers that a queue's RXDCTL and TXDCTL have at that port.
+-- A port, and the register numbers that a queue's RXDCTL and TXDCTL have at that port.
 pub record Enables : Type 0 where
   pub port : Port
   pub receive : ℕ
@@ -22,7 +22,7 @@ pub record AreEnables (q : AtPort) (w : Enables) : Type 0 where
   pub receive : IsNumberOf q.port Rxdctl q.queue w.receive
   pub transmit : IsNumberOf q.port Txdctl q.queue w.transmit
 
--- Whether the word last written at a number has bit 25 set, and the state after another write.
+-- Whether the value last written at a register number has bit 25 set, and the state after another write.
 
 abbrev pub is_asked : Enables → Asked → ℕ → Bool
 is_asked w x number =
@@ -39,7 +39,8 @@ asked_after w x (event.Write port number word) =
     if same_port port w.port then with_asked w x number (has_bit 25 word) else x
 asked_after w x other = x
 
--- Whether an event is a miss: it reads one of the two words with bit 25 clear, although the last write set it.
+-- Whether an event is a miss: a read of one of the two registers returns bit 25 as 0, although the last write to that
+-- register set the bit.
 abbrev pub is_missed : Enables → Asked → Event Block → Reply Block → Bool
 is_missed w x (event.Read port number) (reply.Word word) =
     same_port port w.port && (is_asked w x number && not (has_bit 25 word))
@@ -50,7 +51,8 @@ abbrev pub missed_in : Enables → Asked → List Call → ℕ
 missed_in w x [] = 0
 missed_in w x (c ∷ cs) = (if is_missed w x c.event c.reply then 1 else 0) + missed_in w (asked_after w x c.event) cs
 
--- If a start timed out, 1,000 of its pass's calls are misses, whatever numbers the two words have.
+-- If a start timed out, exactly 1,000 of its pass's calls after a certain point are misses, whatever numbers the two
+-- registers have at the port.
 abbrev pub PollsAreReported : Type 0
 PollsAreReported =
     (q : AtPort) (old new : List Call) (x : TimesOut q old new) (w : Enables) → AreEnables q w →

@@ -17,8 +17,8 @@ abbrev pub IsOff : ℕ → State → Type 0
 IsOff queue s = sides.IsOff (side_of Rx queue s)
 
 -- After the enable word is written with bit 25 clear, no enable request is in effect for the receive side, whether the
--- side is enabled or disabled. This stays true over every event that leaves the queue alone. If a later read returns
--- bit 25 as 0, the side is disabled.
+-- side is enabled or disabled. Every event that leaves the queue alone preserves this. If a later read of the enable
+-- word returns bit 25 as 0, the side is disabled.
 pub record ReceiveGuardIsOff : Type 0 where
   pub written :
       (queue : ℕ) (s : State) (port : Port) (number word : ℕ) → IsMet queue s

@@ -13,8 +13,8 @@ use Rattle.pmd_driver.specs.Started.{has_room}
 use Rattle.driver_laws.specs.StartPrelude.{AtPort, DeviceFault, Numbers, Packet, is_frame, most_blocks, packet_limit}
 use Rattle.driver_laws.specs.StartPrelude.{start_gate}
 
--- A ring size or frame limit that is refused: a ring has 8 to 1,024 descriptors, a multiple of 8; the frame limit is
--- 1,518 to 9,728 bytes.
+-- A ring size or frame limit that is refused. A ring must have 8 to 1,024 descriptors, and their number must be a
+-- multiple of 8. The frame limit must be 1,518 to 9,728 bytes.
 abbrev pub IsBadRing : ℕ → Type 0
 IsBadRing size = (size < 8) ⊎ ((1024 < size) ⊎ (size % 8 ≢ 0))
 
@@ -31,7 +31,7 @@ pub record IsFitting (size frame : ℕ) : Type 0 where
 
 -- A start is refused for these sizes whatever else is wrong. Next, the start is refused for too few free blocks: it
 -- needs one for each slot except one, and one for each 128 descriptors of both rings. Last, the start is refused for a
--- queue that its port can't name.
+-- queue number that its port can't address.
 pub record StartTells (a : Numbers) (q : AtPort) (size frame : ℕ) : Type 0 where
   pub ring : IsBadRing size → start_gate a q size frame ≡ Some BadSize
   pub frames : IsBadFrame frame → start_gate a q size frame ≡ Some BadSize
@@ -45,8 +45,8 @@ pub record StartTells (a : Numbers) (q : AtPort) (size frame : ℕ) : Type 0 whe
 abbrev pub StartsHaveAnOrder : Type 0
 StartsHaveAnOrder = (a : Numbers) (q : AtPort) (size frame : ℕ) → StartTells a q size frame
 
--- A packet length that is refused: a packet has at least one byte, at most as many as the limit, and at most 2,048 for
--- each of its blocks.
+-- A packet length that is refused. A packet must have at least one byte, at most as many as the limit, and at most
+-- 2,048 for each of its blocks.
 abbrev pub IsBadLength : Sender → Packet → Type 0
 IsBadLength v p = (p.len ≡ 0) ⊎ ((v.layout.limit < p.len) ⊎ (2048 * length p.bufs < p.len))
 
@@ -75,8 +75,8 @@ abbrev pub PacketsHaveAnOrder : Type 0
 PacketsHaveAnOrder =
     (v : Sender) (a : Numbers) (p : Packet) (r : Result TxAnswer TxFault) → PacketMeets v a p r
 
--- The limit on a frame's length is 1,518 to 9,728 bytes, including the 4-byte check sequence. The frame's packet has at
--- most this many bytes, in at most this many 2,048-byte blocks.
+-- The limit on a frame's length is 1,518 to 9,728 bytes, including the 4-byte check sequence. For several limits, the
+-- fields state the maximum number of bytes in a packet and of 2,048-byte blocks that it takes.
 pub record FramesAre : Type 0 where
   pub shorter : is_frame 1517 ≡ false
   pub shortest : is_frame 1518 ≡ true

@@ -1,4 +1,4 @@
--- A driver with a refused start, and what was sent on its queue in the meantime.
+-- A driver whose start was refused, and what was sent on its queue during the start and the stop that followed.
 use Rattle.std.specs.Prelude.{◌≡◌, List, [], ◌∷◌, ◌++◌}
 use Rattle.driver_laws.specs.StartPrelude.{calls_of, leads_to, Call, Entry, left_accepted, left_handed, Rest}
 use Rattle.driver_laws.specs.StartPrelude.{StartRefused}
@@ -19,8 +19,8 @@ pub record Refused : Type 0 where
   pub left : Rest
   pub never : NeverLived q size frame old a e new left
   pub along : IsAlong w origin h
-  -- The entry `first` is the start's first, after device steps. Just before it, port and queue name the queue, and both
-  -- sides are off with no enable request pending.
+  -- The start's first event is the entry `first`, not counting the device steps that the pass made before it. Just
+  -- before this entry, the driver begins well, and both sides are off with no enable request pending.
   pub before : List Entry
   pub first : Entry
   pub following : List Entry
@@ -30,13 +30,13 @@ pub record Refused : Type 0 where
   pub stepped : AreSteps steps
   pub ahead : calls_of w.pass before ≡ old ++ steps
   pub quiet : IsQuiet w.queue q frame (leads_to origin before)
-  -- The calls made so far.
+  -- The calls that the start and the stop have made so far (`since`).
   pub since : List Call
   pub rest : List Call
   pub all : new ≡ (old ++ since) ++ rest
   pub calls : calls_of w.pass h ≡ old ++ since
 
--- From the start's first event on, nothing is sent on the queue.
+-- Nothing is sent on the queue, starting with the start's first event.
 abbrev pub RefusedSendsNothing : Type 0
 RefusedSendsNothing = (x : Refused) → sent_in x.w.queue (leads_to x.origin x.before) (x.first ∷ x.following) ≡ []
 

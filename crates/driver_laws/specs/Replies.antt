@@ -6,8 +6,8 @@ use Rattle.driver_laws.specs.{Points.HasGround, Quieting.IsQuiet}
 use Rattle.pmd_driver.specs.NicDevice.declared.event.Event.TheVariants as event
 use Rattle.pmd_driver.specs.NicDevice.declared.event.Reply.TheVariants as reply
 
--- Suppose that port and queue name a queue of the device. A read of one of the queue's registers that a driver uses
--- returns a value, and a write to that register is done.
+-- Suppose that port and queue number identify a queue of the device. A read of one of the queue's registers that a
+-- driver uses returns a value, and a write to that register gets the reply `done`.
 pub record RegistersReply (queue : ℕ) (q : AtPort) (s : State) (row : RowId) (number : ℕ) : Type 0 where
   pub read : (word : ℕ) × (reply_to s (event.Read q.port number) ≡ reply.Word word)
   pub write : (word : ℕ) → reply_to s (event.Write q.port number word) ≡ reply.Done
@@ -18,7 +18,7 @@ NamedRegistersReply =
     HasGround queue q frame s → is_driven row ≡ true →
     IsNumberOf q.port row q.queue number → RegistersReply queue q s row number
 
--- A read of the enable word of a side that is off returns bit 25 as 0.
+-- If both sides are off with no enable request pending, a read of a side's enable word returns bit 25 as 0.
 abbrev pub OffSidesAreSeenOff : Type 0
 OffSidesAreSeenOff =
     (queue : ℕ) (q : AtPort) (frame : ℕ) (s : State) (number word : ℕ) → IsQuiet queue q frame s →

@@ -15,9 +15,9 @@ pub record Moment : Type 0 where
   pub made : List Call
   pub driver : Driver
 
--- From one moment of a running driver to the next: either a call to `rx`, `tx`, `reap`, `rx_burst` or `tx_burst`, as
--- its clause `drives` says; or at most one call to `packet` or `release`, as its clause `halves` says, alongside
--- harmless calls through the same way, for example the arrival of a frame.
+-- How one moment of a running driver follows another. Either there was a call to `rx`, `tx`, `reap`, `rx_burst` or
+-- `tx_burst`, as its clause `drives` says. Or there was at most one call to `packet` or `release`, as its clause
+-- `halves` says, alongside harmless calls through the same `Nic`. The arrival of a frame is an example of such a call.
 
 abbrev pub Drove : Moment → Moment → Type 0
 Drove m n = RunsOn m.made m.driver.rings n.made n.driver.rings
@@ -28,7 +28,7 @@ Keeps m n = KeepsHalves m.driver.rings n.driver.rings × AddsHarmless m.made n.m
 abbrev pub Follows : Moment → Moment → Type 0
 Follows m n = Drove m n ⊎ Keeps m n
 
--- The moments follow one another, and the last of them.
+-- `AllFollow`: each moment follows the one before it. `last`: the last moment.
 abbrev pub AllFollow : Moment → List Moment → Type 0
 AllFollow m [] = ⊤
 AllFollow m (n ∷ later) = Follows m n × AllFollow n later
@@ -58,7 +58,7 @@ pub record Reported : Type 0 where
 abbrev pub now : Reported → Moment
 now x = last x.m x.later
 
--- The pass has made exactly the calls of that moment.
+-- In the history, the pass has made exactly the calls that it had made at that moment.
 abbrev pub IsReportedOf : Reported → Type 0
 IsReportedOf x = calls_of x.w.pass x.h ≡ (now x).made
 
@@ -89,7 +89,7 @@ abbrev pub LooksInVain : Moment → Moment → Type 0
 LooksInVain m n =
     WhereUp m.driver.rings n.driver.rings (λ r s. receiving.LooksInVain m.made r.receive n.made s.receive)
 
--- A call that polls in vain comes after the last moment, with its last poll at an entry of the history.
+-- After the last moment, a call polls in vain. The call's last poll is at an entry of the history.
 pub record IsReportedToLook (x : Reported) (n : Moment) : Type 0 where
   pub looks : LooksInVain (now x) n
   pub look : EndsAt x.w.pass x.h n.made

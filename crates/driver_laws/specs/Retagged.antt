@@ -2,7 +2,7 @@
 use Rattle.std.specs.Prelude.{[], ◌∷◌, ◌≡◌, Bool, List, false, map, true, ℕ}
 use Rattle.driver_laws.specs.StartPrelude.{AreEvents, Entry, IsLegal, State, call_in, delivered, leads_to, sent_since}
 
--- Two histories contain the same calls in the same order, of any passes.
+-- Two histories contain the same calls in the same order, whichever passes made them.
 abbrev pub AreSame : List Entry → List Entry → Type 0
 AreSame h g = map call_in h ≡ map call_in g
 
@@ -11,7 +11,8 @@ abbrev pub marked_as : ℕ → Bool → Entry → Entry
 marked_as other true e = e
 marked_as other false e = record e { pass = other }
 
--- A history with its entries marked in turn as the driver's or not. Those after the last mark are unchanged.
+-- A history in which each entry gets its tag according to the next mark: true marks an entry as the driver's. Entries
+-- after the last mark are unchanged.
 abbrev pub retagged : ℕ → List Bool → List Entry → List Entry
 retagged other [] h = h
 retagged other (is ∷ own) [] = []
@@ -21,8 +22,8 @@ retagged other (is ∷ own) (e ∷ es) = marked_as other is e ∷ retagged other
 abbrev pub RetaggedIsSame : Type 0
 RetaggedIsSame = (other : ℕ) (own : List Bool) (h : List Entry) → AreSame (retagged other own h) h
 
--- Only the tags differ. A legal history of events that a driver can make remains one with other tags, leads to the same
--- state, and delivers and sends the same on each queue.
+-- Only the tags differ. With other tags, a legal history of events that a driver can make remains such a history. It
+-- leads to the same state, and delivers and sends the same packets on each queue.
 
 abbrev pub SameIsLegal : Type 0
 SameIsLegal =

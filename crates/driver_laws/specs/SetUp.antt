@@ -35,7 +35,7 @@ abbrev pub front_words : ℕ → ℕ → ℕ → List ℕ
 front_words mode pools mrqc =
     mode ∷ pools ∷ 0xFFFFFFFF ∷ 0xFFFFFFFF ∷ 0xFFFFFFFF ∷ 0xFFFFFFFF ∷ mrqc ∷ []
 
--- The 32-bit values that these bytes form at the given indexes.
+-- The 32-bit values that the list of bytes contains at the given indexes.
 abbrev pub first_words : List ℕ → List ℕ → List ℕ
 first_words bytes indexes = map (word_in bytes) indexes
 

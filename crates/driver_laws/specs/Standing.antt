@@ -6,9 +6,9 @@ use Rattle.driver_laws.specs.StartPrelude.{Block, Blocks, Dir, Event, Memory, Si
 use Rattle.driver_laws.specs.StartPrelude.{frame_limit, is_empty, mode_in, pieces, sent_by, side_of, zero_block}
 use Rattle.std.specs.FinMap as map
 
--- The side `x` equals `side`, except for whether it is on; nothing is staged in `x`. If `side` is on, so is `x`; and
--- `x` is on only if an enable request is in effect for `side`. If one is in effect, the ring of `side` is empty, so the
--- device does nothing on it.
+-- The side `x` equals `side`, except that one may be on and the other off; nothing is staged in `x`. If `side` is on,
+-- so is `x`; and `x` is on only if an enable request is in effect for `side`. If such a request is in effect, the ring
+-- of `side` is empty, so the device does nothing on it.
 pub record Stands (x side : Side) : Type 0 where
   pub same : x ≡ record side { on = x.on; staged = [] }
   pub seen : IsTrue side.on → IsTrue x.on
@@ -19,15 +19,15 @@ pub record Stands (x side : Side) : Type 0 where
 abbrev pub IsZero : Memory → ℕ → Type 0
 IsZero m number = map.get m number ≡ Some (zero_block number).bytes
 
--- Both sides are at rest, no part of a frame that waits for the queue is written yet, and these blocks are lent and
--- zero-filled.
+-- Both sides are at rest, no part of a frame that waits for the queue is written yet, and the blocks `rings` are lent
+-- and zero-filled.
 pub record Stand (queue : ℕ) (sides : Dir → Side) (rings : Blocks) (s : State) : Type 0 where
   pub side : (dir : Dir) → Stands (side_of dir queue s) (sides dir)
   pub begun : partial_on queue s.waiting ≡ 0
   pub zero : (number : ℕ) → IsTrue (rings number) → IsZero s.memory number
 
--- An event that leaves the queue and these blocks alone keeps both sides at rest, and receives and sends nothing on the
--- queue. The frame limit, and how the queues are separated among virtual functions, stay unchanged.
+-- An event that leaves the queue and the blocks `rings` alone keeps both sides at rest, and receives and sends nothing
+-- on the queue. The frame limit, and how the queues are separated among virtual functions, stay unchanged.
 pub record LeavesStanding (queue : ℕ) (sides : Dir → Side) (rings : Blocks) (s : State) (e : Event Block) : Type 0 where
   pub stand : Stand queue sides rings (after s e)
   pub received : pieces queue s e ≡ []

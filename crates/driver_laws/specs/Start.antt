@@ -5,14 +5,14 @@ use Rattle.driver_laws.specs.StartPrelude.{Agree, Agrees, AtPort, Call, Entry, N
 use Rattle.driver_laws.specs.{Along.AtCalls, Along.AtEntries, Along.BeforeLast, Along.IsAlong, Points.HasGround}
 use Rattle.driver_laws.specs.Unused.{WentOn}
 
--- Just before the driver's first access, its port and queue name this queue, and the device's frame limit is the
--- driver's packet limit.
+-- The driver begins well: just before its first access, its port and queue number identify this queue, and the device's
+-- frame limit is the driver's packet limit.
 pub record BeginsWell (w : Watched) (origin : State) (h : List Entry) (q : AtPort) (size frame : ℕ) (old : List Call)
     (a : Numbers) (new : List Call) (r : Running) (up : AreUp q size frame old a new r) : Type 0 where
   pub ground : BeforeLast w origin h up.receive.quiet.0 (HasGround w.queue q frame)
 
--- Wherever the pass has made the calls by which both sides came up, the device and the driver agree on both sides:
--- nothing is posted or sent yet.
+-- At each point where the pass has made exactly the calls that brought both sides up, the device and the driver agree
+-- on both sides: nothing is posted or sent yet.
 abbrev pub StartAgrees : Type 0
 StartAgrees =
     (w : Watched) (origin : State) (h : List Entry) (q : AtPort) (size frame : ℕ) (old : List Call) (a : Numbers)

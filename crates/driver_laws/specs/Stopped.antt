@@ -16,14 +16,14 @@ abbrev pub HandedIsPrefix : Type 0
 HandedIsPrefix =
     (x : Life) (new : List Call) → IsStopping x new → IsHandedInOrder x.course x.k.receive.handed
 
--- Let the stop take blocks back only after both sides were seen off. Over the whole history, what was sent on the queue
--- since its transmit side was last enabled is a prefix of what the driver accepted.
+-- Suppose that the stop takes blocks back only after both sides have read as off. Then, over the whole history, what
+-- was sent on the queue since its transmit side was last enabled is a prefix of what the driver accepted.
 abbrev pub SentIsPrefix : Type 0
 SentIsPrefix =
     (x : Life) (new : List Call) → IsStopping x new → TakesOnceOff x.q x.made new →
     IsSentInOrder x.course x.k.transmit.accepted
 
--- The calls of a driver's stop are of this kind, as are the calls of a failed stop.
+-- The calls of a driver's stop meet the definition of a stop's calls (`Ends`), as do the calls of a failed stop.
 
 abbrev pub StopEnds : Type 0
 StopEnds =
@@ -35,8 +35,8 @@ FailedStopEnds =
     (f : PmdFault) (q : AtPort) (old : List Call) (h : Halted) (new : List Call) (left : Halted) →
     StopFails f q old h new left → Ends q old new
 
--- The calls of a stop, or of a failed stop, take blocks back only after both sides were seen off. This also holds
--- together with earlier calls of this kind, and if there are no calls at all.
+-- The calls of a stop, or of a failed stop, take blocks back only after both sides have read as off. If earlier calls
+-- meet this condition, so do the earlier calls followed by those of the stop. An empty list of calls meets it too.
 
 abbrev pub StopTakesOnceOff : Type 0
 StopTakesOnceOff =

@@ -8,15 +8,16 @@ use Rattle.driver_laws.specs.StartPrelude.{AtPort, Block, Call, Event, IsSwitche
 abbrev pub AreMadeOf : (Event Block → Type 0) → List Call → List Call → Type 0
 AreMadeOf P old new = (calls : List Call) × (new ≡ old ++ calls) × Each (λ c. P c.event) calls
 
--- The calls are calls of a stop; or they request that the sides be off and take no block.
+-- `Ends`: the calls are calls of a stop, which may take blocks. `Asks`: the calls only disable sides or wait for that,
+-- and take no block.
 abbrev pub Ends : AtPort → List Call → List Call → Type 0
 Ends q old new = AreMadeOf (IsEnding q) old new
 
 abbrev pub Asks : AtPort → List Call → List Call → Type 0
 Asks q old new = AreMadeOf (IsAsking q) old new
 
--- Blocks are taken only after both sides were seen off. Either the calls only request that the sides be off, or such
--- calls are followed by a completed switch-off and then by the calls of a stop.
+-- Blocks are taken only after both sides have read as off. Either the calls only disable sides or wait for that
+-- (`Asks`). Or such calls are followed by a completed switch-off and then by the calls of a stop (`EndsOnceOff`).
 pub record EndsOnceOff (q : AtPort) (old new : List Call) : Type 0 where
   pub mid : List Call
   pub off : List Call
@@ -27,8 +28,8 @@ pub record EndsOnceOff (q : AtPort) (old new : List Call) : Type 0 where
 abbrev pub TakesOnceOff : AtPort → List Call → List Call → Type 0
 TakesOnceOff q old new = Asks q old new ⊎ EndsOnceOff q old new
 
--- So the calls of a switch-off request that the sides be off, and those by which blocks are taken back are calls of a
--- stop.
+-- The calls of a switch-off, completed or failed, only disable sides or wait for that. The calls by which blocks are
+-- taken back are calls of a stop.
 
 abbrev pub SwitchedOffAsks : Type 0
 SwitchedOffAsks = (q : AtPort) (old new : List Call) → IsSwitched q old new false 1000 → Asks q old new

@@ -4,16 +4,17 @@ use Rattle.ring_laws.specs.Delivered.{delivered}
 use Rattle.driver_laws.specs.StartPrelude.{AtPort, Call, Entry, IsSwitched, State, Watched, calls_of, sent_since}
 use Rattle.driver_laws.specs.{Along.AtCalls, Along.IsAlong, Points.HasGround, Quieting.IsQuiet, Stopping.Ends}
 
--- Wherever the pass has switched both sides off, both sides are off with no enable request pending. The premise: Before
--- the switch-off, the driver's port and queue named this queue, and the device's frame limit was the driver's packet
--- limit.
+-- At each point where the pass has just switched both sides off, both sides are off with no enable request pending. The
+-- premise: Just before the switch-off, the driver's port and queue number identified this queue, and the device's frame
+-- limit was the driver's packet limit.
 abbrev pub SwitchingOffLeads : Type 0
 SwitchingOffLeads =
     (w : Watched) (q : AtPort) (frame : ℕ) (origin : State) (h : List Entry) (old new : List Call) →
     IsAlong w origin h → IsSwitched q old new false 1000 → old ≢ [] →
     AtCalls w origin h old (HasGround w.queue q frame) → AtCalls w origin h new (IsQuiet w.queue q frame)
 
--- From then on, nothing is delivered or sent on the queue, if the pass makes only calls of a stop.
+-- Nothing is delivered or sent on the queue after the first entries (`done`). This holds if both sides are off at that
+-- point, with no enable request pending, and the pass makes only calls of a stop after it.
 pub record IsSilent (w : Watched) (origin : State) (h done : List Entry) : Type 0 where
   pub delivered : delivered w.queue origin h ≡ delivered w.queue origin done
   pub sent : sent_since w.queue origin [] h ≡ sent_since w.queue origin [] done

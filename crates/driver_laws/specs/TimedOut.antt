@@ -1,15 +1,15 @@
--- A start that times out: the reads by which it saw a side of its queue still off.
+-- A start that times out, and its polls: the reads that found a side of its queue still off.
 use Rattle.std.specs.Prelude.{[], ⊤, ◌&&◌, ◌++◌, ◌+◌, ◌∷◌, ◌≡◌, Bool, Err, List, None, false, if◌then◌else◌, not, ℕ}
 use Rattle.pmd_driver.specs.Started.{IsShut}
 use Rattle.driver_laws.specs.StartPrelude.{Access, AreMade, AtPort, Call, Numbers, Rxdctl, Sees, Sets, StartRefused}
 use Rattle.driver_laws.specs.StartPrelude.{StartTimeout, StopsStarting, Txdctl, has_bit, start_gate}
 
--- Whether the word last written to RXDCTL, and to TXDCTL, has bit 25 set.
+-- Whether the value last written to RXDCTL has bit 25 set, and the same for TXDCTL.
 pub record Asked : Type 0 where
   pub receive : Bool
   pub transmit : Bool
 
--- Nothing is written to RXDCTL or TXDCTL yet.
+-- The initial state: nothing is written to RXDCTL or TXDCTL yet.
 abbrev pub none_asked : Asked
 none_asked = record { receive = false; transmit = false }
 
@@ -19,8 +19,8 @@ asked_by (Sets Rxdctl word) x = record x { receive = has_bit 25 word }
 asked_by (Sets Txdctl word) x = record x { transmit = has_bit 25 word }
 asked_by other x = x
 
--- Whether an access is a miss: it reads RXDCTL or TXDCTL with bit 25 clear, although the word last written to the
--- register set it.
+-- Whether an access is a miss: a read of RXDCTL or TXDCTL returns bit 25 as 0, although the value last written to the
+-- register set the bit.
 abbrev pub is_miss : Asked → Access → Bool
 is_miss x (Sees Rxdctl on) = x.receive && not on
 is_miss x (Sees Txdctl on) = x.transmit && not on
@@ -44,8 +44,8 @@ abbrev pub AllAre : (Access → Type 0) → List Access → Type 0
 AllAre K [] = ⊤
 AllAre K (a ∷ rest) = K a × AllAre K rest
 
--- After some calls come accesses to RXDCTL and TXDCTL, including 1,000 misses, each after a write that is one of these
--- accesses.
+-- The start's last calls are accesses to RXDCTL and TXDCTL. Exactly 1,000 of them are misses, where only writes among
+-- these accesses count.
 pub record TimesOut (q : AtPort) (old new : List Call) : Type 0 where
   pub before : List Call
   pub all : List Access

@@ -8,7 +8,7 @@ use Rattle.driver_laws.specs.StartPrelude.{Txdctl}
 use Rattle.driver_laws.specs.StartPrelude.{after, frame_limit, has_bit, mode_in, place, side_of}
 use Rattle.pmd_driver.specs.NicDevice.declared.event.Event.TheVariants as event
 
--- A ring with another low or high half of its base.
+-- A ring after the low or the high half of its base is replaced.
 
 abbrev pub with_low : Ring → ℕ → Ring
 with_low ring word = record ring { base = ring.base / 2 ^ 32 * 2 ^ 32 + word }
@@ -54,7 +54,7 @@ Fits Tx Tdwbal word = word % 2 ≡ 0
 Fits Tx Txdctl word = word < 2 ^ 32
 Fits dir other word = ⊥
 
--- A number at a port names a queue's register, with all its bits.
+-- The number identifies the queue's register at the port, and the port can access all bits of the register.
 abbrev pub NamesRow : State → Port → ℕ → RowId → ℕ → Type 0
 NamesRow s port number row queue = named s port number ≡ Register (place row queue) 0xFFFFFFFF
 
@@ -71,7 +71,8 @@ abbrev pub across : Dir → Dir
 across Rx = Tx
 across Tx = Rx
 
--- The value takes effect on the side, and everything else stays unchanged.
+-- The value takes effect on the side. The queue's other side, memory, the frame limit and the separation of the queues
+-- stay unchanged.
 pub record TakesWord (dir : Dir) (queue : ℕ) (row : RowId) (word : ℕ) (s t : State) : Type 0 where
   pub side : side_of dir queue t ≡ side_with dir row word (side_of dir queue s)
   pub other : LeavesSide (across dir) queue s t

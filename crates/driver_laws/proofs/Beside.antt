@@ -24,7 +24,8 @@ own_are (c ∷ calls) [] = refl
 own_are (c ∷ calls) (true ∷ own) = ap (λ (l : List Call). c ∷ l) (own_are calls own)
 own_are (c ∷ calls) (false ∷ own) = own_are calls own
 
--- After an earlier part with its own marks, other marks can describe the same calls.
+-- Lemmas: marking the calls as the driver's own or not changes only tags, so the marked entries continue a retagged
+-- history.
 
 pub marked_same : (calls : List Call) (own : List Bool) → length own ≡ length calls
     → AreSame (entries_in calls) (marked_entries calls own)
@@ -164,7 +165,7 @@ module _ (x : Beside) where
   own_life = life_of (again x) (x.ahead ++ x.reported.start) x.reported.started.0 x.own
       (halves_of (goes reported).rings) is_life
 
-  -- The calls that the driver's next call added come after its own calls so far.
+  -- The calls that the driver's next call added follow the driver's own calls so far.
   pub called_after : (n : Moment) (y : IsCalledBeside x n) (added : List Call) → n.made ≡ (now x).made ++ added
       → x.own ++ y.since ≡ x.own ++ added
   called_after n y added is =

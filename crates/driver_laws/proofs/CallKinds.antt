@@ -1,6 +1,6 @@
 -- Lemmas about sequences of calls of one kind, with device steps between them. The kinds are the calls of a driver's
--- accesses, successful or failed, the calls that lend its blocks, and the calls of its stop. Other lemmas are about the
--- blocks that a pass lends with these calls.
+-- accesses, successful or failed, the calls that lend its blocks, and the calls of its stop. Other lemmas state which
+-- blocks a pass lends with these calls.
 use Rattle.driver_laws.proofs.Ground.{IsDriven, words_are_writes, writes_driven}
 use Rattle.driver_laws.proofs.StartPrelude.{AllAre, AreMadeOf, AtEntries, Ends, IsAlong, IsEnable, IsEnding}
 use Rattle.driver_laws.proofs.StartPrelude.{IsOtherwise}
@@ -65,7 +65,8 @@ module _ (P : Event Block → Type 0) where
     lends_are lends (n ∷ ns) old new (mid, lent, rest) =
         then_made old mid new (adds_made old mid _ _ lent (lends n)) (lends_are lends ns mid new rest)
 
--- Events of a kind that includes device steps and all reads, and the accesses with writes of that kind.
+-- Lemmas about a kind of events (`P`) that includes device steps and all reads, and about the accesses (`K`) whose
+-- writes are of that kind.
 module _ (q : AtPort) (P : Event Block → Type 0) (K : Access → Type 0)
     (steps : (e : Event Block) → is_step e ≡ true → P e)
     (reads : (port : Port) (number : ℕ) → P (event.Read port number))
@@ -85,7 +86,7 @@ module _ (q : AtPort) (P : Event Block → Type 0) (K : Access → Type 0)
   accesses_are (a ∷ rest) old new own (mid, here, more) =
       then_made P old mid new (made_is a old mid own.0 here) (accesses_are rest mid new own.1 more)
 
-  -- Accesses that fail.
+  -- Lemmas about accesses that fail.
 
   stray_is : (old new : List Call) (row : RowId) → IsStrayRead q old new row → Are old new
   stray_is old new row (number, word, named, adds) = adds_made P steps old new _ _ adds (reads q.port number)
@@ -105,7 +106,7 @@ module _ (q : AtPort) (P : Event Block → Type 0) (K : Access → Type 0)
   stops_are f all old new own (done, a, rest, mid, is, made, fails) =
       grind (arith, common_steps, all_before, then_made, accesses_are, fails_is)
 
-  -- Both sides are requested and polled.
+  -- Lemmas: the driver requests that both sides be on, or off, and polls both.
   module _ (on : Bool) (sees : (side : Dir) (seen : Bool) → K (Sees (enable_row side) seen))
       (asked : AllAre K (both_asked on)) where
     missed_are : (side : Dir) (count : ℕ) (old new : List Call) → AreMade q old new (missed side on count) → Are old new
@@ -135,7 +136,7 @@ module _ (q : AtPort) (P : Event Block → Type 0) (K : Access → Type 0)
         (accesses_are (receive_polled on first) old mid (all_received K on sees asked first) made)
         (polls_are f Tx (1000 - first) mid new polls)
 
--- A starting driver writes registers of its queue.
+-- Lemmas: a starting driver writes only registers of its queue.
 
 step_plain : (q : AtPort) (e : Event Block) → is_step e ≡ true → IsPlain q e
 step_plain q e is = grind (arith, common_steps)
@@ -146,7 +147,7 @@ accesses_plain q =
     accesses_are q (IsPlain q) IsDriven (step_plain q) (λ port number. tt)
     (λ row word number own named. (row, refl, own, named))
 
--- Device steps satisfy `IsAsking`, and calls that do are calls of a stop.
+-- Lemmas: device steps satisfy `IsAsking`, and calls whose events satisfy it are calls of a stop.
 module _ (q : AtPort) where
   step_asks : (e : Event Block) → is_step e ≡ true → IsAsking q e
   step_asks e is = grind (arith, common_steps)
@@ -160,7 +161,7 @@ module _ (q : AtPort) where
   pub asks_end : (old new : List Call) → Asks q old new → Ends q old new
   asks_end old new (cs, is, are) = (cs, is, each_such (IsAsking q) (IsEnding q) asking_ends cs are)
 
--- Accesses to the enable words that don't request that a side be enabled.
+-- Lemmas about accesses to the enable words that don't request that a side be enabled.
 
 abbrev pub MayAsk : Access → Type 0
 MayAsk (Sees row on) = IsEnable row
@@ -185,7 +186,7 @@ switched_off_asks q old new x = search (rules, switched_are, step_asks, may_asks
 pub unswitched_asks : UnswitchedAsks
 unswitched_asks f q old new x = search (rules, unswitched_are, step_asks, may_asks, enables, asked_may)
 
--- A block is taken back.
+-- The calls that take a block back are calls of a stop.
 taking_ends : (q : AtPort) (s t : Bringing) → BringsOne s t → Ends q s.made t.made
 taking_ends q s t (n, first, inl brought) = adds_made (IsEnding q) (step_ends q) s.made t.made _ _ brought.taken.2 tt
 taking_ends q s t (n, first, inr missed) = adds_made (IsEnding q) (step_ends q) s.made t.made _ _ missed.taken tt
@@ -196,12 +197,12 @@ bringing_ends q (suc count) s t (mid, some, one) =
     then_made (IsEnding q) s.made mid.made t.made (bringing_ends q count s mid some)
     (taking_ends q mid t one)
 
--- The blocks of rings that a pass lends.
+-- Lemmas about the blocks of rings that a pass lends.
 
 abbrev pub lending : ℕ → Call
 lending ring = call_of (event.Lend (zero_block ring)) reply.Done
 
--- A call is among those that were made.
+-- The call `c` is among those that were made.
 pub record Has (c : Call) (calls : List Call) : Type 0 where
   pub before : List Call
   pub following : List Call
@@ -257,13 +258,13 @@ module _ {q : AtPort} {side : Dir} {size : ℕ} {old : List Call} {a : Numbers} 
 pub quiet_plain : (q : AtPort) (old new : List Call) → AreMade q old new both_quiet → AreMadeOf (IsPlain q) old new
 quiet_plain q old new = accesses_plain q both_quiet old new (refl, (refl, (refl, (refl, (refl, (refl, tt))))))
 
--- A receive ring is prepared.
+-- A start that prepares a receive ring writes only registers of its queue.
 pub ready_plain : {q : AtPort} {size frame : ℕ} {old : List Call} {a : Numbers} {new : List Call} {b : Numbers}
     {v : Receive} → IsReceiveReady q size frame old a new b v → AreMadeOf (IsPlain q) old new
 ready_plain {q = q} {old = old} {new = new} x =
     then_made (IsPlain q) old x.mid new (quiet_plain q old x.mid x.quiet) (prepared_plain x.prepared)
 
--- The blocks of a list are among the lent ones.
+-- Lemmas: the blocks in a list are among those that the pass lends.
 
 abbrev pub and_all : List ℕ → Blocks → Blocks
 and_all [] rings = rings
@@ -279,7 +280,7 @@ run_in (suc many) first zero rings below = grind (arith, common_steps, stays_in,
 run_in (suc many) first (suc k) rings below =
     grind (arith, common_steps, run_in many (first + 1) k (and_one first rings) (omega (arith, below)))
 
--- Each block of a ring is one of the blocks `rings`.
+-- Each block of the ring is in `rings`.
 pub ring_in : (ring size : ℕ) (rings : Blocks)
     → EachRingBlock ring size (λ n. and_all (ring_blocks ring size) rings n ≡ true)
 ring_in ring size rings k below = run_in (blocks_for size) ring k rings below

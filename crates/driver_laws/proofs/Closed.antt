@@ -1,4 +1,4 @@
--- The calls of a pass are in the history that it closes.
+-- Lemmas: a history that passes close contains the calls of each of these passes.
 use Rattle.driver_laws.proofs.Prelude.{Call, Entry, List, [], ap, append_assoc, around, arith, calls_joined, calls_of}
 use Rattle.driver_laws.proofs.Prelude.{calls_own, common_steps, refl, same_from_push, subst, sym, ℕ, ⊎_elim, ◌++◌, ◌∙◌}
 use Rattle.driver_laws.proofs.{Lent.last_or_none, Prelude.◌∷◌, Prelude.◌≡◌, Prelude.◌≢◌}
@@ -9,7 +9,8 @@ pub isnt_none : {A : Type 0} (xs : List A) (x : A) (more : List A) → xs ++ x �
 isnt_none [] x more is = cc
 isnt_none (y ∷ xs) x more is = cc
 
--- The calls of a pass are in the history, up to the last of them.
+-- If a pass made these calls and perhaps more, the history has an initial part in which it made exactly these calls.
+-- Unless it is empty, the part ends with an entry of the pass.
 up_to : (tag : ℕ) (h : List Entry) (calls more : List Call) → calls_of tag h ≡ calls ++ more
     → (u : UpTo tag h calls) × EndOwn tag u.done
 up_to tag h calls more is =

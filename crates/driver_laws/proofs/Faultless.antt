@@ -1,6 +1,6 @@
--- No driver call finds the device at fault after the point where both sides of the driver's queue are on, and so over
--- its whole life. Nor does a burst meet the device at fault, whatever the burst returns. What a call reports also holds
--- after other calls: the calls that it added come after the driver's. The same holds for a start.
+-- Lemmas: after both sides of the driver's queue are on, and so over the driver's whole life, no driver call ends with
+-- a reply that no healthy queue sends. Nor does a `tx_burst` get such a reply, whatever it returns. What a call reports
+-- also holds after other calls, because the calls that it added come after the driver's. The same holds for a start.
 use Rattle.driver_laws.proofs.Laying.{LaysTo, among, past_first, preparing_lays, ready_after, then_some}
 use Rattle.driver_laws.proofs.Order.{begun, drawn_both, drawn_gone, driven_by, first, last_before, may, on_before}
 use Rattle.driver_laws.proofs.Order.{on_of}
@@ -33,7 +33,7 @@ use Rattle.driver_laws.specs.{Before.is_asked, FaultlessStart.NoneIsLent, Faults
 use Rattle.driver_laws.{proofs.Meeting.harmless_both, proofs.Meeting.others_harmless, specs.Filling.LendsFresh}
 use Rattle.std.proofs.{Common.IfErr, Common.IfSome, Common.Result, lemmas.List.Folds.list_any-append}
 
--- All calls up to the faulting one, and the half that made each.
+-- All calls up to the one with the faulty reply, and the half that made each.
 module _ {own : Blocks} {on : List Call} {h : Halves} {new : List Call} (f : FindsFault own on h new) where
   abbrev pub made : List Call
   made = added on f.event f.reply f.drives.drives f.adds
@@ -53,12 +53,13 @@ module _ {own : Blocks} {on : List Call} {h : Halves} {new : List Call} (f : Fin
       steps
       (steps_last is_neither (Sends Elsewhere) _ _ (call_of f.event f.reply) (grind (arith, common_steps)) f.adds.2)
 
--- A faulting call also includes the calls that lead up to it.
+-- A driver call that ends with a faulty reply, and the calls that lead up to it, together form such a sequence.
 pub found_on : {own : Blocks} {old mid new : List Call} {h j : Halves} → DrivesApart own old h mid j
     → FindsFault own mid j new → FindsFault own old h new
 found_on drives f = search (rules, apart_on)
 
--- A faulting call remains one if only the blocks that its calls try to lend count as its own.
+-- A sequence of calls that ends with a faulty reply remains one if only the blocks that its calls try to lend count as
+-- the driver's own.
 abbrev pub found_asked : (own asks : Blocks) {on : List Call} {h : Halves} {new : List Call}
     (f : FindsFault own on h new)
     → ((n : ℕ) → is_asked (made f) n ≡ true → asks n ≡ true) → FindsFault (Both own asks) on h new
@@ -85,14 +86,14 @@ found_asked own asks {h = h} f within =
       sick = f.sick;
     }
 
--- Lemmas about the history after the point where both sides are on, if nobody else lends any of these blocks.
+-- Lemmas about the history after the point where both sides are on, if nobody else lends a block of `own`.
 module _ {c : Course} (x : On c) (own : Blocks)
     (fresh : BeforeLast c.w c.origin c.h x.up.receive.quiet.0 (IsFresh c.w.queue c.frame own))
     (others : OthersLendNone c.w.pass own c.h) where
   open c use {w, origin, h, q, frame}
 
-  -- The sides were enabled, the halves were led on, and then came that call. The driver takes as many blocks for a
-  -- packet as its start was given.
+  -- No call gets a faulty reply after the sides were enabled and further calls led the halves on. The driver takes as
+  -- many blocks for a packet as its start was given.
   pub no_fault_led_on : {mid old new : List Call} {k : Halves} (led : LeadsApart own x.mid (first x) mid k)
       (f : FindsFault own old k new) (more : List Call) → calls_of w.pass h ≡ (mid ++ made f) ++ more → ⊥
   no_fault_led_on {mid = mid} {old = old} {new = new} led f more is =
@@ -153,7 +154,7 @@ burst_finds None given left result old mid new r there s drives finds x is =
     (upto, later, both, found_on drives.apart mine)
 burst_finds (Some f) given left result old mid new r there s drives finds x is = grind (arith, common_steps)
 
--- Lemmas about a call after a driver's life: it doesn't find the device at fault.
+-- Lemmas: a driver call after a driver's life doesn't end with a faulty reply.
 module _ (x : Reported)
     (fresh :
     BeforeLast x.w x.origin x.h x.reported.started.2.receive.quiet.0 (IsFresh x.w.queue x.frame (asked_of x.w x.a x.h)))
@@ -187,8 +188,8 @@ pub burst_during : (r s : Running) (old new : List Call) → SendsAtFault old r 
 burst_during r s old new (vacant, given, left, result, x, is) =
     burst_finds x.failed given left result old x.made new r x.there s x.drives x.finds x.sends is
 
--- No start finds the device at fault while it fills its receive ring, nor before that. If the start fails before both
--- sides are on, none of the blocks that are free then is lent.
+-- Lemmas: no start fails with `DeviceFault` while it fills its receive ring, nor before that. If a start fails before
+-- both sides are on, none of the blocks that are free in the arena at that point is lent.
 
 module _ (x : BeginsApart) where
   open x use {w, origin, h, q, size, frame, old, a, new}
@@ -199,7 +200,7 @@ module _ (x : BeginsApart) where
   abbrev AtFirst : State → Type 0
   AtFirst = IsQuietAndFresh w.queue q frame own
 
-  -- The pass tries to lend whatever the calls of the start try to lend.
+  -- The pass tries to lend each block that the calls of the start try to lend.
   new_asked : (n : ℕ) → is_asked new n ≡ true → is_asked (calls_of w.pass h) n ≡ true
   new_asked n is = subst (λ (l : List Call). is_asked l n ≡ true) (sym x.made) (asked_ahead new x.more n is)
 
@@ -225,8 +226,8 @@ module _ (x : BeginsApart) where
       (λ before c steps apart done rest e all own is. (x.begins before c steps apart done rest e all own is).0) early
       fresh p.front p.back p.both p.fronts
 
-  -- Preparing the receive ring never fails. If no block is lent, an arena without free blocks would give the same
-  -- result.
+  -- Preparing the receive ring never fails with `DeviceFault`. If it has lent no block, an arena without free blocks
+  -- would give the same result.
   receive_never : (b : Numbers) (out : List ℕ) → ReceiveFails DeviceFault q size old a new b out → ⊥
   receive_never b out (inl (stops, same, empty)) =
       let none : Numbers = record a { free = [] } in
@@ -238,7 +239,8 @@ module _ (x : BeginsApart) where
       (then_some q size (among out) (past_first q size (among out) made.2)
       (preparing_lays q size (among out) DeviceFault Rx out (λ n is. is) fails)))
 
-  -- The filled slots, and the call with a faulty reply; it may be reported after other calls.
+  -- Lemmas about the slots already filled and the call with a faulty reply, which may also be reported after other
+  -- calls.
   module _ {older newer : List Call} (f : FaultsFilling q size frame older a newer) where
     abbrev both_first : Halves
     both_first = record { receive = f.empty; transmit = f.sender }

@@ -1,6 +1,6 @@
 -- Lemmas about the values that a driver writes to a queue's registers: while a side is off, each of these values takes
--- effect as a whole. Other lemmas are about what a driver relies on in addition to its sides. Port and queue name its
--- queue, and frames are no longer than its packets.
+-- effect as a whole. Other lemmas are about what a driver relies on in addition to its sides: its port and queue number
+-- identify its queue, and the device's frame limit is its packet limit.
 use Rattle.driver_laws.proofs.StartPrelude.{AllAre, Done, Fits, HasGround, IsKept, IsPlain, NamesRow, Outcome, Tdwbah}
 use Rattle.driver_laws.proofs.StartPrelude.{WritesNoSetting, across, asks_pool_reset, asks_reset, gives, is_receive}
 use Rattle.driver_laws.proofs.StartPrelude.{is_setting, is_transmit, left_did, named_written, owner_of, plain-write}
@@ -41,13 +41,13 @@ use Rattle.pmd_driver.specs.NicDevice.RegisterFile.declared.owner.Owner.TheVaria
 use Rattle.pmd_driver.specs.NicDevice.VfMap.declared.located.Located.TheVariants as located_as
 use Rattle.pmd_driver.specs.NicDevice.declared.event.Event.TheVariants as event
 
--- What holds for the receive side and the transmit side holds for each side.
+-- If something holds for the receive side and for the transmit side, it holds for each side.
 pub each_side : (P : Dir → Type 0) → P Rx → P Tx → (dir : Dir) → P dir
 each_side P receive transmit Rx = receive
 each_side P receive transmit Tx = transmit
 
--- The rows of one side belong neither to the other side nor to the settings. A word written to one requests no reset
--- and changes only that register.
+-- The rows of one side belong neither to the other side nor to the settings. A value written to such a row requests no
+-- reset and changes only that register.
 pub driven : (dir : Dir) (row : RowId) (word : ℕ) → Fits dir row word
     → (is_driven row ≡ true) × ((x : Side) → x ≡ side_with (across dir) row word x) × (is_setting row ≡ false)
     × (asks_reset (row_of row).kind word ≡ false) × (asks_pool_reset (row_of row).kind word ≡ false)
@@ -60,9 +60,10 @@ driven dir row word fits = grind (arith, common_steps)
 pub side_driven : (side : Dir) → is_driven (enable_row side) ≡ true
 side_driven side = grind (arith, common_steps)
 
--- Values that take effect in a register as a whole, whatever it contained.
+-- Lemmas about values that take effect in a register as a whole, whatever the register contained.
 
--- A 20-bit multiple of 128, through a mask of bits 19 to 7.
+-- A 20-bit multiple of 128 takes effect as a whole in a register whose bits 19 to 7 are writable and whose bits 6 to 0
+-- are 0.
 pub merged-length : (old new : ℕ) → old % 2 ^ 7 ≡ 0 → new % 128 ≡ 0 → new < 2 ^ 20
     → merged 0x000FFF80 old new % 2 ^ 20 ≡ new
 merged-length old new low even small =
@@ -75,7 +76,7 @@ merged-length old new low even small =
     ap (λ n. n % 2 ^ 20) whole ∙ (let e : new % 2 ^ 20 ≡ new = omega (arith, small) in e) in
     or_mod (bit_and old 0xFFF0007F) (bit_and new 0x000FFF80) 20 ∙ (λ k. bit_or (kept k) (taken k)) ∙ or_zero_l new
 
--- An even word, through a mask of all bits but bit 1.
+-- An even value takes effect in bit 0 of a register in which all bits except bit 1 are writable.
 pub merged-even : (old new : ℕ) → new % 2 ≡ 0 → merged 0xFFFFFFFD old new % 2 ^ 1 ≡ 0
 merged-even old new even =
     let kept : bit_and old 0x2 % 2 ^ 1 ≡ 0 =
@@ -101,9 +102,9 @@ module _ (queue : ℕ) (s : State) (port : Port) (n word : ℕ) (row : RowId) (n
   unfolding step_of
   wrote plain = ap (λ m. (named_written s m word).state) names ∙ ap (λ (o : Outcome). o.state) plain
 
--- A word of a row of a side that is off.
+-- Lemmas about a value written to a row of a side that is off.
 
--- What this value changes in a register, whatever it contained.
+-- Lemmas: what this value changes in a register, whatever the register contained.
 
 base_low : (high low word : ℕ) → low < 2 ^ 32 → low % 2 ^ 7 ≡ 0 → (word % 128 ≡ 0) × (word < 2 ^ 32)
     → high * 2 ^ 32 + merged 0xFFFFFF80 low word ≡ (high * 2 ^ 32 + low) / 2 ^ 32 * 2 ^ 32 + word
@@ -213,7 +214,7 @@ words_taken dir queue s port n word row small sound off fits names =
       ground = ground queue s port n word row names plain;
     }
 
--- Lemmas about what naming a queue implies.
+-- Lemmas about what follows if port and queue number identify a queue.
 pub some_where : {A : Type 0} (b : Bool) (o : Option A) (x : A) → (if b then o else None) ≡ Some x
     → (b ≡ true) × (o ≡ Some x)
 some_where b o x e = search rules
@@ -270,13 +271,13 @@ pub ground_same : (queue : ℕ) (q : AtPort) (frame : ℕ) (s t : State) → mod
     → HasGround queue q frame t
 ground_same queue q frame s t mode vfs limit g = grind (arith, common_steps)
 
--- Events that leave the queue alone.
+-- Events that leave the queue alone preserve what a driver relies on in addition to its sides.
 pub ground_kept : (w : Watched) (mine : Blocks) (q : AtPort) (frame : ℕ) → IsKept w mine (HasGround w.queue q frame)
 ground_kept w mine q frame s e x g =
     let did = left_did w mine s e x in
     ground_same w.queue q frame s (after s e) did.mode did.vfs did.limit g
 
--- A driver's own events write no setting.
+-- Lemmas: a driver's own events write no setting.
 module _ (queue : ℕ) (q : AtPort) (frame : ℕ) (s : State) where
   pub plain_setting : (e : Event Block) → IsPlain q e → HasGround queue q frame s → WritesNoSetting s e
   plain_setting (event.Write port number word) (row, same, is, named) g =
@@ -290,11 +291,11 @@ module _ (queue : ℕ) (q : AtPort) (frame : ℕ) (s : State) where
       let stay = settings_stand s e (plain_setting e plain g) in
       ground_same queue q frame s (after s e) stay.mode (stays_within s e).vfs stay.limit g
 
--- A port can name each queue that port and queue name.
+-- If port and queue number identify a queue, the port can address it.
 pub named_queues_pass : NamedQueuesPass
 named_queues_pass s a q size frame queue names = grind (arith, common_steps)
 
--- Replies to a starting driver.
+-- Lemmas about the replies to a starting driver.
 
 pub named_registers_reply : NamedRegistersReply
 unfolding step_of
@@ -314,7 +315,7 @@ off_sides_are_seen_off queue q frame s number word quiet (inr named) reported =
     (ground_names queue q frame s quiet.ground Txdctl number refl named)
     ∙ quiet.transmit.off
 
--- A driver's register is accessed, or written.
+-- Lemmas about an access to a register that a driver uses, and about a write to one.
 
 abbrev pub IsDriven : Access → Type 0
 IsDriven (Sees row on) = is_driven row ≡ true

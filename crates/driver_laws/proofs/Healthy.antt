@@ -1,5 +1,5 @@
--- Each driver call gets a healthy reply over a whole history, and no call ends with the device at fault: the waiting
--- frames keep fitting, and what a reply relies on holds after each call.
+-- Lemmas: over a whole history, each driver call gets a healthy reply, because the waiting frames keep fitting, and
+-- what a healthy reply relies on holds after each call. So no driver call ends with a faulty reply.
 use Rattle.driver_laws.proofs.InOrder.{Runs, driven_runs, first_doer, goes, heads, own_here, played_on, runs_on}
 use Rattle.driver_laws.proofs.Meeting.{Meets, driven_meets, others_apart, steps_harmless}
 use Rattle.driver_laws.proofs.StartPrelude.{AreFitting, Deed, IsDriven, IsHealthy, IsUp, begun_stays, both_apart}
@@ -89,7 +89,7 @@ pub unbegun_since : (queue : ℕ) (s : State) (es : List Entry) → IsSound s �
     → pieces_since queue s None es ≡ Some [] → partial_on queue (leads_to s es).waiting ≡ 0
 unbegun_since queue s es sound events is = unbegun_on queue s None es sound events (λ e. cc) is
 
--- What either half has lent, with the halves in the other order.
+-- If only the blocks that either half has lent are lent, the same is true with the halves in the other order.
 swapped : (own xs ys : Blocks) (m : Memory) → OnlyLent own (either xs ys) m → OnlyLent own (either ys xs) m
 swapped own xs ys m only n is has = grind (arith, common_steps)
 
@@ -104,7 +104,7 @@ module _ {w : Watched} {mine : Blocks} {s : State} {out : List Piece} {sent : Li
   other_first : OnlyLent own (either tx rx) s.memory
   other_first = swapped own rx tx s.memory known
 
-  -- A move lends a block that wasn't lent.
+  -- If a move lends a block, the block wasn't lent before.
   again : (move : Move) → sending.IsOwn h.transmit move e → LendsApart own h (Sends move) e → LendsAgain s move e
   again Elsewhere mine apart = tt
   again move mine apart =
@@ -148,7 +148,7 @@ pub lends_is : (b : Block) (r : Reply Block) (n : ℕ) → lends (event.Lend b) 
 lends_is b r n is = grind (arith, common_steps, eqb-true)
 
 module _ (own known : Blocks) (s : State) (only : OnlyLent own known s.memory) where
-  -- An event of the pass.
+  -- If an event of the pass lends a block, only that block is newly lent.
   pass_lent : (e : Event Block) → IsEvent e
       → OnlyLent own (either (λ n. nat_lt n 65536 && lends e (reply_to s e) n) known) (after s e).memory
   pass_lent e made =
@@ -168,7 +168,7 @@ only_pass_lent pass own known s (e ∷ es) legal events none only n is has =
     (entry_lent own known s only pass e legal.0 events.0 none.0 (e.pass == pass) refl) n is has in
     grind (arith, common_steps)
 
--- What the first entry lends, and what those after it lend.
+-- If all calls lend as the halves may, so do the first entry's call and the calls after it.
 apart_here : (own : Blocks) (h : Halves) (doers : List Doer) (e : Entry) (b : Bool) (calls : List Call)
     → AllOwn h doers (with_call b e calls) → (b ≡ false → LendsNone own e.event)
     → AllLendApart own h doers (with_call b e calls)
@@ -176,7 +176,8 @@ apart_here : (own : Blocks) (h : Halves) (doers : List Doer) (e : Entry) (b : Bo
     × AllLendApart own (after_call h (doer_of b doers) (call_in e)) (doers_after b doers) calls
 apart_here own h doers e b calls did none apart = grind (arith, common_steps)
 
--- Replies are healthy, if the first entry's reply is whenever the entry is the pass's.
+-- All replies are healthy if the later replies are, and if the first entry's reply is healthy whenever the entry
+-- belongs to the pass.
 all_here : (h : Halves) (doers : List Doer) (e : Entry) (b : Bool) (calls : List Call)
     → IsHealthy h (doer_of b doers) (call_in e)
     → AreHealthy (after_call h (doer_of b doers) (call_in e)) (doers_after b doers) calls
@@ -219,7 +220,7 @@ own_replies_are_healthy w origin start rest h doers own x apart =
     (along own doers rest (driven_meets d) (driven_runs d) x.known x.others apart).0 d.up
     (grind (arith, common_steps, unbegun_since, events_before))
 
--- The lent blocks are as above even if no frame is known to fit.
+-- Even if no frame is known to fit, a block of `own` is lent only if the halves have lent it.
 pub known_along : (w : Watched) (origin : State) (start rest : List Entry) (h : Halves) (doers : List Doer)
     (own : Blocks) → IsDriven w origin start rest h doers
     → OnlyLent own (healthy.lent_by h) (leads_to origin start).memory → OnlyPassLends w.pass own rest
@@ -229,7 +230,7 @@ pub known_along : (w : Watched) (origin : State) (start rest : List Entry) (h : 
 known_along w origin start rest h doers own d known others apart =
     (along own doers rest (driven_meets d) (driven_runs d) known others apart).1
 
--- The calls after some others.
+-- If all calls get healthy replies, so do those after the first few.
 healthy_after : (h : Halves) (ds es : List Doer) (ms ns : List Call) → AllOwn h ds ms
     → AreHealthy h (ds ++ es) (ms ++ ns) → AreHealthy (played_by h ds ms) es ns
 healthy_after h [] es [] ns own are = are
@@ -237,7 +238,8 @@ healthy_after h [] es (m ∷ ms) ns own are = absurd own
 healthy_after h (d ∷ ds) es [] ns own are = absurd own
 healthy_after h (d ∷ ds) es (m ∷ ms) ns own are = healthy_after (after_call h d m) ds es ms ns own.1 are.1
 
--- What is lent before the call that finds a fault is what the halves may lend, so the reply to that call is healthy.
+-- Before the call with the supposedly faulty reply, the halves lent only what they may lend. So the reply to that call
+-- is healthy after all.
 pub no_fault : NoFault
 no_fault w origin start rest more h doers own old new f did apart made x =
     let there = played_by h doers (calls_of w.pass rest) in

@@ -26,7 +26,7 @@ use Rattle.ring_laws.specs.Delivered as receive
 use Rattle.ring_laws.specs.ReceiveUp as received
 use Rattle.ring_laws.specs.Laws as transmit
 
--- What the pass lends is among these blocks.
+-- If the pass lends a block, the block is among `mine`.
 lends_mine : (pass : ℕ) (mine : Blocks) (own : ℕ) (e : Event Block) (r : Reply Block) → own ≡ pass → IsEvent e
     → ((n : ℕ) → IsTrue (nat_lt n 65536 && ((own == pass) && lends e r n)) → IsTrue (mine n))
     → LendsOneOf mine e r
@@ -46,7 +46,8 @@ next_call h doers e b following own = grind (arith, common_steps)
 
 -- Lemmas about where a history leads from a point where the device and both halves agree.
 
--- The device agrees with both halves, which have lent these blocks; a side that was up still is.
+-- The device agrees with both halves, and the blocks that they have lent are among `mine`. A side that was up before
+-- these entries still is.
 pub record Led (w : Watched) (mine : Blocks) (s : State) (out : List Piece) (sent : List (List ℕ)) (es : List Entry)
     (k : Halves) : Type 0 where
   pub both : BothAgree w.queue (leads_to s es) (out ++ pieces_in w.queue s es) (sent ++ sent_in w.queue s es) k
@@ -58,9 +59,9 @@ pub record Led (w : Watched) (mine : Blocks) (s : State) (out : List Piece) (sen
   pub counted : IsUp w.queue s → (so_far : List (List ℕ))
       → sent_since w.queue s so_far es ≡ so_far ++ sent_in w.queue s es
 
--- Entries of a history after a point where the halves meet the device. The history is legal. It leaves the queue and
--- these blocks alone except for the halves, which make their calls in the doers' order. The pass lends only these
--- blocks.
+-- Entries of a history after a point where the device agrees with the halves. The history is legal. It leaves the queue
+-- and the blocks `mine` alone except for the halves, which make their calls in the doers' order. The pass lends only
+-- blocks of `mine`.
 pub record Runs (w : Watched) (mine : Blocks) (s : State) (h : Halves) (doers : List Doer) (es : List Entry) : Type 0
   where
     pub legal : IsLegal s es
@@ -70,7 +71,7 @@ pub record Runs (w : Watched) (mine : Blocks) (s : State) (h : Halves) (doers : 
     pub others : OthersLeaveAlone w mine s doers es
     pub covers : (n : ℕ) → IsTrue (lent_by w.pass es n) → IsTrue (mine n)
 
--- A driven history runs this way.
+-- The entries of a driven history after its first entries form such a run.
 pub driven_runs : {w : Watched} {origin : State} {start rest : List Entry} {h : Halves} {doers : List Doer}
     → IsDriven w origin start rest h doers
     → Runs w (lent_by w.pass (start ++ rest)) (leads_to origin start) h doers rest
@@ -112,7 +113,7 @@ module _ {w : Watched} {mine : Blocks} {s : State} {out : List Piece} {sent : Li
         let apart = eqb-false e.pass w.pass other in (r.alone.0.registers apart, r.alone.0.blocks apart)
   ]
 
-  -- An entry of a half belongs to the pass.
+  -- An entry that belongs to a half was made by the pass, and lends only blocks of `mine`.
   own_lends : is_neither first_doer ≡ false → LendsOneOf mine e.event e.reply
   own_lends half = elim (cases_Bool (e.pass == w.pass)) [
     | inl own ↦

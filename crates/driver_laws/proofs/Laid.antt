@@ -20,27 +20,28 @@ use Rattle.std.proofs.{Common.◌∙◌, Common.◌∷◌, Common.◌≡◌, Com
 use Rattle.pmd_driver.specs.NicDevice.RegisterFile.declared.owner.Owner.TheVariants as owner
 use Rattle.pmd_driver.specs.NicDevice.declared.event.Event.TheVariants as event
 
--- What holds for a transmit side that is laid out this far, with nothing staged: it is off while the words of an empty
--- ring are written to it, or its ring is empty.
+-- What holds for a transmit side that is laid out as far as `l`, with nothing staged: it is off while the register
+-- values of an empty ring are written to it, or its ring is empty.
 abbrev pub SideLaid : Laid → Side → Type 0
 SideLaid Off x = IsOff x × (x.staged ≡ [])
 SideLaid Sized x = IsOff x × (x.staged ≡ []) × (16 ≤ x.ring.length)
 SideLaid Headed x = IsOff x × (x.staged ≡ []) × (16 ≤ x.ring.length) × (x.ring.head ≡ 0)
 SideLaid Empty x = (x.staged ≡ []) × (is_empty x.ring ≡ true)
 
--- A word of the ring is written to a side that is off.
+-- Writing one of the ring's register values to a side that is off lays it out one step further.
 word_laid : (row : RowId) (l : Laid) (word : ℕ) (q : Side) → word < 2 ^ 32 → MayRing row l word → SideLaid l q
     → (q.on ≡ false) × Fits Tx row word × SideLaid (laid_by row l) (side_with Tx row word q)
 word_laid row l word q low may x = grind (arith, common_steps)
 
--- The events by which a driver lays out an empty transmit ring, and those that leave its queue alone.
+-- Lemmas about the events by which a driver lays out an empty transmit ring, and about those that leave its queue
+-- alone.
 
--- Port and queue name the queue, and its transmit side is laid out this far.
+-- Port and queue number identify the queue, and the queue's transmit side is laid out as far as `l`.
 pub record LaidTo (queue : ℕ) (q : AtPort) (frame : ℕ) (l : Laid) (s : State) : Type 0 where
   pub ground : HasGround queue q frame s
   pub side : SideLaid l (side_of Tx queue s)
 
--- A word that the driver writes.
+-- Lemmas about a value that the driver writes.
 module _ (queue : ℕ) (s : State) (met : IsMet queue s) (l : Laid) (x : SideLaid l (side_of Tx queue s)) (port : Port)
     (n word : ℕ) (low : word < 2 ^ 32) where
   abbrev Then : Laid → Type 0
@@ -62,7 +63,8 @@ module _ (queue : ℕ) (s : State) (met : IsMet queue s) (l : Laid) (x : SideLai
   written Txdctl may names = rw (asked queue s met.sound met.small port n word Tx names) (grind (arith, common_steps))
   written row may names = search (rules, beside, ring_written)
 
--- An event that leaves the queue alone, or one of the driver's own, leads on and sends nothing.
+-- An event that leaves the queue alone, or one of the driver's own events that lays the ring out, sends nothing on the
+-- queue.
 pub left_lays : (w : Watched) (mine : Blocks) (q : AtPort) (frame : ℕ) (l : Laid) (s : State) (e : Event Block)
     → IsLeft w mine s e → LaidTo w.queue q frame l s → LaidTo w.queue q frame l (after s e) × (sent_by w.queue s e ≡ [])
 left_lays w mine q frame l s e left x =
@@ -79,10 +81,10 @@ own_lays queue q frame l m s met x (event.Write port n word) made (row, same, dr
 own_lays queue q frame l m s met x e made lays =
     rw lays (left_lays (watching queue s) no_block q frame l s e (alone_left queue s e met made (search rules)) x)
 
--- Lemmas over a history, from a call of the pass on.
+-- Lemmas about a history, starting with a call of the pass.
 module _ {w : Watched} {origin : State} {h : List Entry} (q : AtPort) (frame : ℕ) (along : IsAlong w origin h)
     (done : List Entry) (last : Laid) where
-  -- The side is laid out this far, and no more was sent than before.
+  -- The side is laid out this far, and nothing more was sent on the queue than before that call.
   abbrev Silent : List Entry → List Call → Type 0
   Silent now cs =
       (l : Laid) × LaidTo w.queue q frame l (leads_to origin now) × LaysOn q l cs last

@@ -1,5 +1,5 @@
--- How far the calls of a start, successful or failed, and the calls alongside them lay out an empty transmit ring, and
--- which blocks they lend.
+-- Lemmas: how far the calls of a start, successful or failed, and the calls alongside them lay out an empty transmit
+-- ring, and which blocks they lend.
 use Rattle.driver_laws.proofs.{Reached.steps_are, CallKinds.switched_are, CallKinds.unswitched_are}
 use Rattle.driver_laws.specs.{Laid.MayLay, Laid.laid_by, StartPrelude.SwitchFails, StartPrelude.both_asked}
 use Rattle.driver_laws.specs.{TimedOut.AllAre}
@@ -18,12 +18,12 @@ use Rattle.pmd_driver.specs.NicDevice.declared.event.Event.TheVariants as event
 use Rattle.pmd_driver.specs.NicDevice.declared.event.Reply.TheVariants as reply
 use Rattle.pmd_driver.specs.PmdAccess.declared.fault.PmdFault.TheVariants as fault
 
--- The blocks with these numbers.
+-- The blocks whose numbers are in the list.
 abbrev pub among : List ℕ → Blocks
 among ns = λ n. list_any (λ b. n == b) ns
 
--- An event with its reply lays out from `l` to the next state, if the ring has a permitted size, and lends only these
--- blocks.
+-- An event with its reply takes the layout from `l` to `m`, if the ring has a permitted size, and lends only blocks of
+-- `lent`.
 abbrev pub Steps : AtPort → ℕ → Blocks → Laid → Event Block → Reply Block → Laid → Type 0
 Steps q size lent l (event.Write port number word) r m =
     (row : RowId) × (port ≡ q.port) × (is_driven row ≡ true) × IsNumberOf q.port row q.queue number
@@ -31,19 +31,19 @@ Steps q size lent l (event.Write port number word) r m =
 Steps q size lent l (event.Lend block) reply.Done m = (m ≡ l) × IsTrue (lent block.number)
 Steps q size lent l e r m = m ≡ l
 
--- Successive calls lay out from `l` to `last`, and lend only these blocks.
+-- Successive calls take the layout from `l` to `last`, and lend only blocks of `lent`.
 abbrev pub StepsOn : AtPort → ℕ → Blocks → Laid → List Call → Laid → Type 0
 StepsOn q size lent l [] last = last ≡ l
 StepsOn q size lent l (c ∷ cs) last =
     (m : Laid) × Steps q size lent l c.event c.reply m × StepsOn q size lent m cs last
 
--- The calls made in between.
+-- The calls that lead from `old` to `new`, and what they lay out and lend.
 pub record LaysTo (q : AtPort) (size : ℕ) (lent : Blocks) (l : Laid) (old new : List Call) (last : Laid) : Type 0 where
   pub calls : List Call
   pub made : new ≡ old ++ calls
   pub steps : StepsOn q size lent l calls last
 
--- The state after an access, and after accesses in turn, each of which may be made there.
+-- The layout after an access, and after successive accesses, each of which may be made in the layout that it finds.
 
 abbrev gone : Laid → Access → Laid
 gone l (Sees row seen) = l
@@ -70,7 +70,7 @@ go_parts size (d ∷ done) a rest l go =
 words_go : (size : ℕ) (side : Dir) (ring : ℕ) → AllGo size Off (ring_words side ring size)
 words_go size side ring = grind (arith, common_steps, sized)
 
--- An access that lays nothing out if the ring is empty.
+-- An access that changes nothing in the layout if the ring is empty.
 abbrev Keeps : ℕ → Access → Type 0
 Keeps size (Sees row on) = ⊤
 Keeps size (Sets row word) = Goes size Empty (Sets row word) × (Empty ≡ laid_by row Empty)
@@ -79,11 +79,11 @@ module _ (q : AtPort) (size : ℕ) (lent : Blocks) where
   abbrev pub To : Laid → List Call → List Call → Laid → Type 0
   To = LaysTo q size lent
 
-  -- The calls lay out the ring up to some state.
+  -- The calls lay out the ring to some extent.
   abbrev pub Part : Laid → List Call → List Call → Type 0
   Part l old new = (last : Laid) × To l old new last
 
-  -- An event that lays out no more, whatever the reply.
+  -- An event that leaves the layout unchanged, whatever the reply.
   abbrev pub Stays : Laid → Event Block → Type 0
   Stays l e = (r : Reply Block) → Steps q size lent l e r l
 
@@ -114,7 +114,7 @@ module _ (q : AtPort) (size : ℕ) (lent : Blocks) where
       let same = each_steps l before (steps_are (Stays l) (step_stays l) before added) in
       record { calls = _; made = is; steps = steps_then l l m before (call_of e r ∷ []) same (m, go, refl) }
 
-  -- An access, successful or failed.
+  -- Lemmas about an access, successful or failed.
 
   go_made : (a : Access) (l : Laid) {old new : List Call} → Goes size l a → IsMade q old new a → To l old new (gone l a)
   go_made (Sees row seen) l go (number, word, named, is, x) = adds l l _ _ x refl
@@ -140,7 +140,7 @@ module _ (q : AtPort) (size : ℕ) (lent : Blocks) where
       let (some, one) = go_parts size done a rest l (subst (AllGo size l) is go) in
       then_some (all_made done l some made) (fails_made f a (all_gone l done) one fails)
 
-  -- A ring's register values, followed by its blocks.
+  -- Lemmas: a ring's register values are written, and then the ring's blocks are lent.
 
   abbrev pub Mine : List ℕ → Type 0
   Mine ns = (n : ℕ) → IsTrue (among ns n) → IsTrue (lent n)
@@ -169,7 +169,7 @@ module _ (q : AtPort) (size : ℕ) (lent : Blocks) where
       then_some (all_made (ring_words side ring size) Off (words_go size side ring) words)
       (then_some (lends_lay out each stops.lent) (_, lending_lays f _ stops.fails))
 
-  -- The receive ring, after the first access that sees its side off.
+  -- Lemmas about the receive ring, after the first access, which reads its side as off.
 
   quiet_go : AllGo size Off both_quiet
   quiet_go = grind (arith, common_steps)
@@ -194,7 +194,7 @@ module _ (q : AtPort) (size : ℕ) (lent : Blocks) where
   receive_fails f out each (inr (mid, made, fails)) =
       then_some (all_made both_quiet Off quiet_go made) (preparing_lays f Rx out each fails)
 
-  -- Both sides are enabled.
+  -- Lemmas about the calls that enable both sides.
 
   keeps_write : (row : RowId) (word number : ℕ) → Keeps size (Sets row word) → IsNumberOf q.port row q.queue number
       → Stays Empty (event.Write q.port number word)

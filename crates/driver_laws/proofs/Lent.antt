@@ -36,7 +36,7 @@ use Rattle.pmd_driver.specs.PmdRx.Keeping as received
 use Rattle.pmd_driver.specs.PmdTx.Leaving as leaving
 use Rattle.pmd_driver.specs.PmdTx.Sending as sending
 
--- If something holds for each event and reply of calls that lay out the ring, it holds for each of these calls.
+-- If something follows from how an event and its reply lay out the ring, it holds for each call that lays out the ring.
 
 module _ (q : AtPort) (size : ℕ) (lent : Blocks) where
   each_is : (P : Event Block → Reply Block → Type 0)
@@ -45,7 +45,7 @@ module _ (q : AtPort) (size : ℕ) (lent : Blocks) where
   each_is P of l last [] steps = tt
   each_is P of l last (c ∷ cs) (m, here, more) = (of l m c.event c.reply here, each_is P of m last cs more)
 
-  -- A call of this kind lends only these blocks, and so does a pass that makes only calls of this kind.
+  -- Lemmas: a call that lays out the ring lends only blocks of `lent`, and so does a pass that makes only such calls.
 
   abbrev LendsThese : Event Block → Reply Block → Type 0
   LendsThese e r = (n : ℕ) → lends e r n ≡ true → lent n ≡ true
@@ -59,7 +59,7 @@ module _ (q : AtPort) (size : ℕ) (lent : Blocks) where
   lent_is pass [] more are n is = cc
   lent_is pass (e ∷ es) more are n is = grind (arith, common_steps, calls_own, calls_other, lent_is pass es more)
 
--- Lemmas about what other passes lend in a part of a history.
+-- Lemmas about what other passes lend in one part of a history.
 
 module _ (pass : ℕ) (own : Blocks) where
   -- No other pass tries to lend these blocks in the first part of a history.
@@ -106,12 +106,12 @@ last_or_none [] = inl refl
 last_or_none (d ∷ cs) =
     ⊎_elim (λ none. inr ([], d, λ i. d ∷ none i)) (λ x. inr (d ∷ x.0, x.1, λ i. d ∷ x.2 i)) (last_or_none cs)
 
--- Calls of this kind were made after the first access.
+-- Lemmas about calls that lay out the ring after the first access.
 module _ (w : Watched) (origin : State) (h : List Entry) (q : AtPort) (size : ℕ) (old first : List Call)
     (along : IsAlong w origin h) (own lent : Blocks) (begins : IsMade q old first (Sees Rxdctl false))
     (fresh : BeforeLast w origin h first (NoneLent own)) (others : OthersLendNone w.pass own h) (l last : Laid)
   where
-    -- Where some of the calls were made, only the rings' blocks are lent.
+    -- At each point where some of the calls were made, only the rings' blocks are lent.
     lent_at : (new cs more : List Call) → new ≡ first ++ cs → StepsOn q size lent l (cs ++ more) last
         → AtCalls w origin h new (λ s. OnlyLent own lent s.memory)
     lent_at new cs more is steps done rest all calls =
@@ -205,10 +205,11 @@ module _ {c : Course} (x : On c) (own : Blocks) where
       (λ before following e split mine is.
       (x.ground before following e split mine is, (fresh before following e split mine is).short)))
 
--- Of an arena's blocks, those that its driver has out with its halves are lent to the device. Each of its blocks is in
--- one place: free in the arena, in hand, or lent to the device.
+-- Lemmas: the blocks of an arena that its driver's halves still have in use (that are out) are lent to the device. Each
+-- block of the arena is in one place: free in the arena, in hand, or lent to the device.
 
--- What either half has lent is lent to the device, if device and driver agree. So are the blocks that are out.
+-- If the device and the driver agree, the blocks that either half has lent are lent to the device. So each block that
+-- is out is lent to the device.
 pub out_is_lent : OutIsLent
 out_is_lent x made =
     let r = reported_ran x in
@@ -219,7 +220,7 @@ out_is_lent x made =
     (sender_lent _ _ _ r.k.transmit both.transmit.0 both.transmit.1 n)
     (or_cases (received.has_lent r.k.receive n) (sending.has_lent r.k.transmit n) is))
 
--- The pass's calls are those before both sides were enabled, and those after.
+-- The pass's calls are those before both sides were enabled, followed by those after that point.
 reported_calls : (x : Reported) → IsReportedOf x → calls_of x.w.pass x.h
     ≡ x.reported.started.2.on.mid ++ (reported_ran x).goes.1
 reported_calls x made = made ∙ (reported_ran x).goes.2
@@ -276,7 +277,7 @@ out_is_asked x made =
     (⊎_elim (lent.receive n) (lent.transmit n)
     (or_cases (received.has_lent r.k.receive n) (sending.has_lent r.k.transmit n) is)))
 
--- A block that is out is counted.
+-- Lemmas: a block that is out is counted once among the blocks that are out.
 
 abbrev some : ℕ → Bool
 some zero = false
@@ -291,8 +292,8 @@ lent h = received.lent_of h.receive ++ leaving.lent_of h.transmit
 lent_counted : (h : Halves) (n : ℕ) → halves_lent_by h n ≡ some (times_in_hand (lent h) n)
 lent_counted h n = grind (arith, common_steps, ring_block_among, list_any-append, counted (lent h) n)
 
--- A block's count of places is the same whether it is computed from the memory lent to the device or from what is out
--- or lent elsewhere.
+-- The number of places that a block is in is the same whether lent blocks are counted by the device's memory, or as
+-- those that are out or lent elsewhere.
 placed : (f has : Bool) (t k e once : ℕ) → once ≤ 1 → cond f 1 0 + (t + (k + e)) ≡ once
     → cond has 1 0 ≡ cond (some t) 1 0 + e → cond f 1 0 + k + cond has 1 0 ≡ once
 placed f has t k e once most same is = grind (arith, common_steps)
@@ -315,7 +316,7 @@ module _ (a : Numbers) (outside hand elsewhere : List ℕ) (mem : Memory) (n : �
       placed (is_free r.arena n) (has_block mem n) t _ (times_in_hand elsewhere n) _ most
       (omega (arith, has.all.each n, times-append)) counts
 
--- A lent block is out, or lent elsewhere.
+-- Each block that is lent is out or lent elsewhere.
 out_or_elsewhere : (has out asked : Bool) (e : ℕ) → (asked ≡ true → has ≡ out) → (out ≡ true → asked ≡ true)
     → e ≡ cond (has && not asked) 1 0 → cond has 1 0 ≡ cond out 1 0 + e
 out_or_elsewhere true true true e same out_asked is = omega (arith, is)

@@ -1,6 +1,6 @@
--- Harmless calls alongside the driver's lead both halves on and leave the queue alone. Between two entries of a
--- history, an event of either half, or of neither half if it leaves the queue alone, keeps the invariant. A side of the
--- queue that is up stays up.
+-- Lemmas: harmless calls alongside the driver's leave both halves unchanged and leave the queue alone. The invariant
+-- between two entries of a history is preserved by each event of either half, and by each other event that leaves the
+-- queue alone. A side of the queue that is up stays up.
 use Rattle.driver_laws.proofs.StartPrelude.{AreLent, BothAgree, IsDriven, IsMet, Spares, asked, both_apart, doer_of}
 use Rattle.driver_laws.proofs.StartPrelude.{doers_after, events_before, histories_sound, keeps_sound, mine-moved}
 use Rattle.driver_laws.proofs.StartPrelude.{mine_driven, plain-write, runs, vfs_stays, write_rest}
@@ -51,7 +51,7 @@ steps_harmless (c ∷ calls) steps = (step_harmless c.event steps.0, steps_harml
 pub steps_add_harmless : StepsAddHarmless
 steps_add_harmless old new (before, made, steps) = (before, made, steps_harmless before steps)
 
--- A harmless call after harmless calls leaves them all harmless.
+-- If harmless calls are followed by a harmless call, all of them are harmless.
 last_harmless : (calls : List Call) (c : Call) → AreHarmless calls → IsTrue (is_harmless c.event)
     → AreHarmless (calls ++ c ∷ [])
 last_harmless [] c harmless is = (is, tt)
@@ -60,7 +60,7 @@ last_harmless (d ∷ calls) c harmless is = (harmless.0, last_harmless calls c h
 pub calls_add_harmless : CallsAddHarmless
 calls_add_harmless old new e reply (before, made, steps) is = grind (arith, common_steps, last_harmless, steps_harmless)
 
--- The driver's calls lead its halves on.
+-- Lemmas: the driver's calls lead its halves on.
 
 pub others_harmless : (doers : List Doer) (calls : List Call) → OthersStep doers calls → OthersHarmless doers calls
 others_harmless [] calls steps = steps_harmless calls steps
@@ -71,7 +71,7 @@ unfoldable pub drives_lead : DrivesLead
 drives_lead old new h k (doers, since, made, own, is, steps) =
     (doers, since, made, own, is, others_harmless doers since steps)
 
--- Harmless calls by themselves lead the halves on.
+-- Lemmas: harmless calls by themselves leave the halves unchanged.
 
 pub marked : (calls : List Call) → AreHarmless calls → OthersHarmless (doers_other calls) calls
 marked [] harmless = tt
@@ -81,7 +81,7 @@ unfoldable pub harmless_lead : HarmlessLead
 harmless_lead old new h (more, made, harmless) =
     (doers_other more, more, made, others_own h more, others_played h more, marked more harmless)
 
--- Lemmas about two lists of calls in sequence, in which the calls of neither half are harmless.
+-- Lemmas about one list of calls followed by another, where the calls that belong to neither half are harmless.
 
 pub harmless_both : (ds es : List Doer) (ms ns : List Call) → length ds ≡ length ms → OthersHarmless ds ms
     → OthersHarmless es ns → OthersHarmless (ds ++ es) (ms ++ ns)
@@ -102,13 +102,13 @@ leads_on old mid new h j k (ds, ms, made, own, is, harmless) (es, ns, more, then
       harmless_both ds es ms ns (own_length h ds ms own) harmless others,
     )
 
--- No register that a queue relies on is written, and no block is touched.
+-- Lemmas: a harmless event writes no register that a queue relies on, and touches no block.
 
 pub left : (w : Watched) (mode : Mode) (mine : Blocks) (e : Event Block) → IsTrue (is_harmless e)
     → LeavesRegisters w mode e × LeavesBlocks mine e
 left w mode mine e is = grind (arith, common_steps, runs)
 
--- This holds for one entry.
+-- If an entry belongs to neither half, it is harmless and so leaves the queue alone.
 one_left : (w : Watched) (mine : Blocks) (mode : Mode) (doers : List Doer) (e : Entry) (b : Bool) (calls : List Call)
     → OthersHarmless doers (with_call b e calls)
     → (b ≡ true → IsTrue (is_neither (doer_of true doers)) → LeavesRegisters w mode e.event × LeavesBlocks mine e.event)
@@ -125,9 +125,9 @@ harmless_leave_alone w mine s doers (e ∷ es) harmless =
       harmless_leave_alone w mine (after s e.event) (doers_after b doers) es here.1,
     )
 
--- Calls that lead both halves on, and lend as a driver's own do.
+-- Calls that lead both halves on, and that lend only what a driver's own calls may lend.
 
--- The halves were led on in this way.
+-- The calls after `old` led the halves from `h` to `k` in this way.
 pub record LeadsApart (own : Blocks) (old : List Call) (h : Halves) (new : List Call) (k : Halves) : Type 0 where
   pub leads : Leads old h new k
   pub apart : AllLendApart own h leads.0 leads.1
@@ -162,7 +162,8 @@ apart_leads_on own old mid new h j k p q = record {
   apart = grind (arith, common_steps, both_apart);
 }
 
--- What holds between two entries: the device is sound and agrees with both halves, and their blocks are among these.
+-- What holds between two entries: the device is sound and agrees with both halves, and the blocks that they have lent
+-- are among `mine`.
 pub record Meets (w : Watched) (mine : Blocks) (s : State) (out : List Piece) (sent : List (List ℕ))
     (h : Halves) : Type 0 where
   pub sound : IsSound s
@@ -182,7 +183,7 @@ pub may_move : (queue : ℕ) (s : State) (h : Halves) (m : Move) (e : Event Bloc
 may_move queue s h Elsewhere e real own made = cc
 may_move queue s h m e real own made = (own, made)
 
--- An event of a half doesn't reset the queue's pool, nor does one that leaves its registers alone.
+-- Lemmas: an event of a half doesn't reset the queue's pool, nor does an event that leaves the queue's registers alone.
 
 touch_resets : (dir : Dir) (queue : ℕ) (own : Blocks) (s : State) (e : Event Block) → Touches dir queue own s e
     → ResetsNoPool queue s e
@@ -192,8 +193,8 @@ spared_resets : (w : Watched) (s : State) → w.vfs ≡ s.vfs → (e : Event Blo
     → LeavesRegisters w (mode_in s.registers) e → ResetsNoPool w.queue s e
 spared_resets w s vfs e left = grind (arith, common_steps, place_at, place_named)
 
--- What holds after an event: these halves meet the device, a side that was up still is, no setting is written, and the
--- queue's pool isn't reset.
+-- What holds after an event: the device agrees with the halves, a side that was up still is, no setting was written,
+-- and the queue's pool wasn't reset.
 pub record Goes (w : Watched) (mine : Blocks) (s : State) (out : List Piece) (sent : List (List ℕ)) (e : Event Block)
     (k : Halves) : Type 0 where
   pub meets : Meets w mine (after s e) (out ++ pieces w.queue s e) (sent ++ sent_by w.queue s e) k
@@ -205,7 +206,7 @@ pub record Goes (w : Watched) (mine : Blocks) (s : State) (out : List Piece) (se
 module _ {w : Watched} {mine : Blocks} {s : State} {out : List Piece} {sent : List (List ℕ)} {h : Halves}
     (m : Meets w mine s out sent h) (e : Event Block) (made : IsEvent e)
     (steps : WritesOutside w.queue mine (reply_to s e)) where
-  -- An event of neither half.
+  -- Lemmas about an event that belongs to neither half.
 
   pub spared_by : (e : Event Block) → IsEvent e → LeavesRegisters w (mode_in s.registers) e → LeavesBlocks mine e
       → WritesOutside w.queue mine (reply_to s e) → Spares w.queue h.transmit s e
@@ -233,7 +234,7 @@ module _ {w : Watched} {mine : Blocks} {s : State} {out : List Piece} {sent : Li
   stays_up : (move : Move) → MayMove w.queue h.transmit s e move → IsUp w.queue s → IsUp w.queue t
   stays_up move may up = up_stays s w.queue sent h.transmit e move m.both.transmit may up
 
-  -- An event of the transmit half.
+  -- Lemmas about an event of the transmit half.
 
   sends_goes : (move : Move) → is_elsewhere move ≡ false → sending.IsOwn h.transmit move e
       → LendsOneOf mine e (reply_to s e)
@@ -287,7 +288,7 @@ module _ {w : Watched} {mine : Blocks} {s : State} {out : List Piece} {sent : Li
       assumption (stays, neither_keeps registers blocks, stays_up Elsewhere spares, spared_resets w s m.vfs e registers)
   doer_goes (Sends move) own others lends = sends_goes move refl own (lends refl)
 
--- A word written to an enable register of the queue keeps what the device and both halves agree on.
+-- After a value is written to an enable register of the queue, the device still agrees with both halves.
 pub enable_words_keep : EnableWordsKeep
 enable_words_keep queue s Rx port n word out sent h made names may both =
     let e : Event Block = event.Write port n word in

@@ -1,6 +1,6 @@
 -- The register values of both rings are written while no enable request is in effect for either side. Then the driver
--- requests that both sides be enabled, and polls them until they are. When both rings came up and both sides were
--- enabled this way, the device and the driver agree on both sides.
+-- requests that both sides be enabled, and polls them until they are. After that, the device and the driver agree on
+-- both sides.
 use Rattle.pmd_driver.specs.PmdAccess.Frames.{most_blocks}
 use Rattle.pmd_driver.specs.{Running.Running, Started.AreUp}
 use Rattle.ring_laws.proofs.{Kept.first_place, Leaving.start_agrees as fresh_agrees}
@@ -34,7 +34,7 @@ may_lay : (ring size : ℕ) → IsSized ring size → 16 * size % 128 ≡ 0 → 
     → (p.side dir).wanted ≡ false → AllMay (ring_words dir ring size) p
 may_lay ring size is even p dir off = grind (arith, common_steps)
 
--- Accesses in sequence.
+-- Lemmas about one sequence of accesses followed by another.
 
 may_append : (xs ys : List Access) (p : Sides) → AllMay xs p → AllMay ys (after_accesses xs p) → AllMay (xs ++ ys) p
 may_append [] ys p may more = more
@@ -44,7 +44,7 @@ after-append : (xs ys : List Access) (p : Sides) → after_accesses (xs ++ ys) p
 after-append [] ys p = refl
 after-append (x ∷ xs) ys p = after-append xs ys (after_access x p)
 
--- Polls that see a side off change nothing.
+-- Lemmas: polls that read a side as off change nothing.
 
 may_miss : (row : RowId) (on : Bool) → IsEnable row → (n : ℕ) (p : Sides) → AllMay (replicate n (Sees row on)) p
 may_miss row on is zero p = tt
@@ -116,12 +116,12 @@ fresh_transmit_agrees queue s y on wanted port tail ring size frame small sound 
       },
     )
 
--- The numbers of slots that a driver may have.
+-- Lemmas about the numbers of slots that a driver's ring may have.
 
 pub sized : (size : ℕ) → is_size size ≡ true → (0 < size) × (size ≤ 1024) × (16 * size % 128 ≡ 0)
 sized size is = grind (arith, common_steps)
 
--- A ring with blocks that a pass lends.
+-- A ring whose blocks a pass lends has a permitted size, in blocks that can exist.
 sized_ring : (pass : ℕ) (h : List Entry) (size ring : ℕ) → is_size size ≡ true
     → EachRingBlock ring size (λ n. IsLentBy pass n h) → IsSized ring size
 sized_ring pass h size ring is lent = grind (arith, common_steps)
@@ -165,7 +165,7 @@ module _ {w : Watched} {origin : State} {h : List Entry} {q : AtPort} {size fram
     abbrev Reaches : List Call → (Sides → Sides) → Type 0
     Reaches = At q frame along Known Unused (unused_kept w origin)
 
-    -- Both sides are quiet and at rest.
+    -- When the receive side has read as off, both sides are off with no enable request pending, and at rest.
     quiet_at : Reaches up.receive.mid (λ p. p)
     quiet_at =
         let off = quieting_leads w q frame origin h old up.receive.mid along up.receive.quiet well in (
@@ -176,7 +176,7 @@ module _ {w : Watched} {origin : State} {h : List Entry} {q : AtPort} {size fram
           mid_some,
         )
 
-    -- Wherever the pass has made these calls, it has lent both rings.
+    -- Lemmas: at each point where the pass has made these calls, it has lent the blocks of both rings.
 
     on_has : (number : ℕ) → Has (lending number) up.both_made → Has (lending number) new
     on_has number has = search (rules, has_more, lending, extends, switching)
@@ -193,7 +193,7 @@ module _ {w : Watched} {origin : State} {h : List Entry} {q : AtPort} {size fram
     off : (p : Sides) → Known p → ((p.side Rx).wanted ≡ false) × ((p.side Tx).wanted ≡ false)
     off p known = grind (arith, common_steps)
 
-    -- Wherever the pass has made these calls, both rings came up and both sides are enabled.
+    -- At each point where the pass has made these calls, both rings are up and both sides are enabled.
     up_at :
         AtEntries w h new
         (λ done.
@@ -249,7 +249,8 @@ module _ {w : Watched} {origin : State} {h : List Entry} {q : AtPort} {size fram
         let wanted = λ (dir : Dir). ap (λ (k : Side). k.wanted) (x.stand.side dir).same in
         assumption (unused.receive receives, unused.transmit sends, wanted Rx, wanted Tx)
 
-    -- Port and queue name this queue.
+    -- At this point, port and queue number identify this queue, and the device's frame limit is the driver's packet
+    -- limit.
     pub ground_at : AtCalls w origin h new (HasGround w.queue q frame)
     ground_at done rest all calls = let (p, x, unused) = up_at done rest all calls in x.ground
 
@@ -263,13 +264,13 @@ pub switched_sides_begin_none : SwitchedSidesBeginNone
 switched_sides_begin_none w origin h q size frame old a new v t up along well done rest all calls =
     let (p, x, unused) = up_at up along well done rest all calls in x.stand.begun
 
--- A start of the driver leaves a state where the device and the driver agree on both sides.
+-- Lemmas: after a start, the device and the driver agree on both sides.
 
 module _ {w : Watched} {origin : State} {h : List Entry} {q : AtPort} {size frame : ℕ} {old : List Call} {a : Numbers}
     {new : List Call} {r : Running} (up : AreUp q size frame old a new r) (along : IsAlong w origin h)
     (well : BeginsWell w origin h q size frame old a new r up)
   where
-    -- Before the receive ring is filled, both sides are on.
+    -- Lemmas: both sides are on before the receive ring is filled.
 
     abbrev pub on : AreOn q size frame old a up.on.mid up.empty r.transmit
     on = are_on up.sized up.framed up.receive up.transmit up.on.switched

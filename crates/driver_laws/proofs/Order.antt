@@ -1,6 +1,6 @@
 -- The halves when both sides of a queue are on: each half has lent only its ring's blocks. The lemmas state what a
--- driver lends after that point, and what it handed out and sent, and so what holds for its life. They also hold if the
--- history continues, because the beginning of a life is a life too.
+-- driver lends after that point, and what it has handed out and sent over its life. They also hold if the history
+-- continues, because the beginning of a life is a life too.
 use Rattle.pmd_driver.proofs.DeviceLock.Histories.{events_before, events_after, legal_before}
 use Rattle.ring_laws.proofs.Alone.{beginning_alone, histories_sound, rest_alone}
 use Rattle.driver_laws.proofs.InOrder.{Led, counted_where_up, handed_is_prefix, none_is_all, none_is_all_taken}
@@ -29,7 +29,7 @@ use Rattle.driver_laws.proofs.Prelude.{ring_block_among, ring_blocks, rules, sen
 use Rattle.driver_laws.proofs.Prelude.{times_among, times_in_hand, true, vfs_stays, ℕ, ◌++◌, ◌∙◌, ◌∷◌, ◌≡◌, ◌≢◌}
 use Rattle.ring_laws.specs.Delivered as receive
 
--- Blocks drawn from an arena were free in it, and no longer are.
+-- Lemmas: blocks that were drawn from an arena were free in it, and no longer are.
 
 pub drawn_gone : (a : Numbers) (ns : List ℕ) (b : Numbers) (n : ℕ) → IsDrawn a ns b → is_free b n ≡ true
     → times_in_hand ns n ≡ 0
@@ -68,7 +68,8 @@ module _ {q : AtPort} {size frame : ℕ} {old : List Call} {a : Numbers} {new : 
       each_first (λ b. b ≢ n) (λ k below same.
       grind (arith, gone, free, append-nil, ring_block_out, ring_block_is up.receive.ring size k below))
 
--- When both rings came up, the arena keeps its numbers, and the receive half may lend what is free then.
+-- Lemmas: when both rings have come up, the arena still has the same block numbers. The receive half may lend the
+-- blocks that are free at that point.
 module _ {q : AtPort} {size frame : ℕ} {old : List Call} {a : Numbers} {ready_made : List Call} {ready_arena : Numbers}
     {both_made : List Call} {both_arena : Numbers} {v : Receive} {t : Sender}
     (receive : IsReceiveReady q size frame old a ready_made ready_arena v)
@@ -78,12 +79,12 @@ module _ {q : AtPort} {size frame : ℕ} {old : List Call} {a : Numbers} {ready_
       (all_drawn ready_arena (ring_blocks transmit.ring size) both_arena [] transmit.prepared.drawn).owns n
       ∙ (all_drawn a (ring_blocks receive.ring size) ready_arena [] receive.prepared.drawn).owns n
 
-  -- The transmit ring hasn't lent what is free then.
+  -- The transmit ring's blocks aren't among those that are free at that point.
   pub may : (n : ℕ) → is_free both_arena n ≡ true
       → MayLend (is_own a) (record { receive = v; transmit = t }) Receives n
   may n free = grind (arith, both_own, is_own-of_free, ring_gone)
 
--- After that point, a driver lends in this way.
+-- Lemmas: after that point, each half lends only free blocks of the arena that the other half hasn't lent.
 module _ {q : AtPort} {size frame : ℕ} {old : List Call} {a : Numbers} {new : List Call} {r : Running}
     (x : Lives q size frame old a new r) where
   pub fresh_own : OwnsSame a x.fresh.arena
@@ -124,7 +125,7 @@ module _ {c : Course} (x : On c) where
     sides_went_on =
         switched_sides_go_on w origin h q size frame old a mid v t up along ground p.front p.back p.both p.fronts
 
-    -- The history drives the halves by the doers of the calls after that point.
+    -- The history drives the halves if the doers say correctly which half made each call after that point.
     pub driven_by : (doers : List Doer) → AllOwn first doers ys → OthersHarmless doers ys
         → IsDriven w origin p.front p.back first doers
     driven_by doers own harmless =
@@ -217,7 +218,7 @@ module _ {c : Course} (x : Ran c) where
     pub idle : k.transmit.outstanding ≡ [] → bytes_of k.transmit.accepted ≡ sent_since w.queue origin [] h
     idle empty = idle-all _ w.queue _ k.transmit agree.transmit empty
 
--- A life ran this way.
+-- Lemmas: in a life, both sides were enabled and calls led the halves on in this way.
 
 -- Both sides of a driver's queue were enabled this way.
 abbrev pub on_of : {c : Course} {mid : List Call} {v : Receive} {t : Sender}
@@ -226,7 +227,7 @@ abbrev pub on_of : {c : Course} {mid : List Call} {v : Receive} {t : Sender}
 on_of {mid = mid} {v = v} {t = t} up along ground =
     record { mid = mid; v = v; t = t; up = up; along = along; ground = ground }
 
--- The life that these calls form.
+-- The life that the given calls form.
 abbrev pub life_of : (c : Course) (started : List Call) (r : Running) (made : List Call) (k : Halves)
     → IsLife c started r made k → Life
 life_of c started r made k is = record { course = c; started = started; r = r; made = made; k = k; is = is }
@@ -250,7 +251,7 @@ module _ (w : Watched) (origin : State) {h : List Entry} (before rest : List Ent
   along_before x =
       search (rules, subst (IsAlong w origin) (sym all) x, events_before, legal_before, beginning_alone)
 
-  -- What holds just before a call holds just before it in the beginning too.
+  -- What holds just before a call in the whole history also holds just before that call in the beginning.
   pub last_before : (calls : List Call) (P : State → Type 0) → BeforeLast w origin h calls P
       → BeforeLast w origin before calls P
   last_before calls P at done more e both own is = grind (arith, common_steps)
@@ -261,7 +262,8 @@ pub along_after : (w : Watched) (origin : State) (front h : List Entry) → IsAl
 along_after w origin front h x =
     search (rules, histories_sound, events_before, vfs_stays, events_after, legal_past, rest_alone)
 
--- Both sides were enabled within the beginning.
+-- If both sides were enabled over the whole history, and this happened within its beginning, the same is true of the
+-- beginning.
 abbrev pub on_before : {c : Course} (x : On c) (before rest : List Entry) → before ++ rest ≡ c.h
     → On (record c { h = before })
 on_before {c = c} x before rest all =

@@ -11,8 +11,8 @@ pub record LooksAtWaiting (x : Life) (new : List Call) (v : Sender) : Type 0 whe
   pub looks : LooksLast x.made x.k.transmit new v
   pub look : EndsAt x.w.pass x.h new
 
--- When the call's own first event occurred, some of what the driver had accepted had not yet been sent. This is true even
--- if harmless calls come before that event.
+-- When the call's own first event occurred, some of what the driver had accepted had not yet been sent. This is true
+-- even if harmless calls come before that event.
 abbrev pub WaitingIsNotAllBefore : Type 0
 WaitingIsNotAllBefore =
     (x : Life) (new : List Call) (v : Sender) (looked : LooksAtWaiting x new v) (before more : List Entry) →
@@ -29,8 +29,8 @@ pub record IsReportedToWait (x : Reported) (n : Moment) : Type 0 where
   pub waits : Waits (now x) n
   pub look : EndsAt x.w.pass x.h n.made
 
--- When the call's own first event occurred, some of what the driver had accepted had not yet been sent. This is true even
--- if harmless calls come before that event.
+-- When the call's own first event occurred, some of what the driver had accepted had not yet been sent. This is true
+-- even if harmless calls come before that event.
 abbrev pub WaitingIsNotAllAsReported : Type 0
 WaitingIsNotAllAsReported =
     (x : Reported) (n : Moment) (waiting : IsReportedToWait x n) (before more : List Entry) →

@@ -10,15 +10,15 @@ use Rattle.ring_laws.specs.TransmitPrelude.{is_ring_block, segment_at, slot_at}
 abbrev pub bytes_of : List Kept → List (List ℕ)
 bytes_of packets = map (λ (p : Kept). p.bytes) packets
 
--- The bytes that are staged after a segment and the bytes staged before it, and the frame that ends with the segment,
--- if any.
+-- `staged_with`: the bytes that are staged after a segment is fetched, given the bytes staged before. `frame_ended`:
+-- the frame that ends with this segment, if any.
 abbrev pub staged_with : List ℕ → Segment → List ℕ
 staged_with staged s = if s.part.last then [] else staged ++ s.part.bytes
 
 abbrev pub frame_ended : List ℕ → Segment → List (List ℕ)
 frame_ended staged s = if s.part.last then (staged ++ s.part.bytes) ∷ [] else []
 
--- The frames that the segments become, given the bytes already staged.
+-- The frames that the device sends when it fetches these segments, given the bytes already staged.
 abbrev pub frames_from : List ℕ → List Segment → List (List ℕ)
 frames_from staged [] = []
 frames_from staged (s ∷ segments) = frame_ended staged s ++ frames_from (staged_with staged s) segments
@@ -31,7 +31,8 @@ ArePackets limit staged (s ∷ segments) =
     (length (staged ++ s.part.bytes) ≤ limit) × (s.part.last ≡ true → 60 ≤ length (staged ++ s.part.bytes))
     × ArePackets limit (staged_with staged s) segments
 
--- A descriptor requests the segment's transmission. `IsDone`: a descriptor that requested it is done.
+-- The descriptor at this address requests the segment's transmission. `IsDone`: the descriptor at this address
+-- requested the segment's transmission and is done.
 abbrev pub IsPosted : Memory → ℕ → Segment → Type 0
 IsPosted m address s = read_at m address 16 ≡ asking s
 
@@ -45,8 +46,8 @@ pub record IsLayout (l : Layout) : Type 0 where
   pub next : l.next < l.size
   pub limit : l.limit ≤ 10240
 
--- What an event that writes no setting preserves. The device is sound. The driver's number for its tail register names
--- the queue's TDT. The device's frame limit is the driver's packet limit.
+-- The part of the agreement that every event preserves if it writes no setting. The device is sound. The driver's
+-- number for its tail register identifies the queue's TDT. The device's frame limit is the driver's packet limit.
 pub record IsBased (s : State) (queue : ℕ) (l : Layout) : Type 0 where
   pub sound : IsSound s
   pub small : queue < 128
@@ -75,7 +76,7 @@ pub record IsReady (m : Memory) (ring size : ℕ) (s : Segment) : Type 0 where
 
 -- Each segment takes one slot, and at least one slot is vacant. Done segments were fetched, fetched segments are
 -- posted, posted segments have a written descriptor, and segments with a written descriptor have a lent block. No two
--- segments are in one block.
+-- segments with a lent block are in the same block.
 pub record IsCounted (v : Sender) (fetched : ℕ) : Type 0 where
   pub room : length v.outstanding < v.layout.size
   pub done_fetched : v.done ≤ fetched
@@ -85,8 +86,9 @@ pub record IsCounted (v : Sender) (fetched : ℕ) : Type 0 where
   pub lent_known : v.lent ≤ length v.outstanding
   pub apart : (i j : ℕ) → i < v.lent → j < v.lent → i ≢ j → (segment_at v i).block ≢ (segment_at v j).block
 
--- Memory contains the ring and the segments. Among the fetched segments, the last segment of each packet has a done
--- descriptor. Each segment that has a written descriptor and wasn't fetched waits for its transmission.
+-- What memory contains. The ring's blocks are lent, and each segment with a lent block can be sent. Among the fetched
+-- segments, the last segment of each packet has a done descriptor. For each segment that has a written descriptor but
+-- wasn't fetched, this descriptor requests the segment's transmission.
 pub record Shows (m : Memory) (v : Sender) (fetched : ℕ) : Type 0 where
   pub ring : EachRingBlock v.layout.ring v.layout.size (λ n. IsTrue (has_block m n))
   pub ready : (k : ℕ) → k < v.lent → IsReady m v.layout.ring v.layout.size (segment_at v k)
@@ -95,14 +97,14 @@ pub record Shows (m : Memory) (v : Sender) (fetched : ℕ) : Type 0 where
       → IsDone m (descriptor_at v.layout k) (segment_at v k)
   pub waits : (k : ℕ) → fetched ≤ k → k < v.poked → IsPosted m (descriptor_at v.layout k) (segment_at v k)
 
--- The staged bytes and the remaining segments form whole packets. The frames sent are the frames of all accepted
--- packets except these packets.
+-- The staged bytes, followed by the bytes of the remaining segments, form whole packets. The frames sent are the frames
+-- of all accepted packets except these remaining packets.
 pub record IsInTurn (limit : ℕ) (staged : List ℕ) (sent : List (List ℕ)) (left : List Segment) (accepted : List Kept) :
     Type 0 where
   pub packets : ArePackets limit staged left
   pub in_order : bytes_of accepted ≡ sent ++ frames_from staged left
 
--- The side was disabled during a packet, and no enable request is in effect. Not all accepted packets were sent.
+-- The side was disabled during a packet, and no enable request is in effect. At least one accepted packet wasn't sent.
 pub record IsCutOff (side : TransmitQueue) (sent : List (List ℕ)) (left : List Segment) (accepted : List Kept) : Type 0
   where
     pub off : IsFalse side.on
@@ -112,13 +114,14 @@ pub record IsCutOff (side : TransmitQueue) (sent : List (List ℕ)) (left : List
     pub rest : List (List ℕ)
     pub in_order : bytes_of accepted ≡ sent ++ frame ∷ rest
 
--- The frames sent are the first of the accepted packets' frames, with these segments remaining.
+-- The frames sent are a prefix of the accepted packets' frames. The segments `left` are those that remain to be
+-- fetched.
 abbrev pub SendsInOrder : State → ℕ → List (List ℕ) → ℕ → List Segment → List Kept → Type 0
 SendsInOrder s queue sent limit left accepted =
     IsInTurn limit (staged_by s queue) sent left accepted
     ⊎ IsCutOff (transmit_queue_of s.registers queue) sent left accepted
 
--- The agreement, if `fetched` of the outstanding segments were fetched.
+-- The device and the driver agree, with `fetched` of the outstanding segments fetched.
 pub record AgreesAt (s : State) (queue : ℕ) (sent : List (List ℕ)) (v : Sender) (fetched : ℕ) : Type 0 where
   pub based : IsBased s queue v.layout
   pub set_up : IsSetUp (transmit_queue_of s.registers queue) v.layout v.posted fetched
@@ -126,7 +129,7 @@ pub record AgreesAt (s : State) (queue : ℕ) (sent : List (List ℕ)) (v : Send
   pub shows : Shows s.memory v fetched
   pub sends : SendsInOrder s queue sent v.layout.limit (drop fetched v.outstanding) v.accepted
 
--- The agreement, for some number of fetched segments. Every event that is the driver's own or spares the driver keeps
--- the agreement.
+-- The device and the driver agree, with some number of fetched segments. Every event that is the driver's own or spares
+-- the driver keeps this agreement.
 abbrev pub Agrees : State → ℕ → List (List ℕ) → Sender → Type 0
 Agrees s queue sent v = (fetched : ℕ) × AgreesAt s queue sent v fetched

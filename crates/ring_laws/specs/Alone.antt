@@ -5,15 +5,15 @@ use Rattle.ring_laws.specs.Prelude.{lent_by, mode_in}
 use Rattle.device_lock.specs.NicDevice.EepromImage.Image.{blank}
 
 -- A history that begins in this state leaves the queue of a pass alone. Each entry after the pass's first entry leaves
--- the queue alone, with the queues separated as the device has them at that entry. Each such entry also spares all
--- blocks that the pass lends in the history.
+-- the queue alone, given how the device separates its queues at that entry. Each such entry also spares all blocks that
+-- the pass lends in the history.
 abbrev pub LeavesAloneFrom : Watched → State → List Entry → Type 0
 LeavesAloneFrom w s h =
     (before : List Entry) (e : Entry) (after : List Entry) → h ≡ before ++ e ∷ after → IsTrue (has_begun w.pass before)
     → EntryLeavesAlone w (lent_by w.pass h) (mode_in (leads_to s before).registers) e
 
--- A device whose mode can be computed from later entries alone. A reset makes no writes from an installed EEPROM image,
--- and the queues aren't separated into pools. A new device is such a device.
+-- A device whose mode can be computed from later entries alone. No EEPROM image is installed, from which a reset would
+-- write registers, and the queues aren't separated into pools. A new device has these properties.
 pub record IsPlain (w : Watched) (s : State) : Type 0 where
   pub image : s.image ≡ blank
   pub mode : mode_in s.registers ≡ Off

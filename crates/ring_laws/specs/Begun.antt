@@ -7,7 +7,8 @@ use Rattle.device_lock.specs.NicDevice.declared.event.Event.TheVariants as event
 use Rattle.ring_laws.specs.LocksPrelude.{Block, Done, Entry, Event, Mode, Pf, Place, Port, RowId}
 use Rattle.ring_laws.specs.LocksPrelude.{has_begun, mode_through, place_at}
 
--- A driver begins with the first entry of its pass, whatever the event is, including a read or a device step.
+-- In a history, a driver begins with the first entry of its pass, whatever event that entry records, including a read
+-- or a device step.
 pub record DriverBegins (pass : ℕ) (e : Entry) (h : List Entry) : Type 0 where
   pub none : has_begun pass [] ≡ false
   pub one : has_begun pass (e ∷ h) ≡ ((e.pass == pass) || has_begun pass h)
@@ -19,7 +20,8 @@ DriversBegin = (pass : ℕ) (e : Entry) (h : List Entry) → DriverBegins pass e
 abbrev pub written : ℕ → Port → (number word : ℕ) → Entry
 written pass port number word = record { pass = pass; event = event.Write port number word; reply = Done }
 
--- Whether an event is a write, and whether a register determines how queues are separated.
+-- `is_write`: whether an event is a write. `is_of_mode`: whether a write to a register can change how the queues are
+-- separated.
 abbrev pub is_write : Event Block → Bool
 is_write (event.Write port number word) = true
 is_write other = false

@@ -13,10 +13,10 @@ NeverGoesOn queue s (e ∷ es) = IsFalse (goes_on queue s e.event) × NeverGoesO
 abbrev pub IsEndOf : List (List ℕ) → List (List ℕ) → Type 0
 IsEndOf xs ys = (before : List (List ℕ)) × (ys ≡ before ++ xs)
 
--- If the side is never enabled, all frames sent are counted, after the frames counted before. If the side is enabled,
--- all frames sent after the last time are counted. Over two consecutive histories, the count continues from the first
--- into the second. The counted frames are a suffix of the frames counted before and those sent. Each entry adds at most
--- one frame.
+-- If a history never enables the side, all frames that it sends are counted, after the frames counted before. If it
+-- enables the side, the frames sent after the last such event are counted. If one history is followed by another, the
+-- count continues from the first into the second. The counted frames are a suffix of the frames counted before and
+-- those sent. Each entry adds at most one frame.
 pub record SentIsCounted : Type 0 where
   pub never :
       (queue : ℕ) (s : State) (sent : List (List ℕ)) (h : List Entry) → NeverGoesOn queue s h

@@ -11,9 +11,9 @@ use Rattle.ring_laws.specs.LocksPrelude.{PassValue, Entry, CloseFault, MissingPa
 abbrev pub is_there : ℕ → ℕ → List PassValue → Bool
 is_there bench tag passes = list_any (λ p. p.bench == bench && p.tag == tag) passes
 
--- The lowest tag that no pass has is reported, whatever else is wrong: passes of other benches, a pass that is returned
--- twice, or calls that the history doesn't contain. If each tag has a pass, a pass of another bench, or a pass whose
--- tag isn't one of this bench's, is reported.
+-- If no pass has some tag, the lowest such tag is reported, whatever else is wrong: passes of other benches, a pass
+-- that is returned twice, or calls that the history doesn't contain. If each tag has a pass, a pass of another bench,
+-- or a pass whose tag isn't one of this bench's, is reported.
 pub record ClosingTells (bench count : ℕ) (h : List Entry) (passes : List PassValue) (answer : Option CloseFault) :
     Type 0 where
   pub missing : (tag : ℕ) → tag < count → is_there bench tag passes ≡ false →
@@ -23,8 +23,8 @@ pub record ClosingTells (bench count : ℕ) (h : List Entry) (passes : List Pass
   pub untagged : ((tag : ℕ) → tag < count → is_there bench tag passes ≡ true) → (p : PassValue) →
       Contains passes p → count ≤ p.tag → answer ≡ Some ForeignPass
 
--- If each tag has a pass, a tag with two passes is reported too. If a pass's calls differ from the history's, this is
--- noticed, the lowest tag first.
+-- If each tag has a pass, a tag with two passes is reported too. If the calls of a pass differ from the history's calls
+-- for its tag, a fault is reported. If this fault is such a difference, its tag is the lowest with a difference.
 pub record ClosingCompares (bench count : ℕ) (h : List Entry) (passes : List PassValue) (answer : Option CloseFault) :
     Type 0 where
   pub twice : ((tag : ℕ) → tag < count → is_there bench tag passes ≡ true) → (tag : ℕ) → tag < count →

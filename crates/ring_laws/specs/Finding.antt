@@ -12,7 +12,7 @@ HandedIsPrefix =
     (queue : ℕ) (s : State) (out : List Piece) (v : Receive) → Agree queue s out v →
     IsPrefixOf v.handed (packets_of out)
 
--- In this state, a poll of the slot after the slots that the driver saw would find the descriptor not done.
+-- In this state, a poll of the slot after those that the driver has seen would find the descriptor not done.
 pub record ShowsNone (s : State) (v : Receive) : Type 0 where
   pub looks : v.stage ≡ Looks
   pub posted : length v.seen < length v.layout.blocks
@@ -32,7 +32,7 @@ pub record FindsNone (s : State) (v : Receive) : Type 0 where
   pub shows : ShowsNone s v
   pub none_whole : v.whole ≡ []
 
--- If so, all packets were returned.
+-- In such a state, all packets were returned, if the device and the driver agree.
 abbrev pub NoneIsAll : Type 0
 NoneIsAll =
     (queue : ℕ) (s : State) (out : List Piece) (v : Receive) → Agree queue s out v → FindsNone s v →

@@ -8,7 +8,7 @@ use Rattle.ring_laws.specs.Pieces.{AllFit, Piece, open_after, pieces}
 use Rattle.ring_laws.specs.{Joint.Agree, ReceiveUp.IsUp}
 use Rattle.pmd_access.specs.NicDevice.declared.event.Event.TheVariants as event
 
--- If a frame waits for this queue, it fits `most` blocks.
+-- If this waiting frame is for the queue, it fits into `most` blocks.
 abbrev pub FitsBlocks : ℕ → ℕ → Waiting → Type 0
 FitsBlocks queue most w = w.queue ≡ queue → length w.frame ≤ 2048 * most
 
@@ -17,8 +17,8 @@ abbrev pub partial_on : ℕ → List Waiting → ℕ
 partial_on queue [] = 0
 partial_on queue (w ∷ others) = if w.queue == queue then w.offset else 0
 
--- The frames that wait for the queue fit, and longer frames aren't accepted. The packets of the written pieces fit too.
--- The bytes written so far of a packet that hasn't ended fill all its pieces.
+-- Each frame that waits for the queue fits into `most` blocks, and longer frames aren't accepted. The packets of the
+-- written pieces fit too. If the newest packet hasn't ended, the bytes written of it so far fill its pieces completely.
 pub record AreFitting (queue most : ℕ) (s : State) (out : List Piece) : Type 0 where
   pub limit : frame_limit s.registers ≤ 2048 * most
   pub waiting : All (FitsBlocks queue most) s.waiting

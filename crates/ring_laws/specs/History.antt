@@ -5,7 +5,7 @@ use Rattle.ring_laws.specs.Prelude.{lent_by, mode_in, mode_through, new_state}
 use Rattle.device_lock.specs.{Alone.LeavesAlone, Reported.first_settings, Reported.limit_of, Reported.settings_through}
 use Rattle.ring_laws.specs.Alone.{AllAlone, IsPlain, LeavesAloneFrom}
 
--- In a history that begins with a new device, the mode computed from the entries is the device's.
+-- In a history that begins with a new device, the mode computed from the entries is the device's mode.
 abbrev pub ModeIsReported : Type 0
 ModeIsReported =
     (vfs fifo : ℕ) (h : List Entry) → IsSound (new_state vfs fifo) → AreEvents h →
@@ -19,14 +19,14 @@ SettingsAreReported =
     let s = leads_to (new_state vfs fifo) h in
     (reported.mode ≡ mode_in s.registers) × (limit_of reported.frames ≡ frame_limit s.registers)
 
--- So suppose that a device's mode can be computed from later entries alone. If a history that begins with that device
--- leaves a queue alone according to the computed mode, it leaves the queue alone.
+-- Suppose that a device's mode can be computed from later entries alone (`IsPlain`). If a history that begins with that
+-- device leaves a queue alone according to the computed mode, it leaves the queue alone.
 abbrev pub PlainIsLeftAlone : Type 0
 PlainIsLeftAlone =
     (w : Watched) (s : State) (h : List Entry) → IsSound s → IsPlain w s → AreEvents h → LeavesAlone w h →
     LeavesAloneFrom w s h
 
--- A new device is such a device.
+-- The mode of a new device can be computed from later entries alone.
 abbrev pub NewIsPlain : Type 0
 NewIsPlain = (w : Watched) (fifo : ℕ) → IsPlain w (new_state w.vfs fifo)
 

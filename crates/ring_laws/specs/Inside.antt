@@ -5,13 +5,14 @@ use Rattle.ring_laws.specs.ReceivePrelude.{Layout, Receive, block_at, blocks_for
 use Rattle.ring_laws.specs.{Joint.Agree, Pieces.Piece}
 use Rattle.pmd_access.specs.NicDevice.declared.event.Event.TheVariants as event
 
--- A descriptor is in one of the blocks of a ring with this many slots that starts at this block.
+-- The descriptor at `desc` is in one of the blocks of a ring with `size` slots that starts at block `ring`.
 pub record IsInRing (ring size desc : ℕ) : Type 0 where
   pub part : ℕ
   pub known : part < blocks_for size
   pub descriptor : LiesIn (ring + part) desc 16
 
--- A descriptor is in one of the ring's blocks, and this many bytes are in the block of one of the ring's slots.
+-- The descriptor at `desc` is in one of the ring's blocks, and the `len` bytes at `at` are in the block of one of the
+-- ring's slots.
 pub record IsInside (l : Layout) (desc at len : ℕ) : Type 0 where
   pub descriptor : IsInRing l.ring l.size desc
   pub slot : ℕ

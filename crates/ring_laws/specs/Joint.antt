@@ -13,13 +13,13 @@ use Rattle.pmd_rx.specs.declared.ring.Stage.TheVariants.{Owes}
 use Rattle.pmd_access.specs.Bufs.{bytes_of}
 use Rattle.ring_laws.specs.Pieces.{Piece, open_after, packets_after, packets_of, piece_at}
 
--- A waiting descriptor: it names its block, which is lent, and isn't done.
+-- The descriptor at `a` is posted: it names this block, which is lent, and it isn't done.
 pub record IsPosted (m : Memory) (a block : ℕ) : Type 0 where
   pub buffer : first_half (read_at m a 16) ≡ 2048 * block
   pub waits : IsFalse (is_done (second_half (read_at m a 16)))
   pub there : IsTrue (has_block m block)
 
--- A descriptor that was written back for a piece. The piece is at the start of the block.
+-- The descriptor at `a` was written back for piece `p`, whose bytes are at the start of the block.
 pub record IsFilled (m : Memory) (a block : ℕ) (p : Piece) : Type 0 where
   pub done : IsTrue (is_done (second_half (read_at m a 16)))
   pub end : ends_packet (second_half (read_at m a 16)) ≡ p.end
@@ -29,7 +29,8 @@ pub record IsFilled (m : Memory) (a block : ℕ) (p : Piece) : Type 0 where
   pub short : length p.bytes ≤ 2048
   pub there : IsTrue (has_block m block)
 
--- A ring in consecutive blocks with at least one vacant slot, and the blocks of its slots, all distinct.
+-- The ring is in consecutive blocks and has at least one vacant slot. The blocks of its slots are all distinct, and
+-- none of them is one of the blocks that the ring occupies.
 pub record IsRing (l : Layout) : Type 0 where
   pub some : 0 < l.size
   pub few : l.size ≤ 1024
@@ -41,7 +42,7 @@ pub record IsRing (l : Layout) : Type 0 where
   pub apart : (i j : ℕ) → i < length l.blocks → j < length l.blocks → i ≢ j → block_at l i ≢ block_at l j
 
 -- The queue's receive side is set up for the driver, with one 2,048-byte buffer for each descriptor. `filled` slots are
--- filled and not consumed. The side may be on or off.
+-- filled but not yet consumed. The side may be on or off.
 pub record IsSetUp (q : ReceiveQueue) (l : Layout) (filled : ℕ) : Type 0 where
   pub one_buffer : descriptor_type_of q.control ≡ 1
   pub buffer_size : buffer_size_of q.control ≡ 2048
@@ -50,7 +51,7 @@ pub record IsSetUp (q : ReceiveQueue) (l : Layout) (filled : ℕ) : Type 0 where
   pub head : q.ring.head ≡ slot_at l filled
   pub tail : q.ring.tail ≡ slot_at l (vacant l)
 
--- The driver's number for the tail names the queue's tail register, at the driver's port.
+-- At the driver's port, the driver's number for the tail identifies the queue's tail register.
 pub record IsNamed (s : State) (queue : ℕ) (l : Layout) : Type 0 where
   pub low : queue < 128
   pub tail : named s l.port l.tail ≡ Register (place Rdt queue) 0xFFFFFFFF
@@ -67,15 +68,15 @@ abbrev pub StageHolds : Memory → Layout → Stage → Type 0
 StageHolds m l (Lent b) = IsLoose m l b
 StageHolds m l other = ⊤
 
--- The slots that have a block, starting at the next slot: the first of them are filled with these pieces, and the later
--- ones wait. Nothing is said about the other slots, which are consumed or vacant.
+-- Among the slots that have a block, starting at the next slot, the first are filled with these pieces and the later
+-- ones are posted. Nothing is said about the other slots, which are consumed or vacant.
 pub record HasSlots (m : Memory) (l : Layout) (here : List Piece) : Type 0 where
   pub there : EachRingBlock l.ring l.size (λ b. IsTrue (has_block m b))
   pub within : length here ≤ length l.blocks
   pub filled : (k : ℕ) → k < length here → IsFilled m (descriptor_at l k) (block_at l k) (piece_at here k)
   pub posted : (k : ℕ) → length here ≤ k → k < length l.blocks → IsPosted m (descriptor_at l k) (block_at l k)
 
--- What the driver saw of a piece in a slot.
+-- What the driver read in a slot's descriptor describes this piece.
 pub record Saw (t : Reported) (p : Piece) : Type 0 where
   pub first_is : t.first ≡ p.first
   pub len_is : bytes_in t.second ≡ length p.bytes
@@ -95,7 +96,7 @@ abbrev pub AreOpen : List Reported → Type 0
 AreOpen [] = ⊤
 AreOpen (t ∷ ts) = IsOpen t × AreOpen ts
 
--- The last parts of a packet, possibly none. Only the last part ends the packet.
+-- These are the last parts of a packet, possibly none. Only the last of them ends the packet.
 abbrev pub EndLast : List Reported → Type 0
 EndLast [] = ⊤
 EndLast (t ∷ []) = ends_packet t.second ≡ true
@@ -117,15 +118,16 @@ still_held v = left_of v.seen v.held
 abbrev pub packets_had : Receive → List Kept
 packets_had v = v.handed ++ records_of (v.whole ++ ended_of v.seen v.held)
 
--- The consumed pieces are these packets and the parts of a held packet. Later pieces are cut into packets as if they
--- followed these parts.
+-- The consumed pieces form the packets in `packets_had`, followed by the parts of the held packet, if any. Later pieces
+-- are cut into packets as a continuation of these parts.
 abbrev pub AreCut : List Piece → Receive → Type 0
 AreCut gone v =
     (rest : List Piece)
     → packets_of (gone ++ rest) ≡ packets_had v ++ packets_after (kept_of (still_held v)).bytes rest
 
 -- The pieces written on the queue since its receive side was enabled: the consumed pieces, followed by the pieces in
--- slots. The driver saw the first pieces in slots. A packet that isn't complete fills its blocks.
+-- slots. The driver has seen the first of the pieces in slots. The taken parts of a packet that isn't complete fill
+-- their blocks.
 pub record InOrder (out : List Piece) (v : Receive) (gone here : List Piece) : Type 0 where
   pub cut : AreCut gone v
   pub parts : open_after 0 gone ≡ length (still_held v).bufs
@@ -134,8 +136,8 @@ pub record InOrder (out : List Piece) (v : Receive) (gone here : List Piece) : T
   pub stage : IsAt v.stage v.seen v.held
   pub order : out ≡ gone ++ here
 
--- The device and the driver agree, with the pieces `gone` consumed and the pieces `here` in slots. Slots after the tail
--- whose descriptor names a block wait as posted slots do, and none of them is filled.
+-- The device and the driver agree, with the pieces `gone` consumed and the pieces `here` in slots. The slots after the
+-- tail whose descriptors name a block are in the same state as posted slots, and none of them is filled.
 pub record Holds (queue : ℕ) (s : State) (out : List Piece) (v : Receive) (gone here : List Piece) : Type 0 where
   pub named : IsNamed s queue v.layout
   pub ring : IsRing (reach v)
@@ -145,6 +147,6 @@ pub record Holds (queue : ℕ) (s : State) (out : List Piece) (v : Receive) (gon
   pub stage : StageHolds s.memory (reach v) v.stage
   pub order : InOrder out v gone here
 
--- The device and the driver agree on the queue. These pieces were written since its receive side was enabled.
+-- The device and the driver agree on the queue. `out` lists the pieces written since its receive side was enabled.
 abbrev pub Agree : ℕ → State → List Piece → Receive → Type 0
 Agree queue s out v = (gone : List Piece) × (here : List Piece) × Holds queue s out v gone here

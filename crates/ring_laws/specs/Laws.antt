@@ -7,7 +7,7 @@ use Rattle.ring_laws.specs.{Sparing.Spares}
 use Rattle.pmd_access.specs.NicDevice.declared.event.Event.TheVariants as event
 use Rattle.pmd_access.specs.NicDevice.declared.event.Reply.TheVariants as reply
 
--- A transmit step of the driver's queue keeps the agreement, with the frame that it sends, if any.
+-- A transmit step of the driver's queue keeps the agreement. A frame that it sends is added to the frames sent.
 abbrev pub StepsOfQueueKeep : Type 0
 StepsOfQueueKeep =
     (s : State) (queue : ℕ) (sent : List (List ℕ)) (v : Sender) → Agrees s queue sent v →
@@ -19,13 +19,14 @@ SparingEventsKeep =
     (s : State) (queue : ℕ) (sent : List (List ℕ)) (v : Sender) (e : Event Block) → Agrees s queue sent v →
     Spares queue v s e → Agrees (after s e) queue (sent ++ sent_by queue s e) v
 
--- An event that leaves the queue alone, by the clauses that judge histories, spares its driver.
+-- An event spares the driver if it leaves the driver's queue alone according to the clauses that judge histories.
 abbrev pub LeftAloneIsSpared : Type 0
 LeftAloneIsSpared =
     (w : Watched) (mine : Blocks) (v : Sender) (s : State) (e : Event Block) → IsLeft w mine v s e →
     Spares w.queue v s e
 
--- Each of the driver's moves keeps the agreement, with the driver's state after the move's reply.
+-- Each of the driver's moves keeps the agreement: after the move, the device agrees with the driver's new state, which
+-- depends on the reply.
 abbrev pub MovesKeep : Type 0
 MovesKeep =
     (s : State) (queue : ℕ) (sent : List (List ℕ)) (v : Sender) (e : Event Block) (m : Move) → Agrees s queue sent v →
@@ -54,8 +55,8 @@ pub record FindsWaiting (s : State) (v : Sender) : Type 0 where
   pub reported : reply_to s (event.Peek16 (descriptor_at v.layout (first_end v.outstanding))) ≡ reply.Bytes bytes
   pub waits : is_sent bytes ≡ false
 
--- If the next poll finds the oldest outstanding packet not done, not all accepted frames were sent, neither now nor at
--- any earlier time.
+-- If the next poll would find the oldest outstanding packet not done, at least one accepted frame hasn't been sent. The
+-- same is true of every earlier time.
 abbrev pub WaitingIsNotAllSent : Type 0
 WaitingIsNotAllSent =
     (s : State) (queue : ℕ) (sent : List (List ℕ)) (v : Sender) → Agrees s queue sent v → FindsWaiting s v →

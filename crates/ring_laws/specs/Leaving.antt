@@ -88,7 +88,7 @@ pub record AddressesLeave (w : Watched) (mode : Mode) (word : ℕ) : Type 0 wher
 abbrev pub AddressesLeaveQueues : Type 0
 AddressesLeaveQueues = (w : Watched) (mode : Mode) (word : ℕ) → AddressesLeave w mode word
 
--- Lending, taking and poking touch the named block, and writing touches none.
+-- An event that lends, takes or pokes a block touches only that block. A write to a register touches no block.
 pub record BlocksLeave (w : Watched) (mode : Mode) (mine : Blocks) : Type 0 where
   pub lend : (block : Block) → LeavesBlocks mine (event.Lend block) ↔ (mine block.number ≡ false)
   pub take : (number : ℕ) → LeavesBlocks mine (event.Take number) ↔ (mine number ≡ false)
@@ -116,7 +116,8 @@ abbrev pub Leaves : Watched → Mode → Blocks → Event Block → Type 0
 Leaves w mode mine e = LeavesRegisters w mode e × LeavesBlocks mine e
 
 -- Lending, taking and poking touch no register. All events other than these and a write touch neither registers nor
--- blocks, for example a read, a peek at a block, or a device step. For a device step, only the reply counts.
+-- blocks, for example a read, a peek at a block, or a device step. Whether a device step leaves the queue alone depends
+-- only on its reply.
 pub record EventsLeave (w : Watched) (mode : Mode) (mine : Blocks) : Type 0 where
   pub lend : (block : Block) → LeavesRegisters w mode (event.Lend block)
   pub take : (number : ℕ) → LeavesRegisters w mode (event.Take number)
@@ -158,7 +159,7 @@ abbrev pub NothingElseCounts : Type 0
 NothingElseCounts =
     (w : Watched) (mode : Mode) (mine : Blocks) → EventsLeave w mode mine × RepliesLeave w.queue mine
 
--- Whether an event lends a block: the event requests this, and the reply is `Done`.
+-- Whether an event lends the block with this number: the event requests this, and the reply is `Done`.
 abbrev pub lends_one : Event Block → Reply Block → ℕ → Bool
 lends_one (event.Lend block) Done number = block.number == number
 lends_one event reply number = false
@@ -172,7 +173,8 @@ pub record BlocksAreOfPass (pass number : ℕ) (h : List Entry) (e : Entry) : Ty
 abbrev pub BlocksAreOfTheirPass : Type 0
 BlocksAreOfTheirPass = (pass number : ℕ) (h : List Entry) (e : Entry) → BlocksAreOfPass pass number h e
 
--- An entry leaves the registers, these blocks and the queue's steps alone.
+-- If the entry is another pass's, it leaves the queue's registers and the blocks of the driver's pass alone. Whichever
+-- pass the entry has, a step of another queue writes into none of these blocks.
 pub record EntrySpares (w : Watched) (h before : List Entry) (e : Entry) : Type 0 where
   pub registers : e.pass ≢ w.pass → LeavesRegisters w (mode_through w.vfs Off before) e.event
   pub blocks : e.pass ≢ w.pass → LeavesBlocks (lent_by w.pass h) e.event
@@ -185,9 +187,9 @@ SparingIsEnough =
     ((before : List Entry) (e : Entry) (after : List Entry) → h ≡ before ++ e ∷ after →
     has_begun w.pass before ≡ true → EntrySpares w h before e) → LeavesAlone w h
 
--- Only entries after the first entry of the driver's pass count. A single entry of another pass that doesn't leave the
--- queue's registers or the pass's blocks alone is enough to violate this. A single entry of any pass is also enough if
--- a step of another queue writes into these blocks.
+-- Only entries after the first entry of the driver's pass count. If one such entry is another pass's and doesn't leave
+-- the queue's registers or the pass's blocks alone, the history doesn't leave the queue alone. The same is true if one
+-- such entry, of any pass, is a step of another queue that writes into these blocks.
 pub record HistoriesLeave (w : Watched) (h : List Entry) (e : Entry) : Type 0 where
   pub before : has_begun w.pass h ≡ false → LeavesAlone w (h ++ e ∷ [])
   pub register : (after : List Entry) → has_begun w.pass h ≡ true → e.pass ≢ w.pass →

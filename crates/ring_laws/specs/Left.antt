@@ -23,8 +23,9 @@ pub record IsLeft (w : Watched) (mine : Blocks) (s : State) (e : Event Block) : 
   pub blocks : LeavesBlocks mine e
   pub steps : WritesOutside w.queue mine (reply_to s e)
 
--- Whether an event is a device step of a side of this queue: a receive step for any queue, or a transmit step for this
--- queue. `is_switch_of`: whether the event is a step that enables or disables the side.
+-- `is_step_of`: whether an event is a device step that can serve this side of the queue. For a receive side this is any
+-- receive step; for a transmit side it is a transmit step of this queue. `is_switch_of`: whether the event is a step
+-- that enables or disables the side.
 abbrev pub is_step_of : Dir → ℕ → Event Block → Bool
 is_step_of Rx queue event.RxStep = true
 is_step_of Tx queue (event.TxStep on) = on == queue
@@ -35,8 +36,8 @@ is_switch_of Rx queue (event.QueueStep Rx on) = on == queue
 is_switch_of Tx queue (event.QueueStep Tx on) = on == queue
 is_switch_of dir queue other = false
 
--- The result of filling the slot at a queue's head with the rest of a frame. `fetch_on`: the result of fetching that
--- slot.
+-- `fill_on`: the result of filling the slot at the head of the receive ring with the rest of a frame. `fetch_on`: the
+-- result of fetching the slot at the head of the transmit ring.
 abbrev pub fill_on : State → ℕ → rx.Rest → rx.Outcome
 fill_on s queue rest =
     rx.fill_of s.memory (receive_queue_of s.registers queue).ring (receive_queue_of s.registers queue).control rest
@@ -52,7 +53,7 @@ pub record IsFirst (queue : ℕ) (s : State) (w : Waiting) : Type 0 where
   pub waits : s.waiting ≡ w ∷ others
   pub own : w.queue ≡ queue
 
--- A receive step filled the slot with a piece of that frame.
+-- A receive step filled the slot at the head with a piece of the oldest waiting frame.
 pub record WritesPiece (queue : ℕ) (s : State) (e : Event Block) : Type 0 where
   pub is : e ≡ event.RxStep
   pub frame : Waiting
@@ -63,7 +64,7 @@ pub record WritesPiece (queue : ℕ) (s : State) (e : Event Block) : Type 0 wher
   pub reported : reply_to s e ≡ Wrote queue filled.slot filled.end filled.desc filled.at filled.len
   pub piece : pieces queue s e ≡ piece_in (rest_of frame) filled ∷ []
 
--- A transmit step fetched the slot.
+-- A transmit step fetched the slot at the head.
 pub record FetchesSlot (queue : ℕ) (s : State) (e : Event Block) : Type 0 where
   pub is : e ≡ event.TxStep queue
   pub loud : IsFalse (is_silent s queue (transmit_queue_of s.registers queue))
@@ -76,7 +77,8 @@ abbrev pub WorksSlot : Dir → ℕ → State → Event Block → Type 0
 WorksSlot Rx queue s e = WritesPiece queue s e
 WorksSlot Tx queue s e = FetchesSlot queue s e
 
--- The slot couldn't be filled with the rest of that frame, or be fetched.
+-- `CannotFill`: because of a fault, the slot at the head can't be filled with the rest of the oldest waiting frame.
+-- `CannotFetch`: because of a fault, the slot at the head can't be fetched.
 pub record CannotFill (queue : ℕ) (s : State) : Type 0 where
   pub frame : Waiting
   pub first : IsFirst queue s frame
@@ -92,14 +94,14 @@ abbrev pub MeetsFault : Dir → ℕ → State → Type 0
 MeetsFault Rx queue s = CannotFill queue s
 MeetsFault Tx queue s = CannotFetch queue s
 
--- An event tried the slot at the head of a side and took it.
+-- An event tried the slot at the head of a side's ring and took it.
 pub record Takes (dir : Dir) (queue : ℕ) (s : State) (e : Event Block) : Type 0 where
   pub tried : IsTried (side_of dir queue s)
   pub staged : List ℕ
   pub side : side_of dir queue (after s e) ≡ taken staged (side_of dir queue s)
   pub work : WorksSlot dir queue s e
 
--- An event shut the side after its slot was tried and met a fault.
+-- An event tried the slot at the head of a side's ring and met a fault, which shut the side.
 pub record Shuts (dir : Dir) (queue : ℕ) (s : State) (e : Event Block) : Type 0 where
   pub tried : IsTried (side_of dir queue s)
   pub side : side_of dir queue (after s e) ≡ shut (side_of dir queue s)
@@ -115,7 +117,8 @@ abbrev pub IsSilent : Dir → ℕ → State → Event Block → Type 0
 IsSilent Rx queue s e = pieces queue s e ≡ []
 IsSilent Tx queue s e = SendsNone queue s e
 
--- What else an event can do to a side: leave the side unchanged, shut it, or put it into its requested state.
+-- What an event that takes no slot can do to a side: leave the side unchanged, shut it, or put it into its requested
+-- state.
 pub data Rests (dir : Dir) (queue : ℕ) (s : State) (e : Event Block) : Type 0 where
   Nothing : LeavesSide dir queue s (after s e) → Rests dir queue s e
   Shut : Shuts dir queue s e → Rests dir queue s e
@@ -147,7 +150,7 @@ SidesDo =
     (IsFalse (is_step_of dir queue e) → IsFalse (is_switch_of dir queue e) → LeavesSide dir queue s (after s e)) →
     Deed dir queue s e
 
--- A descriptor's range is outside a block, and so is a range of `len` bytes unless it is empty.
+-- The 16 bytes of the descriptor at `desc` are outside block `b`. So are the `len` bytes at `at`, unless `len` is 0.
 pub record IsOutside (desc at len b : ℕ) : Type 0 where
   pub descriptor : Avoids b desc 16
   pub bytes : 0 < len → Avoids b at len

@@ -13,7 +13,7 @@ abbrev pub LendsNone : Blocks → Event Block → Type 0
 LendsNone own (event.Lend block) = IsFalse (own block.number)
 LendsNone own other = ⊤
 
--- A block that an event lends isn't lent yet.
+-- If an event lends a block, the block isn't lent yet.
 abbrev pub LendsAgain : State → Event Block → Type 0
 LendsAgain s (event.Lend block) = IsFalse (has_block s.memory block.number)
 LendsAgain s other = ⊤

@@ -39,7 +39,7 @@ pub record OffStays : Type 0 where
       (queue : ℕ) (s : State) (h : List Entry) → queue < 128 → AllLeaveSide queue s h → IsOff queue s
       → sent_in queue s h ≡ []
 
--- A number at a port names the enable register of the side, with all its bits.
+-- This number at this port identifies the enable register of the side, and gives access to all its bits.
 abbrev pub NamesEnable : ℕ → State → Port → ℕ → Type 0
 NamesEnable queue s port number = named s port number ≡ Register (place Txdctl queue) 0xFFFFFFFF
 

@@ -8,8 +8,8 @@ use Rattle.pmd_access.specs.NicDevice.DmaRing.Driver.{hash_in, rss_in}
 abbrev pub reported_packet : List ℕ → ℕ → Kept
 reported_packet bytes first = record { bytes = bytes; rss = rss_in first; hash = hash_in first }
 
--- The packets into which pieces are cut, after each piece that ends a frame. The first packet starts with the bytes
--- `front` of earlier pieces. Trailing pieces that don't end a frame are left out.
+-- The packets that these pieces form: one packet ends after each piece that ends a frame. The first packet starts with
+-- the bytes `front` of earlier pieces. Trailing pieces that don't end a frame are left out.
 abbrev pub packets_after : List ℕ → List Piece → List Kept
 packets_after front [] = []
 packets_after front (p ∷ ps) =
@@ -19,7 +19,8 @@ packets_after front (p ∷ ps) =
 abbrev pub packets_of : List Piece → List Kept
 packets_of ps = packets_after [] ps
 
--- The number of pieces so far of a packet that hasn't ended, after `n` of its pieces followed by these pieces.
+-- The number of pieces so far of a packet that hasn't ended. Before these pieces, `n` pieces of the packet were
+-- written.
 abbrev pub open_after : ℕ → List Piece → ℕ
 open_after n [] = n
 open_after n (p ∷ ps) = open_after (if p.end then 0 else n + 1) ps

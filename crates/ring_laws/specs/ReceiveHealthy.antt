@@ -5,9 +5,9 @@ use Rattle.ring_laws.specs.ReceivePrelude.{IsOwn, LendsAgain, Receive}
 use Rattle.pmd_rx.specs.Wrong.{is_healthy}
 use Rattle.ring_laws.specs.{Joint.Agree, Pieces.AllFit, Pieces.Piece}
 
--- If the device and the driver agree, each of the driver's own events gets a healthy reply under two conditions. No
--- written packet has more pieces than the driver takes, with 2,048 bytes in each except the last. A block to lend isn't
--- lent yet.
+-- If the device and the driver agree, each of the driver's own events gets a healthy reply under two conditions. First,
+-- no written packet has more pieces than the driver takes, and each piece except a packet's last is 2,048 bytes long.
+-- Second, a block that the event lends isn't lent yet.
 abbrev pub OwnRepliesAreHealthy : Type 0
 OwnRepliesAreHealthy =
     (queue : ℕ) (s : State) (out : List Piece) (v : Receive) (e : Event Block) → Agree queue s out v →

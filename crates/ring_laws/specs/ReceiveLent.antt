@@ -4,9 +4,9 @@ use Rattle.ring_laws.specs.ReceivePrelude.{IsOwn, LendsAgain, Receive, drive}
 use Rattle.pmd_rx.specs.Keeping.{has_lent}
 use Rattle.ring_laws.specs.Lent.{LendsOwn, OnlyLent, either}
 
--- Given some block numbers, suppose that each of these blocks that is lent was lent by the driver for receiving, or by
--- others. Each of the driver's own events keeps this true. If the driver lends one of these blocks, which others
--- haven't lent, the block isn't lent yet.
+-- Suppose that each lent block of a given set was lent by the driver for receiving, or by others. This stays true
+-- through each of the driver's own events. If the driver lends a block of the set that others haven't lent, the block
+-- isn't lent yet.
 pub record OwnLendsAreKnown : Type 0 where
   pub kept :
       (own others : Blocks) (s : State) (v : Receive) (e : Event Block)

@@ -11,7 +11,8 @@ use Rattle.ring_laws.specs.Sides as sides
 abbrev pub IsUp : ℕ → State → Type 0
 IsUp queue s = sides.IsUp (side_of Rx queue s)
 
--- The side stays up if an event leaves it unchanged. A step that switches the side changes nothing.
+-- A side that is up stays up through an event that leaves it unchanged. A step that puts such a side into its requested
+-- state changes nothing.
 abbrev pub LeavingStaysUp : Type 0
 LeavingStaysUp = (queue : ℕ) (s t : State) → LeavesReceive queue s t → IsUp queue s → IsUp queue t
 

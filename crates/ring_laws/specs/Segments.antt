@@ -19,7 +19,7 @@ no_piece = record { bytes = []; first = 0; end = false }
 abbrev pub piece_in : Rest → Filled → Piece
 piece_in rest f = record { bytes = take f.len rest.bytes; first = rest.first; end = f.end }
 
--- The first half that is written back with a piece of the first frame.
+-- The first half of the descriptor that is written back with a piece of the first waiting frame.
 abbrev pub first_of : List Waiting → ℕ
 first_of [] = 0
 first_of (w ∷ others) = reported_of (packet_of w)

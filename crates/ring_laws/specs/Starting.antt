@@ -16,7 +16,8 @@ pub record IsFreshSide (q : ReceiveQueue) (ring size : ℕ) : Type 0 where
   pub head : q.ring.head ≡ 0
   pub tail : q.ring.tail ≡ 0
 
--- The ring is lent, its registers are written, and the driver's number for the tail names the queue's tail register.
+-- The ring is lent, its registers are written, and the driver's number for the tail identifies the queue's tail
+-- register.
 pub record IsReady (queue : ℕ) (port : Port) (tail ring size most : ℕ) (s : State) : Type 0 where
   pub some : 0 < size
   pub few : size ≤ 1024
@@ -25,7 +26,7 @@ pub record IsReady (queue : ℕ) (port : Port) (tail ring size most : ℕ) (s : 
   pub side : IsFreshSide (receive_queue_of s.registers queue) ring size
   pub there : EachRingBlock ring size (λ b. IsTrue (has_block s.memory b))
 
--- The device and a driver that posted nothing yet agree in this state.
+-- In such a state, the device agrees with a driver that has posted nothing yet.
 abbrev pub StartAgrees : Type 0
 StartAgrees =
     (queue : ℕ) (port : Port) (tail ring size most : ℕ) (s : State) → IsReady queue port tail ring size most s →

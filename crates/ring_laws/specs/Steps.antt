@@ -34,8 +34,8 @@ IfFresh other P = ⊤
 abbrev pub Each : Receive → (ℕ → Type 0) → Type 0
 Each v P = (number : ℕ) → IsTrue (has_lent v number) → P number
 
--- An event leaves unchanged the queue's receive side, the register that each address or offset names, and the driver's
--- blocks.
+-- An event changes neither the queue's receive side nor the driver's blocks, nor which register each address or offset
+-- selects.
 pub record Leaves (queue : ℕ) (v : Receive) (old new : State) : Type 0 where
   pub receive : LeavesReceive queue old new
   pub mode : mode_in new.registers ≡ mode_in old.registers
@@ -52,8 +52,8 @@ abbrev pub OwnReportsSpare : ℕ → Receive → State → Type 0
 OwnReportsSpare queue v s =
     (back : ℕ) → reported_address (reply_to s (event.TxStep queue)) ≡ Some back → Each v (λ b. b ≢ back / 2048)
 
--- The state of the device before an entry that isn't the driver's own: the device is sound, and this mode separates its
--- queues.
+-- The device's state before an entry that isn't the driver's own. The device is sound, and its queues are separated
+-- according to `mode`.
 pub record IsMetBy (w : Watched) (mode : Mode) (s : State) (e : Entry) : Type 0 where
   pub sound : IsSound s
   pub vfs : w.vfs ≡ s.vfs
@@ -62,8 +62,8 @@ pub record IsMetBy (w : Watched) (mode : Mode) (s : State) (e : Entry) : Type 0 
   pub event : IsEvent e.event
 
 -- An entry of another pass, or a device step of any pass, keeps the agreement under two conditions. The entry or step
--- must leave alone the queue and all blocks that the driver has lent. And the queue's own transmit side must report
--- into none of these blocks.
+-- must leave alone the queue and all blocks that the driver has lent. And the queue's own transmit side must write no
+-- report into any of these blocks.
 abbrev pub EntryKeeps : Type 0
 EntryKeeps =
     (w : Watched) (mine : Blocks) (mode : Mode) (s : State) (out : List Piece) (v : Receive) (e : Entry) →
@@ -71,16 +71,17 @@ EntryKeeps =
     EntryLeavesAlone w mine mode e → (e.pass ≢ w.pass) ⊎ IsTrue (is_step e.event) →
     Agree w.queue (after s e.event) (out ++ pieces w.queue s e.event) v
 
--- A receive step that serves any queue keeps the agreement if what the step writes for another queue is in none of the
--- driver's blocks. On the driver's queue, the first posted slot becomes the last filled slot, or nothing changes.
+-- A receive step keeps the agreement, whichever queue it serves, if what it writes for another queue is in none of the
+-- driver's blocks. A receive step that serves the driver's queue fills the first posted slot, which becomes the last
+-- filled slot, or it changes nothing.
 abbrev pub ReceiveStepKeeps : Type 0
 ReceiveStepKeeps =
     (queue : ℕ) (s : State) (out : List Piece) (v : Receive) → IsSound s → Agree queue s out v →
     SparesBlocks queue v (reply_to s event.RxStep) →
     Agree queue (after s event.RxStep) (out ++ pieces queue s event.RxStep) v
 
--- An event keeps the agreement if it leaves everything unchanged except whether the side is on and whether an enable
--- request is in effect.
+-- The event leaves unchanged everything that `Leaves` lists, except whether the side is on and whether an enable
+-- request is in effect. Such an event keeps the agreement.
 pub record LeavesButOn (queue : ℕ) (v : Receive) (old new : State) : Type 0 where
   pub ring : (receive_queue_of new.registers queue).ring ≡ (receive_queue_of old.registers queue).ring
   pub control : (receive_queue_of new.registers queue).control ≡ (receive_queue_of old.registers queue).control
@@ -105,7 +106,7 @@ LeavingKeeps =
     (queue : ℕ) (s t : State) (out : List Piece) (v : Receive) → Leaves queue v s t → Agree queue s out v →
     Agree queue t out v
 
--- Each of the driver's own events keeps the agreement, with the driver's state after the event.
+-- Each of the driver's own events keeps the agreement: after the event, the device agrees with the driver's new state.
 abbrev pub OwnEventKeeps : Type 0
 OwnEventKeeps =
     (queue : ℕ) (s : State) (out : List Piece) (v : Receive) (e : Event Block) → IsSound s → Agree queue s out v →

@@ -10,9 +10,8 @@ abbrev pub SparesNumbers : Blocks → Move → Event Block → Type 0
 SparesNumbers own Elsewhere e = LendsNone own e
 SparesNumbers own other e = ⊤
 
--- Given some block numbers, suppose that each of these blocks that is lent was lent by the sender, or by others. Each
--- of the driver's own moves keeps this true. If a move lends one of these blocks, which others haven't lent, the block
--- isn't lent yet.
+-- Suppose that each lent block of a given set was lent by the sender or by others. This stays true through each of the
+-- driver's own moves. If a move lends a block of the set that others haven't lent, the block isn't lent yet.
 pub record OwnLendsAreKnown : Type 0 where
   pub kept :
       (own others : Blocks) (s : State) (v : Sender) (m : Move) (e : Event Block)

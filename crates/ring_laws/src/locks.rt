@@ -1,6 +1,6 @@
-//! The lock's definitions, a second time: which events leave a queue alone, in which order closing a history finds
-//! faults, and where the entries of a pass are. These definitions are written by hand, independently of the definitions
-//! that the contracts cite.
+//! A second version of the lock's definitions: which events leave a queue alone, in which order closing a history finds
+//! faults, and at which positions in a history the entries of a pass are. This version is written by hand,
+//! independently of the definitions that the contracts cite.
 //!
 //! Each law is the contract of a function that does nothing.
 
@@ -21,52 +21,53 @@ pub fn writes_leave_queues_alone()
 /// Lending, taking or poking a block leaves a driver's queue alone exactly if the driver's pass doesn't lend that
 /// block. A step of another queue leaves the driver's queue alone exactly if what the step wrote, as its reply reports,
 /// is in none of the blocks that the pass lends. Every other event except a write leaves the queue alone, for example a
-/// read, a peek at a block, an arriving frame or a link change. So does a step with any other reply, for example a
-/// fault.
+/// read, a peek at a block, an arriving frame or a link change. So does a step whose reply reports no write into a
+/// block, for example a fault.
 #[tactic(auto, using(crate::proofs::Others::others_leave, crate::proofs::Others::nothing_else))]
 pub fn other_events_leave_queues_alone()
     ensures others { OthersLeaveQueues }
     ensures nothing_else { NothingElseCounts }
 {}
 
-/// A history up to the first entry of a driver's pass leaves the driver's queue alone. After that first entry, a single
-/// entry is enough to violate this. This entry may be a write by another pass, or another pass's access to a block,
-/// that doesn't leave the queue alone. It may also be a step of another queue, by any pass, that writes into a block of
-/// the driver's pass. A history without such entries leaves the queue alone.
+/// A history that ends with the first entry of a driver's pass, or before it, leaves the driver's queue alone. After
+/// that first entry, one entry of these three kinds is enough: the history then doesn't leave the queue alone. The
+/// first kind is a write by another pass that doesn't leave the queue alone. The second is another pass's access to a
+/// block that doesn't leave the queue alone. The third is a step of another queue, by any pass, that writes into a
+/// block of the driver's pass. A history without such entries leaves the queue alone.
 #[tactic(auto, using(crate::proofs::Others::histories_leave, crate::proofs::Others::sparing_suffices))]
 pub fn histories_leave_queues_alone()
     ensures history { HistoriesLeaveQueues }
     ensures enough { SparingIsEnough }
 {}
 
-/// A driver begins with the first entry of its pass, whatever the event in that entry is, for example a read or a
-/// device step.
+/// In a history, a driver begins with the first entry of its pass, whatever event that entry records. Even a read or a
+/// device step counts.
 #[tactic(auto, using(crate::proofs::Beginning::begin))]
 pub fn drivers_begin_with_their_first_entry()
     ensures { DriversBegin }
 {}
 
-/// Bits 1 to 0 of the value in the last write to GCR_EXT, by any pass, set the pools. The history's later writes to
-/// PVFCTRL reset pools according to this setting. Before the first write to GCR_EXT, the pools are as given. After a
-/// write to CTRL that sets bit 3 or bit 26, the device has no pools. No other write or event changes the pools. All
-/// these writes get the reply `Done`.
+/// The last write to GCR_EXT, by any pass, determines the pools, by bits 1 to 0 of its value. The history's later
+/// writes to PVFCTRL reset pools according to this setting. Before the first write to GCR_EXT, the pools are those
+/// given for the start of the history. After a write to CTRL that sets bit 3 or bit 26, the device has no pools. No
+/// other write or event changes the pools. All these writes get the reply `Done`.
 #[tactic(auto, using(crate::proofs::Beginning::stay))]
 pub fn pools_are_the_last_that_were_set()
     ensures set { PoolsAreFollowed }
     ensures left { PoolsStay }
 {}
 
-/// The blocks of a driver's pass are those below 65,536 that one of its entries lends, with reply `Done`, anywhere in
-/// the history.
+/// The blocks of a driver's pass are the blocks with numbers below 65,536 that an entry of this pass lends with reply
+/// `Done`, anywhere in the history.
 #[tactic(auto, using(crate::proofs::Others::blocks_of_pass))]
 pub fn blocks_are_of_their_pass()
     ensures { BlocksAreOfTheirPass }
 {}
 
-/// Closing reports the lowest tag that no pass of the bench has, whatever else is wrong with the passes. If each tag
-/// has a pass, closing reports a pass of another bench, a pass whose tag isn't one of this bench's, or two passes with
-/// the same tag. Closing notices each pass whose calls differ from the calls that the history records for its tag. If
-/// closing reports such a pass, no pass with a lower tag differs in this way.
+/// If no pass of the bench has some tag, closing a history reports the lowest such tag, whatever else is wrong with the
+/// passes. If each tag has a pass, closing reports a pass of another bench, a pass whose tag isn't one of this bench's,
+/// or two passes with the same tag. If a pass's calls differ from the calls that the history records for its tag,
+/// closing reports a fault. If the fault is such a difference, no pass with a lower tag differs in this way.
 #[tactic(auto, using(crate::proofs::Ending::closing_tells, crate::proofs::Ending::closing_is_compared))]
 pub fn closing_has_an_order()
     ensures order { ClosingHasAnOrder }
@@ -74,7 +75,7 @@ pub fn closing_has_an_order()
 {}
 
 /// A position is listed for a pass exactly if the entry at this position, counted from 0, has the pass's tag. The
-/// positions ascend.
+/// listed positions ascend.
 pub fn positions_are_exact()
     ensures { PositionsAreExact }
 {}

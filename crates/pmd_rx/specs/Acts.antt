@@ -9,15 +9,15 @@ use Rattle.pmd_rx.specs.Plays.{PlaysFrom}
 use Rattle.pmd_rx.specs.Receive.{Receive}
 use Rattle.pmd_rx.specs.Wrong.{FailsBy}
 
--- Calls were made, some of them the driver's own. They take the driver from ring `v` and arena `a` to ring `w` and
--- arena `b`. A fault follows from the last of these calls or from the refused call.
+-- Some calls were made. Those that are the driver's own take it from ring `v` and arena `a` to ring `w` and arena `b`.
+-- If a fault is reported, `FailsBy` says why.
 pub record Acts (f : Option PmdFault) (old : List Call) (a : Numbers) (v : Receive) (new : List Call) (b : Numbers)
     (w : Receive) : Type 0 where
   pub plays : PlaysFrom a old v new w
   pub fails : IfSome f (λ f. FailsBy f old a v new b w)
 
--- No packet was handed out: no block is lost, the records are unchanged, and at least as many packets are complete as
--- before.
+-- These calls handed out no packet. No block is lost, the records are unchanged, and at least as many packets are
+-- complete as before.
 pub record Gathers (f : Option PmdFault) (old : List Call) (a : Numbers) (v : Receive) (new : List Call) (b : Numbers)
     (w : Receive) : Type 0 where
   pub acts : Acts f old a v new b w
@@ -25,7 +25,8 @@ pub record Gathers (f : Option PmdFault) (old : List Call) (a : Numbers) (v : Re
   pub handed : w.handed ≡ v.handed
   pub whole : length v.whole ≤ length w.whole
 
--- Calls that take no block from an arena have these effects for any arena. They never fail for lack of a block.
+-- Calls that take no block from an arena have these effects whatever the arena contains. They never fail with
+-- `NoBuffer`.
 
 pub record ActsAlone (f : Option PmdFault) (old : List Call) (v : Receive) (new : List Call) (w : Receive) : Type 0
   where

@@ -1,4 +1,4 @@
--- Filling a receive ring: free blocks from an arena are posted one after the other.
+-- How a receive ring is filled: free blocks from an arena are posted one after the other.
 use Rattle.std.specs.Prelude.{ℕ, ◌≡◌, ◌+◌, ◌<◌, List, ◌++◌, length}
 use Rattle.pmd_access.specs.NicDevice.DmaArena.Numbers.{Numbers, free_count}
 use Rattle.pmd_access.specs.DeviceLock.declared.entry.Call.{Call}

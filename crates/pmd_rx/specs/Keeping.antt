@@ -11,7 +11,7 @@ use Rattle.pmd_rx.specs.Receive.{Receive, Layout, extended, reach}
 use Rattle.pmd_rx.specs.declared.ring.Stage.{Stage}
 use Rattle.pmd_rx.specs.declared.ring.Stage.TheVariants.{Looks, Takes, Owes, Lent}
 
--- The block that is lent but not yet named.
+-- The block that is lent but that no descriptor names yet.
 abbrev pub fresh_block : Stage → List ℕ
 fresh_block Looks = []
 fresh_block Takes = []
@@ -28,16 +28,16 @@ abbrev pub numbers_of_all : List Packet → List ℕ
 numbers_of_all [] = []
 numbers_of_all (p ∷ ps) = numbers_of p.bufs ++ numbers_of_all ps
 
--- The blocks that the driver has lent: the blocks in the ring's slots or named after its tail, a fresh block if there
--- is one, and the blocks that the ring occupies.
+-- The blocks that the driver has lent: the blocks in the ring's slots, the blocks that descriptors after the tail name,
+-- a fresh block if there is one, and the blocks that the ring occupies.
 abbrev pub lent_at : Layout → Stage → List ℕ
 lent_at l s = l.blocks ++ (fresh_block s ++ ring_blocks l.ring l.size)
 
 abbrev pub lent_of : Receive → List ℕ
 lent_of v = lent_at (reach v) v.stage
 
--- Whether the driver has lent this block: the ring occupies the block, the block is in a slot or named after the tail,
--- or it is the fresh block.
+-- Whether the driver has lent this block. This includes the blocks that the ring occupies, the blocks in its slots, the
+-- blocks that descriptors after the tail name, and the fresh block.
 abbrev pub has_lent : Receive → ℕ → Bool
 has_lent v number = list_any (λ b. number == b) (lent_of v)
 
@@ -61,17 +61,17 @@ vacated Takes = 0
 vacated Owes = 1
 vacated (Lent b) = 1
 
--- In stage `Looks`, the driver has seen fewer slots than a packet may take. In `Takes`, it has seen a part to take. In
--- `Owes` and `Lent`, it holds a part.
+-- What each stage requires. In `Looks`, the driver has seen fewer slots than a packet may take. In `Takes`, it has seen
+-- a part to take. In `Owes` and `Lent`, it holds a part.
 abbrev pub IsDuring : Receive → Stage → Type 0
 IsDuring v Looks = length v.seen < v.layout.most
 IsDuring v Takes = 0 < length v.seen
 IsDuring v Owes = 0 < length v.held.bufs
 IsDuring v (Lent b) = 0 < length v.held.bufs
 
--- The driver has started. All slots except one contain a block, or all except two if a slot must be refilled. The
--- number of blocks that are named but not posted, plus a block still owed, equals the number of blocks in the held and
--- complete packets.
+-- The driver has started. All slots except one contain a block, or all except two if the slot of a part that was taken
+-- must still be refilled. The blocks that are named but not posted are as many as the blocks in the held and complete
+-- packets, or one fewer while that slot must still be refilled.
 pub record IsRunning (v : Receive) : Type 0 where
   pub part : 0 < v.layout.most
   pub some : v.layout.most < v.layout.size
@@ -87,8 +87,8 @@ pub record IsSameRing (l m : Layout) : Type 0 where
   pub size : m.size ≡ l.size
   pub most : m.most ≡ l.most
 
--- No block is lost. The blocks handed out and the blocks outside the arena afterwards are the blocks that were outside
--- before, plus some that were free in the arena. The ring is the same, and a started driver stays started.
+-- No block is lost. The blocks handed out and the blocks outside the arena afterwards are together the blocks that were
+-- outside before, plus some that were free in the arena. The ring is the same, and a started driver stays started.
 pub record Keeps (a : Numbers) (v : Receive) (b : Numbers) (w : Receive) (out : List ℕ) : Type 0 where
   pub arena : Exchanges a (blocks_out v) b (out ++ blocks_out w)
   pub ring : IsSameRing v.layout w.layout

@@ -1,4 +1,4 @@
--- How the driver's state follows from the calls made. Marks say which calls are the driver's own.
+-- How the driver's state follows from the calls made. A mark for each call says whether it is the driver's own.
 use Rattle.std.specs.Prelude.{ℕ, ◌≡◌, ◌<◌, Bool, true, false, not, List, [], ◌∷◌, ◌++◌, length, IsFalse, ⊤, if◌then◌else◌}
 use Rattle.pmd_access.specs.NicDevice.DmaArena.Block.{Block}
 use Rattle.pmd_access.specs.NicDevice.DmaArena.Numbers.{Numbers, is_free}
@@ -16,14 +16,14 @@ use Rattle.pmd_rx.specs.declared.ring.Stage.TheVariants.{Looks}
 abbrev pub after_call : Receive → Bool → Call → Receive
 after_call v mark n = if mark then drive v n.event n.reply else v
 
--- The driver's state after its own calls among these calls. The driver's code knows nothing more.
+-- The driver's state after its own calls among these calls. This is all that the driver's code knows about its ring.
 abbrev pub played_by : Receive → List Bool → List Call → Receive
 played_by v [] calls = v
 played_by v (m ∷ marks) [] = v
 played_by v (m ∷ marks) (n ∷ calls) = played_by (after_call v m n) marks calls
 
--- `OwnCall`: if the call is marked, the driver may make it in this state. `AllOwn`: this holds for each call in its
--- turn.
+-- `OwnCall`: if the call is marked, the driver may make it in this state. `AllOwn`: this is true of each call in the
+-- list, in the driver's state at that call.
 abbrev pub OwnCall : Bool → Receive → Call → Type 0
 OwnCall true v n = IsOwn v n.event
 OwnCall false v n = ⊤
@@ -62,8 +62,8 @@ pub record PlaysFrom (a : Numbers) (old : List Call) (v : Receive) (new : List C
   pub plays : Plays old v new w
   pub free : AllLendFree a plays.0 plays.1
 
--- The driver looked at a packet's slots, starting at the next slot, and the slot after those it has seen isn't done. It
--- holds no packet and no named block, and only what it has seen changed.
+-- The driver looked at a packet's slots, starting at the next slot, and found that the slot after those it has seen
+-- isn't done. It holds no packet and no named block. Nothing about the driver changed except what it has seen.
 pub record LooksInVain (old : List Call) (v : Receive) (new : List Call) (w : Receive) : Type 0 where
   pub mid : List Call
   pub looks : Plays old v mid w

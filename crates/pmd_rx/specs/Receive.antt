@@ -28,10 +28,10 @@ pub record Layout : Type 0 where
   pub next : ℕ
   pub blocks : List ℕ
 
--- The driver's state: the ring, the packets handed out, and what the descriptors reported, starting at the next slot.
--- Then follow the packet with some parts taken, the complete packets, the blocks named after the tail, and the stage.
--- The named blocks replace the blocks of the complete packets. When the tail advances, named blocks are posted and
--- complete packets are handed out.
+-- The driver's state. `layout` is the ring, and `handed` lists the packets handed out. `seen` is what the descriptors
+-- reported, starting at the next slot. `held` is the packet with some parts taken, and `whole` lists the complete
+-- packets. `named` lists the blocks that descriptors after the tail name. The named blocks replace the blocks of the
+-- complete packets. When the tail advances, named blocks are posted and complete packets are handed out.
 pub record Receive : Type 0 where
   pub layout : Layout
   pub handed : List Kept
@@ -41,7 +41,8 @@ pub record Receive : Type 0 where
   pub named : List ℕ
   pub stage : Stage
 
--- The slot `k` positions past the next slot, the address of its descriptor, and its block.
+-- `slot_at`: the slot `k` positions past the next slot. `descriptor_at`: the address of this slot's descriptor.
+-- `block_at`: the block in this slot.
 abbrev pub slot_at : Layout → ℕ → ℕ
 slot_at l k = wrapped l.size (l.next + k)
 
@@ -51,7 +52,7 @@ descriptor_at l k = descriptor_in l.ring (slot_at l k)
 abbrev pub block_at : Layout → ℕ → ℕ
 block_at l k = slice_index l.blocks k
 
--- The first vacant slot, at the tail.
+-- The position of the first vacant slot, which is at the tail, counted from the next slot.
 abbrev pub vacant : Layout → ℕ
 vacant l = length l.blocks
 
@@ -67,7 +68,8 @@ reach v = extended v.layout v.named
 abbrev pub no_packet : Packet
 no_packet = record { bufs = []; len = 0; rss = 0; hash = 0 }
 
--- The packet with another part added, which is in this block. The last part's descriptor reports the RSS type and hash.
+-- The packet with one more part, which is in block `b`. The RSS type and hash are those that the last part's descriptor
+-- reports.
 abbrev pub joined : Packet → Block → Reported → Packet
 joined p b t = record {
   bufs = p.bufs ++ b ∷ [];
@@ -87,7 +89,7 @@ is_part most before second =
     if ends_packet second then nat_le (bytes_in second) 2048
     else (bytes_in second == 2048) && nat_lt (before + 1) most
 
--- The block that is lent but not yet named.
+-- The block that is lent but that no descriptor names yet; 0 if there is none.
 abbrev pub fresh_of : Stage → ℕ
 fresh_of Looks = 0
 fresh_of Takes = 0
@@ -128,7 +130,7 @@ took v (t ∷ seen) b = record v {
 abbrev pub lent_one : Receive → ℕ → Receive
 lent_one v b = record v { stage = Lent b }
 
--- The packet being held, if none of its parts remains to be taken. The list is empty if no packet is held.
+-- `ended_of`: the packet being held, if none of its parts remains to be taken. The list is empty if no packet is held.
 abbrev pub if_any : List Block → Packet → List Packet
 if_any [] p = []
 if_any (b ∷ bs) p = p ∷ []
@@ -137,7 +139,7 @@ abbrev pub ended_of : List Reported → Packet → List Packet
 ended_of [] p = if_any p.bufs p
 ended_of (t ∷ seen) p = []
 
--- The packet that is still held after a block is named, and the stage then.
+-- `left_of`: the packet that is still held after a block is named. `next_stage`: the driver's stage then.
 abbrev pub left_of : List Reported → Packet → Packet
 left_of [] p = no_packet
 left_of (t ∷ seen) p = p
@@ -160,7 +162,8 @@ names v = record v {
 abbrev pub records_of : List Packet → List Kept
 records_of ps = map kept_of ps
 
--- The tail advances over `blocks` named blocks, and the oldest `packets` complete packets are handed out.
+-- The driver's state after the tail advances over `blocks` named blocks; the oldest `packets` complete packets are
+-- handed out.
 abbrev pub posts : Receive → ℕ → ℕ → Receive
 posts v blocks packets = record v {
   layout = extended v.layout (take blocks v.named);
@@ -178,7 +181,8 @@ parts_first (p ∷ ps) = length p.bufs
 abbrev pub tail_after : Layout → ℕ → ℕ
 tail_after l more = slot_at l (vacant l + more)
 
--- The tail advances over the blocks that replace one complete packet, or over all named blocks.
+-- `posts_one`: the state after the tail advances over the blocks that replace the oldest complete packet. `posts_all`:
+-- the state after it advances over all named blocks.
 abbrev pub posts_one : Receive → Receive
 posts_one v = posts v (parts_first v.whole) 1
 
@@ -197,7 +201,7 @@ drive v (event.Poke16 a bytes) reply.Done = names v
 drive v (event.Write port number word) reply.Done = moved v word
 drive v e r = v
 
--- The events that the driver may cause next. Each event belongs to a stage and is independent of the device's state.
+-- The events that the driver may cause next. They depend on the driver's stage, not on the device's state.
 
 -- A block that may be lent: it is 2,048 bytes long, the ring doesn't occupy it, and none of the ring's slots contains
 -- it. The ring has a vacant slot to spare.

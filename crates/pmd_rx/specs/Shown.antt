@@ -34,8 +34,8 @@ pub record IsLaidOut (l : Layout) : Type 0 where
   pub ring : l.ring + blocks_for l.size ≤ 65536
   pub room : length l.blocks < l.size
 
--- In stage `Looks`, the driver holds no packet and has seen fewer slots than a packet may take. In `Takes`, it has seen
--- a part to take. In `Lent`, the ring has a slot for the block, and one more slot stays vacant.
+-- What each stage requires. In `Looks`, the driver holds no packet and has seen fewer slots than a packet may take. In
+-- `Takes`, it has seen a part to take. In `Lent`, the ring has a slot for the block, and one more slot stays vacant.
 abbrev pub StandsAt : Stage → Layout → List Reported → Packet → Type 0
 StandsAt Looks l seen held = (held ≡ no_packet) × (length seen < l.most)
 StandsAt Takes l seen held = 0 < length seen
@@ -46,9 +46,10 @@ StandsAt (Lent b) l seen held = (length l.blocks + 1 < l.size) × (b < 65536)
 abbrev pub FitsBlock : Reported → Type 0
 FitsBlock t = bytes_in t.second ≤ 2048
 
--- The parts held and seen are together at most as many as a packet may have. The seen parts are in posted slots, which
--- come first among the slots that contain a block. Every complete packet has a part. After the posted blocks, a block
--- is named for each part of a complete packet and for each held part, except one block that may still be owed.
+-- The parts held and the parts seen are together at most as many as a packet may have. The seen parts are in posted
+-- slots, which come first among the slots that contain a block. Every complete packet has at least one part. For each
+-- part of a complete packet and each held part, a block is named after the posted blocks; one of these blocks may still
+-- be owed.
 pub record IsInStep (l : Layout) (posted : ℕ) (seen : List Reported) (held : Packet) (whole : List Packet) (s : Stage)
     : Type 0 where
   pub stage : StandsAt s l seen held

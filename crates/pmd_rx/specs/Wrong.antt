@@ -44,8 +44,8 @@ PacketWaits Takes = ⊤
 PacketWaits Owes = ⊤
 PacketWaits (Lent b) = ⊤
 
--- `wanted`: the number of free blocks needed, one for each part seen, plus `owed`. `owed`: 1 if a block must be lent as
--- well.
+-- `wanted`: the number of free blocks that the driver needs, one for each part seen, plus `owed`. `owed`: 1 if the
+-- driver must lend one block more than that, otherwise 0.
 abbrev pub owed : Stage → ℕ
 owed Looks = 1
 owed Takes = 0
@@ -66,7 +66,7 @@ pub record IsShort (a : Numbers) (v : Receive) (b : Numbers) (w : Receive) : Typ
   pub named : w.named ≡ v.named
 
 -- The refused event is one that the driver may cause next: a look at the next slot, taking the block there, lending a
--- block that is free in the arena, naming one in the vacant slot, or a tail write.
+-- block that is free in the arena, naming the lent block in the vacant slot's descriptor, or a tail write.
 abbrev pub AsksNext : Numbers → Receive → Type 0
 AsksNext a w = (e : Event Block) × IsOwn w e × LendsFree a true e
 

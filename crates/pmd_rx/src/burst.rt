@@ -20,8 +20,8 @@ use std::alloc::Global;
 use std::collections::VecDeque;
 
 impl ReceiveRing {
-    /// Takes the next received packet, which is then complete. Returns whether the posted slots contained such a
-    /// packet.
+    /// Takes the next received packet if the posted slots contain all of it; the packet is then complete. Returns
+    /// whether the call took a packet.
     fn take_next<N: Nic>(
         &mut self,
         alloc: Global,
@@ -65,8 +65,8 @@ impl ReceiveRing {
         }
     }
 
-    /// Takes packets, at least one and at most `most`, unless a complete packet is already waiting. Returns whether a
-    /// complete packet is waiting afterwards.
+    /// If no complete packet is waiting, takes up to `most` packets. Returns whether a complete packet is waiting
+    /// afterwards.
     fn gather<N: Nic>(
         &mut self,
         alloc: Global,
@@ -112,13 +112,13 @@ impl ReceiveRing {
     ///
     /// If a refused call left a packet with only some of its parts taken, `receive` finishes only this packet and looks
     /// at no slot. If packets are already complete, because a tail write was refused, `receive` returns the oldest and
-    /// only writes the tail. The contract doesn't promise that `receive` then looks at no slot, or that it causes no
+    /// only writes the tail. However, the contract doesn't promise that `receive` then looks at no slot and causes no
     /// other event.
     ///
-    /// `NoBuffer` only if a packet is waiting and too few blocks are free; the driver is unchanged except for what it
-    /// has seen. Fails with `DeviceFault` if a reply is one that a healthy queue never sends. Fails with `Call` if a
-    /// call was refused, or if there was no memory to keep what the driver saw or the packet's record; the driver keeps
-    /// its position, and the next call continues from there.
+    /// Fails with `NoBuffer` only if a packet is waiting and too few blocks are free to replace its parts. The driver
+    /// is then unchanged except for what it has seen. Fails with `DeviceFault` if a reply is one that a healthy queue
+    /// never sends. Fails with `Call` if a call was refused, or if there was no memory to keep what the driver saw or
+    /// the packet's record; the driver keeps its position, and the next call continues from there.
     pub fn receive<N: Nic>(
         &mut self,
         alloc: Global,
@@ -153,16 +153,18 @@ impl ReceiveRing {
 
     /// Receives the next packets in order, up to `most`. Fresh blocks from the arena replace the packets' blocks and
     /// are posted with one tail write. Appends the packets to `out` and returns their number. This number is 0 only if
-    /// `most` is 0 or the slot after those already seen isn't done. Three facts aren't promised: how many packets from
-    /// 1 to `most` the call returns, that one tail write posts all the blocks, and when the call looks at no slot.
+    /// `most` is 0 or the slot after those already seen isn't done. The contract doesn't specify how many packets, from
+    /// 1 to `most`, the call returns. It doesn't specify either that one tail write posts all the blocks, or when the
+    /// call looks at no slot.
     ///
-    /// If a slot isn't done, no posted slot remains, or a call fails, it stops early and returns the packets received
-    /// so far; the next call continues from there. If packets are already complete, because a tail write was refused,
-    /// it looks at no slot and returns these packets. If more than `most` packets are complete, or parts of another
-    /// packet are already taken, it returns only the oldest.
+    /// If a slot isn't done, no posted slot remains, or a device call fails, `receive_burst` stops early and returns
+    /// the packets received so far; the next call continues from there. If packets are already complete, because a tail
+    /// write was refused, it looks at no slot and returns these packets. If more than `most` packets are complete, or
+    /// parts of another packet are already taken, it returns only the oldest complete packet.
     ///
-    /// It fails for the same reasons as `receive`, and only if it returns no packet; `out` is then unchanged. It also
-    /// returns `Call` if `out` can't grow for the packets; the packets stay complete, and the next call returns them.
+    /// `receive_burst` fails for the same reasons as `receive`, and only if it returns no packet; `out` is then
+    /// unchanged. It also fails with `Call` if `out` can't grow for the packets; the packets stay complete, and the
+    /// next call returns them.
     pub fn receive_burst<N: Nic>(
         &mut self,
         alloc: Global,
@@ -194,7 +196,7 @@ impl ReceiveRing {
     }
 
     /// Appends complete packets to `out` with one tail write, and returns their number. It hands out all of them if
-    /// they are at most `most` and no part of another packet is taken. Otherwise it hands out the oldest.
+    /// they are at most `most` and no part of another packet is taken. Otherwise it hands out only the oldest.
     ///
     /// Fails with `DeviceFault` if the port has no register with the tail's number. Also fails with `Call` if `out`
     /// can't grow for the packets.

@@ -1,4 +1,4 @@
-//! Posts blocks to the receive ring and takes packets from it. Each function makes a sequence of calls, which may end
+//! Posts blocks to the receive ring and takes packets from it. Each function makes a sequence of calls and may stop
 //! after any of them.
 
 ghost use Rattle.std.specs.Prelude.{ℕ, ◌≡◌, ◌≢◌, ◌<◌, ◌≤◌, ◌+◌, [], length, true, false, Ok, Err, IfErr, OnOk, OnErr};
@@ -25,7 +25,7 @@ use std::collections::VecDeque;
 impl ReceiveRing {
     /// Lends a fresh block from the arena and names it in a descriptor.
     ///
-    /// Fails with `NoBuffer` if no block is free; nothing is done.
+    /// Fails with `NoBuffer` if no block is free, without doing anything.
     fn lend_and_name<N: Nic>(
         &mut self,
         alloc: Global,
@@ -111,7 +111,7 @@ impl ReceiveRing {
     }
 
     /// Performs the next step of a refill: takes the next part, unless an earlier call took it, and names a fresh block
-    /// in its place. After the step for its last part, the packet is complete.
+    /// in its place. After the step for a packet's last part, the packet is complete.
     fn refill_next<N: Nic>(
         &mut self,
         alloc: Global,
@@ -142,7 +142,7 @@ impl ReceiveRing {
     /// Takes the parts of a packet whose last part was seen, and names fresh blocks in their place. The packet is then
     /// complete.
     ///
-    /// Fails with `NoBuffer` if too few blocks are free to replace the parts; nothing is done.
+    /// Fails with `NoBuffer` if too few blocks are free to replace the parts, without doing anything.
     pub(crate) fn take_whole<N: Nic>(
         &mut self,
         alloc: Global,
@@ -196,7 +196,7 @@ impl ReceiveRing {
     /// Posts a fresh block from the arena in the first vacant slot, which hands the block to the device. One slot
     /// always stays vacant.
     ///
-    /// Fails with `NoBuffer` if no block is free; none is posted. Fails with `DeviceFault` if the block is already
+    /// Fails with `NoBuffer` if no block is free, without posting one. Fails with `DeviceFault` if the block is already
     /// lent, the ring isn't lent, or the port has no register with the tail's number. Fails with `Call` if a call was
     /// refused. Steps completed before a fault are kept.
     pub fn post<N: Nic>(
@@ -227,7 +227,7 @@ impl ReceiveRing {
         }
     }
 
-    /// Advances the tail over all named blocks. No packet may be waiting.
+    /// Advances the tail over all named blocks. The call requires that no packet is waiting.
     fn post_named<N: Nic>(&mut self, alloc: Global, nic: &mut N) -> Result<(), PmdFault>
         requires some { 0 < length self.old.named }
         requires none { (self.old.whole ≡ []) × (self.old.held ≡ no_packet) }
@@ -241,7 +241,7 @@ impl ReceiveRing {
         answer
     }
 
-    /// Posts fresh blocks from the arena in all slots except one. No slot may be posted yet.
+    /// Posts fresh blocks from the arena in all slots except one. The call requires that no slot is posted yet.
     ///
     /// It fails for the same reasons as `post`, but with `NoBuffer` only if fewer blocks are free than it must post.
     /// Blocks already posted stay posted.

@@ -159,8 +159,8 @@ impl ReceiveRing {
 
     /// Lends a fresh block from the arena.
     ///
-    /// Fails with `NoBuffer` if no block is free; nothing is done. Fails with `DeviceFault` if a block with its number
-    /// is already lent.
+    /// Fails with `NoBuffer` if no block is free, without doing anything. Fails with `DeviceFault` if a block with its
+    /// number is already lent.
     pub(crate) fn lend_fresh<N: Nic>(
         &mut self,
         alloc: Global,

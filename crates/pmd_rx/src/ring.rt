@@ -1,4 +1,4 @@
-//! The receive ring as the driver keeps it: its position between two calls, and its blocks.
+//! The receive ring as the driver keeps it between two calls: its position and its blocks.
 
 ghost use Rattle.std.specs.Prelude.{◌≡◌, ◌<◌, ◌≤◌, ◌+◌, ◌++◌, ◌∷◌, [], ◌↔◌, true, false, length, option_to_list, IfOk, IfErr, OnOk, OnErr};
 ghost use Rattle.std.specs.List.{range_with_len};
@@ -41,9 +41,9 @@ pub struct Reported {
 
 /// A driver's receive ring and the packets it handed out.
 ///
-/// The first `posted` blocks in `slots` are posted, starting at the next slot. The blocks after them are named in
-/// descriptors. When the tail advances, these blocks are posted, and the complete packets that they replace are handed
-/// out. `records` lists the packets handed out, followed by the complete packets.
+/// `slots` lists the ring's blocks, starting at the next slot. The first `posted` blocks are posted. The remaining
+/// blocks are named in descriptors after the tail. When the tail advances, they are posted, and the complete packets
+/// whose blocks they replace are handed out. `records` lists the packets handed out, followed by the complete packets.
 pub struct ReceiveRing {
     pub(crate) port: Port,
     pub(crate) tail: u32,
@@ -148,8 +148,8 @@ pub(crate) fn no_packet() -> Packet
 
 impl ReceiveRing {
     /// Returns whether the ring owns the block with this number. It owns the blocks that its descriptors occupy, the
-    /// blocks in its slots or named after its tail, a fresh block that is lent, and the blocks of held parts and
-    /// complete packets.
+    /// blocks in its slots, the blocks that descriptors after the tail name, a fresh block that is lent, and the blocks
+    /// of held parts and complete packets.
     pub fn has(&self, block: u32) -> bool
         ensures { (result ≡ true) ↔ (0 < times_in_hand (blocks_out self.now) block) }
     {
@@ -168,14 +168,14 @@ impl ReceiveRing {
         is_ring_block(self.ring, self.size, block)
     }
 
-    /// Returns whether the block is in one of the ring's slots or named after its tail.
+    /// Returns whether the block is in one of the ring's slots, or a descriptor after the tail names it.
     fn stands(&self, block: u32) -> bool
         ensures { (result ≡ true) ↔ (0 < times_in_hand (reach self.now).blocks block) }
     {
         self.slots.iter().filter(|slot| **slot == block).count() > 0
     }
 
-    /// Returns whether the block is lent but not yet named.
+    /// Returns whether the block is lent but no descriptor names it yet.
     fn lends(&self, block: u32) -> bool
         ensures { (result ≡ true) ↔ (0 < times_in_hand (fresh_block self.now.stage) block) }
     {
@@ -248,7 +248,7 @@ impl ReceiveRing {
         Ok((Reclaim::of(lent), records))
     }
 
-    /// Returns the block that is lent but not yet named.
+    /// Returns the block that is lent but that no descriptor names yet, if there is one.
     fn fresh(&self) -> Option<u32>
         ensures { option_to_list result ≡ fresh_block self.now.stage }
     {

@@ -66,7 +66,7 @@ impl ReceiveRing {
         self.whole[0].bufs.count() as u16
     }
 
-    /// Hands out the oldest complete packet after the blocks that replace it were posted.
+    /// Hands out the oldest complete packet. The blocks that replace this packet's blocks have just been posted.
     fn hand_one(&mut self) -> Packet
         requires { 0 < length self.old.whole }
         ensures left { self.new ≡ posts_one self.old }
@@ -111,7 +111,7 @@ impl ReceiveRing {
         }
     }
 
-    /// Returns the number of blocks named after the tail.
+    /// Returns the number of blocks that descriptors after the tail name.
     fn named(&self) -> u16
         ensures named { result ≡ length self.now.named }
         ensures room { length self.now.layout.blocks + result < self.now.layout.size }
@@ -122,7 +122,7 @@ impl ReceiveRing {
         self.slots.len() as u16 - self.posted
     }
 
-    /// Hands out the complete packets after all named blocks were posted.
+    /// Hands out the complete packets. All named blocks have just been posted.
     fn hand_all(&mut self, out: &mut VecDeque<Packet>)
         requires none { length self.old.held.bufs ≡ 0 }
         requires room { length self.old.whole + deque_len out.old ≤ deque_capacity out.old }

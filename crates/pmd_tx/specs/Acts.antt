@@ -18,8 +18,9 @@ abbrev pub failed_in : {A : Type 0} → Result A TxFault → Option PmdFault
 failed_in (Ok x) = None
 failed_in (Err f) = Some f.fault
 
--- The device calls that were made, some of them the driver's own, lead from ring `v` to ring `w`. Each packet that they
--- accept is in the blocks with these numbers. A fault follows from the last of these calls or from the refused call.
+-- The device calls that were made, some of them the driver's own, take the driver from ring `v` to ring `w`. Each
+-- packet that they accept is in the blocks with these numbers. If a fault is reported, its cause is the reply to the
+-- last of these calls, or the refusal of a further call.
 pub record Acts (blocks : List ℕ) (f : Option PmdFault) (old : List Call) (v : Sender) (new : List Call) (w : Sender)
     : Type 0 where
   pub plays : PlaysWith blocks old v new w
@@ -43,8 +44,8 @@ pub record HasReaped (f : Option PmdFault) (old : List Call) (v : Sender) (a : N
   pub accepted : w.accepted ≡ v.accepted
   pub layout : w.layout ≡ record v.layout { next = w.layout.next }
 
--- The number of segments reaped, and the number of packets reaped. The result says whether a segment was reaped, and
--- whether that segment ends its packet.
+-- `parts_reaped`: the number of segments reaped. `packets_reaped`: the number of packets reaped. Both follow from the
+-- result, which says whether a segment was reaped and whether that segment ends its packet.
 
 abbrev pub parts_reaped : Result (Option Bool) PmdFault → ℕ
 parts_reaped (Ok (Some end)) = 1

@@ -7,6 +7,6 @@ use Rattle.pmd_tx.specs.Sending.{Sender, blocks_of}
 abbrev pub lent_of : Sender → List ℕ
 lent_of v = blocks_of (take v.lent v.outstanding) ++ ring_blocks v.layout.ring v.layout.size
 
--- The blocks that the ring still has in hand because their segments are waiting.
+-- The blocks that the ring still has in hand because they wait to be lent.
 abbrev pub waiting_of : Sender → List ℕ
 waiting_of v = blocks_of (drop v.lent v.outstanding)

@@ -6,7 +6,7 @@ use Rattle.pmd_tx.specs.declared.piece.Piece.{Piece}
 abbrev pub places_of : List Piece → List ℕ
 places_of pieces = map (λ (p : Piece). p.block) pieces
 
--- The pieces of a packet of `whole` bytes in these blocks; `len` bytes remain.
+-- The pieces that these blocks contain of a packet of `whole` bytes: the packet's last `len` bytes.
 abbrev pub pieces_in : ℕ → List ℕ → ℕ → List Piece
 pieces_in whole [] len = []
 pieces_in whole (b ∷ []) len = record { block = b; len = len; whole = whole; last = true } ∷ []

@@ -1,4 +1,5 @@
--- How a sending driver's state follows from the calls made. Each call is paired with its move.
+-- How a sending driver's state follows from the calls made. For each call, a list gives the move that the call
+-- performs.
 use Rattle.std.specs.Prelude.{ℕ, ◌≡◌, ◌<◌, ⊤, Bool, true, false, List, [], ◌∷◌, ◌++◌}
 use Rattle.pmd_access.specs.NicDevice.DmaArena.Block.{Block}
 use Rattle.pmd_access.specs.NicDevice.declared.event.Event.{Event}
@@ -11,13 +12,15 @@ use Rattle.pmd_access.specs.declared.fault.PmdFault.{PmdFault}
 use Rattle.pmd_access.specs.declared.fault.PmdFault.TheVariants as fault
 use Rattle.pmd_tx.specs.Sending.{Sender, Move, Accepts, Elsewhere, IsOwn, moved, is_healthy, is_sent, descriptor_at, first_end}
 
--- The driver after these moves, given the replies to these calls. This is everything that the driver's code knows.
+-- The driver after these moves, given the replies to these calls. This is all that the driver's code knows about its
+-- ring.
 abbrev pub played_by : Sender → List Move → List Call → Sender
 played_by v [] calls = v
 played_by v (m ∷ moves) [] = v
 played_by v (m ∷ moves) (n ∷ calls) = played_by (moved v m n.reply) moves calls
 
--- Each of these calls has the event of its move.
+-- The event of each of these calls is one that the driver may cause as the call's move, in the driver's state at that
+-- call.
 abbrev pub AllOwn : Sender → List Move → List Call → Type 0
 AllOwn v [] [] = ⊤
 AllOwn v [] (n ∷ calls) = ⊥
@@ -32,8 +35,8 @@ is_elsewhere m = false
 abbrev pub OthersStep : List Move → List Call → Type 0
 OthersStep moves calls = StepsWhere is_elsewhere moves calls
 
--- Calls were made that lead the driver from one state to the other through these moves. The calls that aren't the
--- driver's own are device steps.
+-- The calls made take the driver from state `v` to state `w` through these moves. The calls that aren't the driver's
+-- own are device steps.
 abbrev pub Plays : List Call → Sender → List Call → Sender → Type 0
 Plays old v new w =
     (moves : List Move) × (since : List Call) × (new ≡ old ++ since) × AllOwn v moves since

@@ -21,7 +21,7 @@ padded bytes = bytes ++ replicate (60 - length bytes) 0
 abbrev pub accepted_of : Packet → Kept
 accepted_of p = record { bytes = padded (take p.len (bytes_of p.bufs)); rss = p.rss; hash = p.hash }
 
--- The packet is sent in the first of its blocks, one for each part.
+-- How a packet is sent: its bytes are in the first of its blocks, one block for each part.
 abbrev pub outgoing_of : Packet → Outgoing
 outgoing_of p = record { blocks = take (parts_for p.len) (numbers_of p.bufs); kept = accepted_of p }
 

@@ -90,7 +90,7 @@ pub record IsRing (l : Layout) (pieces : List Piece) (waiting : List Block) (len
   pub beside : All (λ (p : Piece). is_ring_block l.ring l.size p.block ≡ false) pieces
   pub apart : AreDistinct (places_of pieces)
 
--- How a packet in hand is accepted when its first block is lent.
+-- The accepted packet that results when the first block of this packet is lent.
 abbrev pub sent_as : Packet → Outgoing
 sent_as p = record { blocks = take (parts_for p.len) (numbers_of p.bufs); kept = kept_of p }
 

@@ -2,7 +2,7 @@
 //!
 //! `ring.rt` contains one step for each access that the driver makes to its ring; `sending.rt` and `reaping.rt` build
 //! on these steps. The contracts state which calls are the driver's own, which step each of them performs, and how the
-//! driver's plain state follows from these calls.
+//! driver's specified state follows from these calls.
 #![tactic(auto)]
 
 mod answer;

@@ -17,8 +17,8 @@ use std::alloc::Global;
 
 impl TransmitRing {
     /// Frees the blocks of sent packets, oldest first. Before that, the call continues with the packets that have
-    /// waited since earlier calls, as `flush` does. If the call returns without a fault, its clauses promise that the
-    /// tail has passed both the freed packets and the oldest remaining packet.
+    /// waited since earlier calls, as `flush` does. If the call returns without a fault, its clauses promise two
+    /// things: the tail has passed the freed packets, and it has passed the oldest remaining packet.
     ///
     /// Fails with `DeviceFault` if the device sends a reply that a healthy queue can't send, or with `Call` if a call
     /// was refused. Blocks already freed stay free.
@@ -38,11 +38,11 @@ impl TransmitRing {
         ensures waits { IfOk result (λ done.
             done.idle ≡ false → LooksLast (N.made nic.old) self.old (N.made nic.new) self.new) }
         ensures freed { IfOk result (λ done. FreesSome self.old self.new arena.old arena.new done.freed) }
-        // After a fault, the blocks of some packets have been freed, possibly none.
+        // Before a fault, the call may already have freed the blocks of some packets.
         ensures some { OnErr result ((packets : ℕ) × FreesSome self.old self.new arena.old arena.new packets) }
         ensures out { AreOut arena.new (blocks_of self.new.outstanding) }
         ensures accepted { self.new.accepted ≡ self.old.accepted }
-        // In the ring's layout, only the slot of the oldest packet changes.
+        // In the ring's layout, only `next` changes: the slot of the oldest outstanding segment.
         ensures layout { self.new.layout ≡ record self.old.layout { next = self.new.layout.next } }
         ensures late { IfErr result (λ fault. IsLate fault) }
         // After `DeviceFault`, the last device call was a move of the driver, and the reply to it is one that a healthy

@@ -1,4 +1,4 @@
-//! The driver's transmit ring: one step for each of its accesses.
+//! The driver's transmit ring, with one step for each access that the driver makes to it.
 
 ghost use Rattle.std.specs.Prelude.{[], ◌≡◌, ◌==◌, ◌↔◌, ◌<◌, ◌≤◌, ◌+◌, ◌-◌, ◌++◌, ℕ, None, All, length, take, drop, true, false, Ok, IfOk, IfErr, OnOk, OnErr, OnSome, IfSome, vec_len, if◌then◌else◌, List, not, nat_lt};
 ghost use Rattle.pmd_access.specs.Accesses.{IsWritten};
@@ -128,8 +128,8 @@ impl TransmitRing {
         self.accepted.as_slice()
     }
 
-    /// Closes the ring. Returns the lent blocks, which must still be taken back; the blocks of waiting segments; and
-    /// the accepted packets, oldest first. If there is no memory, the call returns the ring unchanged.
+    /// Closes the ring. Returns the lent blocks, which must still be taken back; the blocks that still wait to be lent;
+    /// and the accepted packets, oldest first. If there is no memory, the call returns the ring unchanged.
     #[tactic(auto, using(crate::proofs::Outstanding::outstanding))]
     pub fn close(self, alloc: Global) -> Result<(Reclaim, Bufs, Vec<Record>), TransmitRing>
         ensures way { IfOk result (λ ends. ends.0 ≡ record { lent = lent_of self; lost = 0 }) }
@@ -298,8 +298,8 @@ impl TransmitRing {
 }
 
 impl TransmitRing {
-    /// Lends the first block of a packet, which accepts the packet. Returns the Bufs that contain none of the packet's
-    /// bytes. If the first block can't be lent, returns the packet.
+    /// Accepts a packet by lending its first block. Returns the Bufs that contain none of the packet's bytes. If the
+    /// first block can't be lent, returns the packet.
     ///
     /// Fails with `DeviceFault` if a block with its number is already lent.
     pub(crate) fn accept<N: Nic>(
@@ -320,7 +320,7 @@ impl TransmitRing {
         self.lend_first(alloc, nic, packet)
     }
 
-    /// Does the work of `accept`. Its contract states which calls are made.
+    /// Does the work of `accept`, with a contract that states which device calls are made.
     #[tactic(auto, using(crate::proofs::Outstanding::outstanding))]
     fn lend_first<N: Nic>(
         &mut self,
@@ -380,7 +380,7 @@ impl TransmitRing {
 }
 
 impl TransmitRing {
-    /// Lends the block of the next segment not yet lent.
+    /// Lends the block of the oldest segment whose block isn't lent yet.
     ///
     /// Fails with `DeviceFault` if a block with its number is already lent.
     pub(crate) fn lend_next<N: Nic>(&mut self, alloc: Global, nic: &mut N) -> Result<(), PmdFault>
@@ -446,7 +446,7 @@ impl TransmitRing {
         self.descriptor(self.poked)
     }
 
-    /// The descriptor that requests the next segment.
+    /// The descriptor that requests the transmission of the next segment.
     #[tactic(auto, using(crate::proofs::Outstanding::outstanding))]
     fn asking(&self) -> [u8; 16]
         requires { self.now.poked < self.now.lent }

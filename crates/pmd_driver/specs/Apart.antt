@@ -18,14 +18,14 @@ use Rattle.pmd_tx.specs.Sending.{Elsewhere}
 use Rattle.pmd_driver.specs.Halves.{Halves, Doer, Receives, Sends, Drives, OwnCall, after_call, halves_of}
 use Rattle.pmd_driver.specs.Running.{Running}
 
--- A half may lend a block if its number is one of these and the other half hasn't lent it. Nobody else lends a block
--- with one of these numbers.
+-- A half may lend a block if the block's number is in `own` and the other half hasn't lent the block. Nobody else lends
+-- a block with a number in `own`.
 abbrev pub MayLend : Blocks → Halves → Doer → ℕ → Type 0
 MayLend own h Receives n = IsTrue (own n) × IsFalse (sending.has_lent h.transmit n)
 MayLend own h (Sends Elsewhere) n = IsFalse (own n)
 MayLend own h (Sends m) n = IsTrue (own n) × IsFalse (receiving.has_lent h.receive n)
 
--- If the event lends a block, its doer may lend it.
+-- If the event lends a block, this is a block that the doer may lend.
 abbrev pub LendsApart : Blocks → Halves → Doer → Event Block → Type 0
 LendsApart own h d (event.Lend block) = MayLend own h d block.number
 LendsApart own h d other = ⊤
@@ -38,7 +38,7 @@ AllLendApart own h (d ∷ doers) (n ∷ calls) =
     LendsApart own h d n.event × AllLendApart own (after_call h d n) doers calls
 
 -- Each call is made by one of the halves or is a device step. The calls take the halves from state `h` to state `k`,
--- and each half lends only what it may.
+-- and each half lends only blocks that it may lend.
 pub record DrivesApart (own : Blocks) (old : List Call) (h : Halves) (new : List Call) (k : Halves) : Type 0 where
   pub drives : Drives old h new k
   pub apart : AllLendApart own h drives.0 drives.1
@@ -58,8 +58,8 @@ abbrev pub is_healthy : Halves → Doer → Call → Bool
 is_healthy h Receives n = looking.is_healthy h.receive n.event n.reply
 is_healthy h (Sends m) n = sending.is_healthy m n.reply
 
--- Each call is made by one of the halves or is a device step, and each half lends only what it may. The last call got a
--- reply that a healthy queue never sends.
+-- Each call is made by one of the halves or is a device step, and each half lends only blocks that it may lend. The
+-- last call got a reply that a healthy queue never sends.
 pub record FindsFault (own : Blocks) (old : List Call) (h : Halves) (new : List Call) : Type 0 where
   pub mid : List Call
   pub there : Halves
@@ -72,7 +72,7 @@ pub record FindsFault (own : Blocks) (old : List Call) (h : Halves) (new : List 
   pub adds : Adds mid new event reply
   pub sick : IsFalse (is_healthy there doer (call_of event reply))
 
--- For `DeviceFault`, the calls end with a wrong reply in this way; other faults require nothing.
+-- After `DeviceFault`, `FindsFault` holds for these calls. Other faults require nothing.
 abbrev pub FindsBy : PmdFault → Blocks → List Call → Halves → List Call → Type 0
 FindsBy DeviceFault own old h new = FindsFault own old h new
 FindsBy fault own old h new = ⊤

@@ -71,7 +71,8 @@ abbrev pub segments_in : List Packet → List Segment
 segments_in [] = []
 segments_in (p ∷ ps) = segments_of (outgoing_of p) ++ segments_in ps
 
--- The arena after the blocks that contain no bytes of these accepted packets were returned to it, in order.
+-- The arena after these packets were accepted, in order, and those of their blocks that contain no bytes of the packet
+-- were returned to the arena.
 abbrev pub with_rests : Numbers → List Packet → Numbers
 with_rests a [] = a
 with_rests a (p ∷ ps) = with_rests (with_all_free a (drop (parts_for p.len) (numbers_of p.bufs))) ps
@@ -134,7 +135,7 @@ pub record SendsBurst (given left : List Packet) (result : Result ℕ PmdFault) 
     (new : List Call) (s : Running) : Type 0 where
   pub gone : List Packet
   pub waiting : List Packet
-  -- The fault met by the next packet or by the last accepted one, if any.
+  -- The fault met by the last accepted packet or by the packet after it, if any.
   pub met : Option PmdFault
   -- The first packets, as many as reported, were accepted and are now the newest accepted packets.
   pub given_are : given ≡ gone ++ waiting
@@ -158,7 +159,7 @@ pub record SendsBurst (given left : List Packet) (result : Result ℕ PmdFault) 
   -- If the first packet is refused before any event, no call was made and nothing changed.
   pub shut : (f : PmdFault) → IsRefusedFirst f r given
       → (result ≡ Err f) × (left ≡ given) × (new ≡ old) × (s ≡ r)
-  -- Without a fault, the tail has passed everything outstanding.
+  -- If no fault is returned, the tail has passed all outstanding packets.
   pub settled : IfOk result (λ n. s.transmit.posted ≡ length s.transmit.outstanding)
 
 -- If fewer than `vacant` slots were vacant, the blocks of sent packets were freed, unless a fault stopped this.
@@ -195,7 +196,7 @@ pub record IsSendBurst (vacant : ℕ) (given left : List Packet) (result : Resul
   -- After `DeviceFault`, each call is made by one of the halves or is a device step. The last call got a reply that a
   -- healthy queue never sends.
   pub finds : IfErr result (λ f. FindsBy f (is_own r.arena) old (halves_of r) new)
-  -- Without a fault, the tail has passed everything outstanding.
+  -- If no fault is returned, the tail has passed all outstanding packets.
   pub settled : IfOk result (λ n. s.transmit.posted ≡ length s.transmit.outstanding)
   -- The transmit ring is the same, except for the slot of the oldest packet.
   pub layout : s.transmit.layout ≡ record r.transmit.layout { next = s.transmit.layout.next }

@@ -40,7 +40,7 @@ abbrev pub with_arena : Rings → Numbers → Rings
 with_arena (Up r) a = Up (record r { arena = a })
 with_arena (Down h) a = Down (record h { arena = a })
 
--- The driver with these rings as one that isn't running.
+-- The driver with these rings, described as one that isn't running.
 abbrev pub halted_of : Rings → Halted
 halted_of (Up r) = with_rings r.arena r.receive r.transmit
 halted_of (Down h) = h

@@ -87,8 +87,8 @@ pub record IsReapCall (result : Result Reaped PmdFault) (old : List Call) (r : R
   pub layout : s.transmit.layout ≡ record r.transmit.layout { next = s.transmit.layout.next }
   -- The fault is `DeviceFault` or a refused call.
   pub late : IfErr result (λ fault. IsLate fault)
-  -- After a refused call, the event is one that the transmit half may make next. After `DeviceFault`, the last call was
-  -- one of that half and got a reply that a healthy queue never sends. No packet was accepted.
+  -- After a refused call, the refused event is one that the transmit half may cause next. After `DeviceFault`, the
+  -- transmit half made the last call, which got a reply that a healthy queue never sends. No packet was accepted.
   pub faults : (blocks : List ℕ) → IfErr result (λ fault. FaultsBy fault blocks old r.transmit new)
   -- After `DeviceFault`, each call up to that last one is made by one of the halves or is a device step.
   pub finds : IfErr result (λ fault. FindsBy fault (is_own r.arena) old (halves_of r) new)

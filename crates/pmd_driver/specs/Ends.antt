@@ -1,5 +1,5 @@
--- The two halves of a driver that isn't running: each is a ring, or the ring's blocks that are being returned, with its
--- records.
+-- The two halves of a driver that isn't running: each is a ring, or the ring's blocks that are being returned, with the
+-- records of its packets.
 use Rattle.std.specs.Prelude.{ℕ, List, [], ◌++◌}
 use Rattle.pmd_access.specs.Home.{Homebound}
 use Rattle.pmd_access.specs.Packet.{Kept}

@@ -24,25 +24,25 @@ pub record Halted : Type 0 where
   pub handed : List Kept
   pub accepted : List Kept
 
--- All blocks that the driver has out of its arena.
+-- All blocks that the driver has in use.
 abbrev pub all_out : Halted → List ℕ
 all_out h = h.way.lent ++ h.held
 
--- No block is out twice, or both out and free in the arena. The number of lost blocks fits in 32 bits.
+-- No block is in use twice, or both in use and free in the arena. The number of lost blocks fits in 32 bits.
 pub record IsHalted (h : Halted) : Type 0 where
   pub home : AreOut h.arena (all_out h)
   pub few : h.way.lost + length h.way.lent < 4294967296
 
--- Whether the driver has the block with this number out.
+-- Whether the driver has the block with this number in use.
 abbrev pub is_out : Halted → ℕ → Bool
 is_out h n = nat_lt 0 (times_in_hand (all_out h) n)
 
 -- Whether a packet's blocks can be returned to the arena: the arena owns their numbers, none of them is free there, no
--- number occurs twice, and the driver has none of them out.
+-- number occurs twice, and the driver has none of them in use.
 abbrev pub goes_back : Halted → Packet → Bool
 goes_back h p = are_out h.arena (numbers_of p.bufs) && not (list_any (λ n. is_out h n) (numbers_of p.bufs))
 
--- Whether a number is free in the arena or is the number of a block that is out.
+-- Whether a number is free in the arena or is in the list `out`.
 abbrev pub is_free_or_out : Numbers → List ℕ → ℕ → Bool
 is_free_or_out a out n = is_free a n || nat_lt 0 (times_in_hand out n)
 

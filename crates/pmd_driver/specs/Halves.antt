@@ -29,13 +29,14 @@ abbrev pub after_call : Halves → Doer → Call → Halves
 after_call h Receives n = record h { receive = receiving.drive h.receive n.event n.reply }
 after_call h (Sends m) n = record h { transmit = sending.moved h.transmit m n.reply }
 
--- The halves after these calls. The driver's code knows nothing more.
+-- The halves after these calls. This is all that the driver's code knows about its rings.
 abbrev pub played_by : Halves → List Doer → List Call → Halves
 played_by h [] calls = h
 played_by h (d ∷ doers) [] = h
 played_by h (d ∷ doers) (n ∷ calls) = played_by (after_call h d n) doers calls
 
--- Each call is one that its doer may make in that state.
+-- The doer may make this call in state `h`. `AllOwn`: each doer may make its call in the state in which it makes the
+-- call.
 abbrev pub OwnCall : Halves → Doer → Call → Type 0
 OwnCall h Receives n = receiving.IsOwn h.receive n.event
 OwnCall h (Sends m) n = sending.IsOwn h.transmit m n.event
@@ -78,8 +79,8 @@ doers_moved moves = map Sends moves
 abbrev pub doers_other : List Call → List Doer
 doers_other calls = map (λ (n : Call). Sends Elsewhere) calls
 
--- Three facts. Calls made by one half, while the other half is unchanged, are driver calls. Calls made by neither half
--- leave both halves unchanged. A sequence of driver calls can follow another one.
+-- `Drives` holds for calls that one half made while the other half didn't change. It holds for device steps, which
+-- change neither half. If it holds for each of two sequences of calls, it holds for one sequence followed by the other.
 abbrev pub ReceivingDrives : Type 0
 ReceivingDrives =
     (old new : List Call) (h k : Halves) → receive.Plays old h.receive new k.receive → k.transmit ≡ h.transmit →

@@ -26,8 +26,8 @@ RunsOn old rings new after = WhereUp rings after (λ r s. DrivesRings old r new 
 abbrev pub KeepsHalves : Rings → Rings → Type 0
 KeepsHalves rings after = WhereUp rings after (λ r s. (halves_of s ≡ halves_of r) × OwnsSame r.arena s.arena)
 
--- The driver of this queue is running. After the earlier calls its rings came up, with `size` descriptors each and
--- blocks from this arena. Each call since then is made by one of its halves or is a device step.
+-- The driver of this queue is running. After the earlier calls, it brought its rings up, with `size` descriptors each
+-- and blocks from this arena. Each call since then is made by one of its halves or is a device step.
 pub record Lives (q : AtPort) (size frame : ℕ) (old : List Call) (a : Numbers) (new : List Call) (r : Running) :
     Type 0 where
   -- The calls made until the driver ran, and the driver at that point.

@@ -15,7 +15,7 @@ use Rattle.pmd_driver.specs.Bursts.{Accepts, AreLeft, FailsDuring, IsRefusedFirs
 use Rattle.pmd_driver.specs.Halves.{halves_of}
 use Rattle.pmd_driver.specs.Running.{Running}
 
--- `sent` packets were queued. The next packet or the last queued packet met the fault `met`, if any.
+-- `sent` packets were queued. The last queued packet, or the packet after it, met the fault `met`, if any.
 pub record Queues (given left : List Packet) (sent : ℕ) (met : Option PmdFault) (old : List Call) (r : Running)
     (new : List Call) (s : Running) : Type 0 where
   pub gone : List Packet

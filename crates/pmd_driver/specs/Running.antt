@@ -23,23 +23,23 @@ pub record Running : Type 0 where
 abbrev pub kept_out : Sender → List ℕ
 kept_out v = blocks_of v.outstanding ++ ring_blocks v.layout.ring v.layout.size
 
--- All blocks that the driver has out of its arena.
+-- All blocks that the driver has in use.
 abbrev pub rings_out : Running → List ℕ
 rings_out r = blocks_out r.receive ++ kept_out r.transmit
 
--- No block is out twice, or both out and free in the arena. The receive ring is filled, and the transmit ring has at
--- least one slot.
+-- No block is in use twice, or both in use and free in the arena. The receive ring is filled, and the transmit ring has
+-- at least one slot.
 pub record IsUp (r : Running) : Type 0 where
   pub home : AreOut r.arena (rings_out r)
   pub filled : IsRunning r.receive
   pub some : 0 < r.transmit.layout.size
 
--- Whether the receive ring owns a block of the packet.
+-- Whether the receive ring has one of the packet's blocks in use.
 abbrev pub receives : Running → Packet → Bool
 receives r p = list_any (λ n. nat_lt 0 (times_in_hand (blocks_out r.receive) n)) (numbers_of p.bufs)
 
--- Whether a packet's blocks can be returned to the arena: the transmit ring permits this, and the receive ring owns
--- none of these blocks.
+-- Whether a packet's blocks can be returned to the arena: the transmit ring permits this, and the receive ring has none
+-- of these blocks in use.
 abbrev pub goes_back : Running → Packet → Bool
 goes_back r p = goes_home r.transmit r.arena p && not (receives r p)
 

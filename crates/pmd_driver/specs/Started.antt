@@ -62,7 +62,8 @@ IsShut None a old new r = ⊤
 IsShut (Some f) a old new (Ok p) = ⊥
 IsShut (Some f) a old new (Err e) = (e.fault ≡ f) × IsHome a e.rest × (new ≡ old)
 
--- The rings came up one after the other: both rings are lent, both sides are on, and the receive ring is filled.
+-- The rings were brought up one after the other: both rings are lent, both sides are on, and the receive ring is
+-- filled.
 pub record AreUp (q : AtPort) (size frame : ℕ) (old : List Call) (a : Numbers) (new : List Call) (r : Running) :
     Type 0 where
   pub sized : is_size size ≡ true

@@ -1,4 +1,4 @@
--- How a driver's rings come up, one after the other.
+-- How a driver brings its rings up, one after the other.
 use Rattle.std.specs.Prelude.{ℕ, ◌≡◌, ◌⊎◌, ⊤, true, List, [], ◌∷◌, ◌++◌, Some, None}
 use Rattle.pmd_access.specs.NicDevice.DmaArena.Block.{Block, zero_block}
 use Rattle.pmd_access.specs.NicDevice.DmaArena.Numbers.{Numbers, is_free}
@@ -56,7 +56,8 @@ LendingFails fault.ForeignBlock old new block = ⊥
 LendingFails fault.StartTimeout old new block = ⊥
 LendingFails fault.NoBuffer old new block = ⊥
 
--- The first of these blocks were taken from the arena and lent. The next block, which is free, wasn't lent.
+-- The first of these blocks, possibly none, were taken from the arena and lent. The next block, which is free, wasn't
+-- lent.
 pub record StopsLending (f : PmdFault) (all : List ℕ) (old : List Call) (a : Numbers) (new : List Call) (b : Numbers)
     (out : List ℕ) : Type 0 where
   pub next : ℕ
@@ -68,8 +69,8 @@ pub record StopsLending (f : PmdFault) (all : List ℕ) (old : List Call) (a : N
   pub lent : LendsEach old mid out
   pub fails : LendingFails f mid new (zero_block next)
 
--- A ring in free blocks wasn't prepared: one of its registers wasn't written, or one of its blocks wasn't lent. The
--- blocks `out` are then out of the arena.
+-- A ring in free blocks wasn't prepared: one of its registers wasn't written, or one of its blocks wasn't lent. `out`
+-- are the blocks that were taken from the arena and lent before that.
 abbrev pub PreparingFails : PmdFault → AtPort → Dir → ℕ → List Call → Numbers → List Call → Numbers → List ℕ → Type 0
 PreparingFails f q side size old a new b out =
     (ring : ℕ) × IsFreeRun a ring (blocks_for size)

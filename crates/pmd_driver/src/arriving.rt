@@ -21,7 +21,8 @@ pub enum Arrived {
 
 /// Delivers a frame from the link to the device. `frame` contains its bytes without the frame check sequence.
 ///
-/// Fails with `Call` if the call was refused, or if there was no memory for a copy of the bytes; then no frame arrived.
+/// Fails with `Call` if the call was refused, or if there was no memory for a copy of the bytes. In both cases, no
+/// frame arrived.
 pub fn arrive<N: Nic>(alloc: Global, nic: &mut N, frame: &[u8]) -> Result<Arrived, PmdFault>
     ensures arrives { IfOk result (λ arrived. Arrives (N.made nic.old) (N.made nic.new) frame.now arrived) }
     ensures refused { OnErr result (AddsSome (N.made nic.old) (N.made nic.new)) }

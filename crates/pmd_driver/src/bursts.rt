@@ -16,8 +16,8 @@ use pmd_tx::{TxAnswer, TxFault};
 use std::alloc::Global;
 use std::collections::VecDeque;
 
-/// The number of packets queued, and the fault that stopped the burst, if any. The next packet or the last packet
-/// queued met this fault.
+/// The number of packets queued, and the fault that stopped the burst, if any. The last packet queued, or the packet
+/// after it, met this fault.
 pub(crate) struct Queued {
     pub(crate) sent: u16,
     pub(crate) met: Option<PmdFault>,
@@ -25,15 +25,15 @@ pub(crate) struct Queued {
 
 impl Running {
     /// Sends packets from the front of the list, as many as fit, with one tail write after the last packet. If fewer
-    /// than `vacant` slots in the ring are vacant, it first frees the blocks of sent packets, as `reap` does. It never
-    /// frees blocks first if `vacant` is 0, and always does if `vacant` is above 1,023. It stops at the first packet
-    /// that doesn't fit, is refused, or meets a fault. Returns the number of packets accepted. These packets are
-    /// removed from the list, and the others stay in order.
+    /// than `vacant` slots in the ring are vacant, it first frees the blocks of sent packets, as `reap` does. If
+    /// `vacant` is 0, it therefore never frees blocks first; if `vacant` is above 1,023, it always does. It stops at
+    /// the first packet that doesn't fit, is refused, or meets a fault. Returns the number of packets accepted. The
+    /// accepted packets are removed from the list, and the others stay in it, in order.
     ///
     /// If no packet was accepted, it returns the fault that prevented this, if any. This is the fault met while reaping
     /// or while continuing with earlier packets, or the fault that `tx` would return for the first packet. It also
-    /// returns a fault if it accepted packets but couldn't write the tail after them. These packets are no longer in
-    /// the list; the next call continues with them.
+    /// returns a fault if it accepted packets but couldn't write the tail after them. The accepted packets are then no
+    /// longer in the list, and the next call continues with them.
     pub fn tx_burst<N: Nic>(
         &mut self,
         alloc: Global,
@@ -43,11 +43,12 @@ impl Running {
     ) -> Result<u16, PmdFault>
         ensures drives { DrivesRings (N.made nic.old) self.old (N.made nic.new) self.new }
         // As many packets as reported were accepted in order from the front of the list, and removed. The others are
-        // unchanged, with one exception: if lending the first remaining packet got a wrong reply, that packet may be in
-        // other blocks with the same numbers. The tail is advanced only after all accepted packets are queued. Without
-        // a fault, the tail has passed everything outstanding. The burst stops only for one of these reasons: no packet
-        // remains, the ring has no room for the next packet, the next packet is refused before any event, or a call met
-        // a fault during its events. If the first packet is refused, no event occurs after room was made.
+        // unchanged, with one exception: if the device sent a wrong reply when the first remaining packet was lent,
+        // that packet may be in other blocks with the same numbers. The tail is advanced only after all accepted
+        // packets are queued. If the call returns no fault, the tail has passed all outstanding packets. The burst
+        // stops only for one of these reasons: no packet remains, the ring has no room for the next packet, the next
+        // packet is refused before any event, or a call met a fault during its events. If the first packet is refused
+        // in this way, no event occurs after the call has made room.
         ensures sent { IsSendBurst vacant packets.old.items packets.new.items result (N.made nic.old) self.old
             (N.made nic.new) self.new }
         ensures blocks { KeepsUp self.old (numbers_of_all packets.old.items) self.new
@@ -77,7 +78,7 @@ impl Running {
     }
 
     /// Accepts packets from the front of the list while slots are vacant, then advances the tail once. `tx_burst` calls
-    /// this function after reaping.
+    /// this function after it has made room.
     fn send_burst<N: Nic>(
         &mut self,
         alloc: Global,
@@ -161,7 +162,7 @@ impl Running {
     }
 }
 
-/// Returns the fault that the burst met, if the first packet met it.
+/// Returns the fault that the burst met, if no packet was queued; otherwise returns `None`.
 fn at_first(sent: u16, met: Option<PmdFault>) -> Option<PmdFault>
     ensures { result ≡ (if sent == 0 then met else None) }
 {

@@ -35,7 +35,7 @@ use std::marker::Model;
 pub(crate) enum Rings {
     /// Both rings are up; the driver is running.
     Up(Running),
-    /// The rings are being taken down.
+    /// The driver isn't running; its rings are being taken down.
     Down(Halted),
 }
 
@@ -126,8 +126,8 @@ impl Pmd {
     ///
     /// Fails with `NoBuffer` if a packet is waiting and too few blocks are free for it; with `DeviceFault` if a reply
     /// is one that a healthy queue never sends; with `Call` if a call was refused, or if there was no memory for the
-    /// packet's record. The driver keeps its position, and the next call continues from there. If the driver isn't
-    /// running, `rx` returns `DeviceFault` without causing any event.
+    /// packet's record. After a failure, the driver keeps its position in the ring, and the next call continues from
+    /// there. If the driver isn't running, `rx` returns `DeviceFault` without causing any event.
     pub fn rx<N: Nic>(&mut self, alloc: Global, nic: &mut N) -> Result<Option<Packet>, PmdFault>
         ensures drives { RunsOn (N.made nic.old) self.old.rings (N.made nic.new) self.new.rings }
         ensures received { WhereUp self.old.rings self.new.rings (λ r s.
@@ -154,15 +154,15 @@ impl Pmd {
     /// bytes of the packet.
     ///
     /// It checks the packet before any event. Fails with `BadSize` if the packet's length is 0, above the frame limit
-    /// less 4, or above the capacity of its Bufs; with `ForeignBlock` if `release` would return the packet; with
+    /// less 4, or above the capacity of its Bufs; with `ForeignBlock` if `release` would refuse the packet; with
     /// `RingFull` if the outstanding descriptors and the packet's descriptors together would leave no slot of the ring
     /// vacant.
     ///
     /// After that, it fails with `DeviceFault` if the device sends a reply that a healthy queue can't send; with `Call`
     /// if a call was refused, or if there was no memory for the record. If none of the packet's blocks was lent yet,
-    /// the packet is returned; after `DeviceFault`, its blocks have the same numbers. Otherwise the packet is accepted,
-    /// and the next call continues with it. If the driver isn't running, `tx` returns `DeviceFault` and the packet
-    /// without causing any event.
+    /// the error returns the packet. After `DeviceFault`, the contract promises only that the returned packet's blocks
+    /// have the same numbers. If a block was already lent, the packet is accepted, and the next call continues with it.
+    /// If the driver isn't running, `tx` returns `DeviceFault` and the packet without causing any event.
     pub fn tx<N: Nic>(
         &mut self,
         alloc: Global,
@@ -192,9 +192,9 @@ impl Pmd {
         }
     }
 
-    /// Frees the blocks of sent packets, oldest first. It first continues with a packet that has waited since an
-    /// earlier call. If `reap` returns without a fault, its clauses promise that the tail has passed both the freed
-    /// packets and the oldest remaining packet.
+    /// Frees the blocks of sent packets, oldest first. If an earlier call left a packet unfinished, `reap` first
+    /// continues with that packet. If `reap` returns without a fault, its clauses promise that the tail has passed both
+    /// the freed packets and the oldest remaining packet.
     ///
     /// Fails with `DeviceFault` if the device sends a reply that a healthy queue can't send, or with `Call` if a call
     /// was refused. Blocks already freed stay free. If the driver isn't running, `reap` returns `DeviceFault` without
@@ -220,14 +220,14 @@ impl Pmd {
 }
 
 impl Pmd {
-    /// Receives the next packets in order, up to `most`. Appends them to `packets` after the tail has passed the blocks
-    /// that replace the packets' blocks. Returns the number of packets received, which is 0 only if `most` is 0 or the
-    /// slot after those already seen isn't done. The contract doesn't promise how many packets, from 1 to `most`, the
-    /// call returns.
+    /// Receives the next packets in order, up to `most`. Before it appends them to `packets`, it replaces their blocks
+    /// in the ring and advances the tail past the new blocks. Returns the number of packets received. This number is 0
+    /// only if `most` is 0, or if the slot after those already found done isn't done. Otherwise, the contract doesn't
+    /// specify how many packets, from 1 to `most`, the call returns.
     ///
-    /// It fails for the same reasons as `rx`, and only if it returns no packet; the next call continues from there. It
-    /// also returns `Call` if there is no memory to append the packets. If the driver isn't running, `rx_burst` returns
-    /// `DeviceFault` without causing any event.
+    /// It fails for the same reasons as `rx`, and only if it returns no packet. The next call continues where the
+    /// failed call stopped. It also returns `Call` if there is no memory to append the packets. If the driver isn't
+    /// running, `rx_burst` returns `DeviceFault` without causing any event.
     pub fn rx_burst<N: Nic>(
         &mut self,
         alloc: Global,
@@ -258,16 +258,16 @@ impl Pmd {
     }
 
     /// Sends packets from the front of the list, as many as fit, with one tail write after the last packet. If fewer
-    /// than `vacant` slots in the ring are vacant, it first frees the blocks of sent packets, as `reap` does. It never
-    /// frees blocks first if `vacant` is 0, and always does if `vacant` is above 1,023. It stops at the first packet
-    /// that doesn't fit, is refused, or meets a fault. Returns the number of packets accepted. These packets are
-    /// removed from the list, and the others stay in order.
+    /// than `vacant` slots in the ring are vacant, it first frees the blocks of sent packets, as `reap` does. If
+    /// `vacant` is 0, it therefore never frees blocks first; if `vacant` is above 1,023, it always does. It stops at
+    /// the first packet that doesn't fit, is refused, or meets a fault. Returns the number of packets accepted. The
+    /// accepted packets are removed from the list, and the others stay in it, in order.
     ///
     /// If no packet was accepted, it returns the fault that prevented this, if any. This is the fault met while reaping
     /// or while continuing with earlier packets, or the fault that `tx` would return for the first packet. It also
-    /// returns a fault if it accepted packets but couldn't write the tail after them. These packets are no longer in
-    /// the list; the next call continues with them. If the driver isn't running, it returns `DeviceFault` without
-    /// causing any event, and all packets stay in the list.
+    /// returns a fault if it accepted packets but couldn't write the tail after them. The accepted packets are then no
+    /// longer in the list, and the next call continues with them. If the driver isn't running, it returns `DeviceFault`
+    /// without causing any event, and all packets stay in the list.
     pub fn tx_burst<N: Nic>(
         &mut self,
         alloc: Global,
@@ -338,7 +338,7 @@ impl Pmd {
 
     /// Returns a packet's blocks to the arena. If one of the blocks can't go back to the arena, the caller gets the
     /// packet back instead. A block can't go back if the arena doesn't own its number, the block is already free, it
-    /// occurs twice in the packet, or this driver has it out.
+    /// occurs twice in the packet, or this driver still has it in use.
     pub fn release(&mut self, packet: Packet) -> Result<(), Packet>
         ensures ok { IsOk result ↔ (goes_back_to self.old.rings packet ≡ true) }
         // The packet's blocks are free in the arena.
@@ -389,7 +389,7 @@ impl Pmd {
     }
 }
 
-/// Returns the driver with these rings as one that isn't running.
+/// Turns the rings of a driver, running or not, into a driver that isn't running.
 fn halt(rings: Rings) -> Halted
     ensures { result ≡ halted_of rings }
 {

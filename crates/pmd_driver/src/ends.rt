@@ -11,15 +11,15 @@ use pmd_rx::ReceiveRing;
 use pmd_tx::TransmitRing;
 use std::alloc::Global;
 
-/// The receive half: its ring, or the closed ring's blocks that are being returned and the records of the packets
-/// handed out.
+/// The receive half: its ring, or the ring's blocks that are being returned and the records of the packets handed out.
+/// The second form is for a ring that is closed or was never created.
 pub(crate) enum Receiving {
     Ring(ReceiveRing),
     Leaves(Reclaim, Vec<Record>),
 }
 
-/// The transmit half: its ring, or the closed ring's blocks that are being returned and the records of the packets
-/// accepted.
+/// The transmit half: its ring, or the ring's blocks that are being returned and the records of the packets accepted.
+/// The second form is for a ring that is closed or was never created.
 pub(crate) enum Sending {
     Ring(TransmitRing),
     Leaves(Reclaim, Vec<Record>),
@@ -36,7 +36,7 @@ impl Receiving {
         }
     }
 
-    /// Returns whether the block with this number is out.
+    /// Returns whether this half still has the block with this number in use.
     pub(crate) fn has(&self, block: u32) -> bool
         ensures { (result ≡ true) ↔
             (0 < times_in_hand ((received_way self.now).lent ++ held_of self.now) block) }
@@ -47,7 +47,8 @@ impl Receiving {
         }
     }
 
-    /// Closes the ring, if it isn't closed yet. The blocks of packets that the ring keeps return to the arena.
+    /// Closes the ring, if it isn't closed yet. The blocks of packets that the ring hasn't handed out yet return to the
+    /// arena.
     pub(crate) fn close(self, arena: &mut Arena) -> Result<(Reclaim, Vec<Record>), Receiving>
         requires { AreOut arena.old ((received_way self).lent ++ held_of self) }
         ensures way { IfOk result (λ ends. ends.0 ≡ received_way self) }
@@ -77,7 +78,7 @@ impl Sending {
         }
     }
 
-    /// Returns whether the block with this number is out.
+    /// Returns whether this half still has the block with this number in use.
     pub(crate) fn has(&self, block: u32) -> bool
         ensures { (result ≡ true) ↔
             (0 < times_in_hand ((sent_way self.now).lent ++ waiting_of self.now) block) }
@@ -88,7 +89,7 @@ impl Sending {
         }
     }
 
-    /// Closes the ring, if it isn't closed yet. The blocks of waiting segments return to the arena.
+    /// Closes the ring, if it isn't closed yet. The blocks of segments that still wait to be lent return to the arena.
     pub(crate) fn close(
         self,
         alloc: Global,

@@ -29,8 +29,8 @@ use std::alloc::Global;
 use std::collections::VecDeque;
 use std::marker::Model;
 
-/// A driver that isn't running: its start failed with a block lent, or its stop has begun. A `Halted` can't be dropped,
-/// because its arena can't be; `stop` ends it.
+/// A driver that isn't running: its start failed after it had lent a block, or its stop has begun. A `Halted` can't be
+/// dropped, because its arena can't be; `stop` ends it.
 pub struct Halted {
     arena: Arena,
     receive: Receiving,
@@ -49,7 +49,8 @@ impl Model for Halted {
 }
 
 impl Halted {
-    /// Creates a driver from the two rings of one queue, whose blocks are out of the arena. It allocates nothing.
+    /// Creates a driver from the two rings of one queue. The arena owns the rings' blocks, and none of them is free
+    /// there. The function allocates nothing.
     pub fn of_rings(arena: Arena, receive: ReceiveRing, transmit: TransmitRing) -> Halted
         requires { AreOut arena (blocks_out receive ++ kept_out transmit) }
         ensures { result ≡ with_rings arena receive transmit }
@@ -62,8 +63,8 @@ impl Halted {
         }
     }
 
-    /// Creates a driver from a receive ring and some blocks lent for a transmit ring that doesn't exist yet. The
-    /// receive ring's blocks and these blocks are out of the arena. It allocates nothing.
+    /// Creates a driver from a receive ring and some blocks lent for a transmit ring that doesn't exist yet. The arena
+    /// owns the receive ring's blocks and these blocks, and none of them is free there. The function allocates nothing.
     pub fn of_receive(
         alloc: Global,
         arena: Arena,
@@ -81,8 +82,8 @@ impl Halted {
         }
     }
 
-    /// Creates a driver from some blocks that were lent for a receive ring and are out of the arena. It allocates
-    /// nothing.
+    /// Creates a driver from some blocks that were lent for a receive ring. The arena owns these blocks, and none of
+    /// them is free there. The function allocates nothing.
     pub fn of_blocks(alloc: Global, arena: Arena, lent: VecDeque<u32>) -> Halted
         requires { AreOut arena lent.items }
         ensures { result ≡ with_blocks arena lent.items }
@@ -128,14 +129,14 @@ impl Halted {
         fresh_packet(&mut self.arena, len)
     }
 
-    /// Returns whether the driver has the block with this number out.
+    /// Returns whether the driver still has the block with this number in use.
     fn is_out(&self, block: u32) -> bool
         ensures { result ≡ is_out self.now block }
     {
         self.receive.has(block) || self.transmit.has(block)
     }
 
-    /// Returns whether the driver has one of these blocks out.
+    /// Returns whether the driver still has one of these blocks in use.
     fn has_one(&self, bufs: &Bufs) -> bool
         ensures { result ≡ list_any (λ n. is_out self.now n) (numbers_of bufs.now) }
     {
@@ -156,7 +157,7 @@ impl Halted {
 
     /// Returns a packet's blocks to the arena. If one of the blocks can't go back to the arena, the caller gets the
     /// packet back instead. A block can't go back if the arena doesn't own its number, the block is already free, it
-    /// occurs twice in the packet, or this driver has it out.
+    /// occurs twice in the packet, or this driver still has it in use.
     pub fn release(&mut self, packet: Packet) -> Result<(), Packet>
         ensures ok { IsOk result ↔ (goes_back self.old packet ≡ true) }
         ensures released { OnOk result
@@ -178,20 +179,21 @@ impl Halted {
 impl Halted {
     /// Stops the driver: closes the rings, disables both sides of the queue, and returns all blocks to the arena.
     ///
-    /// `Call(OutOfMemory)` before any event if there is no memory to close a ring. After that, `StartTimeout` if a side
-    /// isn't disabled within the permitted polls, `DeviceFault` if the port doesn't have a register that `stop`
-    /// accesses, and `Call` if a call was refused. The error contains the driver in its current state, and you can call
-    /// `stop` again. That call writes "off", polls again, and continues with the blocks that are still out. A block
-    /// that the device no longer has is lost.
+    /// Fails with `Call(OutOfMemory)` before any event if there is no memory to close a ring. After that, it fails with
+    /// `StartTimeout` if a side isn't disabled within the permitted polls; with `DeviceFault` if the port doesn't have
+    /// a register that `stop` accesses; with `Call` if a call was refused. The error contains the driver in its current
+    /// state, and you can call `stop` again. That call writes "off", polls again, and continues with the blocks that
+    /// haven't been returned yet. A block that the device no longer has when `stop` tries to take it back is lost.
     pub fn stop<N: Nic>(self, alloc: Global, nic: &mut N, queue: &Queue) -> Result<Home, StopFailed>
-        // Apart from device steps in between, it makes only these calls: it requests that both sides be disabled, polls
-        // both sides, with fewer than 1,000 polls that show a side on, and takes each block back.
+        // If the stop succeeds, it has made only these calls, apart from device steps in between. It requested that
+        // both sides be disabled, polled both sides, with fewer than 1,000 polls that showed a side on, and took each
+        // block back.
         ensures home { IfOk result (λ home. Stops queue.now (N.made nic.old) self (N.made nic.new) home) }
         // The arena owns the same numbers as before.
         ensures owns { IfOk result (λ home. (n : ℕ) → is_own home.arena n ≡ is_own self.arena n) }
-        // If no block is lost, the free numbers are those that were free before and those that the driver had out. If a
-        // block is lost, clause `home` determines the free numbers. Each number is free or not as before, except that
-        // the numbers in hand and the numbers of blocks that the device returned are free.
+        // If no block is lost, the free numbers are those that were free before and those of the blocks that the driver
+        // had in use. If a block is lost, clause `home` determines the free numbers: those that were free before, those
+        // of the blocks in hand, and those of the blocks that the device returned.
         ensures free { IfOk result (λ home. home.lost ≡ 0
             → (n : ℕ) → is_free home.arena n ≡ is_free_or_out self.arena (all_out self) n) }
         ensures failed { IfErr result (λ failed.
@@ -209,7 +211,7 @@ impl Halted {
         }
     }
 
-    /// Closes the rings. If memory runs out, one of the rings may already be closed.
+    /// Closes both rings. If memory runs out, returns the driver; one of its rings may then already be closed.
     fn close(self, alloc: Global) -> Result<Leaving, Halted>
         ensures closed { IfOk result (λ leaving. leaving_as leaving ≡ closed self) }
         ensures out { IsHalted self }
@@ -244,7 +246,7 @@ impl Halted {
         }
     }
 
-    /// Creates a driver from the parts of a driver with closed rings.
+    /// Turns a driver with closed rings back into a `Halted`.
     pub(crate) fn of_leaving(leaving: Leaving) -> Halted
         requires { IsHalted (leaving_as leaving) }
         ensures { result ≡ leaving_as leaving }

@@ -6,10 +6,10 @@
 //! for the rings and runs these steps in order. `driver.rt` contains the whole driver, `Pmd`, from its start to its
 //! stop.
 //!
-//! `Halted` is a driver whose start failed with a block lent, or whose stop has begun. `Halted::stop` disables both
-//! sides of its queue and takes its blocks back; if a stop fails, you can call it again. `ends.rt` contains the two
-//! halves of a `Halted`: each half is a ring, or blocks that are being returned. `stopping.rt` contains the steps after
-//! both rings are closed.
+//! `Halted` is a driver whose start failed after it had lent a block, or whose stop has begun. `Halted::stop` disables
+//! both sides of its queue and takes its blocks back; if a stop fails, you can call it again. `ends.rt` contains the
+//! two halves of a `Halted`: each half is a ring, or blocks that are being returned. `stopping.rt` contains the steps
+//! after both rings are closed.
 #![tactic(auto)]
 
 mod arriving;

@@ -1,5 +1,5 @@
-//! Brings up a driver's rings, with one function for each step. A step that fails has taken only those blocks out of
-//! the arena that it lent.
+//! Brings up a driver's rings, with one function for each step. If a step fails, the only blocks that it has taken from
+//! the arena are those that it lent.
 
 ghost use Rattle.std.specs.Prelude.{◌≡◌, ◌≤◌, ◌+◌, [], true};
 ghost use Rattle.std.specs.List.{range_with_len};
@@ -19,7 +19,7 @@ use pmd_tx::TransmitRing;
 use std::alloc::Global;
 use std::collections::VecDeque;
 
-/// A ring that wasn't prepared: the reason, and the numbers of its blocks that are lent.
+/// Why a ring couldn't be prepared, and the numbers of the ring's blocks that are already lent.
 pub(crate) struct Unprepared {
     pub(crate) fault: PmdFault,
     pub(crate) lent: VecDeque<u32>,
@@ -112,8 +112,8 @@ fn prepare<N: Nic>(
     }
 }
 
-/// Ensures that both sides of the queue are off, then prepares an empty receive ring with 8 to 1,024 descriptors. The
-/// ring's blocks are free in the arena and start at block `ring`.
+/// Disables both sides of the queue as `Queue::disable_both` does, then prepares an empty receive ring with 8 to 1,024
+/// descriptors. The ring's blocks are free in the arena and start at block `ring`.
 pub(crate) fn receive_ring<N: Nic>(
     alloc: Global,
     nic: &mut N,

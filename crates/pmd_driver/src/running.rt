@@ -48,9 +48,9 @@ impl Model for Running {
 }
 
 impl Running {
-    /// Creates a driver from two rings that are up and whose blocks are out of the arena. In the receive ring, one slot
-    /// is vacant, and the slots of held and complete packets aren't posted; all other slots are posted. The transmit
-    /// ring has at least one slot.
+    /// Creates a driver from two rings that are up. The arena owns the rings' blocks, and none of them is free there.
+    /// In the receive ring, every slot is posted except one vacant slot and the slots of packets that the driver has
+    /// received, wholly or in part, but not handed out. The transmit ring has at least one slot.
     pub fn new(arena: Arena, receive: ReceiveRing, transmit: TransmitRing) -> Running
         requires { IsUp (record { arena = arena; receive = receive; transmit = transmit }) }
         ensures { result ≡ record { arena = arena; receive = receive; transmit = transmit } }
@@ -122,7 +122,8 @@ impl Running {
     ///
     /// Fails with `NoBuffer` if a packet is waiting and too few blocks are free for it; with `DeviceFault` if a reply
     /// is one that a healthy queue never sends; with `Call` if a call was refused, or if there was no memory for the
-    /// packet's record. The driver keeps its position, and the next call continues from there.
+    /// packet's record. After a failure, the driver keeps its position in the ring, and the next call continues from
+    /// there.
     pub fn rx<N: Nic>(&mut self, alloc: Global, nic: &mut N) -> Result<Option<Packet>, PmdFault>
         ensures drives { DrivesRings (N.made nic.old) self.old (N.made nic.new) self.new }
         ensures received { IsReceiveCall result (N.made nic.old) self.old (N.made nic.new) self.new }
@@ -135,13 +136,13 @@ impl Running {
         self.receive.receive(alloc, nic, &mut self.arena)
     }
 
-    /// Receives the next packets in order, up to `most`. Appends them to `packets` after the tail has passed the blocks
-    /// that replace the packets' blocks. Returns the number of packets received, which is 0 only if `most` is 0 or the
-    /// slot after those already seen isn't done. The contract doesn't promise how many packets, from 1 to `most`, the
-    /// call returns.
+    /// Receives the next packets in order, up to `most`. Before it appends them to `packets`, it replaces their blocks
+    /// in the ring and advances the tail past the new blocks. Returns the number of packets received. This number is 0
+    /// only if `most` is 0, or if the slot after those already found done isn't done. Otherwise, the contract doesn't
+    /// specify how many packets, from 1 to `most`, the call returns.
     ///
-    /// It fails for the same reasons as `rx`, and only if it returns no packet; the next call continues from there. It
-    /// also returns `Call` if there is no memory to append the packets.
+    /// It fails for the same reasons as `rx`, and only if it returns no packet. The next call continues where the
+    /// failed call stopped. It also returns `Call` if there is no memory to append the packets.
     pub fn rx_burst<N: Nic>(
         &mut self,
         alloc: Global,
@@ -168,14 +169,14 @@ impl Running {
     /// bytes of the packet.
     ///
     /// It checks the packet before any event. Fails with `BadSize` if the packet's length is 0, above the frame limit
-    /// less 4, or above the capacity of its Bufs; with `ForeignBlock` if `release` would return the packet; with
+    /// less 4, or above the capacity of its Bufs; with `ForeignBlock` if `release` would refuse the packet; with
     /// `RingFull` if the outstanding descriptors and the packet's descriptors together would leave no slot of the ring
     /// vacant.
     ///
     /// After that, it fails with `DeviceFault` if the device sends a reply that a healthy queue can't send; with `Call`
     /// if a call was refused, or if there was no memory for the record. If none of the packet's blocks was lent yet,
-    /// the packet is returned; after `DeviceFault`, its blocks have the same numbers. Otherwise the packet is accepted,
-    /// and the next call continues with it.
+    /// the error returns the packet. After `DeviceFault`, the contract promises only that the returned packet's blocks
+    /// have the same numbers. If a block was already lent, the packet is accepted, and the next call continues with it.
     pub fn tx<N: Nic>(
         &mut self,
         alloc: Global,
@@ -195,9 +196,9 @@ impl Running {
             .send(alloc, nic, &mut self.arena, elsewhere, packet)
     }
 
-    /// Frees the blocks of sent packets, oldest first. It first continues with a packet that has waited since an
-    /// earlier call. If `reap` returns without a fault, its clauses promise that the tail has passed both the freed
-    /// packets and the oldest remaining packet.
+    /// Frees the blocks of sent packets, oldest first. If an earlier call left a packet unfinished, `reap` first
+    /// continues with that packet. If `reap` returns without a fault, its clauses promise that the tail has passed both
+    /// the freed packets and the oldest remaining packet.
     ///
     /// Fails with `DeviceFault` if the device sends a reply that a healthy queue can't send, or with `Call` if a call
     /// was refused. Blocks already freed stay free.
@@ -230,8 +231,8 @@ impl Running {
             .queue(alloc, nic, &mut self.arena, elsewhere, packet)
     }
 
-    /// Advances the tail past all accepted packets, unless the tail is already there. Before that, it finishes the last
-    /// packet if a part of this packet is waiting.
+    /// Advances the tail past all accepted packets, unless the tail is already there. If a part of the last packet
+    /// still waits to be queued, it finishes that packet first.
     ///
     /// Fails with `DeviceFault` if the device sends a reply that a healthy queue can't send, or with `Call` if a call
     /// was refused; the next call continues.
@@ -257,7 +258,7 @@ impl Running {
         fresh_packet(&mut self.arena, len)
     }
 
-    /// Returns whether the receive ring owns one of these blocks.
+    /// Returns whether the receive ring has one of these blocks in use.
     fn receives(&self, bufs: &Bufs) -> bool
         ensures { result
             ≡ list_any (λ n. nat_lt 0 (times_in_hand (blocks_out self.now.receive) n)) (numbers_of bufs.now) }
@@ -279,7 +280,7 @@ impl Running {
 
     /// Returns a packet's blocks to the arena. If one of the blocks can't go back to the arena, the caller gets the
     /// packet back instead. A block can't go back if the arena doesn't own its number, the block is already free, it
-    /// occurs twice in the packet, or this driver has it out.
+    /// occurs twice in the packet, or this driver still has it in use.
     pub fn release(&mut self, packet: Packet) -> Result<(), Packet>
         ensures ok { IsOk result ↔ (goes_back self.old packet ≡ true) }
         ensures released { OnOk result (IsReleased self.old packet self.new) }

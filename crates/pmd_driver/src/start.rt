@@ -75,7 +75,8 @@ fn find_places(arena: &Arena, size: u16) -> Option<Places>
     Some(Places { receive, transmit })
 }
 
-/// Returns the queue and the first blocks of its rings, unless the start is refused before any event.
+/// Checks, before any event, whether a start is refused. If it isn't, returns the queue and the first block of each
+/// ring.
 fn named(
     arena: &Arena,
     port: Port,
@@ -101,7 +102,7 @@ fn named(
     }
 }
 
-/// Returns the refusal of a start that lent no block; it contains the arena.
+/// Creates the error for a start that failed before it had lent a block. The error contains the arena.
 fn at_home(alloc: Global, fault: PmdFault, arena: Arena) -> StartRefused
     ensures fault { result.fault ≡ fault }
     ensures rest { IsHome arena result.rest }
@@ -117,7 +118,7 @@ fn at_home(alloc: Global, fault: PmdFault, arena: Arena) -> StartRefused
     }
 }
 
-/// Returns the refusal of a start that lent blocks; it contains a driver with these blocks.
+/// Creates the error for a start that failed after it had lent blocks. The error contains a driver with these blocks.
 fn half_started(fault: PmdFault, queue: Queue, halted: Halted) -> StartRefused
     ensures { result ≡ record {
       fault = fault;
@@ -130,8 +131,8 @@ fn half_started(fault: PmdFault, queue: Queue, halted: Halted) -> StartRefused
     }
 }
 
-/// Returns the refusal of a start that failed while preparing the receive ring. The ring's blocks that are already lent
-/// are out of the arena.
+/// Creates the error for a start that failed while it prepared the receive ring. The arena owns the ring's blocks that
+/// are already lent, and none of them is free there.
 fn left_before_one(
     alloc: Global,
     queue: Queue,
@@ -149,8 +150,8 @@ fn left_before_one(
     half_started(fault, queue, Halted::of_blocks(alloc, arena, lent))
 }
 
-/// Returns the refusal of a start that failed while preparing the transmit ring. The receive ring's blocks are out of
-/// the arena, and so are the transmit ring's blocks that are already lent.
+/// Creates the error for a start that failed while it prepared the transmit ring. The arena owns the receive ring's
+/// blocks and the transmit ring's blocks that are already lent, and none of them is free there.
 fn left_after_one(
     alloc: Global,
     queue: Queue,
@@ -233,11 +234,12 @@ impl Pmd {
     /// posted for incoming frames. A frame is at most `frame` bytes long, including its frame check sequence; `frame`
     /// is from 1,518 to 9,728.
     ///
-    /// Before any event, it checks in this order and fails with `BadSize` if the size or the frame length is out of
-    /// range; with `NoBuffer` if too few blocks are free, or no two such runs are free; with `DeviceFault` if the port
-    /// can't address the queue. After that, it fails with `DeviceFault` if a side of the queue is on, or if the device
-    /// sends a reply that a healthy queue can't send; with `StartTimeout` if 1,000 polls show a side off; with `Call`
-    /// if a call was refused. If a block was already lent, the error contains the half-started driver.
+    /// Before any event, it checks its arguments in this order. It fails with `BadSize` if the size or the frame length
+    /// is out of range; with `NoBuffer` if too few blocks are free, or no two such runs are free; with `DeviceFault` if
+    /// the port can't address the queue. After that, it fails with `DeviceFault` if a side of the queue is on, or if
+    /// the device sends a reply that a healthy queue can't send; with `StartTimeout` if 1,000 polls show a side off;
+    /// with `Call` if a call was refused. If the start had already lent a block, the error contains the half-started
+    /// driver; otherwise it contains the arena.
     pub fn start<N: Nic>(
         alloc: Global,
         nic: &mut N,
@@ -249,9 +251,9 @@ impl Pmd {
     ) -> Result<Pmd, StartRefused>
         ensures shut { IsShut (start_gate arena (record { port = port; queue = queue }) size frame) arena
             (N.made nic.old) (N.made nic.new) result }
-        // Before it lent any block, the driver read that both sides are off, wrote "off", and read again that they are
-        // off. It wrote the registers of one ring and lent the ring's free, consecutive blocks in order; then it did
-        // the same for the other ring. It requested that both sides be enabled, polled both sides, with fewer than
+        // Before it lent any block, the driver read that both sides were off, wrote "off", and read again that they
+        // were off. It wrote the registers of one ring and lent the ring's free, consecutive blocks in order; then it
+        // did the same for the other ring. It requested that both sides be enabled, polled both sides, with fewer than
         // 1,000 polls that showed a side off, and filled the receive ring. Apart from device steps in between, it made
         // no other calls.
         ensures started { IfOk result (λ p. HasStarted (record { port = port; queue = queue }) size frame

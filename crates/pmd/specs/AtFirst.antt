@@ -9,8 +9,9 @@ use Rattle.pmd.specs.{Points.HoldsAtFirst, Points.JustBefore, Quiet.NeverAskedOn
 use Rattle.pmd.specs.declared.beginning.Given.{Given}
 use Rattle.driver_laws.specs.Asked as asked
 
--- If a driver begins well in a history of a new device, its port and queue name the watched queue just before its first
--- event. The device's frame limit is then the limit of the driver's frames.
+-- Take a history of a new device in which a driver begins well. Just before the driver's first event, its port and
+-- queue number identify the watched queue, and the device's frame limit matches the maximum length of the driver's
+-- frames.
 abbrev pub BegunHasGround : Type 0
 BegunHasGround =
     (w : Watched) (fifo : ℕ) (old : List Call) (given : Given) (h : List Entry) →

@@ -1,5 +1,5 @@
--- Whether a driver begins well according to the entries before its first entry: when it starts, its port and queue name
--- its queue, and the device's frame limit is the one that it was given.
+-- Whether a driver begins well according to the entries before its first entry: when it starts, its port and queue
+-- number identify its queue, and the device's frame limit matches the frame length that it was given.
 use Rattle.std.specs.Prelude.{ℕ, ◌≡◌, ◌==◌, ◌&&◌, Bool, false, List, length, Option, Some, None}
 use Rattle.pmd_driver.specs.DeviceLock.Reported.{first_settings, limit_of, settings_through}
 use Rattle.pmd_driver.specs.DeviceLock.declared.alone.Watched.{Watched}
@@ -11,8 +11,8 @@ use Rattle.pmd.specs.Queues.{queue_at}
 use Rattle.pmd.specs.Starts.{Starts}
 use Rattle.pmd.specs.declared.beginning.Given.{Given}
 
--- With these settings, port and queue name the watched queue, and the device's frame limit is the limit of the driver's
--- frames.
+-- With these settings, port and queue number identify the watched queue, and the device's frame limit matches the
+-- maximum length of the driver's frames.
 pub record Fits (w : Watched) (s : Settings) (x : Given) : Type 0 where
   pub names : queue_at s.mode w.vfs x.port x.queue ≡ Some w.queue
   pub limit : limit_of s.frames ≡ packet_limit x.frame

@@ -22,17 +22,18 @@ pub record IsEndOf (j : Job) (pass : PassValue) (rest : Rest) (reported : List R
     Type 0 where
   pub bench : pass.bench ≡ j.pass.bench
   pub tag : pass.tag ≡ j.pass.tag
-  -- With a thread, the calls added to its pass are the life of one driver of the job's queue.
+  -- If the worker had a thread, the calls added to its pass are the life of one driver of the job's queue.
   pub lived : fault ≢ Some NoThread
       → HasRun (record { port = j.port; queue = j.queue }) j.size j.frame j.pass.calls j.arena pass.calls rest fault
   -- There is one report for each packet that its driver handed out.
   pub reports : reported ≡ reports_of j.queue (left_handed rest)
   pub few : length reported ≤ j.rounds
-  -- Without a fault, the driver stopped.
+  -- If there is no fault, the driver was stopped.
   pub home : IfNone fault (is_home rest ≡ true)
-  -- No block is missing: if none is lost, the same numbers as before are free in an arena that was returned.
+  -- No block is missing: if the arena was returned and no block is lost, the same numbers are free in the arena as
+  -- before.
   pub whole : IsWhole j.arena rest
-  -- Without a thread, nothing was done.
+  -- If the worker had no thread, nothing was done.
   pub idle : fault ≡ Some NoThread → (pass ≡ j.pass) × IsHome j.arena rest
 
 -- What an assignment's thread returns.

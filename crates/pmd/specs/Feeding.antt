@@ -13,7 +13,7 @@ abbrev pub is_done : Reply Block → Bool
 is_done Done = true
 is_done other = false
 
--- The number of these calls that were done.
+-- The number of these calls that got the reply `Done`.
 abbrev pub done_in : List Call → ℕ
 done_in calls = count_by (λ (c : Call). is_done c.reply) calls
 

@@ -8,8 +8,8 @@ use Rattle.pmd.specs.Starts.{Starts}
 abbrev pub JustBefore : (vfs fifo tag : ℕ) → List Call → List Entry → (State → Type 0) → Type 0
 JustBefore vfs fifo tag old h P = (x : Starts tag old h) → P (leads_to (new_state vfs fifo) x.before)
 
--- The property also holds just before the next call that the pass makes after these calls, where a start begins, and
--- for a driver that started there.
+-- The property holds just before the driver's first entry. It also holds just before the next call that the pass makes
+-- after these calls, with which a start begins, and for every driver that started there.
 pub record HoldsAtFirst (w : Watched) (fifo : ℕ) (old : List Call) (h : List Entry) (P : State → Type 0) : Type 0 where
   pub first : JustBefore w.vfs fifo w.pass old h P
   pub next : BeforeNext w (new_state w.vfs fifo) h old P

@@ -1,4 +1,4 @@
--- Which device queue a queue's number at a port names, given how the mode divides the queues.
+-- Which device queue a queue number at a port identifies, given the pool mode.
 use Rattle.std.specs.Prelude.{ℕ, ◌+◌, nat_lt, Option, Some, None, if◌then◌else◌}
 use Rattle.pmd_driver.specs.NicDevice.VfMap.Pools.{queues_of}
 use Rattle.pmd_driver.specs.NicDevice.VfMap.declared.mode.Mode.{Mode}

@@ -26,8 +26,8 @@ abbrev pub is_enable : ℕ → Option Place → Bool
 is_enable queue None = false
 is_enable queue (Some p) = is_enable_row p.row && (p.index == queue)
 
--- The event tries to enable the queue, given how the mode divides the queues: it writes a value with bit 25 set to an
--- enable register, through any port and address.
+-- The event tries to enable the queue, given the pool mode: it writes a value with bit 25 set to an enable register,
+-- through any port and address.
 abbrev pub asks_on : Watched → Mode → Event Block → Bool
 asks_on w mode (event.Write port number word) = is_enable w.queue (place_at mode w.vfs port number) && has_bit 25 word
 asks_on w mode other = false

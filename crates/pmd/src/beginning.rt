@@ -1,5 +1,5 @@
 //! Whether a driver begins well according to the entries of a history: when the driver starts, its port and queue
-//! number name its queue, and the device's frame limit is the one that the driver was given.
+//! number identify its queue, and the device's frame limit matches the frame length that the driver was given.
 
 ghost use Rattle.std.specs.Prelude.{◌≡◌, ◌↔◌, true, IsTrue};
 ghost use Rattle.pmd.specs.Beginning.{BeginsWell, begins, is_queue};
@@ -22,9 +22,9 @@ pub struct Given {
     pub frame: u16,
 }
 
-/// Returns the device queue, below 128, that a queue number at a port names, in this pool mode and with `vfs` virtual
-/// functions. Returns `None` if there is no such queue. The physical function's queue numbers are the device's; a
-/// virtual function's queue numbers count from the first queue in its pool.
+/// Returns the device queue, below 128, that a queue number at a port identifies, in this pool mode and with `vfs`
+/// virtual functions. Returns `None` if there is no such queue. The physical function's queue numbers are the device's;
+/// a virtual function's queue numbers count from the first queue in its pool.
 pub fn queue_at(mode: Mode, vfs: u8, port: Port, number: u16) -> Option<u16>
     ensures { result ≡ queue_at mode vfs port number }
 {
@@ -53,9 +53,9 @@ fn begins(watched: Watched, settings: Settings, given: Given) -> bool
 }
 
 /// Returns whether a driver begins well in a history of a new device. Just before the driver's first event, its port
-/// and queue must name the watched queue, and the device's frame limit must be the limit of the driver's frames. The
-/// driver's first event comes after `from` calls made by its pass and isn't a device step. Returns true if there is no
-/// such event. This function allocates nothing.
+/// and queue number must identify the watched queue, and the device's frame limit must be `given.frame` less the 4
+/// bytes of the check sequence. The driver's first event comes after `from` calls made by its pass and isn't a device
+/// step. Returns true if there is no such event. This function allocates nothing.
 pub fn begins_well(watched: Watched, from: usize, given: Given, history: &[Entry]) -> bool
     ensures { IsTrue result ↔ BeginsWell watched from given history.now }
 {

@@ -40,7 +40,7 @@ pub struct Order {
     pub rounds: u32,
 }
 
-/// Waits at a point of the gate.
+/// Waits at a point until the gate lets the worker pass.
 fn meet<G: Gate>(gate: &G, worker: usize, point: u8) -> Result<(), WorkerFault>
     ensures fault { IfErr result (λ fault. is_threadless fault ≡ false) }
     ensures shut { OnErr result (G.shuts gate.now worker) }
@@ -114,7 +114,8 @@ fn end<N: Nic>(alloc: Global, nic: &mut N, rest: Rest) -> Rest
     }
 }
 
-/// Returns the first of two faults: the fault of the worker's rounds, then the fault of the stop.
+/// Returns the fault that ended the worker's rounds early. If there is none, returns the fault for which the stop was
+/// refused, if any.
 fn first_fault(worked: Result<(), WorkerFault>, late: Option<PmdFault>) -> Option<WorkerFault>
     ensures { result ≡ first_fault worked late }
 {
@@ -165,9 +166,10 @@ fn drive<G: Gate, N: Nic>(
 /// packets it sent, passes point 2, and stops the driver.
 ///
 /// If a driver call fails or the gate is shut, it leaves the gate, tries once to stop the driver, and returns the
-/// reason. It sends one report for each packet that its driver handed out, in order, numbered from 0. The calls made
-/// are the life of this one driver, apart from what its `Nic` adds. How often the worker looks, what it sends, and that
-/// it passes and leaves the gate isn't promised; tests check these facts.
+/// reason. It sends one report for each packet that its driver handed out, in order, numbered from 0. Apart from the
+/// device steps that the `Nic` adds, all calls made are those of this one driver, from its start to its stop. The
+/// contract doesn't specify how often the worker looks, what it sends, or that it passes and leaves the gate; tests
+/// check these facts.
 pub fn run_worker<G: Gate, N: Nic>(
     alloc: Global,
     nic: &mut N,

@@ -46,11 +46,11 @@ fn room_of(frame: u16) -> usize
     BLOCK_BYTES * ((packet + BLOCK_BYTES - 1) / BLOCK_BYTES)
 }
 
-/// Returns whether the frames accepted before a driver's start fit its packets, in a history of a new device. A frame
-/// fits if it isn't longer than the maximum number of blocks in a packet, at 2,048 bytes each. This maximum is for
-/// frames of at most `frame` bytes, including their check sequence. The check covers entries before the driver's first
-/// event, which comes after `from` calls made by its pass and isn't a device step. A dropped frame doesn't count.
-/// Returns true if there is no such event. This function allocates nothing.
+/// Returns whether the frames accepted before a driver's start fit its packets, in a history of a new device. A
+/// driver's packet has at most as many blocks of 2,048 bytes as a frame of `frame` bytes needs without its check
+/// sequence. A frame fits if it isn't longer than these blocks together; dropped frames don't count. The check covers
+/// the entries before the driver's first event, which comes after `from` calls made by its pass and isn't a device
+/// step. Returns true if there is no such event. This function allocates nothing.
 pub fn frames_fit(watched: Watched, from: usize, frame: u16, history: &[Entry]) -> bool
     ensures { IsTrue result ↔ FramesFit watched from (2048 * most_blocks frame) history.now }
 {

@@ -12,7 +12,7 @@ use std::sync::Wait;
 use std::thread;
 use std::thread::{Promise, PromisedHandle, Scope, Threads};
 
-/// States that a thread returns a result that this task may have.
+/// States that a thread returns a result that this task may return.
 #[derive(Drop)]
 struct EndOf<T>(Snapshot<T>);
 
@@ -72,7 +72,7 @@ fn begin<'s, V: 's, E: Send + 's, T: Task<E> + Send + 's>(
     }
 }
 
-/// Returns the result of a task, after the task's thread has returned it.
+/// Returns the result of a task. If the task has a thread, waits until the thread has returned the result.
 fn finish<R: Threads, E, T: Task<E>>(rt: &R, seat: Seat<E, T>) -> E
     ensures made { IfOk seat (λ thread. T.ends thread.promise.0.value result) }
     ensures refused { IfErr seat (λ end. manually_drop_value end ≡ result) }
@@ -108,7 +108,7 @@ fn run_cells<'s, V: 's, R: Threads, E: Send + 's, T: Task<E> + Send + 's, H: FnM
     }
 }
 
-/// Ends a loan.
+/// Takes a `&mut` back at the end of a loan and leaves the value unchanged.
 fn end_loan<L>(lent: &mut L)
     ensures { lent.new ≡ lent.old }
 {}
@@ -117,7 +117,8 @@ fn end_loan<L>(lent: &mut L)
 ///
 /// `run` waits for each thread that was created, however long the thread takes to begin. If no thread can be created,
 /// the task is given up before the host is called, and from then on the task's `Start` says so. The clauses promise
-/// that each task ends with a result that it may have and that the host was called, but nothing about threads.
+/// that each task ends with a result that it may return, and that the host was called. They promise nothing about
+/// threads.
 pub fn run<R: Threads + Wait, E: Send, T: Task<E> + Send, H: FnMut()>(
     rt: &R,
     starts: &[Start],

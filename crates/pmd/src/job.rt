@@ -16,7 +16,7 @@ pub struct Job {
     /// The number of the worker's queue at that port.
     pub queue: u16,
     /// The device queue, below 128, whose device steps run before each of the worker's calls. It should be the queue
-    /// that `port` and `queue` name when the worker starts (`queue_at`).
+    /// that `port` and `queue` identify when the worker starts (`queue_at`).
     pub pf_queue: u16,
     /// The number of descriptors in each ring: a multiple of 8 from 8 to 1,024.
     pub size: u16,
@@ -30,8 +30,8 @@ pub struct Job {
 
 impl Job {
     /// Returns whether the device steps before the worker's calls serve the worker's own queue. They do if `pf_queue`
-    /// is the queue that `port` and `queue` name, in this pool mode and with `vfs` virtual functions. If they don't,
-    /// only others can enable the worker's queue.
+    /// is the queue that `port` and `queue` identify, in this pool mode and with `vfs` virtual functions. If they
+    /// don't, the worker's queue is enabled only if somebody else runs the device steps that serve it.
     pub fn steps_its_queue(&self, mode: Mode, vfs: u8) -> bool
         ensures { IsTrue result ↔ (queue_at mode vfs self.now.port self.now.queue ≡ Some self.now.pf_queue) }
     {

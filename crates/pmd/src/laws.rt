@@ -8,10 +8,11 @@
 ghost use Rattle.pmd.specs.AtFirst.{BegunHasGround, FramesFitIsShort, NeverAskedIsQuiet, OthersLendNoneIsAlone};
 ghost use Rattle.pmd.specs.Order.{EndsAreInOrder};
 
-/// A worker's result is in order over every history of a new device that leaves the job's queue alone and in which the
-/// job's driver begins well. The driver begins well if two conditions hold just before its first event. Its port and
-/// queue name the job's queue, and the device's frame limit is the limit of the job's frames. If the result has a
-/// fault, both sides must also be off at that point, with no enable request pending.
+/// Take a history of a new device that leaves a job's queue alone and in which the job's driver begins well. This means
+/// that just before the driver's first event, its port and queue number identify the job's queue, and the device's
+/// frame limit matches the maximum length of the job's frames. If the worker's result has a fault, both sides of the
+/// queue must also be off at that point, with no enable request pending. The worker's result is then in order over this
+/// history.
 ///
 /// Two facts hold over such a history, up to the last call recorded in the worker's pass. The packets that the result
 /// reports as handed out are a prefix of those delivered on the queue. The frames sent on the queue are a prefix of
@@ -22,9 +23,9 @@ pub fn ends_are_in_order()
 {}
 
 /// Take a history of a new device in which `begins_well` is true of a driver. Just before the driver's first event, its
-/// port and queue name the watched queue, and the device's frame limit is the limit of the driver's frames. The clause
-/// `order` of `run_workers` requires this. The laws in `driver_laws` about a driver's life after the same calls made by
-/// its pass require it too.
+/// port and queue number identify the watched queue, and the device's frame limit matches the maximum length of the
+/// driver's frames. The clause `order` of `run_workers` requires this. So do the laws in `driver_laws` about the life
+/// of a driver that starts after the same calls made by its pass.
 pub fn worker_begins_well()
     ensures { BegunHasGround }
 {}
@@ -37,10 +38,10 @@ pub fn worker_starts_quiet()
 {}
 
 /// Take a legal history of a new device in which `others_lend_none` is true of a driver and of its arena's blocks.
-/// After the first entry of the driver's pass, no other pass tries to lend any of these blocks that the driver's pass
-/// tries to lend. None of those blocks is lent just before the driver's first event. Three laws require this of a
-/// driver's blocks: `driver_laws::no_call_finds_the_device_at_fault`, `no_start_finds_the_device_at_fault` and
-/// `blocks_out_are_lent_at_the_device`.
+/// Consider those of the blocks that the driver's pass tries to lend. After the first entry of the driver's pass, no
+/// other pass tries to lend any of them. Just before the driver's first event, none of them is lent. Three laws require
+/// this of a driver's blocks: `driver_laws::no_call_finds_the_device_at_fault`, `no_start_finds_the_device_at_fault`
+/// and `blocks_out_are_lent_at_the_device`.
 pub fn worker_has_its_blocks_alone()
     ensures { OthersLendNoneIsAlone }
 {}

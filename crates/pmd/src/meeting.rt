@@ -10,10 +10,10 @@ use std::sync::{Condvar, Mutex, MutexGuard, Wait};
 /// The maximum number of members at a gate.
 pub const MAX_MEMBERS: usize = 17;
 
-/// A gate with at most 17 members, which are numbered from 0. In contracts, a `Lockstep` is its number of members.
+/// A gate with at most 17 members, which are numbered from 0. Contracts describe a `Lockstep` by its number of members.
 ///
 /// A member that reaches a point waits until every member that hasn't left has reached that point or a later one. The
-/// contracts don't promise this wait; tests check it.
+/// contracts don't specify this wait; tests check it.
 #[derive(Drop)]
 pub struct Lockstep<'a, R> {
     rt: &'a R,
@@ -57,7 +57,7 @@ impl<'a, R: Wait> Lockstep<'a, R> {
     }
 
     /// Waits until each member has reached a point or a later one, or has left. Returns with the lock held; the state
-    /// under the lock shows that all members have come or left.
+    /// under the lock shows that each member has reached the point or has left.
     fn wait(&self, point: u8) -> MutexGuard<'_, Standings>
         ensures { HaveAllCome point self.now (mutex_guard_value result).of }
     {
@@ -76,7 +76,7 @@ impl<'a, R: Wait> Gate for Lockstep<'a, R> {
     /// anybody.
     fn pass(&self, worker: usize, point: u8) -> bool
         ensures shut { result ≡ false → self.now ≤ worker }
-        // The gate lets a member pass at each point, and nobody else.
+        // The gate lets every member pass every point, and nobody else.
         ensures lets_on { result ≡ nat_lt worker self.now }
     {
         if worker >= self.members {

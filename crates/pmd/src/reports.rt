@@ -68,7 +68,7 @@ impl Collector {
         ensures ring { SameConsumer self.old.consumer self.new.consumer }
         // The room for reports is unchanged.
         ensures room { vec_capacity self.new.reports ≡ vec_capacity self.old.reports }
-        // The reports already taken stay.
+        // The reports already taken are kept.
         ensures kept { IsPrefix self.old.reports.items self.new.reports.items }
         // All reports known to the consumer are taken, while there is room.
         ensures taken { (known_items self.new.consumer ≡ [])

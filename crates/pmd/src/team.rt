@@ -154,27 +154,28 @@ fn run_in<R: Threads + Wait + Sync, G: Gate + Sync, const VFS: u8, const FIFO: u
 /// for each thread that was created, however long the thread takes to begin.
 ///
 /// Take a job with its result, and a history of the device that leaves the job's queue alone and in which the job's
-/// driver begins well. The result is in order over every such history, up to the last call made by the result's pass.
-/// If the result has a fault, both sides of the queue must also be off with no enable request pending just before the
-/// driver's first event.
+/// driver begins well. If the result has a fault, both sides of the queue must also be off just before the driver's
+/// first event, with no enable request pending. The result is then in order over this history, up to the last call made
+/// by the result's pass.
 ///
 /// "In order" means two facts. The packets that the driver handed out are a prefix of those delivered on the queue. The
 /// frames sent on the queue are a prefix of those that the driver accepted. Delivered and sent frames are counted since
-/// the sides were enabled after that event.
+/// the sides were enabled after the driver's first event.
 ///
-/// The result is also in order over the history returned when the passes are closed, if `left_alone` and `begins_well`
-/// are true of the result's pass and the job. If the result has a fault, `never_asked_on` must be true too.
+/// When you close the shared device with its passes, you get one such history if `left_alone` and `begins_well` are
+/// true of the result's pass and the job. If the result has a fault, `never_asked_on` must be true too. The result is
+/// then in order over the returned history.
 ///
-/// A job isn't refused just because its `pf_queue` isn't the queue that its port and queue name. Which queue they name
-/// depends on the device's mode when the job's worker starts, and others may run steps that serve that queue. If nobody
-/// does, the worker ends with `StartTimeout` after 1,000 polls that show a side off. If port and queue name no queue,
-/// the worker ends with `DeviceFault`. `Job::steps_its_queue` checks this in advance.
+/// A job isn't refused if its `pf_queue` isn't the queue that its port and queue number identify. Which queue they
+/// identify depends on the device's mode when the job's worker starts, and others may run steps that serve that queue.
+/// If nobody does, the worker ends with `StartTimeout` after 1,000 polls that show a side off. If port and queue number
+/// identify no queue, the worker ends with `DeviceFault`. `Job::steps_its_queue` checks this in advance.
 ///
-/// How often a worker looks, what it sends, which points it passes, and why the last frames don't arrive isn't
-/// promised; tests check these facts.
+/// The contract doesn't specify how often a worker looks, what it sends, which points it passes, or why the last frames
+/// don't arrive; tests check these facts.
 ///
-/// It fails in this order: `NoJobs` if there are no jobs or more than 16, `Overlap` if two arenas share a block number,
-/// and `OutOfMemory`. Each error returns the jobs and frames, and nothing is done.
+/// It fails with the first of these errors that applies: `NoJobs` if there are no jobs or more than 16, `Overlap` if
+/// two arenas share a block number, or `OutOfMemory`. Each error returns the jobs and frames, and nothing is done.
 pub fn run_workers<R: Threads + Wait + Sync, G: Gate + Sync, const VFS: u8, const FIFO: u16>(
     rt: &R,
     alloc: Global,

@@ -1,5 +1,5 @@
 //! Checks a driver against a closed history in one call. `judge` checks everything that the laws about a driver's
-//! packets and blocks require of a history, and names the first requirement that doesn't hold.
+//! packets and blocks require of a history, and reports the first requirement that isn't met.
 
 ghost use Rattle.std.specs.Prelude.{◌↔◌, IsOk, IfErr};
 ghost use Rattle.pmd.specs.Judged.{IsClear, IsFirst};
@@ -30,8 +30,8 @@ pub struct Driven {
 pub enum Doubt {
     /// Something other than the driver touched the driver's queue or the blocks that it lent; `left_alone` is false.
     Disturbed,
-    /// When the driver started, its port and queue named another queue, or the frame limit was different; `begins_well`
-    /// is false.
+    /// When the driver started, its port and queue number identified another queue, or the frame limit was different;
+    /// `begins_well` is false.
     BeganOtherwise,
     /// Something tried to enable the driver's queue before the driver started; `never_asked_on` is false.
     AskedOnBefore,

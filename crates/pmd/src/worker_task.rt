@@ -14,8 +14,8 @@ use std::alloc::Global;
 use std::marker::Model;
 use std::sync::Wait;
 
-/// A worker's assignment with the gate and the shared device that the worker uses. In contracts, a `WorkerTask` is its
-/// assignment.
+/// A worker's assignment with the gate and the shared device that the worker uses. Contracts describe a `WorkerTask` by
+/// its assignment.
 pub(crate) struct WorkerTask<'a, R: Wait, G: Gate, const VFS: u8, const FIFO: u16> {
     rt: &'a R,
     alloc: Global,

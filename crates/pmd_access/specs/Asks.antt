@@ -15,7 +15,8 @@ refused_in (Ok x) = None
 refused_in (Err x) = Some x.0
 
 -- Everything known about where the `Nic`'s calls began is still known, and the `Nic` may refuse calls for the same
--- reasons as before. If the driver call failed because the `Nic` refused a call, the reason is one of these.
+-- reasons as before. If the driver call failed because the `Nic` refused a call, it refused the call for one of these
+-- reasons.
 pub record Asks {N : Type 0} (known : N → Origin → Type 0) (may : N → Refusals) (f : Option PmdFault) (n m : N) : Type 0
   where
     pub began : BeganAs known n m

@@ -20,7 +20,7 @@ abbrev pub IsDrawn : Numbers → List ℕ → Numbers → Type 0
 IsDrawn a [] b = b ≡ a
 IsDrawn a (n ∷ ns) b = (is_free a n ≡ true) × IsDrawn (with_free a n false) ns b
 
--- The blocks that are out are the blocks that were out before, together with some blocks taken from the arena.
+-- The blocks in `new` are the blocks in `out`, together with some blocks taken from the arena.
 abbrev pub Exchanges : Numbers → List ℕ → Numbers → List ℕ → Type 0
 Exchanges a out b new =
     (drawn : List ℕ) × IsDrawn a drawn b

@@ -18,7 +18,7 @@ impl Queue {
     /// Disables both sides of the queue, the receive side first. For each side, the call checks that the side is off,
     /// writes "off", and checks again.
     ///
-    /// Fails with `DeviceFault` if a side is on or the port has no such register.
+    /// Fails with `DeviceFault` if a side is on or the port doesn't have the register that enables a side.
     pub fn disable_both<N: Nic>(&self, alloc: Global, nic: &mut N) -> Result<(), PmdFault>
         ensures made { OnOk result (AreMade self.now (N.made nic.old) (N.made nic.new) both_quiet) }
         ensures failed { IfErr result (λ f. StopsBy f self.now (N.made nic.old) (N.made nic.new) both_quiet) }
@@ -30,10 +30,10 @@ impl Queue {
     }
 
     /// Enables or disables both sides of the queue, then polls until both sides have switched, the receive side first.
-    /// The two sides share a limit of `POLLS` polls; only polls that show the other state count.
+    /// The two sides share a limit of `POLLS` polls. Only polls that show a state other than the requested one count.
     ///
-    /// Fails with `StartTimeout` if that many polls show the other state, and with `DeviceFault` if the port has no
-    /// such register.
+    /// Fails with `StartTimeout` if that many polls show the other state, and with `DeviceFault` if the port doesn't
+    /// have the register that enables a side.
     pub fn switch_both<N: Nic>(&self, alloc: Global, nic: &mut N, on: bool) -> Result<(), PmdFault>
         ensures switched { OnOk result (IsSwitched self.now (N.made nic.old) (N.made nic.new) on 1000) }
         ensures failed { IfErr result (λ f. SwitchFails f self.now (N.made nic.old) (N.made nic.new) on 1000) }

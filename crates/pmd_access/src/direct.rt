@@ -13,8 +13,8 @@ use device_lock::{CallFault, Calls, Device, Dir, Event, OutOfMemory, Reply};
 use std::alloc::Global;
 use std::marker::Model;
 
-/// A device in hand. Before each call, the device steps of one queue run: both sides of the queue switch, the queue
-/// sends, and the device receives. A `Direct` can't be dropped, because the device can't.
+/// A device in hand. Before each call, the device steps of one queue run: they switch both sides of the queue, then
+/// send, then receive. A `Direct` can't be dropped, because the device can't.
 pub struct Direct {
     device: Device,
     queue: u16,

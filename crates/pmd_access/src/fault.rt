@@ -26,8 +26,8 @@ pub enum PmdFault {
     Call(CallFault<()>),
 }
 
-/// Removes the event, which contains no block, from a refusal. If a `Nic` may refuse for this reason with the event in
-/// the refusal, it may also do so without the event.
+/// Removes the event, which contains no block, from a refusal. If the original refusal is one that a `Nic` may return,
+/// so is the result.
 pub fn without_event(fault: CallFault) -> CallFault<()>
     requires { lent_block (event_of fault) ≡ None }
     ensures fault { result ≡ fault_with fault tt }

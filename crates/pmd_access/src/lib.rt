@@ -6,9 +6,9 @@
 //! instead. In contracts, the events applied through a `Nic` are its list of calls.
 //!
 //! The other modules build on `Nic`. `accesses.rt` contains the accesses that a driver makes, each with the replies
-//! that it can get. `pf_setup` sets up the whole device. A `Queue` knows the numbers of its registers at a port, and
-//! prepares, enables and disables its sides. `slots.rt` is about the slots of a ring, and `Bufs` are a packet's Bufs. A
-//! `Reclaim` returns blocks to their arena.
+//! that it can get. `pf_setup` sets up the whole device. A `Queue` computes the numbers of its registers at a port, and
+//! prepares, enables and disables its sides. `slots.rt` computes the slots, addresses and blocks of a ring, and a
+//! `Bufs` is the list of a packet's Bufs. A `Reclaim` returns blocks to their arena.
 #![tactic(auto)]
 
 mod accesses;

@@ -8,7 +8,7 @@ ghost use Rattle.device_lock.specs.NicDevice.RegisterFile.Queue.{tail_row};
 use device_lock::{Dir, Place, Port, QUEUES, RowId, addr_of};
 use std::marker::Model;
 
-/// The number of queues for which a virtual function's offsets have room.
+/// The number of queues that a virtual function's register offsets have room for.
 const OWN_QUEUES: u16 = 64;
 
 /// The offset of the receive side of a virtual function's first queue. The transmit side starts at twice this offset.
@@ -37,7 +37,7 @@ impl Model for Queue {
 impl Queue {
     /// Returns the queue with this number at a port. Through the physical function, this is one of the device's 128
     /// queues; through a virtual function, one of the function's own queues. Returns `None` if the port can't address
-    /// the queue, because the number is 128 or more at the physical function, or 64 or more at a virtual function.
+    /// the queue: the number is 128 or more at the physical function, or 64 or more at a virtual function.
     pub fn new(port: Port, queue: u16) -> Option<Queue>
         ensures some { IfSome result (λ q. q ≡ record { port = port; queue = queue }) }
         ensures none { IsNone result ↔ ¬ CanName (record { port = port; queue = queue }) }

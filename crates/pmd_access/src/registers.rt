@@ -26,8 +26,8 @@ pub enum Access {
 impl Queue {
     /// Makes these accesses to the queue's registers, in order.
     ///
-    /// Fails with `DeviceFault` if ENABLE isn't as required, or the port has no such register. The earlier accesses
-    /// have then been made.
+    /// Fails with `DeviceFault` if ENABLE doesn't have the required value, or the port doesn't have one of these
+    /// registers. The earlier accesses have then been made.
     pub(crate) fn make_all<N: Nic>(
         &self,
         alloc: Global,

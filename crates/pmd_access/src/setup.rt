@@ -20,7 +20,7 @@ use device_lock::{Mode, Place, Port, RowId, addr_of};
 use reg_table::{Dmatxctl, Fctrl, Hlreg0, Rxcsum, Rxctrl, VtCtl};
 use std::alloc::Global;
 
-/// The value of VFRE and VFTE with every pool of the register enabled.
+/// The value of VFRE and VFTE that enables every pool in the register.
 const ALL_POOLS: u32 = 0xFFFF_FFFF;
 
 /// The value of FCTRL with which the device accepts frames to any address.
@@ -197,7 +197,7 @@ fn parts_of(setup: &Setup) -> [Part<'_>; 15]
     ]
 }
 
-/// Writes the registers that a part names.
+/// Writes the registers of a part of the setup.
 fn set_part<N: Nic>(alloc: Global, nic: &mut N, part: Part<'_>) -> Result<(), PmdFault>
     requires { IsPart part }
     ensures set { OnOk result (AreSet (N.made nic.old) (N.made nic.new) (settings_in part.entry)) }

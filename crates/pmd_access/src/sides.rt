@@ -28,7 +28,7 @@ const ONE_BUFFER: u32 = (1 << DESCTYPE) | 2;
 impl Queue {
     /// Returns whether a side of the queue is on.
     ///
-    /// Fails with `DeviceFault` if the port has no such register.
+    /// Fails with `DeviceFault` if the port doesn't have the register that enables the side.
     pub fn is_on<N: Nic>(&self, alloc: Global, nic: &mut N, side: Dir) -> Result<bool, PmdFault>
         ensures seen { IfOk result (λ on. IsSeen self.now (N.made nic.old) (N.made nic.new) (enable_row side) on) }
         ensures failed { IfErr result (λ f. ReadFails f self.now (N.made nic.old) (N.made nic.new) (enable_row side)) }
@@ -41,7 +41,7 @@ impl Queue {
 
     /// Disables a side of the queue: checks that the side is off, writes "off", and checks again.
     ///
-    /// Fails with `DeviceFault` if the side is on or the port has no such register.
+    /// Fails with `DeviceFault` if the side is on or the port doesn't have the register that enables the side.
     pub fn disable<N: Nic>(&self, alloc: Global, nic: &mut N, side: Dir) -> Result<(), PmdFault>
         ensures made { OnOk result (AreMade self.now (N.made nic.old) (N.made nic.new) (quiet side)) }
         ensures failed { IfErr result (λ f. StopsBy f self.now (N.made nic.old) (N.made nic.new) (quiet side)) }
@@ -54,7 +54,7 @@ impl Queue {
 
     /// Writes the registers of an empty ring of `size` descriptors, at most 1,024, that starts at block `ring`.
     ///
-    /// Fails with `DeviceFault` if the port has no such register.
+    /// Fails with `DeviceFault` if the port doesn't have one of these registers.
     pub fn lay_out<N: Nic>(
         &self,
         alloc: Global,
@@ -77,7 +77,7 @@ impl Queue {
 
     /// Requests that a side of the queue be enabled or disabled.
     ///
-    /// Fails with `DeviceFault` if the port has no such register.
+    /// Fails with `DeviceFault` if the port doesn't have the register that enables the side.
     pub fn ask<N: Nic>(
         &self,
         alloc: Global,
@@ -94,11 +94,11 @@ impl Queue {
         self.make_all(alloc, nic, &asked(side, on))
     }
 
-    /// Polls until a side of the queue is on or off as requested, at most `polls` times. Only polls that show the other
-    /// state count. Returns the number of polls remaining.
+    /// Polls until a side of the queue is on or off as requested, at most `polls` times. Only polls that show a state
+    /// other than the requested one count. Returns the number of polls remaining.
     ///
-    /// Fails with `StartTimeout` if all of these polls show the other state, and with `DeviceFault` if the port has no
-    /// such register.
+    /// Fails with `StartTimeout` if all of these polls show the other state, and with `DeviceFault` if the port doesn't
+    /// have the register that enables the side.
     pub fn poll<N: Nic>(
         &self,
         alloc: Global,

@@ -13,8 +13,8 @@ use std::alloc::Global;
 use std::marker::Model;
 use std::sync::Wait;
 
-/// A pass to a shared device, used under the device's lock. Before each call, the device steps of one queue run: both
-/// sides of the queue switch, the queue sends, and the device receives. The lock is held during the steps and the call.
+/// A pass to a shared device, used under the device's lock. Before each call, the device steps of one queue run: they
+/// switch both sides of the queue, then send, then receive. The lock is held during the steps and the call.
 pub struct ThroughLock<'a, R: Wait, const VFS: u8, const FIFO: u16> {
     rt: &'a R,
     shared: &'a Shared<VFS, FIFO>,

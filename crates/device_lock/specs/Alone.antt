@@ -29,7 +29,7 @@ use Rattle.device_lock.specs.declared.alone.Watched.{Watched}
 abbrev pub Blocks : Type 0
 Blocks = ℕ → Bool
 
--- The register that a number names at a port, in this pool mode.
+-- The register with this number at a port, in this pool mode.
 
 abbrev pub register_at : Located → Option Place
 register_at located_as.Absent = None
@@ -40,7 +40,8 @@ abbrev pub place_at : Mode → ℕ → Port → ℕ → Option Place
 place_at mode vfs Pf address = place_among runs address
 place_at mode vfs (Vf v) offset = register_at (located mode vfs v offset)
 
--- The mode after a write: GCR_EXT sets it, and a device reset ends it.
+-- The mode after a write. A write to GCR_EXT sets the mode, and a write to CTRL that requests a device reset sets it to
+-- `Off`.
 abbrev pub mode_set : Mode → RowId → ℕ → Mode
 mode_set mode GcrExt word = mode_of word
 mode_set mode Ctrl word = if asks_reset (row_of Ctrl).kind word then Off else mode

@@ -29,7 +29,7 @@ abbrev pub AllBelow : ℕ → List Entry → Type 0
 AllBelow n [] = ⊤
 AllBelow n (e ∷ es) = (e.pass < n) × AllBelow n es
 
--- The entry for an event of a pass and its reply.
+-- The entry for an event that a pass caused, with the reply.
 abbrev pub entry_of : ℕ → Event Block → Reply Block → Entry
 entry_of tag event reply = record { pass = tag; event = event; reply = reply }
 

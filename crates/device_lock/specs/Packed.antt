@@ -15,11 +15,12 @@ abbrev pub packed_entries : List Packed → List Entry
 packed_entries [] = []
 packed_entries (p ∷ more) = rested_entries p.rested ++ (entry_of p.pass p.event p.reply ∷ packed_entries more)
 
--- The separate entries, then the others, then the idle steps after the last entry.
+-- The entries that are stored separately, then the packed entries, then the entries of the idle steps after the last
+-- packed entry.
 abbrev pub entries_in : List Entry → List Packed → Rested → List Entry
 entries_in whole packed rested = whole ++ (packed_entries packed ++ rested_entries rested)
 
--- `count` is the length of the history, and `room` is enough for all its entries separately.
+-- `count` is the length of the history, and `room` is large enough to store all its entries separately.
 pub record HasRoom (history : List Entry) (count room : ℕ) : Type 0 where
   pub counted : count ≡ length history
   pub fits : count ≤ room

@@ -21,7 +21,7 @@ idle_calls events = map (λ (e : Event Block). call_of e Idle) events
 abbrev pub idle_entries : ℕ → List (Event Block) → List Entry
 idle_entries tag events = map (λ (e : Event Block). entry_of tag e Idle) events
 
--- A list of the event, or an empty list if the event didn't run.
+-- A list that contains only this event, or an empty list if the event didn't run.
 abbrev pub step_if : Bool → Event Block → List (Event Block)
 step_if true e = e ∷ []
 step_if false e = []

@@ -28,9 +28,10 @@ pub struct Watched {
     pub queue: u16,
 }
 
-/// Returns the register that `number` names at a port, or `None` if `number` names no register. The number is a
+/// Returns the register with this number at a port, or `None` if the port has no such register. The number is a
 /// register address of the physical function, or an offset of a virtual function. The result depends on the pool mode
-/// and on `vfs`, the number of virtual functions. `left_alone` looks up the register of each write like this.
+/// and on `vfs`, the number of virtual functions. `left_alone` uses this function to look up the register of each
+/// write.
 pub fn place_at(mode: Mode, vfs: u8, port: Port, number: u32) -> Option<Place>
     ensures { result ≡ place_at mode vfs port number }
 {
@@ -127,7 +128,7 @@ fn leaves_blocks(blocks: &Blocks, event: &EventNote) -> bool
     }
 }
 
-/// Returns the number of blocks that a range touches.
+/// Returns the number of blocks that a range of bytes touches.
 fn touched(at: u64, len: u64) -> u64
     ensures { result ≡ touched at len }
 {
@@ -138,7 +139,7 @@ fn touched(at: u64, len: u64) -> u64
     }
 }
 
-/// Returns whether a range touches none of the blocks.
+/// Returns whether a range of bytes touches none of the blocks.
 fn is_clear(blocks: &Blocks, at: u64, len: u64) -> bool
     ensures { result ≡ is_clear (marked blocks.now) at len }
 {

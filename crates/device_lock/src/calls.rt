@@ -238,8 +238,8 @@ impl Calls {
         Ok(reply)
     }
 
-    /// Expands the calls into a list with every call separate. If there is no memory for the list, returns the calls
-    /// unchanged.
+    /// Expands the calls into a list with a separate element for each call, including the idle device steps. If there
+    /// is no memory for the list, returns the calls unchanged.
     pub fn into_vec(self, alloc: Global) -> Result<Vec<Call>, Calls>
         ensures calls { IfOk result (λ calls. calls.items ≡ self) }
         ensures refused { IfErr result (λ calls. calls ≡ self) }

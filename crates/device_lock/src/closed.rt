@@ -115,10 +115,11 @@ impl<const VFS: u8, const FIFO: u16> Unlocked<VFS, FIFO> {
 }
 
 impl<const VFS: u8, const FIFO: u16> Locked<VFS, FIFO> {
-    /// Closes the contents of a lock, for the bench with this number and `count` passes, at most 64.
+    /// Closes the device and history that were under a lock, for the bench with this number and `count` passes, at most
+    /// 64.
     ///
-    /// If these passes don't close the contents, returns the reason, as `Unlocked::refusal` does, and the contents with
-    /// the same device, history and limit.
+    /// If these passes don't close the history, returns the reason, as `Unlocked::refusal` does, together with the same
+    /// device, history and limit.
     pub fn close(
         self,
         bench: u64,

@@ -120,7 +120,7 @@ pub(crate) fn stands(history: &[Entry], tag: u8, calls: &Calls) -> bool
 }
 
 /// Returns whether each pass with this tag has the calls that the history records for the tag. If the history records
-/// such calls, a pass with this tag must exist.
+/// such calls, also requires that a pass with this tag exists.
 fn tag_stands(history: &[Entry], count: u32, tag: u8, passes: &[Pass]) -> bool
     requires { count ≡ entries_of tag history.now }
     ensures { IsTrue result ↔ TagStands history.now tag passes.now }

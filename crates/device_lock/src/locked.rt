@@ -35,7 +35,7 @@ pub(crate) type Counts = [u32; MAX_PASSES as usize];
 /// are below 64. A `Locked` can't be dropped, because the device can't.
 ///
 /// Entries of idle device steps take no extra room in this form. When the device is no longer shared, the `Locked`
-/// becomes an `Unlocked`, with every entry separate.
+/// becomes an `Unlocked`, which stores a separate entry for each call.
 pub struct Locked<const VFS: u8, const FIFO: u16> {
     pub(crate) device: Device,
     pub(crate) whole: Vec<Entry>,

@@ -65,8 +65,8 @@ pub struct Packed {
 const LEAST_ROOM: u32 = 131_072;
 
 /// Reserves room for `count` separate entries; the caller has checked that the history may have that many. Returns
-/// whether there is memory for them. If possible, the function reserves more room. Storage that grows in small steps is
-/// moved each time, and its pages are touched before anything is stored there.
+/// whether there is memory for them. If possible, the function reserves more room: if the storage grew in small steps,
+/// each step would move it and touch its pages before anything is stored there.
 #[inline(always)]
 pub(crate) fn hold_room(whole: &mut Vec<Entry>, count: u32, limit: u32) -> bool
     ensures same { whole.new.items ≡ whole.old.items }

@@ -10,8 +10,8 @@ use nic_device::{Device, Notes};
 use std::alloc::Global;
 use std::marker::Model;
 
-/// The data of a device that is no longer under a lock: the device, and the history of its calls with every entry
-/// separate. An `Unlocked` can't be dropped, because the device can't.
+/// The data of a device that is no longer under a lock: the device, and the history of its calls, with a separate entry
+/// for each call. An `Unlocked` can't be dropped, because the device can't.
 pub struct Unlocked<const VFS: u8, const FIFO: u16> {
     pub(crate) device: Device,
     pub(crate) history: Vec<Entry>,

@@ -1,4 +1,4 @@
--- The entry from which a history counts for a driver, and how the queues are separated into pools at an entry.
+-- From which entry on a history counts for a driver, and how the queues are separated into pools at an entry.
 use Rattle.std.proofs.Common.{◌≡◌, ℕ, false, refl, ap, List}
 use Rattle.std.proofs.lemmas.Bool.{true≢false}
 use Rattle.device_lock.specs.Alone.{mode_after, mode_set}

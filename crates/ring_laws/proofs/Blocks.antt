@@ -1,5 +1,5 @@
--- A ring in memory, for either half of a driver: its descriptors, the other blocks, and which of their bytes stay
--- unchanged. Also the ring of a driver that sends, after a posted slot is fetched.
+-- Lemmas about a ring in memory, for either half of a driver: its descriptors, the other blocks, and which of their
+-- bytes stay unchanged. Also lemmas about the ring of a driver that sends, after a posted slot is fetched.
 use Rattle.ring_laws.specs.Prelude.{Fetched, IsWhole, LiesIn, Memory, Ring, State, TransmitQueue, done_descriptor}
 use Rattle.ring_laws.specs.Prelude.{first_half, gives, has_block, is_empty, is_lent, is_outside, read_at, reply_to}
 use Rattle.ring_laws.specs.Prelude.{second_half, sending_of, step_of, transmit_queue_of, write_at}
@@ -44,8 +44,8 @@ pub buffer_and_slot : (b n ring size slot : ℕ) → is_ring_block ring size b �
     → AreApart (2048 * b) n (descriptor_in ring slot) 16
 buffer_and_slot b n ring size slot other h l = grind arith
 
--- A ring whose head and tail are `first` and `last` slots after its next slot. The ring isn't outside memory, and its
--- head is a descriptor. If the ring isn't empty, the head is before the tail.
+-- Lemmas about a ring whose head and tail are `first` and `last` slots after its next slot. The ring is inside memory,
+-- and its head is a descriptor. If the ring isn't empty, the head is before the tail.
 
 pub record IsRingAt (r : Ring) (ring size next first last : ℕ) : Type 0 where
   pub inside : is_outside r ≡ false
@@ -57,7 +57,7 @@ pub ring_at : (r : Ring) (ring size next first last : ℕ) → r.base ≡ 2048 *
     → next < size → size ≤ 1024 → ring < 65536 → IsRingAt r ring size next first last
 ring_at r ring size next first last base sized head tail before room begins few low = grind arith
 
--- A descriptor of a ring with lent blocks: a peek returns its bytes, and others are written to it.
+-- For a ring with lent blocks, a peek at a descriptor returns its bytes, and a poke writes new bytes to it.
 
 module _ (ring size slot : ℕ) (below : slot < size) where
   abbrev Has : Memory → Type 0
@@ -83,8 +83,8 @@ module _ (ring size slot : ℕ) (below : slot < size) where
       ≡ gives Done (record s { memory = write_at s.memory (descriptor_in ring slot) bytes })
   slot_poked s bytes has = poked_is s (descriptor_in ring slot) bytes (aligned ring slot) (slot_lent s.memory has)
 
--- What is the same in two memories: which of the ring's blocks are lent, the named descriptors, and the bytes of the
--- named other blocks.
+-- What two memories have in common: which of the ring's blocks are lent, the given descriptors, and the bytes of the
+-- given other blocks.
 
 pub record Stays (ring size : ℕ) (m n : Memory) (slots blocks : ℕ → Type 0) : Type 0 where
   pub has : EachRingBlock ring size (λ b. has_block n b ≡ has_block m b)
@@ -94,7 +94,7 @@ pub record Stays (ring size : ℕ) (m n : Memory) (slots blocks : ℕ → Type 0
       → read_at n (2048 * b) len ≡ read_at m (2048 * b) len
   pub there : (b : ℕ) → blocks b → has_block n b ≡ has_block m b
 
--- Everything is the same in two memories if the ring's blocks are the same.
+-- If the ring's blocks are the same in two memories, everything listed above is the same.
 pub same_stays : (ring size : ℕ) (m n : Memory) → EachRingBlock ring size (λ b. map.get n b ≡ map.get m b)
     → Stays ring size m n (λ j. ⊤) (λ b. map.get n b ≡ map.get m b)
 same_stays ring size m n same = record {
@@ -106,7 +106,8 @@ same_stays ring size m n same = record {
   there = λ b is. ap (λ (o : _). is_some o) is;
 }
 
--- Everything is the same except the written descriptor, which then contains these bytes.
+-- After a descriptor is written, everything listed above is the same except this descriptor, which contains the written
+-- bytes.
 module _ (ring size slot : ℕ) (below : slot < size) (m : Memory) (bytes : List ℕ) (long : length bytes ≡ 16) where
   pub written_stays : Stays ring size m (write_at m (descriptor_in ring slot) bytes) (λ j. j ≢ slot) (λ b. ⊤)
   written_stays = grind (arith, SameLent-write_at, read_at-write_at_apart)
@@ -115,7 +116,8 @@ module _ (ring size slot : ℕ) (below : slot < size) (m : Memory) (bytes : List
       → read_at (write_at m (descriptor_in ring slot) bytes) (descriptor_in ring slot) 16 ≡ bytes
   written_here whole has = grind (arith, read_at-write_at_same, slot_lent)
 
--- Everything is the same except a descriptor and some bytes of a block outside the ring.
+-- If two memories differ only in a descriptor and in some bytes of a block outside the ring, everything else listed
+-- above is the same.
 pub reads_stay : (ring size slot b len : ℕ) (m n : Memory) → slot < size → is_ring_block ring size b ≡ false
     → len ≤ 2048 → SameLent n m
     → ((c k : ℕ) → AreApart c k (descriptor_in ring slot) 16 → AreApart c k (2048 * b) len
@@ -160,7 +162,7 @@ has_lent-segment v k known lent =
 pub unlike : (v : Sender) (n b : ℕ) → has_lent v n ≡ false → has_lent v b ≡ true → b ≢ n
 unlike v n b none is e = both_ways (has_lent v n) none (subst (λ x. has_lent v x ≡ true) e is)
 
--- Memory still shows all of this if none of the driver's blocks changes.
+-- If none of the driver's blocks changes, memory still shows the same (`Shows`).
 module _ (m n : Memory) (v : Sender) (f : ℕ) (l : IsLayout v.layout) (c : IsCounted v f) (h : Shows m v f)
     (same : (number : ℕ) → has_lent v number ≡ true → map.get n number ≡ map.get m number)
   where

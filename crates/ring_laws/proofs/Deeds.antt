@@ -40,7 +40,7 @@ unfolding step_of
 step_cases P s r = grind arith
 
 module _ (queue : ℕ) (s : State) (sound : IsSound s) where
-  -- If the slot is tried for the oldest waiting frame, it is filled, or the side is shut.
+  -- If the slot is tried for the oldest waiting frame, either the slot is filled or the side is shut.
   worked : (w : Waiting) (others : List Waiting) → s.waiting ≡ w ∷ others → IsTried (side_of Rx w.queue s)
       → (answer : Result Filled RingFault) → (fill_on s w.queue (rest_of w)).answer ≡ answer
       → step_of s event.RxStep ≡ receive.slot_done s w others answer (fill_on s w.queue (rest_of w)).memory
@@ -71,7 +71,7 @@ pub added-none : (out : List (ℕ × List ℕ)) → frames_added out out ≡ []
 added-none out = grind (arith, common_steps)
 
 module _ (queue : ℕ) (s : State) (sound : IsSound s) (small : queue < 128) where
-  -- A fetched slot is sent, or the side is shut.
+  -- If the queue isn't silent, the step either takes the slot at the head or shuts the side.
   sent : IsFalse (is_silent s queue (transmit_queue_of s.registers queue)) → (answer : Result Fetched RingFault)
       → (fetch_on s queue).answer ≡ answer
       → step_of s (event.TxStep queue) ≡ slot_done s queue answer (fetch_on s queue).memory (fetch_on s queue).staged

@@ -1,4 +1,5 @@
--- The frames that wait for a queue are as short as the driver's packets, and the written pieces fit too.
+-- The frames that wait for a queue are no longer than a packet that the driver can take, and the written pieces fit
+-- too.
 use Rattle.ring_laws.specs.Prelude.{Block, Filled, Memory, WritesNoSetting, buffer_size_of}
 use Rattle.ring_laws.specs.Prelude.{IsSound, Rx, Waiting, after, is_on, mode_in, piece_of, receive_queue_of, step_of}
 use Rattle.ring_laws.{proofs.Deeds.step_cases, specs.Prelude.Event, specs.Prelude.Outcome, specs.Prelude.frame_limit}
@@ -23,7 +24,8 @@ use Rattle.std.proofs.lemmas.{Bool.and_parts, Bool.both_ways, Bool.cond_both, Bo
 use Rattle.pmd_access.specs.NicDevice.declared.event.Event.TheVariants as event
 use Rattle.pmd_access.specs.NicDevice.Receive as receive
 
--- If a property holds for each waiting frame at any offset and for each accepted frame, it still holds after an event.
+-- A property of waiting frames that holds for each waiting frame, at any offset, and for each accepted frame still
+-- holds for each waiting frame after an event.
 
 module _ (P : Waiting → Type 0) (moved : (w : Waiting) (n : ℕ) → P w → P (record w { offset = n })) (s : State)
     (h : All P s.waiting) where
@@ -65,7 +67,7 @@ module _ (P : Waiting → Type 0) (moved : (w : Waiting) (n : ℕ) → P w → P
   pub all_wait : (e : Event Block) → Comes e → All P (after s e).waiting
   all_wait e comes = waiting_changed (All P) s h e (all_changes e comes)
 
--- So the frames that wait for a queue stay as short as its driver's packets.
+-- Therefore the frames that wait for a queue stay no longer than a packet that the driver can take.
 pub frames_fit : (queue most : ℕ) (s : State) → frame_limit s.registers ≤ 2048 * most
     → All (FitsBlocks queue most) s.waiting → (e : Event Block) → All (FitsBlocks queue most) (after s e).waiting
 frames_fit queue most s limit h e =
@@ -77,8 +79,8 @@ either_zero : (b : Bool) → let z : ℕ = 0 in cond b z z ≡ z
 either_zero true = refl
 either_zero false = refl
 
--- `n` bytes of the first frame are written. The frame may leave the list if `n` is 0, or if it belongs to another
--- queue.
+-- Of the first waiting frame, `n` bytes are written. The frame may leave the list if `n` is 0 or if it belongs to
+-- another queue.
 module _ (queue n : ℕ) where
   abbrev Has : List Waiting → Type 0
   Has ws = partial_on queue ws ≡ n
@@ -113,8 +115,8 @@ module _ (queue n : ℕ) where
       → w.queue ≢ queue → Has (receive.after_piece w others f)
   elsewhere w others f are has ne = grind arith
 
-  -- An event that isn't a receive step leaves the count of written bytes unchanged if nothing is written. It also does
-  -- so if the side is up, and the event writes no setting and doesn't reset the queue's pool.
+  -- An event that isn't a receive step leaves the count of written bytes unchanged in two cases. In the first, no byte
+  -- is written yet. In the second, the side is up, and the event neither writes a setting nor resets the queue's pool.
   module _ (s : State) (sound : IsSound s) (has : Has s.waiting) where
     abbrev Spared : Event Block → Type 0
     Spared e = (n ≡ 0) ⊎ (WritesNoSetting s e × ResetsNoPool queue s e × IsUp queue s)
@@ -162,7 +164,8 @@ pub begun_stays : (queue : ℕ) (s : State) → IsSound s → partial_on queue s
     → pieces queue s e ≡ [] → partial_on queue (after s e).waiting ≡ 0
 begun_stays queue s sound none e reported = grind (arith, still_begun, none_received)
 
--- Frames that fit as many slots as the driver takes for a packet keep fitting, and their written pieces fit.
+-- Frames that fit into the number of slots that the driver takes for a packet still fit after an event, and their
+-- written pieces fit too.
 
 -- One more piece fits.
 fit-push : (most n : ℕ) (ps : List Piece) (p : Piece) → AllFit most n ps → Fits most (open_after n ps) p

@@ -1,5 +1,6 @@
--- Filling a slot of the driver's ring, and other events that aren't the driver's own. They meet no fault and keep the
--- agreement, with the written piece. A side that is up stays up.
+-- What happens when a slot of the driver's ring is filled, and at other events that aren't the driver's own. These
+-- events meet no fault and keep the agreement; a piece that they write is added to the written pieces. A side that is
+-- up stays up.
 use Rattle.device_laws.proofs.{Delivered.reported-lt, KeptSettings.settings_stand, Standing.stays_within}
 use Rattle.ring_laws.proofs.{Reports.IsSparedBy, Deeds.left_deed, Deeds.left_did, Deeds.side_did, Left.left-side}
 use Rattle.{ring_laws.proofs.Reports.reported_elsewhere, device_laws.proofs.StandingQueues.switching_rest}
@@ -165,13 +166,14 @@ module _ {queue : ℕ} {s : State} {out : List Piece} {v : Receive} {gone here :
         order = (grind (arith, seen_longer, append_assoc));
       }
 
--- A device step doesn't write a register by its number, and doesn't take or poke a block.
+-- A device step isn't an event that writes a register by its number, or that takes or pokes a block.
 
 pub no_registers : (w : Watched) (mode : Mode) (mine : Blocks) (e : Event Block) → is_step e ≡ true
     → LeavesRegisters w mode e × LeavesBlocks mine e
 no_registers w mode mine e is = grind arith
 
--- Whatever an event does to the queue's receive side keeps the agreement, with the piece that the event writes, if any.
+-- An event keeps the agreement whatever it does to the queue's receive side. A piece that the event writes is added to
+-- the written pieces.
 
 module _ (queue : ℕ) (s : State) (out : List Piece) (v : Receive) (sound : IsSound s) (j : Agree queue s out v)
     (e : Event Block) (none : WritesNoSetting s e) where
@@ -229,16 +231,16 @@ piece_inside queue s out v sound (gone, here, h) slot end desc at len is = elim 
   | Rested none rests ↦ absurd (let e = rw (is, eq-eqb queue queue refl) at none in cc)
 ]
 
--- A step that switches the queue's receive side keeps the agreement. If the side is on and no request to disable it is
--- pending, nothing changes.
+-- A step that enables or disables the queue's receive side keeps the agreement. If the side is on and no request to
+-- disable it is pending, the step changes nothing.
 
 pub enable_keeps : EnableStepKeeps
 enable_keeps queue s out v sound j =
     rested queue s out v sound j (event.QueueStep Rx queue) tt (switching_did queue s sound j.2.named.low Rx)
     (λ b lent. ap (λ (m : Memory). map.get m b) (switching_rest s Rx queue).memory)
 
--- If the device and the driver agree, a receive side that is on, with no request to disable it pending, stays on with
--- none pending.
+-- If the device and the driver agree, a receive side that is on, with no request to disable it pending, stays in this
+-- state.
 
 pub left_up : LeavingStaysUp
 left_up queue s t left up = subst sides.IsUp (sym (receive_left queue s t left)) up

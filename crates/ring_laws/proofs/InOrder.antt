@@ -54,7 +54,7 @@ all_taken queue s out v (gone, here, h) f =
     let all : length here ≤ k = (grind (arith, common_steps)) in
     (grind (arith, common_steps, none_of, none_whole))
 
--- If no complete packet waits for the tail, every delivered packet was handed out.
+-- If, moreover, no complete packet is waiting for the tail to advance, every delivered packet was handed out.
 pub drained : NoneIsAll
 drained queue s out v j f = all_taken queue s out v j f.shows ∙ rw f.none_whole (append-nil v.handed)
 
@@ -131,7 +131,7 @@ module _ (w : Watched) (mine : Blocks) (v : Sender) (s : State) (b : ℕ) (lent 
 pub left_alone_is_spared : LeftAloneIsSpared
 left_alone_is_spared w mine v s e h = search (arith, left-setting, left_transmit, left-side, spared_block)
 
--- The frames sent are the first of the accepted frames.
+-- The frames sent are a prefix of the accepted frames.
 pub first_sent : SentIsPrefix
 first_sent s queue sent v (f, h) = elim h.sends [
   | inl x ↦ (frames_from (staged_by s queue) (drop f v.outstanding), x.in_order)
@@ -145,7 +145,7 @@ module _ (s : State) (queue : ℕ) (sent : List (List ℕ)) (limit : ℕ) (left 
   all_sent : left ≡ [] → bytes_of ks ≡ sent
   all_sent none = grind (arith, common_steps, append-nil)
 
-  -- If the end of a packet remains, not all accepted frames were sent.
+  -- If the end of a packet remains to be sent, at least one accepted frame wasn't sent.
   some_unsent : (k : ℕ) → k < length left → (slice_index_or left k no_segment).part.last ≡ true
       → length sent < length (bytes_of ks)
   some_unsent k below end = grind (arith, common_steps, length-append, frame_of_end)
@@ -155,8 +155,8 @@ idle-all s queue sent v (f, h) none =
     all_sent s queue sent _ _ v.accepted h.sends (rw none (drop_all f [] (omega arith)))
 
 module _ {s : State} {queue : ℕ} {sent : List (List ℕ)} {v : Sender} {f : ℕ} (h : AgreesAt s queue sent v f) where
-  -- While the end of the oldest packet remains to be sent, not all accepted frames were sent, nor were they when less
-  -- had been sent.
+  -- While the end of the oldest packet remains to be sent, at least one accepted frame hasn't been sent. The same was
+  -- true at every earlier time.
   left-over : (xs more : List (List ℕ)) → sent ≡ xs ++ more → first_end v.outstanding < v.posted
       → f ≤ first_end v.outstanding → bytes_of v.accepted ≢ xs
   left-over xs more split posted rest same =
@@ -173,8 +173,8 @@ pub sent_in-append : (queue : ℕ) (s : State) (g h : List Entry)
 sent_in-append queue s [] h = refl
 sent_in-append queue s (e ∷ g) h = grind (arith, common_steps, sent_in-append queue (after s e.event) g h)
 
--- If a poll finds the end of the oldest packet not done, that end wasn't fetched. So more frames were accepted than
--- were sent at that time or at any earlier time.
+-- If a poll finds the end of the oldest packet not done, that end wasn't fetched. Therefore some of the accepted frames
+-- weren't sent at that time. The same was true at every earlier time.
 pub waiting-left : WaitingIsNotAllSent
 waiting-left s queue sent v (f, h) finds xs more split same =
     let end = first_end v.outstanding in
@@ -187,20 +187,20 @@ waiting-left s queue sent v (f, h) finds xs more split same =
 
 -- Which of the frames that a queue sends are counted, over whole histories.
 
--- Two consecutive histories.
+-- If one history is followed by another, the count continues from the first into the second.
 joined : (queue : ℕ) (s : State) (sent : List (List ℕ)) (g h : List Entry)
     → sent_since queue s sent (g ++ h) ≡ sent_since queue (leads_to s g) (sent_since queue s sent g) h
 joined queue s sent [] h = refl
 joined queue s sent (e ∷ g) h = joined queue (after s e.event) (counted_by queue s e.event sent) g h
 
--- The side is never enabled.
+-- If the side is never enabled, all frames that the history sends are counted.
 never : (queue : ℕ) (s : State) (sent : List (List ℕ)) (h : List Entry) → NeverGoesOn queue s h
     → sent_since queue s sent h ≡ sent ++ sent_in queue s h
 never queue s sent [] off = sym (append-nil sent)
 never queue s sent (e ∷ es) off =
     rw off.0 (never queue (after s e.event) (sent ++ sent_by queue s e.event) es off.1 ∙ append_assoc sent _ _)
 
--- The side is enabled for the last time.
+-- The frames that are sent after the side is enabled for the last time are counted.
 last : (queue : ℕ) (s : State) (sent : List (List ℕ)) (g : List Entry) (e : Entry) (h : List Entry)
     → goes_on queue (leads_to s g) e.event ≡ true → NeverGoesOn queue (after (leads_to s g) e.event) h
     → sent_since queue s sent (g ++ e ∷ h) ≡ sent_in queue (after (leads_to s g) e.event) h

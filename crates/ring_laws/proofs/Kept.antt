@@ -21,12 +21,12 @@ use Rattle.std.{proofs.lemmas.Grind.common_steps, proofs.lemmas.List.get_or_appe
 pub first_place : (n : ℕ) → 0 < n → 0 ≡ wrapped n (0 + 0)
 first_place n h = grind arith
 
--- The part of the ring whose slots have a block, after each of the driver's calls.
+-- The slots of the ring that have a block, after each of the driver's calls.
 
 pub reach_long : (v : Receive) → length (reach v).blocks ≡ length v.layout.blocks + length v.named
 reach_long v = length-append v.layout.blocks v.named
 
--- The posted slots are the first slots of this part.
+-- The posted slots are the first of these slots.
 pub posted_in : (v : Receive) (k : ℕ) → k ≤ length v.layout.blocks → k ≤ length (reach v).blocks
 posted_in v k is = omega (arith, is, reach_long v)
 
@@ -74,7 +74,7 @@ module _ (v : Receive) where
       pub each_slot : (k : ℕ) → k < length (reach v).blocks → P (block_at (reach v) k)
       each_slot k below = grind (arith, common_steps)
 
-      -- What holds for each lent block holds for the block of each posted slot.
+      -- A property of each lent block is also a property of the block in each posted slot.
       pub each_posted : (k : ℕ) → k < length v.layout.blocks → P (block_at v.layout k)
       each_posted k below = subst P (posted_block v k below) (each_slot k (posted_in v (suc k) below))
 
@@ -101,12 +101,12 @@ module _ {l : Layout} (ring : IsRing l) {m n : Memory} {slots blocks : ℕ → T
       → ((k : ℕ) → k < length l.blocks → blocks (block_at l k)) → HasSlots m l here → HasSlots n l here
   slots_stay here all each h = grind arith
 
--- Numbers name the same registers if the mode and the number of functions are unchanged.
+-- Numbers still identify the same registers if the mode and the number of functions are unchanged.
 pub named_kept : (s t : State) (queue : ℕ) (l : Layout) → mode_in t.registers ≡ mode_in s.registers → t.vfs ≡ s.vfs
     → IsNamed s queue l → IsNamed t queue l
 named_kept s t queue l mode vfs h = assumption (named-same s t mode vfs l.port l.tail ∙ h.tail)
 
--- What the driver saw is still true when one more piece is written.
+-- What the driver saw still describes the written pieces after one more piece is written.
 pub seen_longer : (seen : List Reported) (here : List Piece) (p : Piece) → AreSeen seen here →
     AreSeen seen (here ++ p ∷ [])
 seen_longer [] here p is = tt
@@ -147,7 +147,7 @@ pub open_pushed : (n : ℕ) (ps : List Piece) (p : Piece)
 open_pushed n [] p = refl
 open_pushed n (q ∷ ps) p = open_pushed (cond q.end 0 (n + 1)) ps p
 
--- A driver that hasn't taken the parts that it saw yet.
+-- The state of a driver that hasn't yet taken the parts that it saw.
 abbrev pub taking : Receive → Reported → List Reported → Receive
 taking v t ts = record v { seen = t ∷ ts; stage = Takes }
 

@@ -1,5 +1,5 @@
--- Where the agreement begins. Events that leave the receive side alone, and the driver's own polls and lends, keep the
--- agreement.
+-- The state in which the agreement starts. Events that leave the receive side alone, and the driver's own polls and
+-- lends, keep the agreement.
 use Rattle.ring_laws.specs.Prelude.{Memory, Outcome, State, bytes_in, ends_packet, has_block, is_done, read_at}
 use Rattle.ring_laws.specs.Prelude.{receive_queue_of, second_half, step_of}
 use Rattle.ring_laws.{proofs.Lent.again_is_done, specs.Prelude.Block, specs.Prelude.Event, specs.Prelude.IsSound}
@@ -78,7 +78,7 @@ part_is most before second p ends h1 h2 h3 h4 h5 = grind arith
 
 module _ {queue : ℕ} {s : State} {out : List Piece} {v : Receive} {gone here : List Piece}
     (h : Holds queue s out v gone here) where
-  -- A driver that saw one more part.
+  -- If the driver sees one more part, the device agrees with its new state.
   looked_holds : v.stage ≡ Looks → (d : List ℕ) → TellsSlot here (length v.seen) d
       → Holds queue s out (looked v d) gone here
   looked_holds looks d tells =
@@ -109,9 +109,9 @@ module _ {queue : ℕ} {s : State} {out : List Piece} {v : Receive} {gone here :
       part_is v.layout.most (length v.seen) (second_half d) (piece_at here (length v.seen)) _ refl (tells.end some)
       (tells.len some) (h.slots.filled (length v.seen) some).short fits
 
--- The effect of one of the driver's own events, given the step's outcome. A sound device still agrees with the driver
--- in the device's next state, and a side that is up stays up. The reply is a healthy queue's if the pieces fit and a
--- block to be lent isn't lent yet.
+-- The effect of one of the driver's own events, given the result of the device's step. Afterwards the device still
+-- agrees with the driver, and a side that is up stays up. If the pieces fit and a block to be lent isn't lent yet, the
+-- reply is that of a healthy queue.
 pub record Does (queue : ℕ) (s : State) (out : List Piece) (v : Receive) (e : Event Block) (o : Outcome) : Type 0 where
   pub agree : IsSound s → Agree queue o.state out (drive v e o.reply)
   pub up : IsSound s → IsUp queue s → IsUp queue o.state
@@ -120,7 +120,7 @@ pub record Does (queue : ℕ) (s : State) (out : List Piece) (v : Receive) (e : 
 abbrev pub Driven : ℕ → State → List Piece → Receive → Event Block → Type 0
 Driven queue s out v e = Does queue s out v e (step_of s e)
 
--- The same, for an event that is given as an equal event.
+-- The same effect, for an event `e` that equals the event `d` of the step.
 pub by_outcome : (queue : ℕ) (s : State) (out : List Piece) (v : Receive) (e d : Event Block) (o : Outcome) → e ≡ d
     → step_of s d ≡ o → (IsSound s → Agree queue o.state out (drive v d o.reply))
     → (IsSound s → IsUp queue s → IsUp queue o.state)
@@ -157,7 +157,7 @@ lend_keeps queue s out v b (gone, here, h) own =
       healthy = λ all again. ap (is_healthy v (event.Lend b)) (again_is_done s b again);
     }
 
--- The device and a driver that posted nothing yet agree.
+-- The device agrees with a driver that has posted nothing yet.
 
 pub start_agrees : StartAgrees
 start_agrees queue port tail ring size most s r = ([], [], (grind arith))

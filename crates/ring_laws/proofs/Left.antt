@@ -53,7 +53,7 @@ pub pool_misses : (side : Dir) (mode : Mode) (v queue : ℕ) → has_queue mode 
 pool_misses side mode v queue none =
     grind (arith, common_steps, misses-narrower, covers-renewed, pool_none, eqb-true)
 
--- A number names the same register while the queues are separated the same way.
+-- A number still identifies the same register while the queues are separated in the same way.
 pub named-same : (s t : State) → mode_in t.registers ≡ mode_in s.registers → t.vfs ≡ s.vfs → (port : Port) (n : ℕ)
     → named t port n ≡ named s port n
 named-same s t mode vfs port n = grind arith

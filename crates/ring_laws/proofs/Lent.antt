@@ -17,19 +17,19 @@ use Rattle.device_lock.specs.NicDevice.declared.event.Event.TheVariants as event
 
 -- Memory calls that succeed.
 
--- A block that isn't lent yet is lent.
+-- Lending a block that isn't lent yet succeeds.
 pub again_is_done : AgainIsDone
 unfolding step_of
 again_is_done s block none = rw (none, reply_to) refl
 
--- A lent block is taken back.
+-- Taking back a lent block succeeds.
 pub taken_is : (s : State) (b : ℕ) (bytes : List ℕ) → map.get s.memory b ≡ Some bytes
     → step_of s (event.Take b)
     ≡ gives (Buf (record { number = b; bytes = bytes })) (record s { memory = map.remove s.memory b })
 unfolding step_of
 taken_is s b bytes is = rw is refl
 
--- 16 bytes of a lent block are written at a multiple of 16.
+-- Writing 16 bytes of a lent block succeeds at an address that is a multiple of 16.
 pub poked_is : (s : State) (a : ℕ) (bytes : List ℕ) → (a % 16 == 0) ≡ true → is_lent s.memory a 16 ≡ true
     → step_of s (event.Poke16 a bytes) ≡ gives Done (record s { memory = write_at s.memory a bytes })
 unfolding step_of
@@ -59,9 +59,9 @@ Follows had has e r n = has n ≡ had n
 abbrev pub AllFollow : Blocks → (Reply Block → Blocks) → Event Block → Type 0
 AllFollow had has e = (r : Reply Block) (n : ℕ) → Follows had (has r) e r n
 
--- Given some block numbers, each of these blocks that is lent was still lent by the half or by others.
+-- Suppose that each lent block of a given set was lent by the half or by others.
 module _ (own others : Blocks) (s : State) (had : Blocks) (only : OnlyLent own (either had others) s.memory) where
-  -- After an event that neither lends nor takes, still only known blocks are lent.
+  -- After an event that neither lends nor takes a block, each lent block of the set is still known.
   pub still_known : (e : Event Block) (has : Blocks) → LendsNone own e → ((k : ℕ) → had k ≡ true → has k ≡ true)
       → OnlyLent own (either has others) (after s e).memory
   still_known e has none keeps k is there =

@@ -1,6 +1,6 @@
 -- The settings that a history's entries report are the device's: how the queues are separated into pools, and how long
--- frames may be. The other lemmas are about histories in two parts. They say that devices stay sound, what a pass lends
--- in each part, whether it has begun, and how the parts leave a queue alone.
+-- frames may be. The other lemmas are about histories in two parts. They state that devices stay sound, which blocks a
+-- pass lends in each part, whether the pass has begun, and how the parts leave a queue alone.
 use Rattle.device_laws.proofs.Settings.{IsSetting, setting_stands}
 use Rattle.device_lock.specs.{Alone.LeavesAlone, Alone.is_setting, Reported.limit_of, declared.reported.Settings.Settings}
 use Rattle.device_lock.specs.{Alone.mode_written, Reported.frames_written, Reported.settings_after, Reported.settings_through}

@@ -28,8 +28,8 @@ use Rattle.pmd_access.specs.NicDevice.declared.event.Event.TheVariants as event
 use Rattle.pmd_access.specs.NicDevice.declared.event.Reply.TheVariants as reply
 use Rattle.std.specs.FinMap as map
 
--- The descriptor at the first slot without a block now names the lent block. One more slot has a block, and a packet
--- may be complete.
+-- The driver writes the descriptor of the first slot without a block, which now names the lent block. One more slot has
+-- a block, and a packet may be complete.
 
 module _ (m : Memory) (l : Layout) (here : List Piece) (ring : IsRing l) (h : HasSlots m l here) (whole : IsWhole m)
     (b : ℕ) (loose : IsLoose m l b) where

@@ -26,7 +26,7 @@ use Rattle.pmd_access.specs.NicDevice.declared.event.Event.TheVariants as event
 use Rattle.pmd_access.specs.NicDevice.declared.event.Reply.TheVariants as reply
 use Rattle.std.specs.FinMap as fin
 
--- The oldest segment, which was fetched, is released: its block is taken back.
+-- When the oldest segment is released after it was fetched, its block is taken back.
 
 module _ (v : Sender) (g : ℕ) (l : IsLayout v.layout) (c : IsCounted v (g + 1)) where
   pub after : (k : ℕ) → segment_at (reaped v) k ≡ segment_at v (k + 1)
@@ -76,7 +76,8 @@ module _ {s : State} {queue : ℕ} {sent : List (List ℕ)} {v : Sender} {f : �
       ≡ record (transmit_queue_of s.registers queue) { ring = record (ring_of s.registers Tx queue) { tail = slot } }
   side_moved = grind (arith, transmit-tail)
 
-  -- A move, given the step's outcome, for an event that is given as an equal event and writes no setting.
+  -- The effect of a move, given the result of the device's step. The move's event equals an event that writes no
+  -- setting.
 
   abbrev pub Moves : Move → Event Block → Type 0
   Moves m e = Does queue s sent v m e (step_of s e)
@@ -242,7 +243,7 @@ own_silent : (queue : ℕ) (s : State) (v : Sender) (m : Move) (e : Event Block)
     → sent_by queue s e ≡ []
 own_silent queue s v m e own ne = grind arith
 
--- The device and the driver still agree, with the frame that the event sends, if any.
+-- After each move, the device and the driver still agree. A frame that the event sends is added to the frames sent.
 pub moves_keep : MovesKeep
 moves_keep s queue sent v e Elsewhere j may = sparing_events_keep s queue sent v e j may
 moves_keep s queue sent v e m (f, h) may =

@@ -30,7 +30,7 @@ pub mine_driven : (mine : Blocks) (v : Receive) → Each v (λ b. IsTrue (mine b
     → IsOwn v e → LendsOneOf mine e r → Each (drive v e r) (λ b. IsTrue (mine b))
 mine_driven mine v m e r own l = follows_in mine (has_lent v) m e (λ r. has_lent (drive v e r)) (follows v e own) r l
 
--- Given some block numbers, each of these blocks that is lent stays known through the driver's own events.
+-- Each lent block of a given set stays known through the driver's own events.
 
 pub own_lends_are_known : OwnLendsAreKnown
 own_lends_are_known = record {

@@ -49,9 +49,9 @@ based-after s queue l e b made none =
       stays.limit ∙ b.limit,
     )
 
--- The effect of one of the driver's moves, given the step's outcome. If the event can be made, the device and the
--- driver still agree, and a side that is up stays up. The reply is a healthy queue's if a block to be lent isn't lent
--- yet.
+-- The effect of one of the driver's moves, given the result of the device's step. If the event can be made, the device
+-- and the driver still agree, and a side that is up stays up. If a block to be lent isn't lent yet, the reply is that
+-- of a healthy queue.
 pub record Does (queue : ℕ) (s : State) (sent : List (List ℕ)) (v : Sender) (m : Move) (e : Event Block) (o : Outcome) :
     Type 0 where
   pub agree : IsEvent e → Agrees o.state queue sent (moved v m o.reply)
@@ -134,8 +134,8 @@ module _ {s : State} {queue : ℕ} {sent : List (List ℕ)} {v : Sender} {f : �
     abbrev Sends : State → Type 0
     Sends u = SendsInOrder u queue sent v.layout.limit left v.accepted
 
-    -- The device and the driver agree, with no further frame, if the side's ring is unchanged and none of the driver's
-    -- blocks changes.
+    -- If the side's ring is unchanged and none of the driver's blocks changes, the device and the driver still agree,
+    -- and no frame is added to those sent.
     pub still-agrees : IsEvent e → WritesNoSetting s e
         → IsSetUp (transmit_queue_of t.registers queue) v.layout v.posted f → Sends t
         → ((number : ℕ) → IsTrue (has_lent v number) → LeavesBlock number s t) → Agrees t queue sent v

@@ -1,5 +1,5 @@
--- Properties of a queue's side that stay true whatever the device does to the side, or when a driver requests that it
--- be enabled or disabled.
+-- Properties of a queue's side that stay true whatever the device does to the side. Also, properties that stay true
+-- when a driver requests that the side be enabled or disabled.
 use Rattle.device_laws.proofs.StandingAccesses.{read_rest, write_rest}
 use Rattle.ring_laws.specs.Prelude.{Port, Register, State, after, has_bit, named, place, reply_to, step_of}
 use Rattle.ring_laws.specs.Sides.{IsOff, IsTried, IsUnwanted, IsUp, LeavesSide, Side, as_wanted, shut, side_of}
@@ -69,7 +69,7 @@ off_steady = idle_steady IsOff off_idle
 abbrev pub IsSettled : Side → Type 0
 IsSettled x = IsTrue x.on ⊎ IsUnwanted x
 
--- A side that is still settled and didn't become enabled.
+-- The side is still settled and didn't become enabled.
 pub record Settles (x y : Side) : Type 0 where
   pub settled : IsSettled y
   pub never : (not x.on && y.on) ≡ false
@@ -92,7 +92,7 @@ deed_settles dir queue s e did is = grind arith
 -- A value written to the enable register of a queue's side only requests that the side be enabled or disabled. A read
 -- shows whether the side is on.
 
--- A number at a port names the enable register of a side, with all its bits.
+-- This number at this port identifies the enable register of a side, and gives access to all its bits.
 abbrev pub NamesEnable : Dir → ℕ → State → Port → ℕ → Type 0
 NamesEnable dir queue s port n = named s port n ≡ Register (place (enable_row dir) queue) 0xFFFFFFFF
 

@@ -75,7 +75,7 @@ frame_left limit staged (x ∷ ss) some are = elim (cases_Bool x.part.last) [
       rw other (frame, rest, omega arith, is)
 ]
 
--- Segments with the last one of a packet become at least one frame.
+-- Segments that include the last segment of a packet become at least one frame.
 pub frame_of_end : (staged : List ℕ) (ss : List Segment) (k : ℕ) → k < length ss
     → (slice_index_or ss k no_segment).part.last ≡ true → 0 < length (frames_from staged ss)
 frame_of_end staged [] k below end = absurd (omega arith)
@@ -124,7 +124,7 @@ module _ (m : Memory) (v : Sender) (f : ℕ) (l : IsLayout v.layout) (c : IsCoun
     pub lent_holds : length ss < v.layout.size → v.lent < length ss → IsCounted w f × Shows lent w f
     lent_holds room known = (grind (arith, new), grind (arith, stays, ready))
 
--- An accepted packet is placed after the other packets.
+-- The segments of an accepted packet follow those of the earlier packets.
 module _ (v : Sender) (p : Outgoing) (b : Block) (may : MayAccept v p b) where
   pub early-accepted : (k : ℕ) → k < v.lent → segment_at (accepted_by v p) k ≡ segment_at v k
   early-accepted k below = get_or_append_left v.outstanding (segments_of p) no_segment k (omega (arith, may.lent))
@@ -202,7 +202,7 @@ mine-moved mine v all Elsewhere e r may has = all
 mine-moved mine v all m e r may has =
     follows_in mine (has_lent v) all e (λ r. has_lent (moved v m r)) (follows v m e may (λ is. cc)) r has
 
--- Given some block numbers, each of these blocks that is lent stays known through the driver's own moves.
+-- Each lent block of a given set stays known through the driver's own moves.
 
 module _ (own others : Blocks) (s : State) (v : Sender)
     (only : OnlyLent own (either (has_lent v) others) s.memory)

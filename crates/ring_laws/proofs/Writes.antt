@@ -18,7 +18,7 @@ same_rings : (r : RowId) → (is_receive r || is_transmit r) ≡ is_ring r
 same_rings row.Ctrl = refl
 same_rings other = refl
 
--- A write to a register other than PVFCTRL resets no pool; a write to PVFCTRL does if it sets bit 26.
+-- A write to a register other than PVFCTRL resets no pool. A write to PVFCTRL resets a pool if it sets bit 26.
 resets_none : (r : RowId) (word : ℕ) → is_reset r ≡ false → asks_pool_reset (row_of r).kind word ≡ false
 resets_none row.Pvfctrl word h = absurd (true≢false h)
 resets_none other word h = refl

@@ -1,4 +1,4 @@
--- What a number at a port names, and the low bits of the values written to that register.
+-- Which register a number at a port identifies, and the low bits of the values written to that register.
 use Rattle.device_lock.specs.Alone.{place_at}
 use Rattle.ring_laws.specs.Prelude.{Maxfrs, Named, Nothing, Place, Port, Rdt, Register, Registers, State, Tdt}
 use Rattle.ring_laws.specs.Prelude.{after_write, mode_in, named, place, receive_queue_of, row_of, transmit_queue_of}
@@ -57,7 +57,7 @@ all_shown [] a p none is same = refl
 all_shown (r ∷ rs) a p none is same =
     grind (arith, common_steps, all_shown rs a p, and_parts, eq-eqb, cases_Bool (has_address r a))
 
--- What a number at a port names.
+-- Which register a number at a port identifies.
 
 abbrev pub place_in : Named → Option Place
 place_in (Nothing seen) = None

@@ -24,7 +24,7 @@ pub record ClosingTells (bench count : ℕ) (h : List Entry) (passes : List Pass
       Contains passes p → count ≤ p.tag → answer ≡ Some ForeignPass
 
 -- If each tag has a pass, a tag with two passes is reported too. If the calls of a pass differ from the history's calls
--- for its tag, a fault is reported. If this fault is such a difference, its tag is the lowest with a difference.
+-- for its tag, a fault is reported. If the reported fault is such a difference, no lower tag has one.
 pub record ClosingCompares (bench count : ℕ) (h : List Entry) (passes : List PassValue) (answer : Option CloseFault) :
     Type 0 where
   pub twice : ((tag : ℕ) → tag < count → is_there bench tag passes ≡ true) → (tag : ℕ) → tag < count →

@@ -32,7 +32,7 @@ pub record FindsNone (s : State) (v : Receive) : Type 0 where
   pub shows : ShowsNone s v
   pub none_whole : v.whole ≡ []
 
--- In such a state, all packets were returned, if the device and the driver agree.
+-- If the device and the driver agree in such a state, all written packets were returned.
 abbrev pub NoneIsAll : Type 0
 NoneIsAll =
     (queue : ℕ) (s : State) (out : List Piece) (v : Receive) → Agree queue s out v → FindsNone s v →

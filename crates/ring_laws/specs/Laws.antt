@@ -56,7 +56,7 @@ pub record FindsWaiting (s : State) (v : Sender) : Type 0 where
   pub waits : is_sent bytes ≡ false
 
 -- If the next poll would find the oldest outstanding packet not done, at least one accepted frame hasn't been sent. The
--- same is true of every earlier time.
+-- same was true at every earlier time.
 abbrev pub WaitingIsNotAllSent : Type 0
 WaitingIsNotAllSent =
     (s : State) (queue : ℕ) (sent : List (List ℕ)) (v : Sender) → Agrees s queue sent v → FindsWaiting s v →

@@ -35,17 +35,17 @@ pub fn histories_keep_devices_sound()
     ensures { HistoriesKeepSound }
 {}
 
-/// If the reply to a transmit step of a sound device reports that the step wrote something back to memory, the written
-/// bytes are all in the block in which they begin.
+/// Suppose that the reply to a transmit step of a sound device reports that the step wrote something back to memory.
+/// Then all written bytes are in the block in which they begin.
 #[tactic(auto, using(crate::proofs::Reports::reports_lie))]
 pub fn reports_lie_in_their_blocks()
     ensures { ReportsLieInBlocks }
 {}
 
-/// Suppose that the driver knows about each block of a given set that is lent. This stays true through an event that
-/// lends no block of the set. It stays true when a block is lent and the driver counts it as lent from then on. It also
-/// stays true when a block is taken back and the driver no longer counts it as lent. If the driver doesn't count a
-/// block of the set as lent, lending that block succeeds.
+/// Suppose that the driver counts a block of a given set as lent whenever the block is lent. This stays true through an
+/// event that lends no block of the set. It stays true when a block is lent and the driver counts it as lent from then
+/// on. It also stays true when a block is taken back and the driver no longer counts it as lent. If the driver doesn't
+/// count a block of the set as lent, lending that block succeeds.
 #[tactic(auto, using(crate::proofs::Lent::only_lent_stays, crate::proofs::Lent::again_is_done))]
 pub fn only_known_blocks_are_lent()
     ensures stays { OnlyLentStays }
@@ -56,10 +56,10 @@ pub fn only_known_blocks_are_lent()
 /// slot at the head of the side's ring: it fills a receive slot with a piece of the receive list's oldest frame, or
 /// fetches a transmit slot. It shuts the side because of a fault. It enables or disables the side as requested. Or it
 /// does nothing to the side. If the event takes no slot of a side, nothing is received or sent on that side. If it
-/// takes no slot of either side, it leaves each of the blocks unchanged. The event changes neither the frame limit nor
-/// how the queues are separated. A second clause is about a single side of a sound device's queue. An event that leaves
-/// this side unchanged, or is a step of this side, does one of the four things to this side, whatever it does to the
-/// other.
+/// takes no slot of either side, it leaves each of the blocks unchanged. Such an event changes neither the frame limit
+/// nor how the queues are separated. A second clause is about a single side of a sound device's queue. An event that
+/// leaves this side unchanged, or is a step of this side, does one of the four things to this side, whatever it does to
+/// the other.
 pub fn events_take_shut_or_switch_a_side()
     ensures left { LeftDid }
     ensures side { SidesDo }

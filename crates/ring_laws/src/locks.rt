@@ -29,11 +29,11 @@ pub fn other_events_leave_queues_alone()
     ensures nothing_else { NothingElseCounts }
 {}
 
-/// A history that ends with the first entry of a driver's pass, or before it, leaves the driver's queue alone. After
-/// that first entry, one entry of these three kinds is enough: the history then doesn't leave the queue alone. The
-/// first kind is a write by another pass that doesn't leave the queue alone. The second is another pass's access to a
-/// block that doesn't leave the queue alone. The third is a step of another queue, by any pass, that writes into a
-/// block of the driver's pass. A history without such entries leaves the queue alone.
+/// A history that ends with the first entry of a driver's pass, or before it, leaves the driver's queue alone. If a
+/// later entry is of one of three kinds, the history doesn't leave the queue alone. The first kind is a write by
+/// another pass that doesn't leave the queue alone. The second is an entry of another pass that lends, takes or pokes a
+/// block of the driver's pass. The third is a step of another queue, by any pass, that writes into a block of the
+/// driver's pass. A history without such entries leaves the queue alone.
 #[tactic(auto, using(crate::proofs::Others::histories_leave, crate::proofs::Others::sparing_suffices))]
 pub fn histories_leave_queues_alone()
     ensures history { HistoriesLeaveQueues }
@@ -47,10 +47,10 @@ pub fn drivers_begin_with_their_first_entry()
     ensures { DriversBegin }
 {}
 
-/// The last write to GCR_EXT, by any pass, determines the pools, by bits 1 to 0 of its value. The history's later
-/// writes to PVFCTRL reset pools according to this setting. Before the first write to GCR_EXT, the pools are those
-/// given for the start of the history. After a write to CTRL that sets bit 3 or bit 26, the device has no pools. No
-/// other write or event changes the pools. All these writes get the reply `Done`.
+/// Bits 1 to 0 of the value in the last write to GCR_EXT, by any pass, determine the pools. The history's later writes
+/// to PVFCTRL reset pools according to this setting. Before the first write to GCR_EXT, the pools are those given for
+/// the start of the history. After a write to CTRL that sets bit 3 or bit 26, the device has no pools. No other write
+/// or event changes the pools. All these writes get the reply `Done`.
 #[tactic(auto, using(crate::proofs::Beginning::stay))]
 pub fn pools_are_the_last_that_were_set()
     ensures set { PoolsAreFollowed }

@@ -45,7 +45,7 @@ pub fn moves_keep()
 /// If the device and the driver agree, the frames sent on the queue are a prefix of the frames that the driver
 /// accepted, byte for byte. If no packet is outstanding, all frames that the driver accepted have been sent. If a read
 /// finds that the oldest outstanding packet isn't done, at least one of the accepted frames hasn't been sent. The same
-/// is true of every earlier time.
+/// was true at every earlier time.
 pub fn sent_in_order()
     ensures prefix { SentIsPrefix }
     ensures idle { IdleIsAllSent }
@@ -98,8 +98,8 @@ pub fn guarded_queue_is_off()
 
 /// Suppose that the device and the driver agree. If the driver's next move lends a block, suppose also that this block
 /// isn't lent yet. Then each of the driver's own moves gets the reply of a healthy queue. These moves lend a block,
-/// write its descriptor, advance the tail, read the descriptor that ends the oldest packet, and take back a block of a
-/// packet that is known to be sent.
+/// write its descriptor, advance the tail, and read the descriptor that ends the oldest packet. They also take back a
+/// block of a packet that is known to be sent.
 pub fn own_replies_are_healthy()
     ensures { OwnRepliesAreHealthy }
 {}

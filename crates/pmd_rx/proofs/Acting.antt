@@ -26,7 +26,8 @@ use Rattle.pmd_rx.proofs.Own.{name_plays, name_fails}
 use Rattle.pmd_rx.proofs.Playing.{plays_none}
 use Rattle.pmd_rx.proofs.Refilling.{name_keeps}
 
--- A call with the effect `Gathers`, then a call that never lacks a block.
+-- A call with the effect `Gathers` may be followed by a call that never fails with `NoBuffer`; together they have this
+-- effect.
 
 pub acts_then : {f h : Option PmdFault} {l m n : List Call} {a b d : Numbers} {v w x : Receive} → Gathers f l a v m b w
     → h ≢ Some fault.NoBuffer → Acts h m b w n d x → Acts h l a v n d x
@@ -51,7 +52,7 @@ alone_then p q = record {
   enough = q.enough;
 }
 
--- A call that looks at slots, then a call that may lack a block.
+-- The same is true of a call that looks at slots, followed by a call that may fail with `NoBuffer`.
 pub gathers_seen : {f h : Option PmdFault} {l m n : List Call} {a b : Numbers} {v w x : Receive}
     → GathersAlone f l v m w → w ≡ record v { seen = w.seen; stage = w.stage } → Gathers h m a w n b x
     → Gathers h l a v n b x
@@ -115,7 +116,7 @@ pub fails_alone : (f : PmdFault) {old new : List Call} {v : Receive} → ((a : N
 fails_alone f {old} {new} {v} plays fault =
     gathers_alone (acts_alone (Some f) plays fault) (λ a. keeps_none a v) refl (omega arith)
 
--- An event with one arena, to which the block was returned.
+-- A call that fails and leaves the arena unchanged, because the block was returned to it.
 pub fails_here : (f : PmdFault) {old new : List Call} {a b : Numbers} {v : Receive} → PlaysFrom a old v new v
     → IsFault f a old v new v → b ≡ a → Gathers (Some f) old a v new b v
 fails_here f {old} {new} {a} {b} {v} plays fault home =

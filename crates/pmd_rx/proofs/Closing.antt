@@ -18,7 +18,7 @@ pub given_both : (a : Numbers) (xs ys : List ℕ)
 given_both a [] ys = refl
 given_both a (x ∷ xs) ys = given_both (with_free a x true) xs ys
 
--- The other blocks stay out.
+-- The other blocks stay out of the arena.
 pub all_given : (a : Numbers) (ns others : List ℕ) → AreOut a (ns ++ others) → AreOut (with_all_free a ns) others
 all_given a [] others out = out
 all_given a (n ∷ ns) others out = all_given (with_free a n true) ns others (out_given a (ns ++ others) n out)

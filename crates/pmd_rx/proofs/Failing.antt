@@ -90,7 +90,7 @@ fault_of fault.NoBuffer old new a b v w enough is = absurd (enough refl)
 fault_of fault.DeviceFault old new a b v w enough is = is
 fault_of (fault.Call refusal) old new a b v w enough is = is
 
--- A result that may have no fault.
+-- The same lemmas for a result that may have no fault.
 
 pub fails_all : (o : Option PmdFault) (old new : List Call) (a b : Numbers) (v w : Receive)
     → IfSome o (λ f. IsFault f a old v new w) → IfSome o (λ f. FailsBy f old a v new b w)
@@ -109,7 +109,7 @@ pub faults_of : (o : Option PmdFault) (old new : List Call) (a b : Numbers) (v w
 faults_of None old new a b v w enough is = tt
 faults_of (Some f) old new a b v w enough is = fault_of f old new a b v w (λ same. enough (ap Some same)) is
 
--- A wrong reply from the device is never a lack of blocks.
+-- A call that fails because of a wrong reply doesn't fail with `NoBuffer`.
 pub never_short : (o : Option PmdFault) (a : Numbers) (old new : List Call) (v w : Receive)
     → IfSome o (λ f. IsFault f a old v new w) → o ≡ Some fault.NoBuffer → ⊥
 never_short o a old new v w is short =

@@ -95,7 +95,7 @@ filled_runs count a b v w posts empty looks none idle part some all =
       stage = rw here (omega (arith, seen, most, part));
     }
 
--- Filling lacks a block only if fewer blocks were free than it must post.
+-- Filling a ring fails with `NoBuffer` only if fewer blocks were free than it must post.
 pub short_of : (f : PmdFault) (old new : List Call) (a b : Numbers) (v w : Receive) → f ≡ fault.NoBuffer
     → StopsFilling f old a v new b w → free_count a + 1 < v.layout.size
 short_of f old new a b v w is stops =

@@ -1,4 +1,4 @@
--- Lemmas: the steps of a refill complete the waiting packet.
+-- Proves that the steps of a refill complete the waiting packet.
 use Rattle.std.proofs.Common.{◌≡◌, ℕ, ◌+◌, ◌<◌, ◌≤◌, true, false, List, [], ◌∷◌, ◌++◌, length, Result, Ok, Err, OnOk, OnErr, refl, sym, ap, subst, ◌∙◌, arith}
 use Rattle.std.proofs.lemmas.List.{append-nil, length-append}
 use Rattle.pmd_access.specs.NicDevice.DmaArena.Block.{Block}
@@ -38,7 +38,7 @@ owes_room v runs owes =
 pub owed_some : (v : Receive) (a : Numbers) → 0 < length v.seen → wanted v ≤ free_count a → free_count a ≡ 0 → ⊥
 owed_some v a some free none = omega (arith, some, free, none)
 
--- A part with an owed replacement needs a free block too.
+-- A part whose replacement is still owed needs a free block too.
 pub owed_here : (v : Receive) (a : Numbers) → v.stage ≡ Owes → wanted v ≤ free_count a → free_count a ≡ 0 → ⊥
 owed_here v a owes free none = omega (arith, free, none, ap owed owes)
 

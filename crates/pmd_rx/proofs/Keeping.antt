@@ -1,4 +1,4 @@
--- Lemmas: each step preserves the blocks' locations and the ring, and the driver keeps running.
+-- Proves what each step preserves: the blocks' locations and the ring. A running driver keeps running.
 use Rattle.std.proofs.Common.{◌≡◌, ℕ, ◌+◌, ◌<◌, Bool, true, false, List, [], ◌∷◌, ◌++◌, length, get_or, drop, refl, sym, ap, subst, ◌∙◌, arith, cond}
 use Rattle.std.specs.Prelude.{◌==◌, ◌&&◌, nat_lt}
 use Rattle.std.proofs.lemmas.Bool.{and_parts}
@@ -52,7 +52,7 @@ held_count v =
 pub same_ring : (l : Layout) → IsSameRing l l
 same_ring l = record { port = refl; tail = refl; ring = refl; size = refl; most = refl }
 
--- Nothing changed, or two calls follow each other.
+-- `Keeps` is true if nothing changed. If it is true of a call and of the next call, it is true of both together.
 
 pub keeps_none : (a : Numbers) (v : Receive) → Keeps a v a v []
 keeps_none a v = record { arena = ([], refl, λ k. refl); ring = same_ring v.layout; running = λ runs. runs }
@@ -74,7 +74,7 @@ keeps_both a b d v w x out p q = record {
 pub keeps_to : (a b : Numbers) (v w x : Receive) (out : List ℕ) → x ≡ w → Keeps a v b w out → Keeps a v b x out
 keeps_to a b v w x out same keeps = subst (λ (y : Receive). Keeps a v b y out) (sym same) keeps
 
--- A look preserves them.
+-- A look preserves the blocks' locations and the ring.
 
 abbrev saw_as : Receive → List ℕ → Bool → Receive
 saw_as v d ends = record v { seen = v.seen ++ reported_by d ∷ []; stage = cond ends Takes Looks }

@@ -1,4 +1,5 @@
--- Lemmas: the tail advances over the blocks that replace the oldest complete packet, or over all named blocks.
+-- Lemmas about the tail, which advances over the blocks that replace the oldest complete packet, or over all named
+-- blocks.
 use Rattle.std.proofs.Common.{◌≡◌, ◌≢◌, ℕ, ◌+◌, ◌<◌, ◌≤◌, ◌==◌, Bool, true, false, ◌⊎◌, inl, inr, List, [], ◌∷◌, ◌++◌, length, take, drop, All, Result, Ok, Err, OnOk, OnErr, refl, sym, ap, subst, ◌∙◌, take_all, length-take-le, take-append-drop, arith, if◌then◌else◌}
 use Rattle.std.proofs.lemmas.Bool.{cases_eq}
 use Rattle.std.proofs.lemmas.Bool.Decides.{nat_tests}
@@ -82,7 +83,7 @@ all_own v n is some = record {
   word_is = inr (ap (λ (k : ℕ). tail_after v.layout k) is);
 }
 
--- If all named blocks replace the oldest packet, it is the only one.
+-- If all named blocks replace the oldest complete packet, this packet is the only one.
 only_one : (ps : List Packet) (n : ℕ) → 0 < n → All HasPart ps → length (numbers_of_all ps) ≤ n → n ≡ parts_first ps
     → length ps ≡ 1
 only_one [] n some all few is = absurd (omega (arith, some, is))

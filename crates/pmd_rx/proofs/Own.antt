@@ -1,4 +1,4 @@
--- Lemmas: taking a part's block and posting a fresh one are the driver's own calls.
+-- Proves that the calls that take a part's block and post a fresh block are the driver's own.
 use Rattle.std.proofs.Common.{◌≡◌, ◌<◌, ◌∙◌, ℕ, true, List, length, Some, None, IfSome, Result, Ok, Err, IfErr, OnOk, OnErr, refl, sym, subst, inl, inr}
 use Rattle.pmd_access.specs.NicDevice.DmaArena.Block.{Block}
 use Rattle.pmd_access.specs.NicDevice.DmaArena.Numbers.{Numbers, is_free}

@@ -72,7 +72,7 @@ plays_some arena old new v (before, is, steps) = record {
   free = free-none arena before;
 }
 
--- Two sequences of calls follow each other.
+-- Lemmas about one sequence of calls followed by another.
 
 own-both : (v : Receive) (m : List Bool) (s : List Call) (n : List Bool) (t : List Call) → AllOwn v m s
     → AllOwn (played_by v m s) n t → AllOwn v (m ++ n) (s ++ t)
@@ -123,7 +123,7 @@ plays_both arena a b d v w x p q = record {
 pub plays_none : (arena : Numbers) (old : List Call) (v : Receive) → PlaysFrom arena old v old v
 plays_none arena old v = plays_some arena old old v ([], sym (append-nil old), tt)
 
--- Blocks free in one arena are free in the other.
+-- Lemmas about two arenas, where each block that is free in `b` is also free in `a`.
 
 module _ (a b : Numbers) (all : (n : ℕ) → is_free b n ≡ true → is_free a n ≡ true) where
   pub free-in : (m : Bool) (e : Event Block) → LendsFree b m e → LendsFree a m e

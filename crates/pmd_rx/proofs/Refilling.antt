@@ -72,7 +72,7 @@ lent_keeps a v n can free room = record {
       };
 }
 
--- The block is named; the packet being held is complete, or is still held.
+-- After the fresh block is named, the packet being held is complete or still held.
 
 ended_times : (seen : List Reported) (bs : List Block) (p : Packet) (k : ℕ) → p.bufs ≡ bs
     → times_in_hand (numbers_of p.bufs) k

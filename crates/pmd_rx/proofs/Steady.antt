@@ -1,5 +1,5 @@
--- Lemmas: the ring's invariants hold after a part is seen or joins the held packet, a block is named, or the tail
--- advances.
+-- Proves that the ring's invariants still hold after a part is seen or joins the held packet, a block is named, or the
+-- tail advances.
 use Rattle.std.proofs.Common.{◌≡◌, ℕ, suc, ◌+◌, ◌-◌, ◌<◌, ◌≤◌, ◌⊎◌, inl, inr, Bool, true, false, if◌then◌else◌, List, [], ◌∷◌, ◌++◌, length, drop, refl, sym, ap, subst, ◌∙◌, arith}
 use Rattle.std.proofs.lemmas.List.{length_push, length-drop, length-append, length-map}
 use Rattle.std.proofs.lemmas.List.Elements.{All-append, All-push, All-drop}
@@ -105,7 +105,7 @@ seen_steady l posted seen more p whole s next t (laid, step) looks is leads part
       },
     )
 
--- A block is named after the last part of a packet.
+-- Lemmas about naming a block when the packet's last part has been taken.
 
 any_part : (bs : List Block) (p : Packet) → p.bufs ≡ bs → All HasPart (if_any bs p)
 any_part [] p is = λ k d i. absurd (omega (arith, i))
@@ -180,7 +180,7 @@ first_count p left =
       length-map p.bufs (λ (x : Block). x.number),
     )
 
--- If a packet is complete, a block is named after the posted ones.
+-- If a packet is complete, at least one block is named that isn't posted yet.
 
 some_parts : (whole : List Packet) → 0 < length whole → All HasPart whole → 0 < length (numbers_of_all whole)
 some_parts [] some all = absurd (omega (arith, some))

@@ -1,5 +1,5 @@
--- Lemmas about the driver as its fields show it. The first of the slots' blocks are posted, and the first of the
--- records belong to packets handed out.
+-- Lemmas about the driver's state as its fields represent it. The first of the blocks in slots are posted, and the
+-- first of the records belong to packets handed out.
 use Rattle.std.proofs.Common.{◌≡◌, ℕ, ◌+◌, ◌≤◌, List, [], ◌∷◌, ◌++◌, take, drop, length, refl, sym, ap, ◌∙◌, take-add, drop-drop, arith}
 use Rattle.std.proofs.lemmas.List.{take-map, take-append-le, drop-append-le}
 use Rattle.pmd_access.specs.NicDevice.DmaArena.Block.{Block}

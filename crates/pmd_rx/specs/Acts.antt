@@ -9,8 +9,8 @@ use Rattle.pmd_rx.specs.Plays.{PlaysFrom}
 use Rattle.pmd_rx.specs.Receive.{Receive}
 use Rattle.pmd_rx.specs.Wrong.{FailsBy}
 
--- Some calls were made. Those that are the driver's own take it from ring `v` and arena `a` to ring `w` and arena `b`.
--- If a fault is reported, `FailsBy` says why.
+-- Some calls were made. Those that are the driver's own take the driver from ring `v` and arena `a` to ring `w` and
+-- arena `b`. If a fault is reported, `FailsBy` says why.
 pub record Acts (f : Option PmdFault) (old : List Call) (a : Numbers) (v : Receive) (new : List Call) (b : Numbers)
     (w : Receive) : Type 0 where
   pub plays : PlaysFrom a old v new w

@@ -148,8 +148,8 @@ pub(crate) fn no_packet() -> Packet
 
 impl ReceiveRing {
     /// Returns whether the ring owns the block with this number. It owns the blocks that its descriptors occupy, the
-    /// blocks in its slots, the blocks that descriptors after the tail name, a fresh block that is lent, and the blocks
-    /// of held parts and complete packets.
+    /// blocks in its slots, and the blocks that descriptors after the tail name. It also owns a fresh block that is
+    /// lent, and the blocks of held parts and complete packets.
     pub fn has(&self, block: u32) -> bool
         ensures { (result ≡ true) ↔ (0 < times_in_hand (blocks_out self.now) block) }
     {

@@ -1,4 +1,4 @@
--- The number of outstanding packets can be counted from the driver's pieces.
+-- Proves that the outstanding packets can be counted from the driver's pieces.
 use Rattle.std.proofs.Common.{◌≡◌, ℕ, ◌+◌, ◌≤◌, Bool, List, [], ◌∷◌, cond, length, count_by, refl, sym, ap, ◌∙◌}
 use Rattle.std.proofs.lemmas.List.Sums.{count_by-le-length, sum_by-cons}
 use Rattle.pmd_access.specs.Packet.{Kept}

@@ -1,4 +1,4 @@
--- Lemmas: a record of a call's failure also holds together with the calls made before that call.
+-- Proves that a record of a call's failure also holds together with the calls made before that call.
 use Rattle.std.proofs.Common.{◌≡◌, ℕ, List, Result, Ok, Err, IfErr, ◌∙◌}
 use Rattle.pmd_access.specs.DeviceLock.declared.entry.Call.{Call}
 use Rattle.pmd_access.specs.declared.fault.PmdFault.{PmdFault}

@@ -1,4 +1,4 @@
--- Lemmas: the ring's fields stay consistent when segments are added and removed.
+-- Proves that the ring's fields stay consistent when segments are added and removed.
 use Rattle.std.proofs.Common.{◌≡◌, ℕ, suc, ◌+◌, ◌<◌, ◌≤◌, false, List, [], ◌∷◌, length, drop, get_or, refl, sym, ap, ◌∙◌, subst, arith}
 use Rattle.std.proofs.lemmas.List.{length-drop, drop-drop, drop_more}
 use Rattle.std.proofs.lemmas.List.Elements.{All-drop}

@@ -9,7 +9,7 @@ use Rattle.pmd_access.specs.Home.{AreOut}
 use Rattle.pmd_tx.specs.Sending.{Sender, Segment, no_segment, blocks_of, segment_at, reaped}
 use Rattle.pmd_tx.specs.Sends.{Frees, ends_in}
 
--- Freeing two lists of blocks is freeing their concatenation.
+-- Freeing two lists of blocks, one after the other, is the same as freeing their concatenation.
 
 free-append : (a : Numbers) (xs ys : List ℕ) → with_all_free (with_all_free a xs) ys ≡ with_all_free a (xs ++ ys)
 free-append a [] ys = refl

@@ -33,7 +33,7 @@ opened false false full is = cc
 opened false true true is = cc
 opened false true false is = (refl, refl, refl)
 
--- Blocks that can be returned to the arena are out of it, each once.
+-- Blocks that can be returned to the arena are out of the arena, each of them exactly once.
 
 parts_of_out : (own free again rest : Bool) → (own && not free && not again && rest) ≡ true
     → (own ≡ true) × (free ≡ false) × (again ≡ false) × (rest ≡ true)
@@ -187,7 +187,7 @@ pub back_itself : (f : PmdFault) (p : Packet) → IsBack f p p
 back_itself DeviceFault p = refl
 back_itself other p = refl
 
--- The blocks that contain none of the packet's bytes are out too.
+-- The blocks that contain none of the packet's bytes are out of the arena too.
 pub out_drop : (a : Numbers) (n : ℕ) (ns ms : List ℕ) → AreOut a ns → ms ≡ drop n ns → AreOut a ms
 out_drop a n ns ms out is =
     rw is

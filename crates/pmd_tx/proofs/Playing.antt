@@ -74,7 +74,7 @@ plays_some blocks old new v (before, is, steps) = record {
 pub plays_none : (blocks : List ℕ) (old : List Call) (v : Sender) → PlaysWith blocks old v old v
 plays_none blocks old v = plays_some blocks old old v ([], sym (append-nil old), tt)
 
--- Lemmas about two sequences of calls, one after the other.
+-- Lemmas about one sequence of calls followed by another.
 
 own-both : (v : Sender) (m : List Move) (s : List Call) (n : List Move) (t : List Call) → AllOwn v m s
     → AllOwn (played_by v m s) n t → AllOwn v (m ++ n) (s ++ t)
@@ -151,7 +151,7 @@ faults_after blocks a b d v w plays f = record {
   sick = f.sick;
 }
 
--- A refused call asks for a move that the driver may make next.
+-- If a call is refused, its event is a move that the driver may make next.
 pub asks_at : (blocks : List ℕ) (old new : List Call) (v : Sender) (m : Move) (e : Event Block) → IsOwn v m e
     → is_elsewhere m ≡ false → AcceptsIn blocks m → AddsSome old new → AsksNext blocks old v new
 asks_at blocks old new v m e own mine accepts some = record {

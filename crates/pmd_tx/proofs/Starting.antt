@@ -1,4 +1,5 @@
--- Lemmas: when a packet is accepted, its pieces join the outstanding ones, and its other blocks are in hand.
+-- Proves what happens when a packet is accepted: its pieces join the outstanding ones, and its other blocks stay in
+-- hand.
 use Rattle.std.proofs.Common.{◌≡◌, ℕ, zero, suc, ◌+◌, ◌-◌, ◌*◌, ◌<◌, ◌≤◌, ◌==◌, true, false, All, List, [], ◌∷◌, ◌++◌, length, take, drop, get_or, refl, sym, ap, ◌∙◌, subst, arith}
 use Rattle.std.specs.List.{list_any}
 use Rattle.std.proofs.lemmas.List.{length-append, length-take-le, take-append-drop, take-append-le, drop_at, drop-drop, take_all, get_or-take}

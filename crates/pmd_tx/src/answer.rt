@@ -10,8 +10,8 @@ pub enum TxAnswer {
     RingFull(Packet),
 }
 
-/// Why a packet isn't sent now, and the packet if it is returned. It is returned if none of its blocks was lent;
-/// otherwise it is accepted.
+/// Why a packet isn't sent now, and the packet if it is returned. The packet is returned if none of its blocks was
+/// lent; otherwise it is accepted.
 pub struct TxFault {
     /// The reason that the packet isn't sent now.
     pub fault: PmdFault,

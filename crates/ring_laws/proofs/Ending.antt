@@ -62,7 +62,7 @@ module _ (bench count : ℕ) (h : List Entry) (ps : List PassValue) where
   missing (Some (Mismatch t)) a tag below none lowest = absurd (omega (arith, absent tag none, a.0.once tag below))
   missing (Some OutOfMemory) a tag below none lowest = absurd a
 
-  -- The passes aren't exactly the bench's passes, one for each tag.
+  -- If each tag has a pass, but the passes aren't exactly the bench's passes, `ForeignPass` is reported.
   surplus : (answer : Option CloseFault) → Answers bench count h ps answer →
       ((tag : ℕ) → tag < count → is_there bench tag ps ≡ true) → (AreAll bench count ps → ⊥) →
       answer ≡ Some ForeignPass

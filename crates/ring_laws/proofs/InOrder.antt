@@ -81,7 +81,7 @@ pub vfs_stays : (s : State) (h : List Entry) → (leads_to s h).vfs ≡ s.vfs
 vfs_stays s [] = refl
 vfs_stays s (e ∷ h) = vfs_stays (after s e.event) h ∙ (step_leads s e.event).stays.vfs
 
--- Delivered packets stay delivered.
+-- If more pieces follow, the packets formed before remain a prefix of all packets.
 
 pub grows : (front : List ℕ) (xs ys : List Piece)
     → IsPrefixOf (packets_after front xs) (packets_after front (xs ++ ys))
@@ -200,7 +200,7 @@ never queue s sent [] off = sym (append-nil sent)
 never queue s sent (e ∷ es) off =
     rw off.0 (never queue (after s e.event) (sent ++ sent_by queue s e.event) es off.1 ∙ append_assoc sent _ _)
 
--- The frames that are sent after the side is enabled for the last time are counted.
+-- If the side is enabled, only the frames that are sent after the last time are counted.
 last : (queue : ℕ) (s : State) (sent : List (List ℕ)) (g : List Entry) (e : Entry) (h : List Entry)
     → goes_on queue (leads_to s g) e.event ≡ true → NeverGoesOn queue (after (leads_to s g) e.event) h
     → sent_since queue s sent (g ++ e ∷ h) ≡ sent_in queue (after (leads_to s g) e.event) h

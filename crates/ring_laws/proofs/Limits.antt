@@ -142,8 +142,8 @@ histories_sound s [] sound events = sound
 histories_sound s (e ∷ es) sound events =
     histories_sound (after s e.event) es (keeps_sound s sound e.event events.0) events.1
 
--- A pass lends in a whole history what it lends in a part, and has begun in the whole history if it has begun in a
--- part.
+-- A block that a pass lends in one part of a history is lent in the whole history. A pass that has begun in one part
+-- has begun in the whole history.
 
 lent_both : (pass n : ℕ) (g h : List Entry) → lent_by pass (g ++ h) n ≡ (lent_by pass g n || lent_by pass h n)
 lent_both pass n [] h = refl

@@ -65,8 +65,9 @@ pub record IsShort (a : Numbers) (v : Receive) (b : Numbers) (w : Receive) : Typ
   pub whole : w.whole ≡ v.whole
   pub named : w.named ≡ v.named
 
--- The refused event is one that the driver may cause next. This event looks at the next slot, takes the block there,
--- lends a block that is free in the arena, names the lent block in the vacant slot's descriptor, or writes the tail.
+-- The refused event is one that the driver may cause next. This event looks at the next slot, takes the block there, or
+-- lends a block that is free in the arena. Otherwise, it names the lent block in the vacant slot's descriptor, or
+-- writes the tail.
 abbrev pub AsksNext : Numbers → Receive → Type 0
 AsksNext a w = (e : Event Block) × IsOwn w e × LendsFree a true e
 

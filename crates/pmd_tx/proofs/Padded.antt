@@ -104,7 +104,7 @@ module _ (p : Packet) (whole : All (λ (b : Block). IsBlock b) p.bufs) (some : 0
     short-by [] is short = absurd (omega (arith, some, held, ap length is))
     short-by (b ∷ bs) is short = kept-short short b bs is
 
-    -- The record of the padded packet is the accepted one, in the same blocks.
+    -- The record of the padded packet is the accepted packet's record, and both packets are in the same blocks.
 
     pub kept_padded : kept_of (padded_packet p) ≡ accepted_of p
     kept_padded = elim (cases_Bool (nat_lt p.len 60)) [

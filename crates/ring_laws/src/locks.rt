@@ -47,10 +47,10 @@ pub fn drivers_begin_with_their_first_entry()
     ensures { DriversBegin }
 {}
 
-/// Bits 1 to 0 of the value in the last write to GCR_EXT, by any pass, determine the pools. The history's later writes
-/// to PVFCTRL reset pools according to this setting. Before the first write to GCR_EXT, the pools are those given for
-/// the start of the history. After a write to CTRL that sets bit 3 or bit 26, the device has no pools. No other write
-/// or event changes the pools. All these writes get the reply `Done`.
+/// Bits 1 to 0 of the value in the last write to GCR_EXT, by any pass, determine the pools. (This setting decides which
+/// queues a later write to PVFCTRL resets.) Before the first write to GCR_EXT, the pools are those given for the start
+/// of the history. After a write to CTRL that sets bit 3 or bit 26, the device has no pools. No other write or event
+/// changes the pools. The law is about writes with the reply `Done`.
 #[tactic(auto, using(crate::proofs::Beginning::stay))]
 pub fn pools_are_the_last_that_were_set()
     ensures set { PoolsAreFollowed }

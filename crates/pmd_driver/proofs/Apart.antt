@@ -28,7 +28,8 @@ pub step_apart : (own : Blocks) (h : Halves) (e : Event Block) → IsTrue (is_st
 step_apart own h (event.Lend b) step = cc
 step_apart own h e step = tt
 
--- No call was made, or further calls follow.
+-- `DrivesApart` holds if no call was made. If it holds for each of two sequences of calls, it holds for one followed by
+-- the other.
 
 pub apart_none : (own : Blocks) (made : List Call) (h : Halves) → DrivesApart own made h made h
 unfolding drives_none
@@ -96,7 +97,7 @@ take_may own v zero ns may = tt
 take_may own v (suc k) [] may = tt
 take_may own v (suc k) (n ∷ ns) may = (may.0, take_may own v k ns may.1)
 
--- What the transmit half may send, expressed in segments.
+-- `May`: the transmit half may lend the blocks of these segments.
 
 module _ (own : Blocks) (v : Receive) where
   abbrev May : List Segment → Type 0
@@ -127,7 +128,7 @@ module _ (own : Blocks) (v : Receive) where
   first_paired (b ∷ bs) [] may some parts = absurd (omega (arith, parts))
   first_paired (b ∷ bs) (q ∷ qs) may some parts = may.0
 
-  -- The first block of an accepted packet.
+  -- The transmit half may lend the first block of a packet that it accepts.
   accepts_may : (s : Sender) (p : Outgoing) (b : Block) → AllMaySend own v p.blocks → sending.MayAccept s p b
       → MaySend own v b.number
   accepts_may s p b may mine =
@@ -139,7 +140,7 @@ module _ (own : Blocks) (v : Receive) where
         many_parts (length p.kept.bytes) (parts_for (length p.kept.bytes)) p.kept.bytes,
       )))
 
-  -- The segments outstanding after a move.
+  -- If the transmit half may lend the blocks of all outstanding segments before a move, it may do so after the move.
   pub moved_may : (blocks : List ℕ) (s : Sender) → AllMaySend own v blocks → May s.outstanding → (m : Move)
       (r : Reply Block) → transmit.AcceptsIn blocks m → May (sending.moved s m r).outstanding
   moved_may blocks s some all (Accepts p) reply.Done is =
@@ -159,7 +160,7 @@ module _ (own : Blocks) (v : Receive) where
   played_may blocks s some all (m ∷ moves) (n ∷ calls) is =
       played_may blocks (sending.moved s m n.reply) some (moved_may blocks s some all m n.reply is.0) moves calls is.1
 
--- The blocks that one half may lend and the other half hasn't lent.
+-- `OutstandingMay`: the transmit half may lend the blocks of all outstanding segments.
 abbrev pub OutstandingMay : Blocks → Halves → Type 0
 OutstandingMay own h = AllMaySend own h.receive (blocks_of h.transmit.outstanding)
 

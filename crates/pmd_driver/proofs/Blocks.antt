@@ -8,7 +8,7 @@ use Rattle.pmd_access.proofs.Outside.{times_first, times_rest, times-append, out
 use Rattle.pmd_rx.specs.Keeping.{Keeps, blocks_out}
 use Rattle.pmd_driver.specs.Running.{Running, IsUp, kept_out}
 
--- Part of the blocks that are out.
+-- If `AreOut` holds for two lists of blocks together, it holds for each of them.
 
 pub first_out : (a : Numbers) (xs ys : List ℕ) → AreOut a (xs ++ ys) → AreOut a xs
 first_out a xs ys out = out_fewer a (xs ++ ys) xs out (λ k. omega (arith, times-append xs ys k))
@@ -16,7 +16,8 @@ first_out a xs ys out = out_fewer a (xs ++ ys) xs out (λ k. omega (arith, times
 pub second_out : (a : Numbers) (xs ys : List ℕ) → AreOut a (xs ++ ys) → AreOut a ys
 second_out a xs ys out = out_fewer a (xs ++ ys) ys out (λ k. omega (arith, times-append xs ys k))
 
--- A block that is neither free nor out joins those that are out.
+-- If the arena owns a block that is neither free nor in a list for which `AreOut` holds, the block can be added to the
+-- list.
 joined_at : (a : Numbers) (xs : List ℕ) (n : ℕ) → is_own a n ≡ true → is_free a n ≡ false → times_in_hand xs n ≡ 0
     → AreOut a xs → (k : ℕ) → (k ≡ n) ⊎ (k ≢ n)
     → cond (is_free a k) 1 0 + times_in_hand (n ∷ xs) k ≤ cond (is_own a k) 1 0
@@ -29,7 +30,7 @@ pub out_joined : (a : Numbers) (xs : List ℕ) (n : ℕ) → is_own a n ≡ true
     → times_in_hand xs n ≡ 0 → AreOut a xs → AreOut a (n ∷ xs)
 out_joined a xs n own away none out k = joined_at a xs n own away none out k (cases_eq k n)
 
--- A call made by the receive half.
+-- A driver with both rings up stays so after a call made by its receive half.
 
 pub received_up : (r s : Running) (out : List ℕ) → IsUp r → Keeps r.arena r.receive s.arena s.receive out
     → s.transmit ≡ r.transmit → IsUp s

@@ -22,7 +22,7 @@ use Rattle.pmd_driver.proofs.Apart.{AllMaySend, OutstandingMay, apart_none, apar
 use Rattle.pmd_driver.proofs.Kept.{away_lent}
 use Rattle.pmd_driver.proofs.Whole.{all_exchanged}
 
--- The blocks that a half may lend.
+-- The receive half may lend each block that is free in the arena.
 
 pub free_may : (q : Running) → IsUp q → (n : ℕ) → is_free q.arena n ≡ true
     → MayLend (is_own q.arena) (halves_of q) Receives n
@@ -38,7 +38,7 @@ away_received v n none =
     times_among (receiving.lent_of v) n
     (omega (arith, none, times-append (receiving.lent_of v) (receiving.blocks_held v) n))
 
--- Blocks that are out, in addition to those of the receive half.
+-- The transmit half may lend blocks that are in use but not by the receive half.
 pub beside_may : (q : Running) (ns others : List ℕ) → AreOut q.arena (ns ++ others)
     → ((n : ℕ) → times_in_hand (blocks_out q.receive) n ≤ times_in_hand others n)
     → AllMaySend (is_own q.arena) q.receive ns
@@ -74,7 +74,7 @@ packet_may q ns out =
     beside_may q ns (rings_out q) out
     (λ n. omega (arith, times-append (blocks_out q.receive) (kept_out q.transmit) n))
 
--- Each call is made by one of the halves or is a device step.
+-- Calls that the receive half makes while the transmit half is unchanged are calls of the driver.
 
 pub receive_drives : (old new : List Call) (q s : Running) (out : List ℕ) → IsUp q
     → receive.PlaysFrom q.arena old q.receive new s.receive → Keeps q.arena q.receive s.arena s.receive out
@@ -93,7 +93,8 @@ transmit_drives old new blocks q s up may plays owns same = record {
   owns = owns;
 }
 
--- No call was made, or calls follow each other.
+-- `DrivesRings` holds if no call was made. If it holds for each of two sequences of calls, it holds for one followed by
+-- the other.
 
 pub rings_still : (made : List Call) (r : Running) → DrivesRings made r made r
 rings_still made r = record { apart = apart_none (is_own r.arena) made (halves_of r); owns = λ n. refl }

@@ -12,7 +12,7 @@ use Rattle.pmd_access.specs.Home.{AreOut, Bringing, BringsOne, Brings, BringsAll
 use Rattle.pmd_driver.specs.Halted.{is_free_or_out}
 use Rattle.pmd_access.proofs.Outside.{times-cons, times_first, times_rest, out_fewer, out_first, out_given}
 
--- Where the blocks are.
+-- If `AreOut` holds for the blocks still to be returned, it still holds after one of them was returned or lost.
 
 one_out : (s t : Bringing) → BringsOne s t → AreOut s.arena s.way.lent → AreOut t.arena t.way.lent
 one_out s t (n, is, inl brought) out =
@@ -29,7 +29,7 @@ pub brings_out : (count : ℕ) (s t : Bringing) → Brings count s t → AreOut 
 brings_out zero s t same out = subst (λ (b : Bringing). AreOut b.arena b.way.lent) (sym same) out
 brings_out (suc count) s t (mid, before, one) out = one_out mid t one (brings_out count s mid before out)
 
--- The arena owns the same numbers.
+-- Returning blocks doesn't change which numbers the arena owns.
 
 one_own : (s t : Bringing) → BringsOne s t → (k : ℕ) → is_own t.arena k ≡ is_own s.arena k
 one_own s t (n, is, inl brought) k = rw brought.arena (is_own-with_free s.arena n true k)
@@ -42,7 +42,7 @@ brings_own (suc count) s t (mid, before, one) k = one_own mid t one k ∙ brings
 pub all_own : (s t : Bringing) → BringsAll s t → (k : ℕ) → is_own t.arena k ≡ is_own s.arena k
 all_own s t (count, brings, none) k = brings_own count s t brings k
 
--- The number of blocks that can be lost.
+-- The number of lost blocks never falls. Together with the number of blocks still to be returned, it never grows.
 
 one_few : (s t : Bringing) → BringsOne s t
     → (s.way.lost ≤ t.way.lost) × (t.way.lost + length t.way.lent ≤ s.way.lost + length s.way.lent)
@@ -57,7 +57,7 @@ brings_few (suc count) s t (mid, before, one) =
     let then = one_few mid t one in
     (omega (arith, first.0, then.0), omega (arith, first.1, then.1))
 
--- Which blocks are free or out.
+-- Returning a block to the arena doesn't change which blocks are free or still to be returned.
 
 there_given : (a : Numbers) (xs : List ℕ) (n : ℕ) → AreOut a (n ∷ xs) → (k : ℕ) → (k ≡ n) ⊎ (k ≢ n)
     → is_free_or_out (with_free a n true) xs k ≡ is_free_or_out a (n ∷ xs) k
@@ -93,7 +93,8 @@ brings_there (suc count) s t (mid, before, one) out none k =
     let late : t.way.lost ≡ mid.way.lost = omega (arith, first.0, then.0, none) in
     one_there mid t one (brings_out count s mid before out) late k ∙ brings_there count s mid before out early k
 
--- The blocks of a driver with closed rings.
+-- `AreUnheld`: the properties of the blocks of a driver with closed rings. They still hold if returning the blocks
+-- stops early.
 
 abbrev pub AreUnheld : Bringing → Type 0
 AreUnheld s = AreOut s.arena (s.way.lent ++ []) × (s.way.lost + length s.way.lent < 4294967296)

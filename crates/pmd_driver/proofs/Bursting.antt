@@ -34,14 +34,15 @@ finds_during fault.StartTimeout own old new h during = tt
 finds_during fault.NoBuffer own old new h during = tt
 finds_during (fault.Call refusal) own old new h during = tt
 
--- The fault of a burst.
+-- A fault that a burst returns occurred during events, or the first remaining packet is refused with this fault before
+-- any event.
 
 refused_first : (f : PmdFault) (s : Running) (left gone : List Packet) (met : Option PmdFault) → Stops met s left
     → IsLate f ⊎ ((gone ≡ []) × (met ≡ Some f)) → IsLate f ⊎ IsRefusedFirst f s left
 refused_first f s left gone met stops (inl late) = inl late
 refused_first f s left gone met stops (inr (none, is)) = subst (λ (m : Option PmdFault). Stops m s left) is stops
 
--- Room is made.
+-- If enough slots are vacant, no call is needed to make room.
 
 pub room_still : {vacant : ℕ} {old : List Call} {r : Running} → vacant ≤ vacant_in r.transmit
     → HasRoom vacant None old r old r
@@ -74,12 +75,12 @@ room_reaped {vacant} {x} {old} {new} {r} {s} few drives reaped keeps = record {
 }
 
 module _ {vacant : ℕ} {old made : List Call} {r there : Running} (given : List Packet) where
-  -- The packets' blocks don't move.
+  -- Making room doesn't affect the blocks of the packets to be sent.
   pub room_beside : {f : Option PmdFault} → HasRoom vacant f old r made there
       → KeepsUp r (numbers_of_all given) there (numbers_of_all given)
   room_beside h = keeps_beside r.arena there.arena (rings_out r) (rings_out there) [] [] (numbers_of_all given) h.keeps
 
-  -- Making room failed.
+  -- If making room failed, the burst returns this fault, and all packets remain.
   pub no_room : {f : PmdFault} → HasRoom vacant (Some f) old r made there
       → IsSendBurst vacant given given (Err f) old r made there
   no_room {f} h = record {
@@ -101,7 +102,7 @@ module _ {vacant : ℕ} {old made : List Call} {r there : Running} (given : List
     receive = h.receive;
   }
 
-  -- Room was made and the burst sent.
+  -- What holds after room was made and the burst was sent.
   module _ {left : List Packet} {result : Result ℕ PmdFault} {new : List Call} {s : Running}
       (h : HasRoom vacant None old r made there) (p : Posts given left result made there new s)
     where

@@ -23,7 +23,8 @@ use Rattle.pmd_driver.proofs.Kept.{kept_parted}
 use Rattle.pmd_driver.proofs.Several.{all_given, all_joined, away_by, uncounted}
 use Rattle.pmd_driver.proofs.Whole.{keeps_counted, all_drawn, all_exchanged}
 
--- The blocks of a running driver, ring by ring.
+-- A running driver has the same blocks in use whether they are counted for each ring or as for a driver that isn't
+-- running.
 pub up_out : (r : Running) (n : ℕ)
     → times_in_hand (all_out (halted_of (Up r))) n ≡ times_in_hand (rings_out r) n
 up_out r n =
@@ -56,7 +57,8 @@ up_kept r s given back keeps = record {
   );
 }
 
--- A call made by the receive half.
+-- A call made by the receive half keeps the count of each block; the blocks of packets handed out are in hand
+-- afterwards.
 pub received_kept : (r s : Running) (out : List ℕ) → Keeps r.arena r.receive s.arena s.receive out
     → s.transmit ≡ r.transmit → KeepsUp r [] s out
 received_kept r s out keeps same =
@@ -76,7 +78,7 @@ received_kept r s out keeps same =
       );
     }
 
--- A packet is made from free blocks.
+-- Making a packet from free blocks keeps the count of each block; the packet's blocks are in hand afterwards.
 pub fresh_kept : (a b : Numbers) (out : List ℕ) (len : ℕ) (made : Option Packet) → IsFresh a len made b
     → KeepsEach a (out ++ []) b (out ++ numbers_in made)
 fresh_kept a b out len None is =
@@ -95,7 +97,7 @@ fresh_out a b out len (Some p) (draws, is) are =
     drawn_out a (numbers_of p.bufs) b out out draws.drawn are
     (λ k. omega (arith, times-append (numbers_of p.bufs) out k))
 
--- A packet is released.
+-- Releasing a packet keeps the count of each block; the packet's blocks are free afterwards.
 pub released_kept : (a : Numbers) (out ns : List ℕ) → AreOut a (ns ++ out)
     → KeepsEach a (out ++ ns) (with_all_free a ns) (out ++ [])
 released_kept a out ns are =
@@ -111,7 +113,7 @@ released_kept a out ns are =
       );
     }
 
--- Making and releasing packets of a driver that isn't running.
+-- For a driver that isn't running, making and releasing a packet keep the count of each block.
 
 pub fresh_down : (h k : Halted) (len : ℕ) (made : Option Packet) → IsFresh h.arena len made k.arena
     → k ≡ record h { arena = k.arena } → KeepsBlocks (Down h) [] (Down k) (numbers_in made)
@@ -119,7 +121,8 @@ fresh_down h k len made is rest =
     subst (λ (x : List ℕ). KeepsEach h.arena (all_out h ++ []) k.arena (x ++ numbers_in made)) (sym (ap all_out rest))
     (fresh_kept h.arena k.arena (all_out h) len made is)
 
--- A packet with blocks that can be returned to the arena, for a driver that isn't running.
+-- If a driver that isn't running can release a packet, `AreOut` holds for the packet's blocks and the driver's blocks
+-- together.
 pub down_out : (h : Halted) (ns : List ℕ) → AreOut h.arena (all_out h)
     → (are_out h.arena ns && not (list_any (λ n. is_out h n) ns)) ≡ true → AreOut h.arena (ns ++ all_out h)
 down_out h ns out goes =

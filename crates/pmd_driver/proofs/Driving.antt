@@ -14,7 +14,7 @@ pub never_up : (d e : Driver) (r : Running) → d ≡ e → d.rings ≡ Up r →
 never_up d e r is up down =
     subst (λ (x : Rings). IsDown x) up (subst (λ (x : Driver). IsDown x.rings) (sym is) down)
 
--- A property of the driver's rings while they stop.
+-- A property of a driver's queue and halted rings carries over to an equal driver.
 pub stops_as : (P : AtPort → Halted → Type 0) (d e : Driver) (h : Halted) → d ≡ e → h ≡ halted_of d.rings → P d.queue h
     → P e.queue (halted_of e.rings)
 stops_as P d e h is same p =

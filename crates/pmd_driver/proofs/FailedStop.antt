@@ -16,7 +16,7 @@ use Rattle.pmd_driver.specs.Blocks.{KeepsEach, HasAll, LosesNone}
 use Rattle.pmd_driver.proofs.Several.{all_given, all_own_same}
 use Rattle.pmd_driver.proofs.Whole.{has_out, keeps_then, keeps_counted, one_given}
 
--- Some of the blocks in hand are returned to the arena.
+-- If some of the blocks in hand are returned to the arena, the driver still has all its blocks.
 
 part_has : (a : Numbers) (h : Halted) (gone kept : List ℕ) → gone ++ kept ≡ h.held → HasAll a h []
     → HasAll a (record h { arena = with_all_free h.arena gone; held = kept }) []
@@ -53,7 +53,7 @@ closed_loses a h loses =
     part_loses a h (closed h)
     (record { gone = h.held; kept = []; parts = append-nil h.held; left_is = refl }) loses
 
--- Lent blocks are returned to the arena.
+-- If a lent block is returned and not lost, the count of each block is kept.
 
 one_keeps : (s t : Bringing) → BringsOne s t → AreOut s.arena s.way.lent → t.way.lost ≡ s.way.lost
     → KeepsEach s.arena s.way.lent t.arena t.way.lent
@@ -108,7 +108,7 @@ left_has a k left count s t none unheld_left is way arena same brings lost has =
       );
     }
 
--- A stop failed.
+-- A stop that failed while blocks were being returned loses no block without counting it.
 
 during_loses : (a : Numbers) (f : PmdFault) (old new : List Call) (h left : Halted)
     → IsLeftDuring f old (closed h) new left → LosesNone a (closed h) → LosesNone a left

@@ -10,7 +10,7 @@ use Rattle.pmd_access.specs.Home.{IsDrawn}
 use Rattle.pmd_access.specs.declared.packet.Packet.{Packet}
 use Rattle.pmd_driver.specs.Filled.{IsFilled}
 
--- The bytes of fresh blocks.
+-- The bytes of fresh blocks are all 0.
 zero_bytes : (ns : List ℕ) → bytes_of (map zero_block ns) ≡ replicate (2048 * length ns) 0
 zero_bytes [] = refl
 zero_bytes (n ∷ ns) =
@@ -25,7 +25,7 @@ same_count bs cs same =
     ∙ ap (λ (ns : List ℕ). length ns) same
     ∙ length-map cs (λ (b : Block). b.number)
 
--- A fresh packet is filled.
+-- If bytes are written to the start of a fresh packet, the result is a packet of these bytes (`IsFilled`).
 pub filled_of : (a b : Numbers) (bytes : List ℕ) (p q : Packet) → IsFresh a (length bytes) (Some p) b
     → bytes_of q.bufs ≡ put_bytes (bytes_of p.bufs) 0 bytes → numbers_of q.bufs ≡ numbers_of p.bufs
     → q ≡ record p { bufs = q.bufs } → IsFilled a bytes q b

@@ -21,7 +21,7 @@ use Rattle.pmd_driver.specs.Halves.{Halves, Receives, Sends}
 use Rattle.pmd_driver.proofs.Apart.{AllMaySend, OutstandingMay, played_may, receiving_apart, received_apart}
 use Rattle.pmd_driver.proofs.Apart.{sending_apart, moved_apart}
 
--- A call made by the receive half.
+-- If the receive half got a wrong reply, `FindsFault` holds.
 
 finds_wrong : (own : Blocks) (a : Numbers) (old new : List Call) (h : Halves) (w : Receive)
     → ((n : ℕ) → is_free a n ≡ true → MayLend own h Receives n) → EndsWrong a old h.receive new w
@@ -47,7 +47,7 @@ pub wrong_by : (f : PmdFault) (own : Blocks) (a b : Numbers) (old new : List Cal
 wrong_by DeviceFault own a b old new h w may fails = finds_wrong own a old new h w may fails
 wrong_by f own a b old new h w may fails = tt
 
--- A call made by the transmit half.
+-- If the transmit half got a wrong reply, `FindsFault` holds.
 
 real_step : (m : Move) (r : Reply Block) (e : Event Block) → sending.is_healthy m r ≡ false → IsTrue (is_elsewhere m)
     → IsTrue (is_step e)

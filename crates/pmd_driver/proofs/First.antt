@@ -23,7 +23,7 @@ use Rattle.pmd_driver.specs.Queueing.{Queues, QueuesOne, ends_by, left_with, sen
 use Rattle.pmd_driver.specs.Running.{Running, rings_out}
 use Rattle.pmd_driver.proofs.Meeting.{fault_kept, full_kept, one_answer}
 
--- The blocks of the other packets don't move.
+-- If a call keeps the count of each block, it also does so together with the blocks of other packets.
 pub keeps_beside : (a b : Numbers) (x y g h z : List ℕ) → KeepsEach a (x ++ g) b (y ++ h)
     → KeepsEach a (x ++ (g ++ z)) b (y ++ (h ++ z))
 keeps_beside a b x y g h z keeps = record {
@@ -53,7 +53,7 @@ left_same None ps = refl
 left_same (Some f) [] = refl
 left_same (Some f) (p ∷ ps) = (back_same f p, refl)
 
--- The fault that the packet met, and the result.
+-- `Meets`: what the driver did with the packet, with which result and which fault.
 pub record Meets (p : Packet) (x : Result TxAnswer TxFault) (old : List Call) (r : Running) (new : List Call)
     (s : Running) : Type 0 where
   pub answer : MayAnswer r p x
@@ -79,7 +79,7 @@ abbrev Refused : PmdFault → Option Packet → Result TxAnswer TxFault
 Refused f o = Err (record { fault = f; packet = o })
 
 module _ (p : Packet) (old new : List Call) (r s : Running) (rest : List Packet) where
-  -- Which packets remain.
+  -- Which packets remain in the list, given the result for the first packet.
 
   fault_left : (f : PmdFault) (o : Option Packet) → IfSome o (λ q. IsBack f p q) → Left p rest (Some f) o
   fault_left f None back = tt
@@ -90,7 +90,7 @@ module _ (p : Packet) (old new : List Call) (r s : Running) (rest : List Packet)
   are_left (Ok (RingFull q)) m = ap (λ (y : Packet). y ∷ rest) (full_kept r p q m.answer).1
   are_left (Err y) m = fault_left y.fault y.packet m.back
 
-  -- Why a burst ends with this packet.
+  -- If the packet met a fault, this fault is why the burst ends with the packet.
 
   stops_by : (y : TxFault) → Meets p (Err y) old r new s → IsLate y.fault ⊎ (IsKeptOut r p × (y.packet ≡ Some p))
       → Stops (Some y.fault) s (left_with y.packet rest)
@@ -109,7 +109,7 @@ module _ (p : Packet) (old new : List Call) (r s : Running) (rest : List Packet)
       (subst (λ (y : Packet). TellsFull q r y) (sym is) (kept, m.answer, m.full))
   stops_with (Err y) m ends = stops_by y m (fault_kept r p y m.answer)
 
-  -- The packet is refused before any event.
+  -- If the packet is refused before any event, nothing changed, and the result is that refusal.
 
   abbrev StaysShut : PmdFault → Option Packet → Option PmdFault → Type 0
   StaysShut f o met =
@@ -122,7 +122,7 @@ module _ (p : Packet) (old new : List Call) (r s : Running) (rest : List Packet)
       subst (λ (y : Result TxAnswer TxFault). StaysShut f (returned y) (failed_in y))
       (sym (one_answer r p x (Refused f (Some p)) refused.0 m.answer refused.1)) (refl, refl, refl, still.0, still.1)
 
-  -- The packet was accepted, or was put back.
+  -- In each case, accepted or put back, the step has the effect `Queues`.
   queues_by : (o : Option Packet) (met : Option PmdFault) → DrivesRings old r new s
       → IfSome met (λ f. FailsDuring f (is_own r.arena) old (halves_of r) new)
       → s.transmit.posted ≡ r.transmit.posted → ((f : PmdFault) → IsRefusedFirst f r (p ∷ rest) → StaysShut f o met)

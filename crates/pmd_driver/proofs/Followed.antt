@@ -10,7 +10,7 @@ use Rattle.pmd_driver.specs.Halves.{Halves, Doer, Receives, Sends, AllOwn, Drive
 use Rattle.pmd_driver.specs.Halves.{doers_marked, doers_moved, doers_other, is_neither, played_by, OthersStep}
 use Rattle.pmd_driver.specs.Halves.{ReceivingDrives, SendingDrives, OthersDrive, DrivesOn}
 
--- The calls made by one half.
+-- The calls made by one half are also calls of the two halves together, with the half as the doer.
 
 pub receives_own : (h : Halves) (marks : List Bool) (calls : List Call) → receive.AllOwn h.receive marks calls
     → AllOwn h (doers_marked marks) calls
@@ -73,7 +73,7 @@ sending_drives old new h k (moves, since, made, own, is, steps) same = (
   sends_step moves since steps,
 )
 
--- Calls that belong to neither half.
+-- Calls that belong to neither half are permitted in every state and change neither half.
 
 pub others_own : (h : Halves) (calls : List Call) → AllOwn h (doers_other calls) calls
 others_own h [] = tt
@@ -93,11 +93,11 @@ others_drive old new h (since, made, steps) = (
   steps_marked is_neither (Sends Elsewhere) since steps,
 )
 
--- No call was made.
+-- `Drives` holds if no call was made.
 unfoldable pub drives_none : (made : List Call) (h : Halves) → Drives made h made h
 drives_none made h = ([], [], sym (append-nil made), tt, refl, tt)
 
--- Two sequences of calls follow each other.
+-- Facts about one sequence of calls followed by another follow from facts about each of them.
 
 pub both_own : (h : Halves) (ds es : List Doer) (ms ns : List Call) → AllOwn h ds ms → AllOwn (played_by h ds ms) es ns
     → AllOwn h (ds ++ es) (ms ++ ns)

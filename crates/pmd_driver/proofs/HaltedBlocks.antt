@@ -22,7 +22,7 @@ use Rattle.pmd_driver.proofs.Few.{out_few}
 use Rattle.pmd_driver.proofs.Kept.{kept_parted}
 use Rattle.pmd_driver.proofs.Several.{all_given, all_own_same, out_all_given}
 
--- The driver stops running.
+-- A driver that has just stopped running satisfies `IsHalted`.
 
 module _ (a : Numbers) (small : length a.free < 4294967296) (lent held : List ℕ) where
   few_at_first : AreOut a (lent ++ held) → length lent < 4294967296
@@ -32,7 +32,7 @@ module _ (a : Numbers) (small : length a.free < 4294967296) (lent held : List �
       → IsHalted (record { arena = a; held = held; way = way_of lent; handed = handed; accepted = accepted })
   first_halted handed accepted out = record { home = out; few = omega (arith, few_at_first out) }
 
--- The blocks of a receive ring, and other blocks.
+-- The blocks of a receive ring, together with other blocks, split into lent blocks and blocks in hand.
 pub ring_out : (a : Numbers) (v : Receive) (others : List ℕ) → AreOut a (receive.blocks_out v ++ others)
     → AreOut a ((receive.lent_of v ++ others) ++ (receive.blocks_held v ++ []))
 ring_out a v others out =
@@ -48,7 +48,7 @@ ring_out a v others out =
       times-append lent others k,
     ))
 
--- The blocks of both rings.
+-- The blocks of both rings split into lent blocks and blocks in hand.
 pub rings_out : (a : Numbers) (v : Receive) (w : Sender) → AreOut a (receive.blocks_out v ++ kept_out w)
     → AreOut a ((receive.lent_of v ++ transmit.lent_of w) ++ (receive.blocks_held v ++ transmit.waiting_of w))
 rings_out a v w out =
@@ -67,7 +67,7 @@ rings_out a v w out =
       times-append lent sent k,
     ))
 
--- The rings are closed: all or some of the blocks in hand are returned to the arena.
+-- When the rings are closed, `AreOut` still holds after all or some of the blocks in hand are returned to the arena.
 
 module _ (a : Numbers) (lent gone kept : List ℕ) (out : AreOut a (lent ++ (gone ++ kept))) where
   turned : AreOut a (gone ++ (lent ++ kept))
@@ -92,7 +92,7 @@ module _ (a : Numbers) (lent sent held waiting : List ℕ) (out : AreOut a ((len
       (out_fewer a ((lent ++ sent) ++ (held ++ waiting)) (held ++ waiting) out
       (λ k. omega (arith, times-append (lent ++ sent) (held ++ waiting) k)))
 
--- Whether a block is free or out, as a count.
+-- A test whether a block is free or in use, expressed as a count.
 
 by_sum : (f : Bool) (t : ℕ) → (f || nat_lt 0 t) ≡ nat_lt 0 (cond f 1 0 + t)
 by_sum true t = grind (arith, nat_tests)
@@ -130,7 +130,7 @@ module _ (a : Numbers) (lent held : List ℕ) (out : AreOut a (lent ++ held)) wh
 pub closed_halted : (h : Halted) → IsHalted h → IsHalted (closed h)
 closed_halted h is = record { home = closed_out h.arena h.way.lent h.held is.home; few = is.few }
 
--- Some blocks were returned to the arena.
+-- `IsHalted` still holds after some blocks in hand were returned to the arena.
 pub part_halted : (h k : Halted) → IsHalted h → IsInPart h k → IsHalted k
 part_halted h k is part =
     subst (λ (x : Halted). IsHalted x) (sym part.left_is) (record {
@@ -147,14 +147,14 @@ home_free q old new h home is (mid, off, comes) none k =
     all_free_again (bringing mid (closed h)) (brought new home) comes.brings (closed_halted h is).home none k
     ∙ closed_there h.arena h.way.lent h.held is.home k
 
--- Its arena owns the same numbers.
+-- The arena of a stopped driver owns the same numbers as before.
 
 pub home_own : (q : AtPort) (old new : List Call) (h : Halted) (home : Home) → GoesHome q old (closed h) new home
     → (k : ℕ) → is_own home.arena k ≡ is_own h.arena k
 home_own q old new h home (mid, off, comes) k =
     all_own (bringing mid (closed h)) (brought new home) comes.brings k ∙ all_own_same h.arena h.held k
 
--- Whether a count is positive, as a test.
+-- A test is true if and only if a count is positive.
 
 pub counted : (b : Bool) (t : ℕ) → b ≡ nat_lt 0 t → (b ≡ true → 0 < t) × (0 < t → b ≡ true)
 counted b t is = (λ e. grind (arith, nat_tests, is, e), λ lt. grind (arith, nat_tests, is, lt))

@@ -7,14 +7,15 @@ use Rattle.pmd_driver.specs.Halted.{both_ways}
 use Rattle.pmd_driver.specs.Leaving.{bringing_both}
 use Rattle.pmd_driver.proofs.Bringing.{brings_out}
 
--- The blocks in one list, then the blocks in the other list.
+-- If some blocks are returned and then some more, this is the same as returning all of them in one sequence.
 brings_then : (count more : ℕ) (s m t : Bringing) → Brings count s m → Brings more m t
     → (all : ℕ) × Brings all s t
 brings_then count zero s m t first same = (count, subst (λ (b : Bringing). Brings count s b) (sym same) first)
 brings_then count (suc more) s m t first (mid, before, one) =
     let rest = brings_then count more s m mid first before in (suc rest.0, (mid, rest.1, one))
 
--- The first list with further blocks after it, and some blocks lost before.
+-- `before_others` appends further blocks to the list and adds to the number of lost blocks. `after_others` adds blocks
+-- that were lost before.
 abbrev before_others : List ℕ → ℕ → Bringing → Bringing
 before_others others lost s = record s { way = record { lent = s.way.lent ++ others; lost = s.way.lost + lost } }
 
@@ -84,7 +85,7 @@ module _ (old mid : List Call) (a b : Numbers) (first left second : Homebound) w
   abbrev onward : Bringing
   onward = record { made = mid; arena = b; way = second }
 
-  -- All blocks in the first list, then some of the second list's blocks.
+  -- Returning all blocks in the first list, then some in the second, returns the first blocks of the combined list.
   onto : (t : Bringing) (count more : ℕ) → Brings count start halfway → left.lent ≡ [] → Brings more onward t
       → (all : ℕ) × Brings all (bringing_both old a first second) (bringing_both t.made t.arena left t.way)
   onto t count more brings none then =
@@ -96,7 +97,7 @@ module _ (old mid : List Call) (a b : Numbers) (first left second : Homebound) w
       brings_then count more (bringing_both old a first second) (bringing_both mid b left second)
       (bringing_both t.made t.arena left t.way) (all_before second.lent second.lost count start halfway brings) over
 
-  -- The second list's blocks are still out when the first list's are returned.
+  -- When the first list's blocks have been returned, `AreOut` still holds for the second list's blocks.
   pub second_out : BringsAll start halfway → AreOut a (first.lent ++ second.lent) → AreOut b second.lent
   second_out (count, brings, none) out =
       subst (λ (xs : List ℕ). AreOut b (xs ++ second.lent)) none

@@ -18,7 +18,7 @@ use Rattle.pmd_tx.specs.Sends.{are_out, goes_home}
 use Rattle.pmd_driver.specs.Running.{Running, IsUp, kept_out, receives, rings_out}
 use Rattle.pmd_driver.proofs.Several.{all_joined, away_both, away_by, neither, none_among, uncounted}
 
--- A test expressed as a count.
+-- If a test is true exactly when a count isn't 0, the test is equal to the comparison of the count with 0.
 is_tested : (b : Bool) (t : ℕ) → (b ≡ false → t ≡ 0) → (t ≡ 0 → b ≡ false) → b ≡ nat_lt 0 t
 is_tested true zero f g = absurd (let e : true ≡ false = g refl in cc)
 is_tested true (suc t) f g = grind (arith, nat_tests)
@@ -49,7 +49,7 @@ module _ (v : Sender) (n : ℕ) where
   pub kept_parted : times_in_hand (kept_out v) n ≡ times_in_hand (lent_of v) n + times_in_hand (waiting_of v) n
   kept_parted = omega (arith, times-append blocks ends n, times-append lent ends n, parted)
 
-  -- A block that the ring doesn't keep.
+  -- If `keeps` is false for a block, the block isn't among those that the ring keeps.
   pub none_kept : keeps v n ≡ false → times_in_hand (kept_out v) n ≡ 0
   none_kept away =
       let both = neither (is_ring_block v.layout.ring v.layout.size n) (list_any (λ b. n == b) blocks) away in
@@ -73,7 +73,7 @@ module _ (v : Sender) (n : ℕ) where
       (ring_away (omega (arith, none, parts)))
       (times_among blocks n (omega (arith, none, parts)))
 
-  -- All kept blocks, counted.
+  -- `keeps` is true for exactly the blocks that are lent or waiting.
   pub keeps_is : keeps v n ≡ nat_lt 0 (times_in_hand (lent_of v ++ waiting_of v) n)
   keeps_is =
       let all = times-append (lent_of v) (waiting_of v) n in
@@ -81,7 +81,7 @@ module _ (v : Sender) (n : ℕ) where
       (λ away. omega (arith, none_kept away, kept_parted, all))
       (λ none. away_kept (omega (arith, none, kept_parted, all)))
 
--- A packet's blocks that can be returned to the arena join those that are out.
+-- If a packet can be released, `AreOut` holds for its blocks and the rings' blocks together.
 
 pub home_goes : (r : Running) (p : Packet) → IsUp r → goes_home r.transmit r.arena p ≡ true → receives r p ≡ false
     → AreOut r.arena (numbers_of p.bufs ++ rings_out r)

@@ -20,7 +20,7 @@ use Rattle.pmd_access.specs.NicDevice.DmaArena.Run.{IsFreeRun}
 use Rattle.pmd_driver.specs.Starting.{LendsEach, LendingFails, StopsLending}
 use Rattle.pmd_driver.proofs.Starting.{drawn_keeps, none_past}
 
--- One more block is lent.
+-- If some blocks were taken or lent, and then one more block, all of them were taken or lent in order.
 
 drawn_more : (a : Numbers) (xs : List ℕ) (b : Numbers) (n : ℕ) → IsDrawn a xs b → is_free b n ≡ true
     → IsDrawn a (xs ++ n ∷ []) (with_free b n false)
@@ -66,7 +66,7 @@ split_at first (suc k) rest (suc many) is =
     ap (λ (n : ℕ). first ∷ (range_with_len (first + 1) k ++ n ∷ range_with_len (n + 1) rest)) at
     ∙ ap (λ (l : List ℕ). first ∷ l) (split_at (first + 1) k rest many (omega (arith, is)))
 
--- The next block isn't lent.
+-- If the next block isn't lent, lending the run stops there.
 pub stops_next : (f : PmdFault) (first count k : ℕ) (old : List Call) (a : Numbers) (mid : List Call) (b : Numbers)
     (new : List Call) (out : List ℕ) → k < count → LendsEach old mid (range_with_len first k)
     → IsDrawn a (range_with_len first k) b → IsFreeRun a first count
@@ -85,7 +85,7 @@ stops_next f first count k old a mid b new out below lent drawn free fails is =
       fails = fails;
     })
 
--- No register was written, because memory was short.
+-- If a call is refused at the start for lack of memory, the writes to the ring's registers stop before the first one.
 pub unwritten : (q : AtPort) (side : Dir) (ring size : ℕ) (made : List Call) (refusal : CallFault (Unit {0}))
     → StopsBy (fault.Call refusal) q made made (ring_words side ring size)
 unwritten q Rx ring size made refusal = ([], _, _, made, refl, refl, ([], sym (append-nil made), tt))

@@ -12,12 +12,12 @@ use Rattle.pmd_driver.specs.declared.driver.Rings.TheVariants.{Up, Down}
 use Rattle.pmd_driver.specs.declared.start.Rest.{Rest}
 use Rattle.pmd_driver.proofs.Both.{rings_still, rings_on}
 
--- No call was made.
+-- `RunsOn` holds if no call was made.
 pub runs_still : (made : List Call) (rings : Rings) → RunsOn made rings made rings
 runs_still made (Up r) = rings_still made r
 runs_still made (Down h) = tt
 
--- Two sequences of calls follow each other.
+-- If `RunsOn` holds for each of two sequences of calls, it holds for one followed by the other.
 pub runs_on : (old mid new : List Call) (first then last : Rings) → RunsOn old first mid then
     → RunsOn mid then new last → RunsOn old first new last
 runs_on old mid new (Up r) (Up s) (Up t) one two =
@@ -26,7 +26,7 @@ runs_on old mid new (Up r) (Up s) (Down h) one two = absurd two
 runs_on old mid new (Up r) (Down h) last one two = absurd one
 runs_on old mid new (Down h) then last one two = tt
 
--- From the driver's start to its stop.
+-- A driver that started, ran and was stopped has lived (`HasLived`).
 
 lived_up : (q : AtPort) (size frame : ℕ) (old : List Call) (a : Numbers) (made mid new : List Call) (p : Driver)
     (rings : Rings) (left : Rest) (late : Option PmdFault) → HasStarted q size frame old a made p

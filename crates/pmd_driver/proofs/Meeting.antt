@@ -23,7 +23,7 @@ use Rattle.pmd_driver.proofs.Finding.{finds_fault}
 use Rattle.pmd_driver.proofs.Sending.{by_gate}
 use Rattle.pmd_driver.proofs.Sent.{Way, sent_may, way}
 
--- A refused event that the transmit half causes.
+-- If a refused event is one that the transmit half may cause next, `AsksApart` holds.
 
 asks_apart : (own : Blocks) (blocks : List ℕ) (old new : List Call) (h : Halves) → AllMaySend own h.receive blocks
     → OutstandingMay own h → AsksNext blocks old h.transmit new → AsksApart own old h new
@@ -54,7 +54,7 @@ during_by fault.ForeignBlock own blocks old new h some all faults = tt
 during_by fault.StartTimeout own blocks old new h some all faults = tt
 during_by fault.NoBuffer own blocks old new h some all faults = tt
 
--- A fault after other calls.
+-- `FailsDuring` still holds if other calls of the driver come before the calls that met the fault.
 
 during_then : (f : PmdFault) (own : Blocks) (old mid new : List Call) (h k : Halves) → DrivesApart own old h mid k
     → FailsDuring f own mid k new → FailsDuring f own old h new
@@ -92,7 +92,7 @@ during_after f old mid new r s one then =
     during_then f (is_own r.arena) old mid new (halves_of r) (halves_of s) one.apart
     (subst (λ (own : Blocks). FailsDuring f own mid (halves_of s) new) (λ i n. one.owns n i) then)
 
--- The packet's check before any event.
+-- Facts about the check of a packet before any event.
 
 module _ (r : Running) (p : Packet) where
   abbrev Refused : PmdFault → Result TxAnswer TxFault

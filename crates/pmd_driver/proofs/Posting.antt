@@ -21,7 +21,7 @@ use Rattle.pmd_driver.proofs.Meeting.{during_after, one_answer}
 use Rattle.pmd_driver.proofs.Queueing.{accepts_on, accepts_same}
 use Rattle.pmd_driver.proofs.Whole.{keeps_then}
 
--- If no packet is accepted, the check of a packet has the same result.
+-- If no packet was accepted between two states, the check of a packet has the same result in both.
 
 module _ (s t : Running) (kept : Accepts [] s t) where
   same : s.transmit.outstanding ≡ t.transmit.outstanding
@@ -50,7 +50,7 @@ module _ (s t : Running) (kept : Accepts [] s t) where
   stops_still (Some f) (p ∷ left) (inr refused) =
       inr (subst (λ (x : Running). IsRefusedFirst f x (p ∷ left)) like_is refused)
 
--- The fault that the burst reports.
+-- The burst reports the fault that it met only if no packet was queued.
 
 by_test : (b : Bool) (met : Option PmdFault) (f : PmdFault) → (if b then met else None) ≡ Some f
     → (b ≡ true) × (met ≡ Some f)
@@ -89,7 +89,7 @@ module _ {given left : List Packet} {sent : ℕ} {met : Option PmdFault} {old mi
     abbrev q : Queues given left sent met old r mid s
     q = queued.queues
 
-    -- The first packet met a fault, which is reported.
+    -- If the first packet met a fault, the burst reports it.
     pub posts_none : {f : PmdFault} → (if sent == 0 then met else None) ≡ Some f → Posts given left (Err f) old r mid s
     posts_none {f} reported =
         let (first, is) = by_test (sent == 0) met f reported in
@@ -122,7 +122,7 @@ module _ {given left : List Packet} {sent : ℕ} {met : Option PmdFault} {old mi
           };
         }
 
-    -- No fault is reported before the tail is advanced.
+    -- What holds if no fault is reported at this point and the tail is then advanced.
     module _ {f : Option PmdFault} {t : Running} {new : List Call} (reported : (if sent == 0 then met else None) ≡ None)
         (c : Continues f mid s new t)
       where

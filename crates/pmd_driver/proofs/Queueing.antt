@@ -77,7 +77,7 @@ module _ (r : Running) (p : Packet) (x : Result TxAnswer TxFault) (answer : MayA
         → IfNone (returned x) (1 + vacant_in w ≤ vacant_in r.transmit)
     slots_taken = slots_by (returned x) refl
 
--- The result for one packet, accepted or not.
+-- What changes for one packet, depending on whether the packet is accepted.
 
 pub accepted_one : (r s : Running) (p : Packet) (o : Option Packet) → IfNone o (IsAccepted r.transmit p s.transmit)
     → SendsHome o p r.arena s.arena → s.transmit.layout ≡ r.transmit.layout → s.receive ≡ r.receive
@@ -108,7 +108,7 @@ pub accepted_none : (r s : Running) (p : Packet) (o : Option Packet)
 accepted_none r s p None none home layout receive = tt
 accepted_none r s p (Some q) none home layout receive = accepts_none r s none home layout receive
 
--- Packets that follow the queued ones.
+-- The segments and blocks of one list of packets followed by another.
 
 all_segments : (ps qs : List Packet) → segments_in (ps ++ qs) ≡ segments_in ps ++ segments_in qs
 all_segments [] qs = refl
@@ -133,7 +133,7 @@ accepts_on r s t ps qs one two = record {
   receive = two.receive ∙ one.receive;
 }
 
--- The remaining packets are queued in the same way.
+-- If some packets were queued, and then some of the remaining packets, all of them were queued in one step.
 
 module _ {given mid_left left : List Packet} {k j : ℕ} {met : Option PmdFault} {old mid new : List Call}
     {r s t : Running} (one : Queues given mid_left k None old r mid s)
@@ -165,7 +165,7 @@ module _ {given mid_left left : List Packet} {k j : ℕ} {met : Option PmdFault}
         → QueuesUpTo ends given left (k + j) met old r new t
     queues_then two = record { queues = queues_both two.queues; stops = two.stops }
 
--- No packet is queued yet.
+-- At the start, no packet is queued.
 
 pub accepts_same : (r : Running) → Accepts [] r r
 accepts_same r = record {
@@ -192,7 +192,7 @@ queues_none {given} {old} {r} = record {
   shut = λ f refused. (refl, tt, refl, refl, refl);
 }
 
--- All packets are queued.
+-- If no packet remains, the burst ends because all packets are queued.
 pub queues_all : {given : List Packet} {k : ℕ} {old new : List Call} {r s : Running} (left : List Packet)
     → Queues given left k None old r new s → length left ≡ 0 → QueuesUpTo true given left k None old r new s
 queues_all [] q none = record { queues = q; stops = λ ends. tt }

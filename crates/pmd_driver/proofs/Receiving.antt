@@ -15,14 +15,14 @@ use Rattle.pmd_driver.specs.Running.{Running, IsUp, goes_back, kept_out, rings_o
 use Rattle.pmd_driver.proofs.Counted.{received_kept}
 use Rattle.pmd_driver.proofs.Handing.{goes}
 
--- The blocks of two lists of packets.
+-- The blocks of one list of packets followed by another are the first list's blocks followed by the second list's.
 pub all_numbers : (ps qs : List Packet) → numbers_of_all (ps ++ qs) ≡ numbers_of_all ps ++ numbers_of_all qs
 all_numbers [] qs = refl
 all_numbers (p ∷ ps) qs =
     ap (λ (l : List ℕ). numbers_of p.bufs ++ l) (all_numbers ps qs)
     ∙ sym (append_assoc (numbers_of p.bufs) (numbers_of_all ps) (numbers_of_all qs))
 
--- Further blocks join those in hand.
+-- If a call keeps the count of each block, it also does so together with further blocks in hand.
 
 past_others : (a b : Numbers) (x y given out : List ℕ) → KeepsEach a (x ++ []) b (y ++ out)
     → KeepsEach a (x ++ given) b (y ++ (given ++ out))
@@ -48,7 +48,7 @@ burst_kept r s before after packets out keeps same =
     (past_others r.arena s.arena (rings_out r) (rings_out s) (numbers_of_all before) (numbers_of_all packets)
     (received_kept r s (numbers_of_all packets) keeps same))
 
--- Each packet's blocks can be returned to the arena.
+-- The driver can release each packet that it handed out.
 
 each_goes : (s : Running) (ps : List Packet) → AreOut s.arena (numbers_of_all ps ++ rings_out s)
     → All (λ (p : Packet). goes_back s p ≡ true) ps
@@ -99,7 +99,7 @@ burst_goes r s before after packets out up keeps same =
     (sym (ap (λ (l : List Packet). drop (length before) l) out ∙ drop-append_seam before packets))
     (each_goes s packets (burst_out r s (numbers_of_all packets) up keeps same))
 
--- The number of packets handed out.
+-- The call reports the number of packets that it handed out, which is at most `most`.
 
 pub burst_count : (x : Result ℕ PmdFault) (most : ℕ) (packets : List Packet)
     → IfOk x (λ n. (length packets ≡ n) × (n ≤ most)) → IfOk x (λ n. n ≡ length packets)

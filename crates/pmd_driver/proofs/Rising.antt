@@ -1,4 +1,4 @@
--- Lemmas about where a driver's blocks are while its rings come up.
+-- Lemmas about where a driver's blocks are while it brings its rings up.
 use Rattle.std.proofs.Common.{ℕ, List, [], ◌∷◌, ◌++◌, refl, sym, subst, arith}
 use Rattle.pmd_access.specs.NicDevice.DmaArena.Numbers.{Numbers}
 use Rattle.pmd_access.specs.NicDevice.DmaRing.declared.dir.Dir.TheVariants.{Tx}
@@ -41,7 +41,7 @@ transmit_has {size = size} {a = a} {b = b} out ready =
     subst (λ (x : Sender). KeepsEach a out b (out ++ kept_out x)) (sym ready.fresh)
     (drawn_after a (ring_blocks ready.ring size) b out ready.prepared.drawn)
 
--- A driver with these rings.
+-- A driver with these rings or blocks has all blocks of the arena that it was given.
 
 blocks_all : (a b : Numbers) (out : List ℕ) → KeepsEach a [] b (out ++ []) → HasAll a (with_blocks b out) []
 blocks_all a b out keeps =
@@ -89,7 +89,7 @@ both_rings a b v s hand keeps =
 module _ {q : AtPort} {size frame : ℕ} {old mid new : List Call} {a b d : Numbers} {v : Receive}
     (ready : IsReceiveReady q size frame old a mid b v)
   where
-    -- Only the receive ring, with some blocks of the transmit ring.
+    -- A driver with the receive ring and some blocks of the transmit ring has all the blocks.
     pub after_all : {f : PmdFault} {out : List ℕ} → PreparingFails f q Tx size mid b new d out
         → HasAll a (with_receive_ring d v out) []
     after_all {f} {out} fails =
@@ -97,7 +97,7 @@ module _ {q : AtPort} {size frame : ℕ} {old mid new : List Call} {a b d : Numb
         (keeps_then a b d [] (blocks_out v) (blocks_out v ++ out) (receive_has ready)
         (drawn_after b out d (blocks_out v) (preparing_drawn f q Tx size mid b new d out fails)))
 
-    -- Both rings, with the receive ring filled.
+    -- A driver with both rings, after the receive ring was filled, has all the blocks.
     pub filled_all : {e : Numbers} {w : Receive} {s : Sender} → IsTransmitReady q size frame mid b new d s
         → Keeps d v e w [] → HasAll a (with_rings e w s) []
     filled_all {e} {w} {s} also keeps =
@@ -109,7 +109,7 @@ module _ {q : AtPort} {size frame : ℕ} {old mid new : List Call} {a b d : Numb
         (keeps_beside d e (blocks_out v) (blocks_out w) (kept_out s)
         (all_exchanged d (blocks_out v) e (blocks_out w) keeps.arena)))))
 
--- The state after a refused start.
+-- What a refused start returns has all the blocks (`IsWhole`).
 
 half_whole : (a : Numbers) (q : AtPort) (h : Halted) (r : Rest) → HasAll a h [] → IsHalfStarted q h r → IsWhole a r
 half_whole a q h r all is = subst (λ (x : Rest). IsWhole a x) (sym is) (all.owns, λ none. all)
@@ -118,7 +118,7 @@ pub home_whole : (a : Numbers) (r : Rest) → IsHome a r → IsWhole a r
 home_whole a (rest.Home h) (arena, lost, handed, accepted) = rw arena (λ n. refl, λ none n. refl)
 home_whole a (rest.Running p) is = absurd is
 
--- The same state if only some blocks of the receive ring are lent.
+-- `IsWhole` also holds if only some blocks of the receive ring were lent.
 pub before_whole : (a : Numbers) (q : AtPort) (b : Numbers) (out : List ℕ) (r : Rest) → IsDrawn a out b
     → IsLeftWith q b out r → IsWhole a r
 before_whole a q b [] r drawn is = subst (λ (x : Numbers). IsWhole x r) drawn (home_whole b r is)

@@ -56,7 +56,7 @@ module _ (r s : Running) (p : Packet) (out : AreOut r.arena (numbers_of p.bufs +
           ap (λ (l : List ℕ). times_in_hand l n) (take-append-drop (parts_for p.len) ns),
         )
 
-    -- The blocks that are out afterwards.
+    -- Which blocks are in use afterwards, counted.
     now : (n : ℕ) → times_in_hand (rings_out s) n ≡ times_in_hand (kept ++ rings_out r) n
     now n =
         omega (
@@ -112,7 +112,7 @@ module _ (r s : Running) (p : Packet) (out : AreOut r.arena (numbers_of p.bufs +
           );
         }
 
--- No packet was accepted.
+-- If no packet was accepted, the driver has the same blocks in use as before.
 
 module _ (r s : Running) (none : IsNoneAccepted r.transmit s.transmit)
     (layout : s.transmit.layout ≡ r.transmit.layout) (arena : s.arena ≡ r.arena) (receive : s.receive ≡ r.receive)
@@ -153,7 +153,7 @@ module _ (r s : Running) (none : IsNoneAccepted r.transmit s.transmit)
       );
     }
 
--- The packet's check, split into its tests.
+-- Proves a property of the result of a packet's check from each case of its tests.
 
 pub by_gate : {G : Type 0} (F : G → Type 0) (T : Type 0) (bad full wide foreign : G) (is_bad is_home is_full : Bool)
     → (F bad → T) → (F full → T) → (F wide → T) → (F foreign → T)
@@ -208,7 +208,7 @@ home_owns None p a b home n =
     ap (λ (x : Numbers). is_own x n) home ∙ all_own_same a (drop (parts_for p.len) (numbers_of p.bufs)) n
 home_owns (Some back) p a b home n = ap (λ (x : Numbers). is_own x n) home
 
--- A call that sends a packet.
+-- What a call that sends a packet does to the driver's blocks.
 
 module _ (r s : Running) (p : Packet) (x : Result TxAnswer TxFault)
     (answer : IsAnswer (gate_of r.transmit r.arena (receives r p) p) p x)
@@ -235,7 +235,7 @@ module _ (r s : Running) (p : Packet) (x : Result TxAnswer TxFault)
       still_kept r s kept layout home receive (numbers_of p.bufs) (numbers_of q.bufs) same,
     )
 
--- Packets are reaped.
+-- What a call that reaps packets does to the driver's blocks.
 
 pub outstanding_out : (r : Running) → IsUp r → AreOut r.arena (blocks_of r.transmit.outstanding)
 outstanding_out r up =

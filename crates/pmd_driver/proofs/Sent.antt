@@ -32,7 +32,7 @@ module _ (q : Running) (p : Packet) (up : IsUp q) where
   pub way : Way
   way = by_tests _ _ refl refl
 
-  -- Its blocks may be lent.
+  -- The transmit half may lend the blocks of a packet that can be released.
   pub sent_may : AreOut q.arena (numbers_of p.bufs ++ rings_out q)
       → AllMaySend (is_own q.arena) q.receive (outgoing_of p).blocks
   sent_may goes =

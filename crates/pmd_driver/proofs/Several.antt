@@ -17,7 +17,7 @@ use Rattle.pmd_driver.specs.Blocks.{KeepsEach}
 use Rattle.pmd_driver.proofs.Blocks.{out_joined}
 use Rattle.pmd_driver.proofs.Whole.{keeps_then, one_given}
 
--- Blocks are returned to the arena.
+-- Returning two lists of blocks is the same as returning one list after the other, and keeps the count of each block.
 
 pub free_both : (a : Numbers) (xs ys : List ℕ) → with_all_free a (xs ++ ys) ≡ with_all_free (with_all_free a xs) ys
 free_both a [] ys = refl
@@ -40,7 +40,7 @@ pub all_own_same : (a : Numbers) (xs : List ℕ) (n : ℕ) → is_own (with_all_
 all_own_same a [] n = refl
 all_own_same a (k ∷ xs) n = all_own_same (with_free a k true) xs n ∙ is_own-with_free a k true n
 
--- How often a block occurs.
+-- A block that `list_any` doesn't find in a list occurs 0 times.
 
 none_at : (xs : List ℕ) (n t : ℕ) → times_in_hand xs n ≡ t → list_any (λ b. n == b) xs ≡ false → t ≡ 0
 none_at xs n zero is none = refl
@@ -75,7 +75,7 @@ away_both xs ys (n ∷ ns) one two =
 pub uncounted : (t : ℕ) → nat_lt 0 t ≡ false → t ≡ 0
 uncounted t is = grind (arith, nat_tests, is)
 
--- Different blocks that the arena owns and that aren't free join those that are out.
+-- Different blocks that the arena owns and that are neither free nor in use can be added to those in use.
 
 four : (a b c d : Bool) → (a && not b && not c && d) ≡ true → (a ≡ true) × (b ≡ false) × (c ≡ false) × (d ≡ true)
 four true false false true is = (refl, refl, refl, refl)
@@ -92,7 +92,7 @@ all_joined a xs (n ∷ ns) are away out =
     out_joined a (ns ++ xs) n own here
     (omega (arith, times-append ns xs n, none_among ns n alone, away.0)) (all_joined a xs ns rest away.1 out)
 
--- Conversely, blocks that are out together with other blocks pass the test.
+-- Conversely, if `AreOut` holds for these blocks and others together, these blocks pass the test `are_out`.
 
 pub out_are : (a : Numbers) (ns xs : List ℕ) → AreOut a (ns ++ xs) → are_out a ns ≡ true
 out_are a [] xs out = refl
@@ -123,7 +123,7 @@ away_part xs ys [] fewer away = tt
 away_part xs ys (n ∷ ns) fewer away =
     (omega (arith, fewer n, away.0), away_part xs ys ns fewer away.1)
 
--- One of a packet's blocks passes a test.
+-- If one of a packet's blocks passes a test, `list_any` finds it.
 
 any_more : (x y : Bool) → y ≡ true → (x || y) ≡ true
 any_more true y is = refl

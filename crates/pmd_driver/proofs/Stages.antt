@@ -26,7 +26,7 @@ use Rattle.pmd_driver.proofs.Starting.{filled_rings, one_out, prepared_count, re
 abbrev up : Numbers → Receive → Sender → Running
 up a v s = record { arena = a; receive = v; transmit = s }
 
--- Where the rings are placed.
+-- Each ring has its place in free blocks.
 
 pub first_place : {a : Numbers} {size frame first second : ℕ} → HasPlaces a size frame first second
     → HasPlace a first size
@@ -47,7 +47,7 @@ second_place {a} {b} {size} {frame} {first} {second} p drawn = record {
 }
 
 module _ {q : AtPort} {size frame : ℕ} {old mid : List Call} {a b : Numbers} where
-  -- The receive ring wasn't prepared.
+  -- If the receive ring wasn't prepared, the start stops short.
   pub stops_before : {f : PmdFault} {out : List ℕ} (e : StartRefused) → e.fault ≡ f
       → ReceiveFails f q size old a mid b out → IsLeftWith q b out e.rest → StopsShort q size frame old a mid e
   stops_before {f} {out} e is fails left = record {
@@ -58,7 +58,7 @@ module _ {q : AtPort} {size frame : ℕ} {old mid : List Call} {a b : Numbers} w
   }
 
   module _ {new : List Call} {d : Numbers} {v : Receive} (ready : IsReceiveReady q size frame old a mid b v) where
-    -- The transmit ring wasn't prepared.
+    -- If the transmit ring wasn't prepared, the start stops short.
     pub stops_after : {f : PmdFault} {out : List ℕ} → PreparingFails f q Tx size mid b new d out
         → StopsShort q size frame old a new (record {
           fault = f;
@@ -82,7 +82,7 @@ module _ {q : AtPort} {size frame : ℕ} {old mid : List Call} {a b : Numbers} w
           whole = (all.owns, λ none. all);
         }
 
-    -- Both rings were prepared.
+    -- What holds after both rings were prepared.
     module _ {first second : ℕ} {s : Sender} (places : HasPlaces a size frame first second)
         (also : IsTransmitReady q size frame mid b new d s)
       where
@@ -103,7 +103,7 @@ module _ {q : AtPort} {size frame : ℕ} {old mid : List Call} {a b : Numbers} w
         }
 
         module _ {last : List Call} {c : Numbers} {w : Receive} where
-          -- A side wasn't enabled, or the receive ring wasn't filled.
+          -- If a side wasn't enabled, or the receive ring wasn't filled, the start stops short.
           pub stops_late : {f : PmdFault} → GoesUp (Err f) q new d v last c w → StopsShort q size frame old a last
               (record { fault = f; rest = rest.Running (record { queue = q; rings = Down (with_rings c w s) }) })
           stops_late {f} goes =

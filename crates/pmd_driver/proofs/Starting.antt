@@ -1,4 +1,4 @@
--- Lemmas about where a driver's blocks are while its rings come up.
+-- Lemmas about where a driver's blocks are while it brings its rings up.
 use Rattle.std.proofs.Common.{◌≡◌, ℕ, zero, suc, ◌+◌, ◌≤◌, inl, inr, Bool, true, false, cond, List, [], ◌∷◌, ◌++◌, length, refl, sym, ap, subst, ◌∙◌, arith}
 use Rattle.std.proofs.lemmas.Bool.{cases_eq}
 use Rattle.std.specs.List.{range_with_len}
@@ -21,7 +21,7 @@ use Rattle.pmd_access.specs.NicDevice.DmaArena.Run.{IsFreeRun}
 use Rattle.pmd_driver.specs.Running.{kept_out}
 use Rattle.pmd_driver.specs.Starting.{IsPrepared, IsReceiveReady, IsTransmitReady, PreparingFails, ReceiveFails}
 
--- The number of free blocks after a ring is prepared.
+-- Preparing a ring reduces the number of free blocks by the number of blocks in the ring.
 
 drawn_count : (a : Numbers) (ns : List ℕ) (b : Numbers) → IsDrawn a ns b → free_count b + length ns ≡ free_count a
 drawn_count a [] b is = rw is (omega arith)
@@ -33,7 +33,7 @@ pub prepared_count : {q : AtPort} {side : Dir} {size : ℕ} {old new : List Call
 prepared_count {size = size} {a = a} {b = b} {ring = ring} ready =
     omega (arith, drawn_count a (ring_blocks ring size) b ready.drawn, ring_blocks_many ring size)
 
--- Which blocks are out.
+-- At the start, no block is in use.
 
 none_at : (f o : Bool) → (f ≡ true → o ≡ true) → cond f 1 0 + 0 ≤ cond o 1 0
 none_at true o owns = rw (owns refl) (omega arith)
@@ -45,7 +45,7 @@ none_out a k = none_at (is_free a k) (is_own a k) (is_own-of_free a k)
 pub one_out : (a : Numbers) (out others : List ℕ) → AreOut a (out ++ others) → AreOut a out
 one_out a out others are = out_fewer a (out ++ others) out are (λ k. omega (arith, times-append out others k))
 
--- If a ring wasn't prepared, the blocks that are out were taken from the arena.
+-- If a ring wasn't prepared, the blocks that had already been lent were taken from the arena.
 
 pub preparing_drawn : (f : PmdFault) (q : AtPort) (side : Dir) (size : ℕ) (old : List Call) (a : Numbers)
     (new : List Call) (b : Numbers) (out : List ℕ) → PreparingFails f q side size old a new b out → IsDrawn a out b
@@ -71,7 +71,7 @@ receive_out {size = size} {a = a} {b = b} ready =
     subst (λ (x : Receive). AreOut b (blocks_out x)) (sym ready.fresh)
     (all_drawn a ends b [] (ends ++ []) ready.prepared.drawn (none_out a) (λ k. omega (arith, times-append ends [] k)))
 
--- The receive ring is lent.
+-- Which blocks are in use after the receive ring is lent.
 module _ {q : AtPort} {size frame : ℕ} {old mid new : List Call} {a b d : Numbers} {v : Receive}
     (ready : IsReceiveReady q size frame old a mid b v)
   where
@@ -81,7 +81,7 @@ module _ {q : AtPort} {size frame : ℕ} {old mid new : List Call} {a b d : Numb
         all_drawn b out d (blocks_out v) (blocks_out v ++ out) (preparing_drawn f q Tx size mid b new d out fails)
         (receive_out ready) (λ k. omega (arith, times-append (blocks_out v) out k))
 
-    -- The transmit ring is lent too.
+    -- Which blocks are in use after the transmit ring is lent too.
     module _ {s : Sender} (also : IsTransmitReady q size frame mid b new d s) where
       pub rings_out : AreOut d (blocks_out v ++ kept_out s)
       rings_out =
@@ -90,7 +90,7 @@ module _ {q : AtPort} {size frame : ℕ} {old mid new : List Call} {a b d : Numb
           (all_drawn b ends d (blocks_out v) (blocks_out v ++ ends) also.prepared.drawn (receive_out ready)
           (λ k. omega (arith, times-append (blocks_out v) ends k)))
 
-      -- The receive ring was filled.
+      -- After the receive ring was filled, `AreOut` holds for the blocks of both rings.
       pub filled_rings : {e : Numbers} {w : Receive} → Keeps d v e w [] → AreOut e (blocks_out w ++ kept_out s)
       filled_rings {e} {w} keeps = out_exchanged d (blocks_out v) e (blocks_out w) (kept_out s) rings_out keeps.arena
 

@@ -16,7 +16,7 @@ keeps_then a b d x y z first then = record {
   each = λ n. then.each n ∙ first.each n;
 }
 
--- Only how often each block is out matters.
+-- A list of blocks in use may be replaced by a list in which each block occurs as often.
 pub keeps_counted : (a b : Numbers) (x y z : List ℕ) → ((n : ℕ) → times_in_hand z n ≡ times_in_hand y n)
     → KeepsEach a x b y → KeepsEach a x b z
 keeps_counted a b x y z same keeps = record {
@@ -24,7 +24,7 @@ keeps_counted a b x y z same keeps = record {
   each = λ n. omega (arith, same n, keeps.each n);
 }
 
--- One block.
+-- Taking one free block from the arena keeps the count of this block and of each other block.
 
 drawn_at : (a : Numbers) (xs : List ℕ) (n : ℕ) → is_free a n ≡ true → (k : ℕ) → (k ≡ n) ⊎ (k ≢ n)
     → cond (is_free (with_free a n false) k) 1 0 + times_in_hand (n ∷ xs) k
@@ -61,7 +61,7 @@ one_given a xs n own away = record {
   each = λ k. given_at a xs n own away k (cases_eq k n);
 }
 
--- Several blocks.
+-- Taking several free blocks from the arena keeps the count of each block.
 
 pub all_drawn : (a : Numbers) (drawn : List ℕ) (b : Numbers) (xs : List ℕ) → IsDrawn a drawn b
     → KeepsEach a xs b (drawn ++ xs)
@@ -83,7 +83,7 @@ pub all_exchanged : (a : Numbers) (out : List ℕ) (b : Numbers) (new : List ℕ
 all_exchanged a out b new (drawn, is, same) =
     keeps_counted a b out (drawn ++ out) new same (all_drawn a drawn b out is)
 
--- Other blocks stay out.
+-- The count of each block is also kept together with other blocks that stay in use.
 pub keeps_beside : (a b : Numbers) (x y others : List ℕ) → KeepsEach a x b y
     → KeepsEach a (x ++ others) b (y ++ others)
 keeps_beside a b x y others keeps = record {
@@ -91,7 +91,7 @@ keeps_beside a b x y others keeps = record {
   each = λ n. omega (arith, keeps.each n, times-append x others n, times-append y others n);
 }
 
--- A block that a driver has out is owned and isn't free.
+-- If a driver has all blocks of an arena, `AreOut` holds for the blocks that it has in use or in hand.
 
 owned : (f g o : Bool) (t : ℕ) → cond f 1 0 + t ≡ cond g 1 0 → (g ≡ true → o ≡ true) → cond f 1 0 + t ≤ cond o 1 0
 owned f true o t same own = rw (own refl) (omega (arith, same))

@@ -15,7 +15,7 @@ pub go_home-requires : goal.go_home-requires
 go_home-requires g c =
     subst (λ (h : Halted). IsHalted h) (sym c.in-Ok.ensures.closed) (closed_halted c.args.self c.close.ensures.out)
 
--- The rings were closed before.
+-- `GoesHome` carries over to an equal driver. It is used for the driver after its rings were closed.
 goes_closed : (r : Result Home StopFailed) (q : AtPort) (old new : List Call) (h k : Halted) → h ≡ k
     → IfOk r (λ home. GoesHome q old h new home) → IfOk r (λ home. GoesHome q old k new home)
 goes_closed r q old new h k is = subst (λ (x : Halted). IfOk r (λ home. GoesHome q old x new home)) is

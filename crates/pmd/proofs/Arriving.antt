@@ -27,13 +27,13 @@ one_more frames more old mid new first second = record {
 first_of : (before rest : List (List ℕ)) → take (length before) (before ++ rest) ≡ before
 first_of before rest = take-append_seam before rest
 
--- All frames arrived.
+-- If no frame remains, all frames arrived.
 pub all_came : (before all : List (List ℕ)) (old new : PassValue) → before ++ [] ≡ all
     → HaveArrived before old new → IsFed all None old new
 all_came before all old new are arrived =
     subst (λ (l : List (List ℕ)). HaveArrived l old new) (sym (append-nil before) ∙ are) arrived
 
--- The frames before the one whose call was refused arrived.
+-- If a call was refused, the frames before that call's frame arrived.
 pub stops_before : (before rest all : List (List ℕ)) (frame : List ℕ) (refusal : CallFault (Unit {0}))
     (old new : PassValue) → before ++ frame ∷ rest ≡ all → HaveArrived before old new
     → IsFed all (Some refusal) old new
@@ -54,7 +54,7 @@ gained_since frames old new arrived =
 done_append : (a b : List Call) → done_in (a ++ b) ≡ done_in a + done_in b
 done_append a b = search (rules, sum_by-append)
 
--- No frame arrived yet.
+-- At the start, no frame has arrived.
 pub none_yet : (old : PassValue) → HaveArrived [] old old
 none_yet old = record {
   since = [];
@@ -76,7 +76,7 @@ done_more frames more old mid new first then a b is is' =
     rw (is, is', gained_since frames old mid a, gained_since more mid new b, gained_since (frames ++ more) old new both)
     (sym sum)
 
--- No more calls are done than there are frames.
+-- At most as many calls got the reply `Done` as frames arrived.
 pub done_few : (frames : List (List ℕ)) (old new : PassValue) → HaveArrived frames old new
     → done_in (gained old new) ≤ length frames
 done_few frames old new arrived =

@@ -35,7 +35,7 @@ same_there [] i x y inside = absurd (omega (arith, inside))
 same_there (c ∷ cs) zero x y inside = refl
 same_there (c ∷ cs) (suc i) x y inside = same_there cs i x y (omega (arith, inside))
 
--- One more worker's reports were taken.
+-- If reports of one more worker are taken, the collectors' only change is still that reports were taken.
 pub drained_more : (old cs : List Collector) (i : ℕ) (x d : Collector) → i < length cs → AreDrained old cs
     → IsDrained (slice_index_or cs i x) d → AreDrained old (set cs i d)
 drained_more old cs i x d inside drained one = (
@@ -49,7 +49,7 @@ drained_more old cs i x d inside drained one = (
   ],
 )
 
--- One worker's cell and collector after the run.
+-- After the run, one job's worker has ended, and its remaining reports can be taken.
 one_ended : (j : Job) (s t : TaskCell Assignment Back) (c d : Collector) → Sits j s c → IsEnded IsBack s t →
     IsDrained c d
     → HasEnded j t d
@@ -87,11 +87,11 @@ all_ended [] [] after (c ∷ old) new sit count ended drained = absurd sit
 all_ended (j ∷ jobs) [] after old new sit count ended drained = absurd sit
 all_ended (j ∷ jobs) (s ∷ cells) after [] new sit count ended drained = absurd sit
 
--- A vector after its slice was changed.
+-- The first elements of a vector, after its slice was changed.
 taken : {A : Type 0} → (xs rest : List A) (n : ℕ) → n ≡ length xs → take n (xs ++ rest) ≡ xs
 taken xs rest n is = ap (λ (k : ℕ). take k (xs ++ rest)) is ∙ take-append_seam xs rest
 
--- A run over the cells, and over the collectors in a vector.
+-- After a run over all cells and collectors, each job's worker has ended.
 pub run_over : (jobs : List Job) (cells after : List (TaskCell Assignment Back)) (old new : List Collector) (count : ℕ)
     (left : List Collector) → AllSit jobs cells old → length after ≡ length cells → count ≡ length old
     → EachEnded IsBack cells after → AreDrained old new → AllEnded jobs after (take count (new ++ left))

@@ -12,7 +12,7 @@ use Rattle.pmd_driver.specs.PmdAccess.Made.{AreSteps}
 use Rattle.pmd.specs.Before.{holds_of, is_first, known_before, known_through, still_left}
 use Rattle.pmd.specs.Starts.{Starts}
 
--- The calls of a pass, after an entry.
+-- The calls of a pass in a history that begins with a given entry.
 
 calls_own : (pass : ℕ) (e : Entry) (h : List Entry) → (e.pass == pass) ≡ true
     → calls_of pass (e ∷ h) ≡ call_in e ∷ calls_of pass h
@@ -26,7 +26,7 @@ module _ {S : Type 0} (next : S → Entry → S) (w : Watched) (test : S → Boo
   abbrev Passes : S → Type 0
   Passes t = test t ≡ true
 
-  -- What is known at an entry.
+  -- What is known at an entry that is the driver's first, and at any other entry.
 
   at_first : (t : S) (left : ℕ) (e : Entry) (es : List Entry) → is_first w left e ≡ true
       → known_before next w t left (e ∷ es) ≡ Some t
@@ -64,7 +64,7 @@ module _ {S : Type 0} (next : S → Entry → S) (w : Watched) (test : S → Boo
   after_other : (left : ℕ) (e : Entry) → (e.pass == w.pass) ≡ false → still_left w left e ≡ left
   after_other left e other = rw other refl
 
-  -- The test holds at the driver's first entry in these entries.
+  -- `At`: the test holds at the driver's first entry among these entries.
 
   abbrev At : S → List Entry → List Call → Type 0
   At t h old =
@@ -79,7 +79,8 @@ module _ {S : Type 0} (next : S → Entry → S) (w : Watched) (test : S → Boo
       → is_first w left e ≡ true
   first_is left e own event none = rw (eq-eqb e.pass w.pass own, eq-eqb left 0 none, event) refl
 
-  -- After an entry of the pass, the remaining calls before the driver, or its steps.
+  -- `After`: the state after an entry that isn't the driver's first, with the pass's calls that must still come before
+  -- that first entry.
   record After (left : ℕ) (f : Entry) (before : List Entry) : Type 0 where
     skipped : is_first w left f ≡ false
     old : List Call
@@ -143,7 +144,7 @@ module _ {S : Type 0} (next : S → Entry → S) (w : Watched) (test : S → Boo
             (sym (calls_other w.pass f before other) ∙ called)
       ])
 
-  -- If the test holds at that entry, it holds wherever the driver starts.
+  -- If the test holds at that entry, it holds at each point at which the driver may start.
 
   abbrev AllAt : S → ℕ → List Entry → Type 0
   AllAt t left h = (old : List Call) → length old ≡ left → At t h old
@@ -197,7 +198,7 @@ module _ {S : Type 0} (next : S → Entry → S) (w : Watched) (test : S → Boo
             ]
       ]
 
-  -- The test of what is known decides whether the property holds wherever the driver starts.
+  -- The test of what is known decides whether the property holds at each point at which the driver may start.
   pub test_decides : (s : S) (from : ℕ) (h : List Entry) (o : Option S) → o ≡ known_before next w s from h
       → IsTrue (holds_of test o)
       ↔ ((old : List Call) → length old ≡ from → (x : Starts w.pass old h)

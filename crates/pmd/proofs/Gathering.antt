@@ -8,7 +8,7 @@ use Rattle.pmd.specs.declared.assignment.Back.{Back}
 use Rattle.pmd.specs.declared.ends.WorkerEnd.{WorkerEnd}
 
 module _ {T : Type 0} where
-  -- The first worker has returned, and so have the others.
+  -- If all workers have returned, so has the first one, and so have the others.
   pub first_come : (cells : List (TaskCell T Back)) (cs : List Collector) (s : TaskCell T Back) (c : Collector)
       → 0 < length cells → HaveCome cells cs → s ≡ slice_index_or cells 0 s → c ≡ slice_index_or cs 0 c
       → (0 < length cs) × HasCome s c × HaveCome (remove cells 0) (remove cs 0)
@@ -29,7 +29,7 @@ module _ {T : Type 0} where
     pub cells_are : before ++ cells ≡ all
     pub made : AreMade before ends
 
-  -- The result of the first remaining worker is collected.
+  -- Collecting the result of the first remaining worker preserves `IsGathered`.
   pub one_gathered : (all cells : List (TaskCell T Back)) (ends : List WorkerEnd) (s : TaskCell T Back) (e : WorkerEnd)
       → IsGathered all cells ends → 0 < length cells → s ≡ slice_index_or cells 0 s → IsMade s e
       → IsGathered all (remove cells 0) (ends ++ e ∷ [])
@@ -40,7 +40,7 @@ module _ {T : Type 0} where
   }
   one_gathered all [] ends s e i some is one = absurd (omega (arith, some))
 
-  -- All results are collected.
+  -- If no worker remains, all results are collected.
   pub all_gathered : (all : List (TaskCell T Back)) (ends : List WorkerEnd) → IsGathered all [] ends → AreMade all ends
   all_gathered all ends i =
       subst (λ (l : List (TaskCell T Back)). AreMade l ends) (sym (append-nil i.before) ∙ i.cells_are) i.made

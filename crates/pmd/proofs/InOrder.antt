@@ -133,7 +133,7 @@ module _ (vfs fifo : ℕ) (h : List Entry) (j : Job) (e : WorkerEnd) (ends : IsE
   abbrev origin : State
   origin = new_state vfs fifo
 
-  -- The device is sound when the driver begins, so port and queue name the job's queue there.
+  -- The device is sound when the driver begins, so port and queue number identify the job's queue there.
 
   ground : JustBefore vfs fifo e.pass.tag j.pass.calls h (HasGround j.pf_queue (queue_of j) j.frame)
   ground =
@@ -181,7 +181,7 @@ module _ (vfs fifo : ℕ) (h : List Entry) (j : Job) (e : WorkerEnd) (ends : IsE
 
     in_order : InOrder
     in_order =
-        -- Without a thread, there is no such entry.
+        -- If the worker had no thread, there is no such entry.
         let none : e.fault ≢ Some NoThread = λ none.
         grind (arith, common_steps, isnt_none, none_past, calls_from, ends) in
         run_in_order (ends.lived none) (⊎_elim (λ none. inl none) (λ at. inr (at there)) x.quiet)

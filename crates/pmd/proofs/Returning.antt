@@ -21,7 +21,7 @@ use Rattle.pmd_driver.specs.declared.driver.Rings.{Rings}
 use Rattle.pmd_driver.specs.declared.driver.Rings.TheVariants.{Up, Down}
 use Rattle.pmd_driver.proofs.SentCounted.{fault_blocks}
 
--- Whether blocks with these numbers can be returned to the arena, given what a driver has.
+-- Whether blocks with these numbers can be returned to the arena, given the blocks that a driver has in use.
 abbrev back_at : Numbers → Receive → Layout → List Segment → List ℕ → Bool
 back_at a v l segments ns =
     (are_out a ns && not (list_any (λ n. is_among l segments n) ns))
@@ -53,7 +53,7 @@ some_back r s f p (Some back) home is arena receive layout none =
     subst (λ (ns : List ℕ). BackAt s ns) (sym (fault_blocks f p back is))
     (still_back r s (numbers_of p.bufs) arena receive layout none home)
 
--- A packet returned with a fault.
+-- A packet that is returned with a fault can still be released.
 pub fault_back : (old new : List Call) (R S : Rings) (p : Packet) (failed : TxFault)
     → goes_back_to R p ≡ true
     → WhereUp R S (λ (r s : Running). IsSendCall p (Err failed) old r new s)

@@ -14,7 +14,7 @@ use Rattle.pmd.specs.Coming.{AreWays, Sits, AllSit}
 use Rattle.pmd.specs.declared.assignment.Back.{Back}
 use Rattle.pmd.specs.declared.assignment.Assignment.{Assignment}
 
--- One more job is in its cell.
+-- If each job is in its cell, this also holds with one more job in a cell.
 sit_more : (jobs : List Job) (ss : List (TaskCell Assignment Back)) (cs : List Collector) (j : Job)
     (s : TaskCell Assignment Back) (c : Collector) → AllSit jobs ss cs → Sits j s c
     → AllSit (jobs ++ j ∷ []) (ss ++ s ∷ []) (cs ++ c ∷ [])
@@ -25,7 +25,7 @@ sit_more [] [] (d ∷ cs) j s c sit sits = absurd sit
 sit_more (k ∷ jobs) [] cs j s c sit sits = absurd sit
 sit_more (k ∷ jobs) (t ∷ ss) [] j s c sit sits = absurd sit
 
--- Some jobs are in cells, and the remaining jobs have rings.
+-- `IsSitting`: the first jobs are in cells, and the remaining jobs have rings.
 pub record IsSitting (all : List Job) (collectors : List Collector) (jobs : List Job)
     (ps : List (Producer Report Global AnyItems)) (ss : List (TaskCell Assignment Back)) : Type 0 where
   pub before : List Job
@@ -60,7 +60,7 @@ first_sits all collectors (j ∷ jobs) [] ss d k q before taken left jobs_are co
 first_sits all collectors (j ∷ jobs) (p ∷ ps) ss d k q before taken [] jobs_are collectors_are sit ways some is here =
     absurd ways
 
--- The first remaining job is put into a cell.
+-- Putting the first remaining job into a cell preserves `IsSitting`.
 pub one_sits : (all : List Job) (collectors : List Collector) (jobs : List Job)
     (ps : List (Producer Report Global AnyItems)) (ss : List (TaskCell Assignment Back)) (d : Assignment) (k : Job)
     (q : Producer Report Global AnyItems) → IsSitting all collectors jobs ps ss → 0 < length jobs → d.job ≡ k
@@ -70,7 +70,7 @@ one_sits all collectors jobs ps ss d k q i some job is producer here =
     first_sits all collectors jobs ps ss d k q i.before i.taken i.left i.jobs_are i.collectors_are i.sit i.ways some
     (job ∙ is) (producer ∙ here)
 
--- No job is in a cell yet.
+-- At the start, no job is in a cell, and each job has a ring.
 pub none_sits : (all : List Job) (collectors : List Collector) (ps : List (Producer Report Global AnyItems))
     (ss : List (TaskCell Assignment Back)) → ss ≡ [] → AreWays all ps collectors → IsSitting all collectors all ps ss
 none_sits all collectors ps ss empty ways = record {

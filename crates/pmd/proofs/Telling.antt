@@ -16,7 +16,7 @@ from_more queue number (first ∷ packets) k =
     (from_more queue (suc number) packets k
     ∙ ap (λ (n : ℕ). reports_from queue (suc number) packets ++ report_of queue n k ∷ []) e)
 
--- The reports of some packets and of one more packet.
+-- The reports of some packets, followed by the report of one more packet, are the reports of all of them.
 pub reported_more : (queue : ℕ) (packets : List Kept) (k : Kept) (reports : List Report)
     → reports ≡ reports_of queue packets
     → reports ++ report_of queue (length packets) k ∷ [] ≡ reports_of queue (packets ++ k ∷ [])

@@ -13,17 +13,17 @@ module _ {S : Type 0} (next : S → Entry → S) (w : Watched) (s : S) (left : �
     begins : drop i h ≡ e ∷ drop (i + 1) h
     begins = split h i e lt ∙ ap (λ (d : Entry). d ∷ drop (i + 1) h) there
 
-    -- The entry is the driver's first entry.
+    -- If the entry is the driver's first, what is known here is the result.
     pub known_here : is_first w left e ≡ true → known_before next w s left (drop i h) ≡ Some s
     known_here is = ap (known_before next w s left) begins ∙ rw is refl
 
-    -- The entry isn't the driver's first entry.
+    -- If the entry isn't the driver's first, the walk continues after it.
     pub known_there : is_first w left e ≡ false → (then : S) (following : ℕ) → then ≡ next s e
         → following ≡ still_left w left e
         → known_before next w s left (drop i h) ≡ known_before next w then following (drop (i + 1) h)
     known_there is then following moved fewer =
         ap (known_before next w s left) begins ∙ rw (is, moved, fewer) refl
 
-  -- There is no such entry.
+  -- If the walk reaches the end of the history, there is no such entry.
   pub known_last : i ≡ length h → known_before next w s left (drop i h) ≡ None
   known_last is = ap (known_before next w s left) (ap (λ k. drop k h) is ∙ drop-length h)

@@ -26,7 +26,7 @@ take_all (suc n) [] most = refl
 take_all zero (j ∷ jobs) most = absurd (omega (arith, most))
 take_all (suc n) (j ∷ jobs) most = ap (λ (l : List Job). j ∷ l) (take_all n jobs (omega (arith, most)))
 
--- All jobs have rings.
+-- If the first `n` jobs have rings and there are no more jobs, all jobs have rings.
 pub ways_all : (n : ℕ) (jobs : List Job) (ps : List (Producer Report Global AnyItems)) (cs : List Collector)
     → length jobs ≤ n → AreWays (take n jobs) ps cs → AreWays jobs ps cs
 ways_all n jobs ps cs most ways = subst (λ (l : List Job). AreWays l ps cs) (take_all n jobs most) ways

@@ -13,7 +13,7 @@ use Rattle.pmd.specs.declared.before.Reported.{Reported}
 use Rattle.pmd.specs.declared.beginning.Given.{Given}
 use Rattle.pmd.proofs.FirstOwn.{test_decides}
 
--- A queue is named, and the settings fit.
+-- The test `is_queue` is true if and only if the number identifies this queue.
 
 named : (o : Option ℕ) (queue : ℕ) → is_queue o queue ≡ true → o ≡ Some queue
 named None queue is = cc
@@ -31,7 +31,7 @@ fitting w s given is =
 is_fitting : (w : Watched) (s : Settings) (given : Given) → Fits w s given → begins w s given ≡ true
 is_fitting w s given x = rw (is_named _ w.queue x.names) (eq-eqb _ _ x.limit)
 
--- The reported settings.
+-- The reported settings are those after all entries.
 
 settings_reported : (w : Watched) (t : Reported) (h : List Entry)
     → (reported_through w t h).settings ≡ settings_through w.vfs t.settings h

@@ -1,6 +1,6 @@
 -- Lemmas: a property that holds just before the driver's first event also holds there for the laws of its driver. What
--- the earlier entries report is true of the device at that point: the queue that port and number name, and the frame
--- limit.
+-- the earlier entries report is true of the device at that point: the queue that port and number identify, and the
+-- frame limit.
 use Rattle.driver_laws.proofs.{Ground.is_in, Ground.some_where, RingLaws.Limits.settings_reported}
 use Rattle.driver_laws.proofs.Prelude.{HasGround, IsSound, List, Mode, Option, Port, Rxdctl, Sees, Some, State, Watched}
 use Rattle.driver_laws.proofs.Prelude.{[], ap, append_assoc, arith, call_in, calls_joined, calls_of, calls_own}
@@ -61,7 +61,8 @@ pub named_below : (mode : Mode) (vfs : ℕ) (port : Port) (number queue : ℕ)
     → queue_at mode vfs port number ≡ Some queue → queue < 128
 named_below mode vfs port number queue is = grind (arith, common_steps, some_where, is_in)
 
--- Port and queue name the watched queue at that point, and the frame limit is the one that the driver was given.
+-- At that point, port and queue number identify the watched queue, and the frame limit matches the frame length that
+-- the driver was given.
 pub ground_there : (w : Watched) (fifo : ℕ) (old : List Call) (given : Given) (h : List Entry)
     → IsSound (new_state w.vfs fifo) → AreEvents h → BeginsWell w (length old) given h → (x : Starts w.pass old h)
     → HasGround w.queue (record { port = given.port; queue = given.queue }) given.frame

@@ -115,7 +115,7 @@ module _ (w : Watched) (small : w.queue < 128) (s : State) (sound : IsSound s) (
             register_down p view found (λ same.
             grind (arith, common_steps, here, place_named, place_in, is_place-same))
 
--- Every event.
+-- A side that is off stays off over every event that doesn't try to enable the queue.
 
 stays_off : (w : Watched) (s : State) → w.queue < 128 → IsSound s → s.image ≡ blank → w.vfs ≡ s.vfs → (dir : Dir)
     → (e : Event Block) → asks_on w (mode_in s.registers) e ≡ false → IsOff (side_of dir w.queue s)

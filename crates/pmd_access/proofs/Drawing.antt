@@ -7,7 +7,7 @@ use Rattle.pmd_access.specs.Bufs.{numbers_of}
 use Rattle.pmd_access.specs.Fresh.{IsDrawnAs}
 use Rattle.pmd_access.specs.Home.{IsDrawn}
 
--- One more block is taken.
+-- If one more free block is taken, all of these blocks were taken in order.
 pub drawn_next : (a : Numbers) (ns : List ℕ) (b : Numbers) (n : ℕ) (d : Numbers) → IsDrawn a ns b → is_free b n ≡ true
     → d ≡ with_free b n false → IsDrawn a (ns ++ n ∷ []) d
 drawn_next a [] b n d is free then = (

@@ -28,7 +28,7 @@ exchanges_both a b d out mid new (m, is, same) (n, then, also) = (
       ),
 )
 
--- Blocks that are out stay out across an exchange.
+-- If `AreOut` holds before an exchange, it holds after it.
 pub out_kept : (a : Numbers) (out : List ℕ) (b : Numbers) (new : List ℕ) → AreOut a out → Exchanges a out b new
     → AreOut b new
 out_kept a out b new are (drawn, is, same) =

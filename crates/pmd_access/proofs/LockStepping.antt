@@ -14,7 +14,7 @@ use Rattle.pmd_access.proofs.Stepping.{first_steps, queue_steps}
 use Rattle.pmd_access.proofs.Steps.{AllSteps}
 use Rattle.pmd_access.specs.Stepped.{AtLock, AreStepped, StepsAndMakes, StopsStepping, refusals_of, with_calls}
 
--- The calls of the pass that go through the lock.
+-- What the pass did under the lock is also what the `Nic` did.
 
 pub pass_made : (r : Result (Reply Block) (CallFault (Event Block))) (e : Event Block) (old view : AtLock)
     (pass : PassValue) → view ≡ old → IfOk r (λ x. stepping.StepsAndMakes view.queue view.pass pass e x)

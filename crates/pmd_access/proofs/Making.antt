@@ -18,7 +18,7 @@ after_both : (h : Handled) (xs ys : List (Event Block)) → after_list h (xs ++ 
 after_both h [] ys = refl
 after_both h (e ∷ xs) ys = after_both (after_foreign h e) xs ys
 
--- One more foreign event is applied.
+-- If one more foreign event is applied, the first events of the list up to this one were applied.
 pub one_more : (old mid new : Handled) (all rest : List (Event Block)) (e : Event Block)
     → IsMadeTo old all mid (e ∷ rest) → new ≡ after_foreign mid e → IsMadeTo old all new rest
 one_more old mid new all rest e (done, split, made) is = (
@@ -27,7 +27,7 @@ one_more old mid new all rest e (done, split, made) is = (
   is ∙ ap (λ (h : Handled). after_foreign h e) made ∙ sym (after_both old done (e ∷ [])),
 )
 
--- One more call is added, own or foreign.
+-- Adding an own call adds it to the own calls; adding a foreign call doesn't change them.
 
 pub own_more : (calls : List Call) (own : List Bool) (c : Call) → length own ≡ length calls
     → own_calls (calls ++ c ∷ []) (own ++ true ∷ []) ≡ own_calls calls own ++ c ∷ []
@@ -45,7 +45,7 @@ own_same (x ∷ calls) [] c long = absurd (omega (arith, long))
 own_same (x ∷ calls) (true ∷ own) c long = ap (λ (l : List Call). x ∷ l) (own_same calls own c (omega (arith, long)))
 own_same (x ∷ calls) (false ∷ own) c long = own_same calls own c (omega (arith, long))
 
--- One more call in the list of calls made.
+-- An own call is added to the list of calls made.
 
 pub made_more : (was now : Handled) (calls : List Call) (own kept : List Bool) (reported c : Call)
     → length was.own ≡ length was.calls → was ≡ now → calls ≡ was.calls ++ reported ∷ [] → reported ≡ c → kept ≡ was.own

@@ -1,4 +1,4 @@
--- Lemmas about blocks that are out of their arena.
+-- Lemmas about `AreOut`. It holds for a list of blocks that the arena owns, none of which is free or in the list twice.
 use Rattle.std.proofs.Common.{◌≡◌, ◌≢◌, ℕ, zero, suc, ◌+◌, ◌<◌, ◌≤◌, ◌⊎◌, inl, inr, Bool, true, false, cond, List, [], ◌∷◌, ◌++◌, length, get_or, eqb, refl, sym, subst, ◌∙◌, arith}
 use Rattle.std.proofs.lemmas.Bool.{cases_eq}
 use Rattle.std.proofs.lemmas.Bool.Decides.{nat_tests}
@@ -8,7 +8,7 @@ use Rattle.device_lock.specs.NicDevice.DmaArena.Whereabouts.{times_in_hand}
 use Rattle.device_lock.proofs.NicDevice.DmaArena.Arenas.{is_own-of_free, is_own-with_free, is_free-with_free_same, is_free-with_free_other}
 use Rattle.pmd_access.specs.Home.{AreOut, IsDrawn, Exchanges}
 
--- How often a number occurs in a list.
+-- How often a number occurs in a list, compared with its first element.
 
 same_number : (n : ℕ) → eqb n n ≡ true
 same_number n = grind (arith, nat_tests)
@@ -37,13 +37,13 @@ times_at (x ∷ xs) (suc i) d below =
     let rest : 0 < times_in_hand xs (get_or xs i d) = times_at xs i d (omega arith) in
     omega (arith, times-cons x xs (get_or xs i d), rest)
 
--- `AreOut` holds for a list in which no number occurs more often.
+-- If `AreOut` holds for a list, it holds for every list in which no number occurs more often.
 
 pub out_fewer : (a : Numbers) (xs ys : List ℕ) → AreOut a xs → ((k : ℕ) → times_in_hand ys k ≤ times_in_hand xs k)
     → AreOut a ys
 out_fewer a xs ys out fewer k = omega (arith, out k, fewer k)
 
--- A block is taken from the arena.
+-- If a free block is taken from the arena, it can be added to the list.
 
 drawn_here : (a : Numbers) (xs : List ℕ) (n : ℕ) → AreOut a xs → is_free a n ≡ true
     → cond (is_free (with_free a n false) n) 1 0 + times_in_hand (n ∷ xs) n ≤ cond (is_own (with_free a n false) n) 1 0
@@ -66,14 +66,14 @@ pub out_drawn : (a : Numbers) (xs : List ℕ) (n : ℕ) → AreOut a xs → is_f
     → AreOut (with_free a n false) (n ∷ xs)
 out_drawn a xs n out free k = drawn_at a xs n out free k (cases_eq k n)
 
--- A free number isn't out.
+-- A free number isn't in the list.
 pub out_free : (a : Numbers) (xs : List ℕ) (n : ℕ) → AreOut a xs → is_free a n ≡ true → times_in_hand xs n ≡ 0
 out_free a xs n out free =
     let own : is_own a n ≡ true = is_own-of_free a n free in
     let was : 1 + times_in_hand xs n ≤ 1 = rw (free, own) at (out n) in
     omega (arith, was)
 
--- A block that is out isn't free, and is out only once.
+-- A block in the list is owned by the arena, isn't free, and is in the list only once.
 
 bounded : (f o : Bool) (t : ℕ) → cond f 1 0 + (1 + t) ≤ cond o 1 0 → (o ≡ true) × (f ≡ false) × (t ≡ 0)
 bounded true true t le = absurd (omega arith)
@@ -102,11 +102,11 @@ given_at a xs n out k (inr ne) =
     rw (is_own-with_free a n true k, is_free-with_free_other a n true k here.0 ne)
     (rw (times_rest xs n k ne) at (out k))
 
--- A block that is out can be returned; the others stay out.
+-- If the first block in the list is returned to the arena, `AreOut` holds for the others.
 pub out_given : (a : Numbers) (xs : List ℕ) (n : ℕ) → AreOut a (n ∷ xs) → AreOut (with_free a n true) xs
 out_given a xs n out k = given_at a xs n out k (cases_eq k n)
 
--- Several blocks are taken.
+-- If several free blocks are taken from the arena, they can be added to the list.
 
 pub all_drawn : (a : Numbers) (drawn : List ℕ) (b : Numbers) (xs ys : List ℕ) → IsDrawn a drawn b → AreOut a xs
     → ((k : ℕ) → times_in_hand ys k ≤ times_in_hand drawn k + times_in_hand xs k) → AreOut b ys
@@ -115,7 +115,7 @@ all_drawn a (n ∷ ns) b xs ys (free, is) out few =
     all_drawn (with_free a n false) ns b (n ∷ xs) ys is (out_drawn a xs n out free)
     (λ k. omega (arith, few k, times-cons n ns k, times-cons n xs k))
 
--- Other blocks that are out stay out.
+-- If some of the blocks in the list are exchanged with the arena, `AreOut` holds for the new blocks and the others.
 pub out_exchanged : (a : Numbers) (out : List ℕ) (b : Numbers) (new others : List ℕ) → AreOut a (out ++ others)
     → Exchanges a out b new → AreOut b (new ++ others)
 out_exchanged a out b new others are (drawn, is, same) =

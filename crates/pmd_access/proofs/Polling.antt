@@ -12,11 +12,11 @@ use Rattle.pmd_access.specs.QueueMade.{Access, Sees, AreMade, IsSeen}
 use Rattle.pmd_access.specs.Sides.{missed, polled, PollsEnd}
 use Rattle.pmd_access.proofs.QueueSequences.{both_made, next_made}
 
--- One more miss at the end of the list.
+-- A list of one more equal access is the shorter list followed by that access.
 replicate-last : (n : ℕ) (a : Access) → replicate (n + 1) a ≡ replicate n a ++ a ∷ []
 replicate-last n a = sym (replicate-append-replicate n 1 a)
 
--- Two Booleans that are equal, and two that differ.
+-- What the comparison of two Booleans says about them.
 alike : (a b : Bool) → beq a b ≡ true → a ≡ b
 alike true true e = refl
 alike true false e = cc

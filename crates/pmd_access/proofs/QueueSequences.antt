@@ -23,12 +23,12 @@ module _ (q : AtPort) where
   both_made old mid new [] ys first then = subst (λ (m : List Call). AreMade q m new ys) first then
   both_made old mid new (a ∷ xs) ys (next, one, rest) then = (next, one, both_made next mid new xs ys rest then)
 
-  -- One more access is made.
+  -- If some accesses were made, and then one more, all of them were made in order.
   pub next_made : (old mid new : List Call) (xs : List Access) (a : Access) → AreMade q old mid xs → IsMade q mid new a
       → AreMade q old new (xs ++ a ∷ [])
   next_made old mid new xs a first then = both_made old mid new xs (a ∷ []) first (one_made mid new a then)
 
-  -- The accesses stop at this one.
+  -- If an access fails after the earlier ones were made, the list stops there.
   pub stops_here : (f : PmdFault) (old mid new : List Call) (xs rest all : List Access) (a : Access)
       → AreMade q old mid xs → FailsBy f q mid new a → all ≡ xs ++ a ∷ rest → StopsBy f q old new all
   stops_here f old mid new xs rest all a first fails is = (xs, a, rest, mid, is, first, fails)

@@ -20,7 +20,7 @@ length_bytes (b ∷ bs) whole =
 pub length_taken : (len : ℕ) (xs : List ℕ) → length (take len xs) ≡ min len (length xs)
 length_taken len xs = length-take len xs
 
--- The bytes of the Bufs after the first `k`.
+-- The bytes of the Bufs after the first `k` are all bytes after the first 2,048 times `k`.
 drop-bytes : (bs : List Block) → All (λ (b : Block). IsBlock b) bs → (k : ℕ)
     → bytes_of (drop k bs) ≡ drop (2048 * k) (bytes_of bs)
 drop-bytes bs whole zero = refl
@@ -117,7 +117,7 @@ copied_size bs at f old new whole room few copied =
     let all = ap (λ (xs : List ℕ). length xs) copied in
     omega (arith, all, front, length-append (take f wanted) (drop f old), length-drop f old, few)
 
--- One byte is read.
+-- Reading one byte returns the byte at this index.
 pub byte_read : (xs : List ℕ) (at : ℕ) (one : List ℕ) → at + 1 ≤ length xs → one ≡ take 1 (drop at xs)
     → slice_get xs at ≡ Some (slice_index one 0)
 byte_read xs at one some is =

@@ -15,7 +15,7 @@ use Rattle.pmd_access.proofs.Outside.{times_first, times_rest}
 pub some_blocks : (size : ℕ) → 0 < size → 0 < blocks_for size
 some_blocks size some = omega (arith, some)
 
--- Consecutive numbers with one more number at the end.
+-- A run of numbers that is longer by one is the shorter run followed by the next number.
 
 range_last : (n a j : ℕ) → a + n ≡ j → range_with_len a (suc n) ≡ range_with_len a n ++ j ∷ []
 range_last zero a j e = ap (λ (i : ℕ). i ∷ []) (omega (arith, e))

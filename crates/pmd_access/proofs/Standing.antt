@@ -38,7 +38,7 @@ blocks_more (suc n) (None ∷ places) b is room = absurd is
 blocks_more (suc n) (Some c ∷ places) b is room =
     ap (λ (bs : List Block). c ∷ bs) (blocks_more n places b is (omega (arith, room)))
 
--- One more empty place at the end changes nothing.
+-- An additional empty place at the end doesn't change the list of blocks.
 pub blocks_same : (places : List (Option Block)) → blocks_in (places ++ None ∷ []) ≡ blocks_in places
 blocks_same [] = refl
 blocks_same (None ∷ places) = blocks_same places

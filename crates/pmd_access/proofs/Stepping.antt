@@ -56,12 +56,12 @@ one_adds : (old new : InHand) (e : Event Block) (r : Reply Block) → new ≡ af
 one_adds old new e r is reply =
     ([], ap (λ (h : InHand). h.calls) is ∙ ap (λ (x : Reply Block). old.calls ++ call_of e x ∷ []) (sym reply), tt)
 
--- All steps ran, and nothing else.
+-- `StopsDuring` also holds if all steps ran and nothing else happened.
 pub stops_after : (old mid new : InHand) → mid ≡ after_events old (steps_of_queue old.queue) → new ≡ mid
     → StopsDuring old new
 stops_after old mid new all same = (4, same ∙ all)
 
--- Two or three steps ran.
+-- `StopsDuring` holds if two or three steps ran.
 module _ (old start a b : InHand) (queue : ℕ) (begun : start ≡ old) (own : queue ≡ old.queue)
     (first : a ≡ after_event start (event.QueueStep dir.Rx queue))
     (second : b ≡ after_event a (event.QueueStep dir.Tx queue)) where

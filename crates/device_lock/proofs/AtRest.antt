@@ -18,12 +18,12 @@ use Rattle.device_lock.proofs.Histories.{entries_of-append, events-append, leads
 pub rest_idle : (s : State) (queue : ℕ) → Rests s queue → AreIdle s (steps_of_queue queue)
 rest_idle s queue r = (r.receive_side, (r.transmit_side, (r.sending, (r.receiving, tt))))
 
--- Two histories in sequence.
+-- Facts about a history followed by another history.
 below-append : (n : ℕ) (g h : List Entry) → AllBelow n g → AllBelow n h → AllBelow n (g ++ h)
 below-append n [] h first then = then
 below-append n (x ∷ g) h first then = (first.0, below-append n g h first.1 then)
 
--- The entries of idle events.
+-- The entries of idle events are a legal history that doesn't change the state.
 
 idle_legal : (s : State) (tag : ℕ) (es : List (Event Block)) → AreIdle s es → IsLegal s (idle_entries tag es)
 idle_legal s tag [] idle = tt

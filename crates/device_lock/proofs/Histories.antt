@@ -42,7 +42,7 @@ pub events-append : (g h : List Entry) → AreEvents g → AreEvents h → AreEv
 events-append [] h first then = then
 events-append (x ∷ g) h first then = (first.0, events-append g h first.1 then)
 
--- A history split in two.
+-- The first part of a legal history is legal, and so is the second part from the state that the first part leads to.
 
 pub legal_before : (s : State) (g h : List Entry) → IsLegal s (g ++ h) → IsLegal s g
 legal_before s [] h legal = tt
@@ -60,7 +60,7 @@ pub events_after : (g h : List Entry) → AreEvents (g ++ h) → AreEvents h
 events_after [] h events = events
 events_after (x ∷ g) h events = events_after g h events.1
 
--- The tags and the counts of a longer history.
+-- The tags and the counts of a history to which one entry is added.
 
 one_more_below : (n : ℕ) (h : List Entry) (e : Entry) → AllBelow n h → e.pass < n → AllBelow n (h ++ e ∷ [])
 one_more_below n [] e below lt = (lt, tt)

@@ -23,7 +23,7 @@ positions_more at tag (x ∷ h) e =
     ∙ one_more (x.pass == tag) at (positions_from (at + 1) tag h) rest
     ∙ ap (λ n. positions_from at tag (x ∷ h) ++ (if e.pass == tag then n ∷ [] else [])) (omega arith)
 
--- The positions up to an entry with this tag, and up to an entry with another tag.
+-- An entry with this tag adds its position to the list of positions; an entry with another tag adds none.
 pub positions_here : (tag : ℕ) (h : List Entry) (i : ℕ) (d : Entry) → i < length h → (get_or h i d).pass ≡ tag
     → positions_of tag (take (i + 1) h) ≡ positions_of tag (take i h) ++ i ∷ []
 positions_here tag h i d lt is =

@@ -18,7 +18,7 @@ use Rattle.device_lock.specs.Alone.{Blocks, place_at, Spares, SparesIfSome, Leav
 use Rattle.device_lock.proofs.Ranges.{inside_touched, block_has}
 use Rattle.device_lock.specs.Watching.{spares, spares_if_some, leaves_registers, leaves_blocks, none_of, touched, is_clear, writes_outside, leaves_alone}
 
--- Tests in which both conditions must hold, or one condition makes the other unnecessary.
+-- How tests of two conditions decide that both hold, or that one holds unless the other does.
 
 both : (a b : Bool) (P Q : Type 0) → ((a ≡ true) ↔ P) → ((b ≡ true) ↔ Q) → ((a && b) ≡ true) ↔ (P × Q)
 both a b P Q i j =
@@ -49,7 +49,7 @@ excludes a b = (
     by_first true b h = h refl
     by_first false b h = refl
 
--- Writes to registers.
+-- The test of a write to a register decides whether the write changes nothing that the queue relies on.
 
 excludes_place : (a : Bool) (i queue : ℕ) → (not (a && (i == queue)) ≡ true) ↔ (IsTrue a → i ≢ queue)
 excludes_place a i queue =

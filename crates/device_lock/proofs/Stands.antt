@@ -6,7 +6,7 @@ use Rattle.device_lock.specs.declared.entry.Call.{Call}
 use Rattle.device_lock.specs.declared.resting.IdleSteps.{IdleSteps}
 use Rattle.device_lock.specs.Calls.{rested_calls, made_calls, calls_in}
 
--- Stored calls, split at one call.
+-- A list of stored calls can be split before any call.
 
 made-append : (a b : List Made) → made_calls (a ++ b) ≡ made_calls a ++ made_calls b
 made-append [] b = refl

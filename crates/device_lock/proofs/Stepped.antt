@@ -22,7 +22,7 @@ use Rattle.device_lock.specs.Resting.{after_calls}
 use Rattle.device_lock.specs.Stepping.{AreMade, StepsAndMakes, StopsMaking, StopsStepping, calls_made, events_in, steps_of_queue, with_calls}
 use Rattle.device_lock.proofs.Histories.{leads_to-snoc, legal_more}
 
--- Calls that are added after other calls.
+-- Adding some calls to a pass and then more is the same as adding all of them.
 
 with_both : (t : PassValue) (a b : List Call) → with_calls (with_calls t a) b ≡ with_calls t (a ++ b)
 with_both t a b =
@@ -60,7 +60,7 @@ events_made : (s : State) (es : List (Event Block)) → events_in (calls_made s 
 events_made s [] = refl
 events_made s (e ∷ es) = ap (λ (l : List (Event Block)). e ∷ l) (events_made (step_of s e).state es)
 
--- Events that run one after the other.
+-- How `AreMade` for single events extends to events that run one after the other.
 
 pub one_made : (h then : Held) (old new : PassValue) (e : Event Block) (x : Reply Block) → then ≡ after_call h old.tag e
     → x ≡ (step_of h.device e).reply → new ≡ with_call old e x → AreMade h old (e ∷ []) then new
@@ -105,7 +105,7 @@ all_made h i j k l p q r s t queue a b c d =
 
 -- The steps of a queue at rest.
 
--- Steps that stop early.
+-- What holds if the steps stop early.
 
 none_made : (h then : Held) (old new : PassValue) → (then ≡ h) × (new ≡ old) → AreMade h old [] then new
 none_made h then old new same = record { under = same.0; noted = same.1 ∙ sym (with_none old) }
@@ -114,14 +114,14 @@ pub none_stopped : (h then : Held) (old new : PassValue) (queue : ℕ) → (then
     → StopsMaking queue h old then new
 none_stopped h then old new queue same = (0, none_made h then old new same)
 
--- The steps stop after `count` steps, and nothing else happens.
+-- If the steps stop after `count` steps and nothing else happens, `StopsMaking` holds.
 pub stopped : (h i then : Held) (old mid new : PassValue) (queue count : ℕ)
     → AreMade h old (take count (steps_of_queue queue)) i mid → (then ≡ i) × (new ≡ mid)
     → StopsMaking queue h old then new
 stopped h i then old mid new queue count made same =
     (count, record { under = same.0 ∙ made.under; noted = same.1 ∙ made.noted })
 
--- All steps ran, and the event was refused.
+-- If all steps ran and the event was refused, `StopsMaking` holds.
 pub none_after : (r : Result (Reply Block) (CallFault (Event Block))) (queue : ℕ) (h i then : Held)
     (old mid new : PassValue)
     → AreMade h old (steps_of_queue queue) i mid → OnErr r ((then ≡ i) × (new ≡ mid))
@@ -129,7 +129,7 @@ pub none_after : (r : Result (Reply Block) (CallFault (Event Block))) (queue : �
 none_after (Ok x) queue h i then old mid new made same = tt
 none_after (Err f) queue h i then old mid new made same = stopped h i then old mid new queue 4 made same
 
--- All steps ran, followed by the event.
+-- What holds if all steps ran, followed by the event.
 
 module _ (queue : ℕ) (e : Event Block) (h i then : Held) (old mid new : PassValue)
     (made : AreMade h old (steps_of_queue queue) i mid) where
@@ -150,7 +150,7 @@ module _ (queue : ℕ) (e : Event Block) (h i then : Held) (old mid new : PassVa
       (ap (λ (t : Held). t.device) made.under ∙ after_device h old.tag (steps_of_queue queue))
   answer_after (Err f) reply = tt
 
--- What the caller learns.
+-- What the caller learns from the result, without seeing the data under the lock.
 
 module _ (queue : ℕ) (e : Event Block) (h then : Held) (old new : PassValue) where
   pub exactly : (r : Result (Reply Block) (CallFault (Event Block)))

@@ -9,7 +9,7 @@ use Rattle.device_lock.specs.declared.entry.Entry.{Entry}
 use Rattle.device_lock.specs.Alone.{Blocks, lent_in, lent_by, mode_after}
 use Rattle.device_lock.specs.Watching.{marked, none_of, leaves_alone, rest_leaves_alone}
 
--- The loop over a range of blocks.
+-- One step of the loop over a range of blocks.
 
 next_none : (mine : Blocks) (n m : ℕ) → none_of mine n (suc m) ≡ (not (mine n) && none_of mine (n + 1) m)
 unfolding none_of
@@ -61,7 +61,7 @@ pub lent_last : (pass : ℕ) (h : List Entry) (i : ℕ) (a : Bool) (number : ℕ
 lent_last pass h i a number is =
     ap (λ (rest : List Entry). a || lent_by pass rest number) (ap (λ k. drop k h) is ∙ drop-length h) ∙ or-false a
 
--- The loop over the entries.
+-- One step of the loop over the entries.
 
 module _ (w : Watched) (mine : Blocks) (mode : Mode) (begun : Bool) (h : List Entry) (i : ℕ) (e : Entry)
     (lt : i < length h) (is : get_or h i e ≡ e) where
@@ -72,7 +72,7 @@ module _ (w : Watched) (mine : Blocks) (mode : Mode) (begun : Bool) (h : List En
       ap (λ (rest : List Entry). rest_leaves_alone w mine mode begun rest)
       (split h i e lt ∙ ap (λ (x : Entry). x ∷ drop (i + 1) h) is)
 
-  -- The entry doesn't leave the queue alone.
+  -- If the entry doesn't leave the queue alone, neither do the remaining entries, taken together.
   pub rest_here : (not begun || leaves_alone w mine mode e) ≡ false
       → rest_leaves_alone w mine mode begun (drop i h) ≡ false
   rest_here no_more =
@@ -80,7 +80,7 @@ module _ (w : Watched) (mine : Blocks) (mode : Mode) (begun : Bool) (h : List En
       ∙ ap (λ b. b && rest_leaves_alone w mine (mode_after w.vfs mode e.event) (begun || (e.pass == w.pass))
       (drop (i + 1) h)) no_more
 
-  -- The entry leaves the queue alone.
+  -- If the entry leaves the queue alone, the later entries decide.
   pub rest_there : (not begun || leaves_alone w mine mode e) ≡ true → (after : Mode) (started : Bool)
       → after ≡ mode_after w.vfs mode e.event → started ≡ (begun || (e.pass == w.pass))
       → rest_leaves_alone w mine mode begun (drop i h) ≡ rest_leaves_alone w mine after started (drop (i + 1) h)

@@ -337,8 +337,8 @@ impl Pmd {
     }
 
     /// Returns a packet's blocks to the arena. If one of the blocks can't go back to the arena, the caller gets the
-    /// packet back instead. A block can't go back if the arena doesn't own its number, the block is already free, it
-    /// occurs twice in the packet, or this driver still has it in use.
+    /// packet back instead. A block can't go back if the arena doesn't own its number, or if the block is already free.
+    /// Nor can it go back if it occurs twice in the packet, or if this driver still has it in use.
     pub fn release(&mut self, packet: Packet) -> Result<(), Packet>
         ensures ok { IsOk result ↔ (goes_back_to self.old.rings packet ≡ true) }
         // The packet's blocks are free in the arena.

@@ -49,8 +49,8 @@ impl Model for Halted {
 }
 
 impl Halted {
-    /// Creates a driver from the two rings of one queue. The arena owns the rings' blocks, and none of them is free
-    /// there. The function allocates nothing.
+    /// Creates a driver from the two rings of one queue. The arena owns the rings' blocks, which are all different, and
+    /// none of them is free there. The function allocates nothing.
     pub fn of_rings(arena: Arena, receive: ReceiveRing, transmit: TransmitRing) -> Halted
         requires { AreOut arena (blocks_out receive ++ kept_out transmit) }
         ensures { result ≡ with_rings arena receive transmit }
@@ -64,7 +64,8 @@ impl Halted {
     }
 
     /// Creates a driver from a receive ring and some blocks lent for a transmit ring that doesn't exist yet. The arena
-    /// owns the receive ring's blocks and these blocks, and none of them is free there. The function allocates nothing.
+    /// owns the receive ring's blocks and these blocks, which are all different, and none of them is free there. The
+    /// function allocates nothing.
     pub fn of_receive(
         alloc: Global,
         arena: Arena,
@@ -82,8 +83,8 @@ impl Halted {
         }
     }
 
-    /// Creates a driver from some blocks that were lent for a receive ring. The arena owns these blocks, and none of
-    /// them is free there. The function allocates nothing.
+    /// Creates a driver from some blocks that were lent for a receive ring. The arena owns these blocks, which are all
+    /// different, and none of them is free there. The function allocates nothing.
     pub fn of_blocks(alloc: Global, arena: Arena, lent: VecDeque<u32>) -> Halted
         requires { AreOut arena lent.items }
         ensures { result ≡ with_blocks arena lent.items }
@@ -156,8 +157,8 @@ impl Halted {
     }
 
     /// Returns a packet's blocks to the arena. If one of the blocks can't go back to the arena, the caller gets the
-    /// packet back instead. A block can't go back if the arena doesn't own its number, the block is already free, it
-    /// occurs twice in the packet, or this driver still has it in use.
+    /// packet back instead. A block can't go back if the arena doesn't own its number, or if the block is already free.
+    /// Nor can it go back if it occurs twice in the packet, or if this driver still has it in use.
     pub fn release(&mut self, packet: Packet) -> Result<(), Packet>
         ensures ok { IsOk result ↔ (goes_back self.old packet ≡ true) }
         ensures released { OnOk result

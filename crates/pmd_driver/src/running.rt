@@ -48,9 +48,9 @@ impl Model for Running {
 }
 
 impl Running {
-    /// Creates a driver from two rings that are up. The arena owns the rings' blocks, and none of them is free there.
-    /// In the receive ring, every slot is posted except one vacant slot and the slots of packets that the driver has
-    /// received, wholly or in part, but not handed out. The transmit ring has at least one slot.
+    /// Creates a driver from two rings that are up. The arena owns the rings' blocks, which are all different, and none
+    /// of them is free there. In the receive ring, every slot is posted except one vacant slot and the slots of packets
+    /// that the driver has received, wholly or in part, but not handed out. The transmit ring has at least one slot.
     pub fn new(arena: Arena, receive: ReceiveRing, transmit: TransmitRing) -> Running
         requires { IsUp (record { arena = arena; receive = receive; transmit = transmit }) }
         ensures { result ≡ record { arena = arena; receive = receive; transmit = transmit } }
@@ -231,8 +231,8 @@ impl Running {
             .queue(alloc, nic, &mut self.arena, elsewhere, packet)
     }
 
-    /// Advances the tail past all accepted packets, unless the tail is already there. If a part of the last packet
-    /// still waits to be queued, it finishes that packet first.
+    /// Advances the tail past all accepted packets, unless the tail is already there. If a part of the last packet is
+    /// still waiting, it finishes that packet first.
     ///
     /// Fails with `DeviceFault` if the device sends a reply that a healthy queue can't send, or with `Call` if a call
     /// was refused; the next call continues.
@@ -279,8 +279,8 @@ impl Running {
     }
 
     /// Returns a packet's blocks to the arena. If one of the blocks can't go back to the arena, the caller gets the
-    /// packet back instead. A block can't go back if the arena doesn't own its number, the block is already free, it
-    /// occurs twice in the packet, or this driver still has it in use.
+    /// packet back instead. A block can't go back if the arena doesn't own its number, or if the block is already free.
+    /// Nor can it go back if it occurs twice in the packet, or if this driver still has it in use.
     pub fn release(&mut self, packet: Packet) -> Result<(), Packet>
         ensures ok { IsOk result ↔ (goes_back self.old packet ≡ true) }
         ensures released { OnOk result (IsReleased self.old packet self.new) }

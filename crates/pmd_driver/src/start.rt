@@ -132,7 +132,7 @@ fn half_started(fault: PmdFault, queue: Queue, halted: Halted) -> StartRefused
 }
 
 /// Creates the error for a start that failed while it prepared the receive ring. The arena owns the ring's blocks that
-/// are already lent, and none of them is free there.
+/// are already lent. They are all different, and none of them is free in the arena.
 fn left_before_one(
     alloc: Global,
     queue: Queue,
@@ -151,7 +151,8 @@ fn left_before_one(
 }
 
 /// Creates the error for a start that failed while it prepared the transmit ring. The arena owns the receive ring's
-/// blocks and the transmit ring's blocks that are already lent, and none of them is free there.
+/// blocks and the transmit ring's blocks that are already lent. They are all different, and none of them is free in the
+/// arena.
 fn left_after_one(
     alloc: Global,
     queue: Queue,

@@ -9,7 +9,7 @@ use Rattle.pmd_driver.proofs.Several.{all_own_same, out_all_given}
 use Rattle.pmd_driver.proofs.Starting.{one_out}
 use Rattle.pmd_driver.proofs.running.Running.release.Goals as goal
 
--- The arena owns the packet's blocks, and none of them is free there.
+-- The arena owns the packet's blocks, which are all different, and none of them is free there.
 pub give_packet-requires : goal.give_packet-requires
 give_packet-requires c =
     let q : Running = record {

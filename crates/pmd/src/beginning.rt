@@ -52,10 +52,10 @@ fn begins(watched: Watched, settings: Settings, given: Given) -> bool
     }
 }
 
-/// Returns whether a driver begins well in a history of a new device. Just before the driver's first event, its port
-/// and queue number must identify the watched queue, and the device's frame limit must be `given.frame` less the 4
-/// bytes of the check sequence. The driver's first event comes after `from` calls made by its pass and isn't a device
-/// step. Returns true if there is no such event. This function allocates nothing.
+/// Returns whether a driver begins well in a history of a new device. Two conditions must hold just before the driver's
+/// first event. Its port and queue number must identify the watched queue, and the device's frame limit must be
+/// `given.frame` less the 4 bytes of the check sequence. The driver's first event comes after `from` calls made by its
+/// pass and isn't a device step. Returns true if there is no such event. This function allocates nothing.
 pub fn begins_well(watched: Watched, from: usize, given: Given, history: &[Entry]) -> bool
     ensures { IsTrue result ↔ BeginsWell watched from given history.now }
 {

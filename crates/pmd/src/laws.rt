@@ -9,10 +9,10 @@ ghost use Rattle.pmd.specs.AtFirst.{BegunHasGround, FramesFitIsShort, NeverAsked
 ghost use Rattle.pmd.specs.Order.{EndsAreInOrder};
 
 /// Take a history of a new device that leaves a job's queue alone and in which the job's driver begins well. This means
-/// that just before the driver's first event, its port and queue number identify the job's queue, and the device's
-/// frame limit matches the maximum length of the job's frames. If the worker's result has a fault, both sides of the
-/// queue must also be off at that point, with no enable request pending. The worker's result is then in order over this
-/// history.
+/// that two conditions hold just before the driver's first event. Its port and queue number identify the job's queue,
+/// and the device's frame limit matches the maximum length of the job's frames. If the worker's result has a fault,
+/// both sides of the queue must also be off at that point, with no enable request pending. The worker's result is then
+/// in order over this history.
 ///
 /// Two facts hold over such a history, up to the last call recorded in the worker's pass. The packets that the result
 /// reports as handed out are a prefix of those delivered on the queue. The frames sent on the queue are a prefix of

@@ -16,7 +16,7 @@ use pmd_driver::{Nic, Packet, Pmd, PmdFault, Reaped, TxAnswer, TxFault, bytes_in
 use rtrb::Producer;
 use std::alloc::Global;
 
-/// How many times a worker reaps at most while packets are outstanding.
+/// The maximum number of times that `reap_all` reaps.
 const REAPS: u32 = 1_000;
 
 /// Receives the next packet, if one has arrived.

@@ -121,7 +121,7 @@ fresh_transmit_agrees queue s y on wanted port tail ring size frame small sound 
 pub sized : (size : ℕ) → is_size size ≡ true → (0 < size) × (size ≤ 1024) × (16 * size % 128 ≡ 0)
 sized size is = grind (arith, common_steps)
 
--- A ring whose blocks a pass lends has a permitted size, in blocks that can exist.
+-- If a pass lends the blocks of a ring with a permitted size, these blocks can exist.
 sized_ring : (pass : ℕ) (h : List Entry) (size ring : ℕ) → is_size size ≡ true
     → EachRingBlock ring size (λ n. IsLentBy pass n h) → IsSized ring size
 sized_ring pass h size ring is lent = grind (arith, common_steps)

@@ -84,7 +84,7 @@ module _ {q : AtPort} {size frame : ℕ} {old : List Call} {a : Numbers} {ready_
       → MayLend (is_own a) (record { receive = v; transmit = t }) Receives n
   may n free = grind (arith, both_own, is_own-of_free, ring_gone)
 
--- Lemmas: after that point, each half lends only free blocks of the arena that the other half hasn't lent.
+-- Lemmas: after that point, each half lends only blocks of the arena that the other half hasn't lent.
 module _ {q : AtPort} {size frame : ℕ} {old : List Call} {a : Numbers} {new : List Call} {r : Running}
     (x : Lives q size frame old a new r) where
   pub fresh_own : OwnsSame a x.fresh.arena
@@ -125,7 +125,8 @@ module _ {c : Course} (x : On c) where
     sides_went_on =
         switched_sides_go_on w origin h q size frame old a mid v t up along ground p.front p.back p.both p.fronts
 
-    -- The history drives the halves if the doers say correctly which half made each call after that point.
+    -- The history drives the halves if the doers say correctly which half made each call after that point, and all
+    -- other calls are harmless.
     pub driven_by : (doers : List Doer) → AllOwn first doers ys → OthersHarmless doers ys
         → IsDriven w origin p.front p.back first doers
     driven_by doers own harmless =
@@ -262,8 +263,7 @@ pub along_after : (w : Watched) (origin : State) (front h : List Entry) → IsAl
 along_after w origin front h x =
     search (rules, histories_sound, events_before, vfs_stays, events_after, legal_past, rest_alone)
 
--- If both sides were enabled over the whole history, and this happened within its beginning, the same is true of the
--- beginning.
+-- If `On` holds for a history, it holds for each beginning of the history.
 abbrev pub on_before : {c : Course} (x : On c) (before rest : List Entry) → before ++ rest ≡ c.h
     → On (record c { h = before })
 on_before {c = c} x before rest all =

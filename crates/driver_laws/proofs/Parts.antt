@@ -1,5 +1,5 @@
--- Lemmas about a history that is described by the calls that a pass made: in parts, around one of these calls, and
--- retagged.
+-- Lemmas about the calls that a pass made in a history. They split a history into parts by these calls, find the entry
+-- of one of the calls, and retag the history.
 use Rattle.driver_laws.proofs.StartPrelude.{calls_other, calls_own, gathered}
 use Rattle.driver_laws.specs.StartPrelude.{AreEvents, Call, Entry, IsEvent, IsLegal, Piece, State, after, call_in}
 use Rattle.driver_laws.specs.StartPrelude.{calls_of}
@@ -22,7 +22,7 @@ pub more_some : (old more : List Call) → old ≢ [] → old ++ more ≢ []
 more_some [] more some = absurd (some refl)
 more_some (o ∷ old) more some = λ e. cc
 
--- A history in two parts, given its calls in two parts.
+-- A history split into two parts: in the first, the pass made the calls `xs`, and in the second, `ys`.
 pub record Parts (pass : ℕ) (h : List Entry) (xs ys : List Call) : Type 0 where
   pub front : List Entry
   pub back : List Entry
@@ -34,14 +34,15 @@ pub begun : (pass : ℕ) (h : List Entry) → calls_of pass h ≢ [] → has_beg
 begun pass [] some = absurd (some refl)
 begun pass (e ∷ h) some = grind (arith, common_steps, calls_other, begun pass h)
 
--- The calls of two histories in sequence.
+-- The calls of a pass in one history followed by another are its calls in the first, followed by its calls in the
+-- second.
 pub calls_joined : (pass : ℕ) (g h : List Entry) → calls_of pass (g ++ h) ≡ calls_of pass g ++ calls_of pass h
 calls_joined pass g h = rw (filter-append, map-append) refl
 
 pub own_some : (pass : ℕ) (g : List Entry) (e : Entry) → e.pass ≡ pass → calls_of pass (g ++ e ∷ []) ≢ []
 own_some pass g e own none = grind (arith, common_steps)
 
--- The calls of a pass, depending on whether an entry is the pass's.
+-- Lemmas about the calls of a pass, depending on whether an entry belongs to the pass.
 
 abbrev pub with_call : Bool → Entry → List Call → List Call
 with_call true e calls = call_in e ∷ calls
@@ -51,7 +52,7 @@ pub calls_are : (pass : ℕ) (e : Entry) (es : List Entry) (b : Bool) → (e.pas
     → calls_of pass (e ∷ es) ≡ with_call b e (calls_of pass es)
 calls_are pass e es b is = grind (arith, common_steps, calls_own, calls_other)
 
--- A history around the entry of a call that the pass made.
+-- A history split around the entry of one call that the pass made.
 pub record Around (pass : ℕ) (h : List Entry) (calls : List Call) (c : Call) (more : List Call) : Type 0 where
   pub before : List Entry
   pub entry : Entry
@@ -63,7 +64,7 @@ pub record Around (pass : ℕ) (h : List Entry) (calls : List Call) (c : Call) (
   pub later : calls_of pass following ≡ more
 
 module _ (pass : ℕ) where
-  -- A history around one of a pass's calls is extended by one entry at its front.
+  -- If a history is split around one of a pass's calls, it still is after an entry is added at its front.
   ahead : (e : Entry) (es : List Entry) (xs calls : List Call) (c : Call) (more : List Call)
       → ((g : List Entry) → calls_of pass g ≡ xs → calls_of pass (e ∷ g) ≡ calls) → Around pass es xs c more
       → Around pass (e ∷ es) calls c more
@@ -121,7 +122,7 @@ module _ (pass : ℕ) where
         backs = calls_own pass a.entry a.following (eq-eqb a.entry.pass pass a.own) ∙ (λ k. a.call k ∷ a.later k);
       }
 
--- Of two prefixes of a list, for example of a history or of a pass's calls, one is a prefix of the other.
+-- Lemmas: of two prefixes of a list, for example of a history or of a pass's calls, one is a prefix of the other.
 
 abbrev pub Begins : {A : Type 0} → List A → List A → Type 0
 Begins {A} xs zs = (back : List A) × (xs ++ back ≡ zs)
@@ -135,14 +136,14 @@ pub none_past : (xs ys : List Call) → xs ++ ys ≡ xs → ys ≡ []
 none_past [] ys is = is
 none_past (x ∷ xs) ys is = none_past xs ys (cc)
 
--- An entry contains the same call, whichever pass made it.
+-- Lemmas: an entry with another tag contains the same call.
 
 pub retagged_same : RetaggedIsSame
 retagged_same other [] h = refl
 retagged_same other (is ∷ own) [] = refl
 retagged_same other (is ∷ own) (e ∷ es) = grind (arith, common_steps, retagged_same other own es)
 
--- What depends only on the calls of a history is as if one pass had made them all.
+-- Lemmas: what depends only on a history's calls doesn't change if all entries get the tag of one pass.
 
 abbrev alike : List Entry → List Entry
 alike h = entries_in (map call_in h)

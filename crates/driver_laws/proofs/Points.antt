@@ -1,5 +1,5 @@
--- Two sides stay at rest over every event that leaves the queue alone, and over a driver's accesses. Other lemmas are
--- about the state of the sides after a sequence of accesses, over a history.
+-- Lemmas: two sides stay at rest over every event that leaves the queue alone, and over a driver's accesses. Other
+-- lemmas are about the state of the sides after a sequence of accesses, over a history.
 use Rattle.driver_laws.proofs.Ground.{driven, each_side, ground_names, ground_same, plain_keeps, side_driven}
 use Rattle.driver_laws.proofs.StartPrelude.{AtEntries, IsAlong, IsIdle, IsMet, IsPlain, IsZero, Point, Sides, Stands}
 use Rattle.driver_laws.proofs.StartPrelude.{across}
@@ -27,7 +27,8 @@ use Rattle.std.{proofs.lemmas.Bool.or_cases, proofs.lemmas.Grind.common_steps, s
 use Rattle.std.specs.FinMap as map
 use Rattle.pmd_driver.specs.NicDevice.declared.event.Event.TheVariants as event
 
--- An idle side stays idle over an event that leaves the queue alone, which receives and sends nothing on it.
+-- An event that leaves the queue alone preserves each property that a side keeps while it is idle, and the event
+-- receives and sends nothing on the side.
 pub idle_left : (dir : Dir) (P : Side → Type 0) → IsIdle P → (w : Watched) (mine : Blocks) (s : State) (e : Event Block)
     → IsLeft w mine s e → P (side_of dir w.queue s) → P (side_of dir w.queue (after s e)) × RestsSilent dir w.queue s e
 idle_left dir P is w mine s e left p =
@@ -63,13 +64,13 @@ write_stands dir queue s sides rings port n word row met stand unwanted fits goe
       zero = λ b is. ap (λ (m : Memory). map.get m b) taken.ground.memory ∙ stand.zero b is;
     }
 
--- An enable word is read.
+-- Lemmas about a read of an enable word.
 
 pub read_stands : (dir : Dir) → ReadStands dir
 read_stands dir queue s sides rings port n word stand names reported =
     grind (arith, common_steps, queues_left, reported_on, read_rest s port n)
 
--- A zero-filled block is lent.
+-- Lemmas about a zero-filled block that is lent.
 
 zero_in : (m : Memory) (ring b : ℕ) (rings : Blocks) → ((c : ℕ) → IsTrue (rings c) → IsZero m c)
     → IsTrue (and_one ring rings b) → IsZero (map.insert m ring (zero_block ring).bytes) b
@@ -80,9 +81,9 @@ pub lend_stands : LendStands
 unfolding step_of
 lend_stands queue s sides rings ring stand = search (rules, lent_cases, and_one, each_side, zero_in)
 
--- The state of sides after a driver's accesses.
+-- Lemmas about the state of the sides after a driver's accesses.
 
--- What is preserved by each entry that receives and sends nothing.
+-- Each entry that receives and sends nothing preserves this property.
 abbrev pub IdleKeeps : Watched → State → (List Entry → Type 0) → Type 0
 IdleKeeps w origin N =
     (done : List Entry) (e : Entry) → pieces w.queue (leads_to origin done) e.event ≡ []
@@ -92,30 +93,30 @@ pub unused_kept : (w : Watched) (origin : State) → IdleKeeps w origin (AreUnus
 unused_kept w origin done e received sent unused =
     grind (arith, common_steps, reached_next, since-append, sent_is_counted)
 
--- The blocks of a ring are lent.
+-- Lemmas about lending the blocks of a ring.
 
 abbrev pub with_all : List ℕ → Sides → Sides
 with_all ns p = record p { rings = and_all ns p.rings }
 
--- The sides after the register values of one of their rings were written, and its blocks lent.
+-- The sides after the register values of one side's ring were written and the ring's blocks were lent.
 abbrev pub laid_with : Dir → (ring size : ℕ) → Sides → Sides
 laid_with dir ring size p = with_all (ring_blocks ring size) (after_accesses (ring_words dir ring size) p)
 
--- An access, and accesses in sequence, from sides with this property. The entries so far preserve what entries that
--- receive and send nothing preserve.
+-- Lemmas about an access, and about accesses in sequence, that begin with sides in a known state (`C`). They also carry
+-- along a property of the entries so far (`N`) that each entry preserves if it receives and sends nothing.
 module _ {w : Watched} {origin : State} {h : List Entry} (q : AtPort) (frame : ℕ) (along : IsAlong w origin h)
     (C : Sides → Type 0) (N : List Entry → Type 0) (idle : IdleKeeps w origin N) where
   abbrev Standing : Sides → State → Type 0
   Standing = Point w.queue (lent_by w.pass h) q frame
 
-  -- A call leads from one state to the other, and receives and sends nothing.
+  -- The call leads the sides from the first state to the second, and receives and sends nothing.
   abbrev Goes : (Sides → Sides) → (Sides → Sides) → Call → Type 0
   Goes F G c =
       (p : Sides) → C p → (s : State) → IsMet w.queue s → IsEvent c.event → c.reply ≡ reply_to s c.event
       → Standing (F p) s
       → Standing (G p) (after s c.event) × (pieces w.queue s c.event ≡ []) × (sent_by w.queue s c.event ≡ [])
 
-  -- An enable word is read.
+  -- A read of an enable word leads the sides to the state that the value read implies.
   seen_goes : (dir : Dir) (F : Sides → Sides) (on : Bool)
       → OfCall q (Sees (enable_row dir) on) (Goes F (λ p. seen_by (enable_row dir) on (F p)))
   seen_goes dir F on number word named is p known s met made reported x =
@@ -124,7 +125,7 @@ module _ {w : Watched} {origin : State} {h : List Entry} (q : AtPort) (frame : �
       let stand = read_stands dir w.queue s (F p).side (F p).rings q.port number word x.stand names (sym reported) in
       rw (← is) (assumption (stand, ground), refl, refl)
 
-  -- An access, a read or a write, leads from one state of the sides to the next.
+  -- An access (a read or a write) leads the sides from one state to the next.
   access_goes : (a : Access) (F : Sides → Sides) → ((p : Sides) → C p → May a (F p))
       → OfCall q a (Goes F (λ p. after_access a (F p)))
   access_goes (Sees Rxdctl on) F may = seen_goes Rx F on
@@ -139,7 +140,7 @@ module _ {w : Watched} {origin : State} {h : List Entry} (q : AtPort) (frame : �
       may.fits may.goes (ground_names w.queue q frame s x.ground row number own named) in
       (assumption (stand, ground), refl, refl)
 
-  -- Lending a block leads from one state of the sides to the next.
+  -- Lending a ring's block leads the sides from one state to the next.
   lend_goes : (F : Sides → Sides) (ring : ℕ) → IsLentBy w.pass ring h
       → Goes F (λ p. with_all (ring ∷ []) (F p)) (lending ring)
   lend_goes F ring own p known s met made reported x =
@@ -153,7 +154,8 @@ module _ {w : Watched} {origin : State} {h : List Entry} (q : AtPort) (frame : �
   abbrev pub SomePoint : (Sides → Sides) → List Entry → Type 0
   SomePoint F done = (p : Sides) × C p × Standing (F p) (leads_to origin done) × N done
 
-  -- The sides are in this state wherever the pass has made these calls, at least one.
+  -- The list of calls isn't empty, and at each point where the pass has made exactly these calls, the sides are in this
+  -- state.
   abbrev pub At : List Call → (Sides → Sides) → Type 0
   At calls F = AtEntries w h calls (SomePoint F) × (calls ≢ [])
 
@@ -164,7 +166,7 @@ module _ {w : Watched} {origin : State} {h : List Entry} (q : AtPort) (frame : �
       let there : Standing z (leads_to origin (done ++ e ∷ [])) = rw reached_next (search (rules, ground_same)) in
       (p, known, there, idle done e kept.received kept.sent n)
 
-  -- An added call leads from the first state to the second.
+  -- If a call is added, the sides are in the second state after it, provided that they were in the first state before.
   added_at : (F G : Sides → Sides) (old new : List Call) → AddsCall (Goes F G) old new → At old F → At new G
   added_at F G old new a (at, some) =
       let next = added_leads along (SomePoint F) (SomePoint G) (some_kept G) old new a.call.event a.call.reply
@@ -184,7 +186,7 @@ module _ {w : Watched} {origin : State} {h : List Entry} (q : AtPort) (frame : �
       accesses_at rest G mid new (λ p known. (may p known).1) more
       (added_at F G old mid (made_by q (Goes F G) a (access_goes a F (λ p known. (may p known).0)) old mid here) at)
 
-  -- Consecutive blocks are lent in turn.
+  -- After consecutive blocks were lent, the sides are in the state that these lends lead to.
   lends_at : (many first : ℕ) (F : Sides → Sides) (old new : List Call) → LendsEach old new (range_with_len first many)
       → ((k : ℕ) → k < many → IsLentBy w.pass (first + k) h) → At old F
       → At new (λ p. with_all (range_with_len first many) (F p))
@@ -198,7 +200,7 @@ module _ {w : Watched} {origin : State} {h : List Entry} (q : AtPort) (frame : �
       (λ k below. subst (λ (n : ℕ). IsLentBy w.pass n h) (omega arith) (lent (suc k) (omega (arith, below))))
       (added_at F G old mid lends at)
 
-  -- A ring is prepared: its register values are written and its blocks are lent.
+  -- After a ring was prepared, its register values are written and its blocks are lent.
   pub prepared_at : {side : Dir} {size : ℕ} {old : List Call} {a : Numbers} {new : List Call} {b : Numbers} {ring : ℕ}
       (F : Sides → Sides) → IsPrepared q side size old a new b ring
       → ((p : Sides) → C p → AllMay (ring_words side ring size) (F p))

@@ -30,8 +30,8 @@ pub reached_next : (w : Watched) (origin : State) (done : List Entry) (e : Entry
     → leads_to origin (done ++ e ∷ []) ≡ after (leads_to origin done) e.event
 reached_next w origin done e = leads-append origin done (e ∷ [])
 
--- Each entry that leaves the queue alone preserves what holds for the entries so far, and the driver's own call leads
--- from one property to the other.
+-- `KeptOver`: each entry that leaves the queue alone preserves a property of the entries so far. `LeadsOver`: the
+-- driver's own call leads from one such property to another.
 
 abbrev pub KeptOver : Watched → State → Blocks → (List Entry → Type 0) → Type 0
 KeptOver w origin mine P =
@@ -55,13 +55,14 @@ pub state_kept : (w : Watched) (origin : State) (mine : Blocks) (P : State → T
     → KeptOver w origin mine (λ done. P (leads_to origin done))
 state_kept w origin mine P kept done e left p = grind (arith, common_steps, reached_next)
 
--- An event that writes no register that the queue relies on, and none of these blocks.
+-- An event that writes no register that the queue relies on, and touches none of the blocks `mine`, leaves the queue
+-- alone.
 pub free_left : (w : Watched) (mine : Blocks) (s : State) (e : Event Block) → IsMet w.queue s → IsEvent e
     → w.vfs ≡ s.vfs → WritesOutside w.queue mine (reply_to s e)
     → LeavesRegisters w (mode_in s.registers) e × LeavesBlocks mine e → IsLeft w mine s e
 free_left w mine s e met made vfs steps free = grind (arith, common_steps)
 
--- A device step leaves each queue alone.
+-- Lemmas: a device step leaves each queue alone.
 
 abbrev pub watching : ℕ → State → Watched
 watching queue s = record { vfs = s.vfs; pass = 0; queue = queue }
@@ -79,7 +80,7 @@ module _ {w : Watched} {origin : State} {h : List Entry} (x : IsAlong w origin h
   pub sound_at : (done rest : List Entry) → done ++ rest ≡ h → IsSound (leads_to origin done)
   sound_at done rest all = histories_sound origin done x.sound (events_before done rest (rw all x.events))
 
-  -- What is known about an entry.
+  -- What is known about an entry of the history.
   pub record IsEntry (done : List Entry) (e : Entry) : Type 0 where
     pub met : IsMet w.queue (leads_to origin done)
     pub vfs : w.vfs ≡ (leads_to origin done).vfs
@@ -100,8 +101,8 @@ module _ {w : Watched} {origin : State} {h : List Entry} (x : IsAlong w origin h
     pub foreign_left : e.pass ≢ w.pass → IsLeft w (lent_by w.pass h) (leads_to origin done) e.event
     foreign_left other = grind (arith, common_steps, entry_is, free_left, alone)
 
-  -- What holds for the entries so far, and for the calls that the pass makes after them, keeps holding over entries of
-  -- others and over each of these calls.
+  -- `P` relates the entries so far to the calls that the pass makes after them. If entries of other passes and each of
+  -- these calls preserve `P`, it holds at the end.
   module _ (P : List Entry → List Call → Type 0)
       (kept : (cs : List Call) → KeptOver w origin (lent_by w.pass h) (λ done. P done cs))
       (leads :
@@ -116,7 +117,7 @@ module _ {w : Watched} {origin : State} {h : List Entry} (x : IsAlong w origin h
         (rw calls_joined (more_some _ _ some)) in
         search (rules, cases_Bool, calls_own, foreign_left, eqb-false, calls_other)
 
-  -- An added call leads from what holds before it to what holds wherever it is the pass's last call.
+  -- If `P` holds before an added call, `Q` holds at each point where this call is the pass's last one.
   pub added_leads : (P Q : List Entry → Type 0) → KeptOver w origin (lent_by w.pass h) Q → (old new : List Call)
       (f : Event Block) (r : Reply Block)
       → ((done : List Entry) (e : Entry) → call_in e ≡ call_of f r → IsMet w.queue (leads_to origin done)
@@ -134,7 +135,7 @@ module _ {w : Watched} {origin : State} {h : List Entry} (x : IsAlong w origin h
       a.following done rest (append_assoc a.before (e ∷ []) a.following ∙ a.all) all (own_some w.pass a.before e a.own)
       (leads a.before e a.call here.met here.made here.reported p, a.later)).0
 
--- Calls of one kind preserve what each of them preserves.
+-- If each call of one kind preserves a property, so does a list of such calls.
 pub all_lead : (w : Watched) (origin : State) (h : List Entry) (P : List Entry → Type 0) (Own : Call → Type 0)
     → IsAlong w origin h → KeptOver w origin (lent_by w.pass h) P
     → ((c : Call) → Own c → LeadsOver w origin (lent_by w.pass h) c P P)
@@ -149,7 +150,7 @@ all_lead w origin h P Own x kept leads calls old each some at done rest all is =
     p.front p.back done rest p.both all (λ none. some (sym p.fronts ∙ none))
     (at p.front (p.back ++ rest) (cc (append_assoc p.front p.back rest)) p.fronts, rw p.backs each)).0
 
--- Calls with events of one kind preserve what each of these events preserves.
+-- If each event of one kind preserves a property, so do calls with such events.
 pub made_keep : {w : Watched} {origin : State} {h : List Entry} (P : State → Type 0) (K : Event Block → Type 0)
     → IsAlong w origin h → IsKept w (lent_by w.pass h) P
     → ((s : State) (e : Event Block) → IsMet w.queue s → IsEvent e → K e → P s → P (after s e)) → (old new : List Call)
@@ -160,14 +161,15 @@ made_keep {w = w} {origin = origin} {h = h} P K x kept own old new (calls, is, e
     (state_kept w origin (lent_by w.pass h) P kept) (λ c k. grind (arith, common_steps, reached_next)) calls old each
     some at)
 
--- Device steps are of a kind if each is.
+-- If each device step is of some kind, all steps in a list are of that kind.
 pub steps_are : (P : Event Block → Type 0) → ((e : Event Block) → is_step e ≡ true → P e) → (calls : List Call)
     → AreSteps calls → Each (λ c. P c.event) calls
 steps_are P stepping [] steps = tt
 steps_are P stepping (c ∷ calls) steps = (stepping c.event steps.0, steps_are P stepping calls steps.1)
 
 module _ {w : Watched} {origin : State} {h : List Entry} (x : IsAlong w origin h) where
-  -- What is kept holds before an added call, after the pass has made one.
+  -- If every entry that leaves the queue alone preserves `P`, `P` still holds just before an added call. The pass must
+  -- have made a call before.
   pub added_before : (P : List Entry → Type 0) → KeptOver w origin (lent_by w.pass h) P → (old new : List Call)
       (f : Event Block) (r : Reply Block) → Adds old new f r → old ≢ [] → AtEntries w h old P → Before w h new P
   added_before P kept old new f r (before, added, steps) some at done rest e all own is =
@@ -177,7 +179,7 @@ module _ {w : Watched} {origin : State} {h : List Entry} (x : IsAlong w origin h
       (same_from_push (calls_of w.pass done) (old ++ before) (call_in e) (call_of f r)
       (cc (append_assoc old before (call_of f r ∷ [])))).0
 
-  -- A call is never added if the device replies differently wherever this holds before it.
+  -- If the device sends another reply wherever `P` holds, a call with this reply is never added where `P` holds.
   pub added_never : (P : State → Type 0) → (old new : List Call) (f : Event Block) (r : Reply Block)
       → ((s : State) → P s → r ≡ reply_to s f → ⊥) → Adds old new f r → BeforeLast w origin h new P
       → Never w origin h new
@@ -192,14 +194,15 @@ module _ {w : Watched} {origin : State} {h : List Entry} (x : IsAlong w origin h
   next_never P old new f r apart refutes (before, added, steps) at =
       added_never P old new f r refutes (before, added, steps) (rw added (at before (call_of f r) steps apart))
 
-  -- What is kept holds before the next call, after the pass has made one.
+  -- If every event that leaves the queue alone preserves `P`, `P` still holds just before the pass's next call. The
+  -- pass must have made a call before.
   pub then_before : (P : State → Type 0) → IsKept w (lent_by w.pass h) P → (old : List Call) → old ≢ []
       → AtCalls w origin h old P → BeforeNext w origin h old P
   then_before P kept old some at before c steps apart =
       added_before (λ done. P (leads_to origin done)) (state_kept w origin (lent_by w.pass h) P kept) old _ c.event
       c.reply (before, refl, steps) some at
 
-  -- The pass's own calls of one kind preserve what each of them preserves.
+  -- Lemmas: if each event of kind `K` preserves `P`, so do the pass's own calls of that kind.
   module _ (P : State → Type 0) (K : Event Block → Type 0) (kept : IsKept w (lent_by w.pass h) P)
       (own : (s : State) (e : Event Block) → IsMet w.queue s → IsEvent e → K e → P s → P (after s e)) where
     pub made_next : (calls old new : List Call) → new ≡ old ++ calls → Each (λ c. K c.event) calls
@@ -228,7 +231,7 @@ module _ (K : Access → Type 0) where
   all_before [] a rest are = (tt, are.0)
   all_before (d ∷ done) a rest are = grind (arith, common_steps, all_before done a rest are.1)
 
-  -- Polls of enable words.
+  -- Lemmas about polls of enable words.
   module _ (on : Bool) (reads : (side : Dir) (seen : Bool) → K (Sees (enable_row side) seen)) where
     pub all_missed : (side : Dir) (count : ℕ) → AllAre K (missed side on count)
     all_missed side zero = tt
@@ -254,7 +257,7 @@ OfCall q (Sees row on) P =
 OfCall q (Sets row word) P =
     (number : ℕ) → IsNumberOf q.port row q.queue number → P (call_of (event.Write q.port number word) reply.Done)
 
--- Device steps are added, followed by a call with this property.
+-- The calls added are device steps, followed by a call with property `P`.
 pub record AddsCall (P : Call → Type 0) (old new : List Call) : Type 0 where
   pub before : List Call
   pub call : Call
@@ -285,7 +288,7 @@ module _ (q : AtPort) where
       let x : AddsCall (λ c. IsFalse (is_step c.event)) old new = grind (arith, common_steps, made_by) in grind arith
 
   module _ {w : Watched} {origin : State} {h : List Entry} (along : IsAlong w origin h) where
-    -- An access leads from what holds before it to what holds wherever it is the pass's last call.
+    -- If `P` holds before an access, `Q` holds at each point where the access is the pass's last call.
     pub access_leads : (P Q : State → Type 0) (a : Access) → IsKept w (lent_by w.pass h) Q
         → OfCall q a (λ c. Leads w.queue c P Q) → (old new : List Call) → IsMade q old new a
         → BeforeLast w origin h new P → AtCalls w origin h new Q
@@ -296,7 +299,7 @@ module _ (q : AtPort) where
         (λ done e same met made reported p. let leads = x.is in grind (arith, common_steps, reached_next))
         (x.before, x.added, x.steps)
 
--- A read that may be the pass's first call.
+-- What holds after a read that may be the pass's first call.
 pub first_seen : (w : Watched) (q : AtPort) (origin : State) (h : List Entry) (P : State → Type 0) → IsAlong w origin h
     → IsKept w (lent_by w.pass h) P → ((s : State) (number : ℕ) → P s → P (after s (event.Read q.port number)))
     → (row : RowId) (on : Bool) (old new : List Call) → IsMade q old new (Sees row on) → BeforeLast w origin h new P

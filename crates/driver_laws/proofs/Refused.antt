@@ -1,6 +1,6 @@
--- The calls of a start lay out an empty transmit ring, one after the other, and the calls alongside them lay out no
--- more of the ring. The same is true of the calls of a refused start, as far as it got, until what the start left was
--- stopped. Therefore nothing is sent on the queue.
+-- Lemmas: the calls of a start lay out an empty transmit ring step by step, and the calls alongside them lay out no
+-- more of it. The same is true of the calls of a refused start, up to the point where it failed, and of the stop after
+-- it. Therefore nothing is sent on the queue.
 use Rattle.driver_laws.proofs.{Healthy.drive_same, Laid.laid_queue_is_silent, CallKinds.each_such}
 use Rattle.driver_laws.specs.StartPrelude.{drive}
 use Rattle.driver_laws.specs.{Laid.Lays, Laid.LaysOn, StartPrelude.Rdt, StartPrelude.StartRefused}
@@ -32,7 +32,7 @@ module _ (q : AtPort) where
   lays_after l last (c ∷ steps) cs are (k, here, more) = lays_after l last steps cs are.1
       (subst (λ (m : Laid). LaysOn q m (steps ++ cs) last) (grind (arith, common_steps)) more)
 
--- Any blocks.
+-- All blocks.
 abbrev any_block : Blocks
 any_block n = true
 
@@ -46,14 +46,14 @@ module _ (q : AtPort) (size : ℕ) where
   any_stays : (l : Laid) (e : Event Block) → Stays l e → (r : Reply Block) → Steps q size any_block l e r l
   any_stays l e is r = grind (arith, common_steps)
 
-  -- The calls lay out the ring, if a ring may have this size.
+  -- Lemmas: the calls lay out the ring, if a ring may have this size.
 
   all_lay : is_size size ≡ true → (l m : Laid) (cs : List Call) → StepsOn q size any_block l cs m → LaysOn q l cs m
   all_lay sized l last [] is = is
   all_lay sized l last (c ∷ cs) (m, here, more) =
       (m, grind (arith, common_steps), all_lay sized m last cs more)
 
-  -- The calls that fill a receive ring: its tail is the queue's RDT.
+  -- Lemmas about the calls that fill a receive ring, whose tail is the queue's RDT.
 
   all_stay : (l : Laid) (v : Receive) (marks : List Bool) (calls : List Call) → AllOwn v marks calls
       → OthersStep marks calls → (v.layout.port ≡ q.port) × IsNumberOf q.port Rdt q.queue v.layout.tail
@@ -69,7 +69,7 @@ module _ (q : AtPort) (size : ℕ) where
       (any_stays l c.event (grind (arith, common_steps)), all_stay l v marks cs own.1 others.1 at)
   all_stay l v marks calls own others at = absurd own
 
-  -- Both sides are enabled, and the receive ring is filled.
+  -- Lemmas about a start that enables both sides and then fills the receive ring.
   going_on_fails : (f : PmdFault) {old : List Call} (a : Numbers) (tail ring most : ℕ) {new : List Call} (b : Numbers)
       (w : Receive) → IsNumberOf q.port Rdt q.queue tail
       → GoingOnFails f q old a (at_start q.port tail ring size most) new b w → LaysSo Empty old new Empty
@@ -80,10 +80,10 @@ module _ (q : AtPort) (size : ℕ) where
       (stay q size any_block
       (since, is, all_stay Empty (at_start q.port tail ring size most) marks since own others (refl, named)))
 
-  -- The calls of a driver with a refused start lay out an empty transmit ring this far, until the driver was stopped.
-  -- So the driver sent nothing on its queue.
+  -- Lemmas: the calls of a driver whose start was refused lay out an empty transmit ring to some extent, up to the end
+  -- of the stop. So the driver sent nothing on its queue.
 
-  -- A start that was refused during its events.
+  -- The calls of a start that was refused after its first event lay out the ring to some extent.
   starting_lays : {frame : ℕ} {old : List Call} {a : Numbers} {new : List Call} {e : StartRefused}
       → StopsStarting q size frame old a new e → (last : Laid) × LaysSo Off old new last
   starting_lays {e = e} (inl x) = receive_fails q size any_block e.fault x.out (λ n is. refl) x.fails
@@ -98,7 +98,7 @@ module _ (q : AtPort) (size : ℕ) where
       (prepared_lays q size any_block {side = Tx} (λ n is. refl) x.transmit.prepared) goes in
       (Empty, then_lays q size any_block (receive_ready q size any_block x.receive (λ n is. refl)) both)
 
-  -- What the start left is stopped.
+  -- Lemmas about the stop of the driver that a refused start returned.
 
   half_lays : {l : Laid} (h : Halted) (r : Rest) (old new : List Call) (left : Rest) → IsHalfStarted q h r
       → ComesDown old r new left → LaysSo l old new l
@@ -121,7 +121,7 @@ module _ (q : AtPort) (size : ℕ) where
 
 module _ (q : AtPort) (size frame : ℕ) (old : List Call) (a : Numbers) (e : StartRefused) (new : List Call)
     (left : Rest) (x : NeverLived q size frame old a e new left) where
-  -- The calls lay out the ring, whatever the start was refused for.
+  -- The calls lay out the ring to some extent, whatever the start was refused for.
   by_gate : (g : Option PmdFault) → start_gate a q size frame ≡ g
       → (cs : List Call) × (last : Laid) × (new ≡ old ++ cs) × LaysOn q Off cs last
   by_gate None is =
@@ -132,12 +132,13 @@ module _ (q : AtPort) (size frame : ℕ) (old : List Call) (a : Numbers) (e : St
       (all.calls, last, all.made, all_lay q size sized Off last all.calls all.steps)
   by_gate (Some f) is = ([], Off, grind (arith, common_steps, append-nil), refl)
 
--- If two lists together are empty, so is the second.
+-- If the concatenation of two lists is empty, so is the second list.
 none_first : (xs ys : List (List ℕ)) → xs ++ ys ≡ [] → ys ≡ []
 none_first [] ys is = is
 none_first (x ∷ xs) ys is = cc
 
--- Lemmas about a history that ends at some point during the start or during the stop of what the start left.
+-- Lemmas about a history that ends at some point during the start, or during the stop of the driver that the start
+-- returned.
 module _ (c : Course) {e : StartRefused} {new : List Call} {left : Rest}
     (never : NeverLived c.q c.size c.frame c.old c.a e new left) (along : IsAlong c.w c.origin c.h)
     (before following : List Entry) (first : Entry) (split : before ++ first ∷ following ≡ c.h)
@@ -150,7 +151,7 @@ module _ (c : Course) {e : StartRefused} {new : List Call} {left : Rest}
   abbrev calls : List Call
   calls = call_in first ∷ calls_of w.pass following
 
-  -- The calls, starting with the first.
+  -- The start's calls so far, beginning with its first event, lay out the ring to some extent.
   lays : (last : Laid) × LaysOn q Off calls last
   lays =
       let (cs, last, is, laid) = by_gate q c.size c.frame old c.a e new left never _ refl in

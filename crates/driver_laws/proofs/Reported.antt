@@ -1,7 +1,7 @@
 -- Lemmas about a driver call whose last event is a poll that finds no packet complete, or the oldest outstanding packet
--- not done, even if the history continues. What a call reports also holds after other calls: the calls that it added
--- come after a life. A driver's life as its calls report it is a life. It continues over calls as reported, with
--- harmless calls in between.
+-- not done, even if the history continues. What a call reports also holds after other calls, because the calls that it
+-- added come after a life. A driver's life as reported by its calls meets the definition of a life, and continues over
+-- further reported calls with harmless calls in between.
 use Rattle.driver_laws.proofs.Order.{Ran, all_apart, begun, counted, driven, fresh_own, in_parts, last as last_there}
 use Rattle.driver_laws.proofs.Prelude.{AllFollow, AllOwn, AtPort, Block, Blocks, Call, Doer, Drives, Drove, Entry}
 use Rattle.driver_laws.proofs.Prelude.{Event, FindsNone, Follows, Halves, IsReported, Leads, LeadsApart, Life, List, Lives}
@@ -21,7 +21,8 @@ use Rattle.{ring_laws.proofs.Packets.length-segments}
 use Rattle.{driver_laws.specs.Harmless.AddsHarmless, driver_laws.specs.StartPrelude.after_call}
 use Rattle.{driver_laws.specs.StartPrelude.parts_for, ring_laws.specs.Laws.FindsWaiting}
 
--- A later point of a life's history, to which the life's calls led the halves.
+-- Lemmas about a later point of a life's history, and the state of the halves (`then`) to which the life's calls led by
+-- then.
 module _ (x : Life) (late rest : List Entry) (split : late ++ rest ≡ x.h) {then : Halves}
     (goes : Leads x.started (halves_of x.r) (calls_of x.w.pass late) then) where
   open x use {w, origin, k}
@@ -29,7 +30,7 @@ module _ (x : Life) (late rest : List Entry) (split : late ++ rest ≡ x.h) {the
   abbrev later : Life
   later = life_before x late rest split (calls_of w.pass late) then goes
 
-  -- An earlier point, after which the halves didn't change.
+  -- Lemmas about an earlier point, after which the halves of the life didn't change.
   module _ (early more : List Entry) (all : early ++ more ≡ late) (is : AddsHarmless x.made (calls_of w.pass early))
     where
       abbrev sooner : Life
@@ -54,8 +55,8 @@ module _ (x : Life) (late rest : List Entry) (split : late ++ rest ≡ x.h) {the
         backs = search (rules, append_cancel_left, calls_joined, joined);
       }
 
-      -- If a poll at the later point finds none, and nothing was handed out since the earlier point, everything
-      -- delivered before the earlier point was handed out.
+      -- Suppose that a poll at the later point finds no packet, and that nothing was handed out since the earlier
+      -- point. Then everything delivered before the earlier point had been handed out by then.
       none_sooner : FindsNone (leads_to origin late) then.receive → then.receive.handed ≡ k.receive.handed
           → k.receive.handed ≡ delivered w.queue origin early
       none_sooner finds same =
@@ -65,14 +66,15 @@ module _ (x : Life) (late rest : List Entry) (split : late ++ rest ≡ x.h) {the
           (grind (arith, there, joined)) (cc (here, there)) in
           cc (here, p.both, all)
 
-      -- If a poll at the later point finds a packet waiting, not everything was sent before the earlier point.
+      -- If a poll at the later point finds a packet waiting, some of what the driver had accepted had not yet been sent
+      -- at the earlier point.
       waiting_sooner : FindsWaiting (leads_to origin late) then.transmit
           → bytes_of then.transmit.accepted ≢ sent_since w.queue origin [] early
       waiting_sooner finds same =
           let is = waiting_is_not_all w origin _ _ more _ _ (driven (ran later) p_late) in
           grind (arith, is, last_there (ran later) p_late, joined, counted (ran sooner) p)
 
--- Calls that drive halves on were added, followed by one more call.
+-- Lemmas: calls that drive the halves on were added, followed by one more call.
 module _ (old : List Call) {h k : Halves} {mid new : List Call} (e : Event Block) (reply : Reply Block)
     (drives : Drives old h mid k) (adds : Adds mid new e reply) where
   abbrev pub added : List Call
@@ -81,7 +83,7 @@ module _ (old : List Call) {h k : Halves} {mid new : List Call} (e : Event Block
   pub added_is : new ≡ old ++ added
   added_is = grind (arith, common_steps)
 
--- Lemmas about an entry of a life's history, with the added calls after those of the life.
+-- Lemmas about an entry of a life's history at which the pass has made the life's calls and some added ones.
 module _ (x : Life) (old : List Call) {mid new now : List Call} (e : Event Block) (reply : Reply Block)
     {then : Halves} (drives : Drives old x.k mid then) (adds : Adds mid new e reply) (at : EndsAt x.w.pass x.h now)
     (following : (since : List Call) → new ≡ old ++ since → now ≡ x.made ++ since) where
@@ -140,8 +142,8 @@ module _ (x : Life) {old new now : List Call} (at : EndsAt x.w.pass x.h now)
       all is
       (search (rules, answered)) (ap bytes_of y.accepted ∙ sent)
 
--- A running driver keeps the numbers of an arena. After some calls, its halves were led to this state and lent only
--- blocks with these numbers.
+-- A running driver's arena has the same block numbers as `a`. Calls led the driver's halves to their present state, and
+-- the halves lent only blocks of this arena.
 pub record RunsOn (a : Numbers) (old : List Call) (h : Halves) (n : Moment) : Type 0 where
   pub rings : Running
   pub up : n.driver.rings ≡ Up rings
@@ -179,7 +181,7 @@ module _ {a : Numbers} {old : List Call} {h : Halves} where
 abbrev HasRoom : ℕ → Sender → Type 0
 HasRoom size v = (v.layout.size ≡ size) × (length v.outstanding < size)
 
--- The calls of the halves keep a slot of the ring vacant.
+-- Lemmas: after the halves' calls, a slot of the ring is still vacant.
 
 played_room : (size : ℕ) (h : Halves) (doers : List Doer) (calls : List Call) → AllOwn h doers calls
     → HasRoom size h.transmit → HasRoom size (played_by h doers calls).transmit
@@ -190,7 +192,7 @@ played_room size h (d ∷ doers) (n ∷ calls) own x =
 
 module _ {q : AtPort} {size frame : ℕ} {old : List Call} {a : Numbers} {m : Moment} {later : List Moment}
     (x : IsReported q size frame old a m later) where
-  -- What its start returned shows that the driver lived.
+  -- What the driver's start returned meets the definition of a driver that lives.
   abbrev lives : Lives q size frame old a m.made x.started.0
   lives = record { made = m.made; fresh = x.started.0; up = x.started.2; drives = rings_still m.made x.started.0 }
 
@@ -219,7 +221,7 @@ module _ (x : Reported) where
       life_of x.course x.m.made x.reported.started.0 (now x).made (halves_of goes.rings)
       (record { along = x.along; up = x.reported.started.2; begins = x.begins; since = goes.apart.leads })
 
-  -- A life with its blocks kept separate.
+  -- A reported life in which each half lends only blocks that the other half hasn't lent.
   abbrev pub reported_ran : Ran x.course
   reported_ran = record {
     there = begun life;
@@ -228,10 +230,10 @@ module _ (x : Reported) where
     goes = (led x.reported).leads;
   }
 
--- If a driver reports that its ring is full, or accepts none of several packets without a fault, its ring has no room
--- for the first.
+-- Lemmas: if a driver reports that its ring is full, the ring has no room for the packet. If it accepts none of several
+-- packets and returns no fault, the ring has no room for the first of them.
 
--- A running driver with one vacant slot.
+-- Lemmas about a running driver with at least one vacant slot.
 module _ (size : ℕ) (m n : Moment) (r : Running) (p : Packet) (is : m.driver.rings ≡ Up r)
     (some : HasRoom size r.transmit) where
   -- If the driver reports that its ring is full, the ring has no room for the packet.

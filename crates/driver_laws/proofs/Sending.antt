@@ -1,6 +1,6 @@
--- Lemmas about the blocks that the halves have lent. Each of these blocks is lent, no block is lent by both halves, and
--- the pass lends all of them. An event of one half leaves all blocks but its own, and the other side, unchanged; so do
--- device steps.
+-- Lemmas about the blocks that the halves have lent. Each of these blocks is lent to the device, no block is lent by
+-- both halves, and the pass lends all of them. An event of one half changes neither the other side nor blocks that the
+-- half hasn't lent. Nor does a device step.
 use Rattle.driver_laws.proofs.StartPrelude.{Done, IsOwn, Spares, Wrote, lent_cases, memory_blocks, memory_rest}
 use Rattle.driver_laws.proofs.StartPrelude.{mine-moved}
 use Rattle.driver_laws.proofs.StartPrelude.{mine_driven, plain-write, reach, settings_stand, stays_within, step_of}
@@ -36,7 +36,7 @@ use Rattle.pmd_driver.specs.NicDevice.declared.event.Event.TheVariants as event
 use Rattle.pmd_driver.specs.PmdRx.Keeping as received
 use Rattle.pmd_driver.specs.PmdRx.Receive as receiving
 
--- The blocks of the receive half are lent.
+-- Lemmas: the blocks that the receive half has lent are lent to the device.
 
 pub receive_lent : (queue : ℕ) (s : State) (out : List Piece) (v : Receive) → Agree queue s out v
     → Each v (λ b. has_block s.memory b ≡ true)
@@ -44,7 +44,7 @@ receive_lent queue s out v (gone, here, h) =
     let fresh : IfFresh v.stage (λ b. has_block s.memory b ≡ true) = let stage = h.stage in grind arith in
     search (rules, each_by, reach)
 
--- A block is lent.
+-- Lemmas about an event that lends a block.
 
 -- Each block that was lent before is unchanged, and its number differs from the newly lent block's.
 lend_leaves : (s : State) (block : Block) (number : ℕ) → has_block s.memory number ≡ true
@@ -53,7 +53,7 @@ lend_leaves : (s : State) (block : Block) (number : ℕ) → has_block s.memory 
 unfolding step_of
 lend_leaves s block number has = grind (arith, common_steps, lent_cases, memory_blocks)
 
--- No block is lent by both halves, whatever their calls.
+-- Lemmas: no block is lent by both halves, whatever calls they make.
 
 module _ (s : State) where
   -- A block that a call lends wasn't lent before.
@@ -113,7 +113,7 @@ touch_other : (queue : ℕ) (own : Blocks) (s : State) (e : Event Block)
     × (Touches Tx queue own s e → LeavesReceive queue s (after s e))
 touch_other queue own s e = search (rules, memory_rest, write_rest)
 
--- An event of the receive half touches blocks that the half has lent.
+-- Lemmas: an event of the receive half touches only blocks that the half has lent.
 
 module _ (queue : ℕ) (s : State) (out : List Piece) (v : Receive) (gone here : List Piece)
     (h : Holds queue s out v gone here) where
@@ -136,13 +136,13 @@ module _ (queue : ℕ) (s : State) (out : List Piece) (v : Receive) (gone here :
       let other = (touch_other queue (received.has_lent v) s e).0 touches in
       search (rules, touch_setting, touch_leaves)
 
--- A move of the transmit half.
+-- Lemmas about a move of the transmit half.
 
 abbrev pub is_elsewhere : Move → Bool
 is_elsewhere Elsewhere = true
 is_elsewhere other = false
 
--- What holds for the block of each segment holds for all their blocks.
+-- If something holds for each segment's block, it holds for each block in the list of all segments' blocks.
 any_segment : (P : ℕ → Type 0) (ss : List Segment)
     → ((k : ℕ) → k < length ss → P (slice_index_or ss k no_segment).block) → (n : ℕ)
     → list_any (λ b. n == b) (blocks_of ss) ≡ true → P n
@@ -184,7 +184,7 @@ module _ (s : State) (queue : ℕ) (sent : List (List ℕ)) (u : Sender) (f : �
 
 module _ (queue : ℕ) (mine : Blocks) (s : State) (sound : IsSound s) (out : List Piece) (v : Receive)
     (j : Agree queue s out v) (outside : WritesOutside queue mine (reply_to s event.RxStep)) where
-  -- What is received goes outside the other half's blocks.
+  -- A received frame is written outside the other half's blocks.
   reported_outside : (n : ℕ) → IsTrue (mine n) → Each v (λ b. b ≢ n) → (r : Reply Block) → reply_to s event.RxStep ≡ r
       → WritesOutside queue mine r → IsSparedBy r n
   reported_outside n is away (Wrote on slot end desc at len) reported left =
@@ -205,7 +205,7 @@ module _ (queue : ℕ) (mine : Blocks) (s : State) (sound : IsSound s) (out : Li
       → ((n : ℕ) → IsTrue (has_lent u n) → Each v (λ b. b ≢ n)) → Spares queue u s event.RxStep
   received_spares u lent apart = search (rules, receiving_rest, spared_block, reported_outside)
 
--- What the queue's own transmit side reports is in a block of its ring.
+-- The queue's own transmit side writes its reports only into blocks of its ring.
 pub reports_spare : (s : State) (queue : ℕ) (sent : List (List ℕ)) (u : Sender) (f : ℕ) → AgreesAt s queue sent u f
     → (v : Receive) → ((n : ℕ) → IsTrue (has_lent u n) → Each v (λ b. b ≢ n)) → OwnReportsSpare queue v s
 reports_spare s queue sent u f h v apart back said =

@@ -1,5 +1,5 @@
--- What a driver's calls report concerns only the calls that were added, so it holds after any other calls. The same is
--- true of what drove the driver's halves, and of a start.
+-- Lemmas: what a driver's calls report concerns only the calls that were added, so it also holds if other calls came
+-- before. The same is true of the calls that drove the driver's halves, and of a start.
 use Rattle.driver_laws.proofs.Prelude.{Access, Adds, AreMade, AreOn, AreUp, AtPort, Block, Bool, Call, DeviceFault, Dir}
 use Rattle.driver_laws.proofs.Prelude.{DrivesRings, Event, FaultsEarly, IsMade, IsPrepared, IsReceiveReady, IsStrayRead}
 use Rattle.driver_laws.proofs.Prelude.{IsSwitched, IsTransmitReady, LendsEach, List, Numbers, PlaysFrom, PollsEnd}
@@ -10,7 +10,7 @@ use Rattle.driver_laws.proofs.Prelude.{receive_polled, refl, ring_words, rules, 
 use Rattle.pmd_driver.specs.PmdAccess.Both.{SwitchFails, both_asked}
 use Rattle.driver_laws.proofs.On.{are_on}
 
--- Some calls were added for which this holds, whatever calls precede them.
+-- `new` is `old` followed by calls for which `R` holds whatever calls precede them.
 pub record Shifts (R : List Call → List Call → Type 0) (old new : List Call) : Type 0 where
   pub since : List Call
   pub made : new ≡ old ++ since
@@ -24,12 +24,12 @@ pub mapped : {R S : List Call → List Call → Type 0} {old new : List Call} �
     → ((a b : List Call) → R a b → S a b) → Shifts S old new
 mapped x f = given x.since x.made (λ front. f front (front ++ x.since) (x.following front))
 
--- Two such sequences of calls, one after the other, form such a sequence.
+-- One such sequence of calls, followed by another, is such a sequence too.
 pub joined : {R S T : List Call → List Call → Type 0} {old mid new : List Call} → Shifts R old mid → Shifts S mid new
     → ((a b c : List Call) → R a b → S b c → T a c) → Shifts T old new
 joined {T = T} {old = old} x y join = grind (arith, common_steps)
 
--- A relation of calls may have this property.
+-- A relation shifts if it never depends on the calls that came before.
 
 abbrev pub Shift : (List Call → List Call → Type 0) → Type 0
 Shift R = (old new : List Call) → R old new → Shifts R old new
@@ -40,7 +40,7 @@ none old new is = given [] (is ∙ sym (append-nil old)) append-nil
 pub then : {R S : List Call → List Call → Type 0} → Shift R → Shift S → Shift (λ o n. (m : List Call) × R o m × S m n)
 then first second old new (mid, x, y) = grind (arith, common_steps, joined)
 
--- A relation that shifts holds after other calls, if the added calls are known.
+-- If a relation shifts, it holds for the same added calls after any other calls.
 pub shifted : {R : List Call → List Call → Type 0} {old new : List Call} → Shifts R old new
     → (since front : List Call) → new ≡ old ++ since → R front (front ++ since)
 shifted x since front made = search (rules, append_cancel_left)
@@ -97,7 +97,7 @@ module _ (q : AtPort) where
       joined (accesses (receive_polled on first) old mid made) (polls_end Tx on _ mid new ends)
       (λ o m n x y. inr (inr (first, m, few, x, y)))
 
--- Lemmas about rings that are prepared, and filled.
+-- Lemmas about preparing rings and filling the receive ring.
 
 lends : (ns : List ℕ) → Shift (λ o n. LendsEach o n ns)
 lends [] = none
@@ -110,7 +110,7 @@ module _ (q : AtPort) where
   transmit : (size frame : ℕ) (a b : Numbers) (v : Sender) → Shift (λ o n. IsTransmitReady q size frame o a n b v)
   transmit size frame a b v old new x = search (rules, mapped, prepared)
 
-  -- The receive ring after the first access, whatever calls preceded that.
+  -- The receive ring after the first access, whatever calls came before that access.
 
   abbrev pub After : (S : List Call → List Call → Type 0) → ((o n : List Call) → S o n → List Call) → List Call
       → List Call → Type 0
@@ -155,7 +155,7 @@ module _ (q : AtPort) (size frame : ℕ) (a : Numbers) where
       (x.both_made, x.transmit, (x.on.mid, x.on.switched, x.on.plays)))
       (λ m k n ready rest o one. let (y, at) = ready o one in (search rules, at))
 
-  -- A start that ends with the device at fault before both sides are on.
+  -- Lemmas about a start that fails with `DeviceFault` before both sides are on.
 
   pub early_shift : Shift (λ o n. FaultsEarly q size frame o a n)
   early_shift old new (inl x) =
@@ -169,7 +169,7 @@ module _ (q : AtPort) (size frame : ℕ) (a : Numbers) where
       (then (transmit q size frame x.ready_arena x.both_arena x.sender) (switch_fails q true 1000) x.ready_made new
       (x.both_made, x.transmit, x.fails)) (λ o m n y z. inr (inr (grind (arith, common_steps))))
 
-  -- Both sides when they were enabled.
+  -- The calls by which both sides were enabled shift.
   pub on_shift : (v : Receive) (t : Sender) → Shift (λ o n. AreOn q size frame o a n v t)
   on_shift v t old new x =
       joined (receive q size frame a x.ready_arena v old x.ready_made x.receive)

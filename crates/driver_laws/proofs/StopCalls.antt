@@ -1,5 +1,6 @@
--- The calls of a driver's stop satisfy the definition of a stop's calls, with device steps between them, and take
--- blocks back only after both sides are off. The same is true of the calls made so far.
+-- Lemmas: the calls of a driver's stop, including the device steps between them, meet the definition of a stop's calls.
+-- They take blocks back only after both sides have read as off. The same is true of the first calls of a stop, up to
+-- any point.
 use Rattle.driver_laws.proofs.CallKinds.{asks_end, bringing_ends, step_ends, switched_off_asks, unswitched_asks}
 use Rattle.pmd_driver.specs.Stopping.{ComesHome, IsLeftDuring, StopFails, Stops, bringing, brought}
 use Rattle.pmd_driver.specs.declared.home.Home.{Home}
@@ -26,12 +27,12 @@ module _ (P : Event Block → Type 0) where
   first_made old now new since rest x some all =
       (since, some, made_first old new since rest x (all ∙ ap (λ (l : List Call). l ++ rest) some))
 
--- Both sides were seen off, and then came calls of a stop.
+-- Both sides have read as off, and calls of a stop followed.
 abbrev pub once_of : (q : AtPort) (old new mid off : List Call) → Asks q old mid → IsSwitched q mid off false 1000
     → Ends q off new → EndsOnceOff q old new
 once_of q old new mid off asks on ends = record { mid = mid; off = off; asks = asks; switched = on; ends = ends }
 
--- Until both sides are off, the calls only request that they be off.
+-- Until both sides are off, the calls only disable sides or wait for that.
 pub off_asks : (q : AtPort) (old new : List Call) (x : EndsOnceOff q old new) → Asks q old x.off
 off_asks q old new x = then_made (IsAsking q) old x.mid x.off x.asks (switched_off_asks q x.mid x.off x.switched)
 
@@ -60,7 +61,8 @@ module _ (q : AtPort) (old : List Call) (h : Halted) (new : List Call) where
       then_made (IsEnding q) old mid.made new (bringing_ends q count (bringing old h) mid some)
       (some_made (IsEnding q) (step_ends q) mid.made new more)
 
--- Blocks are taken back after a switch-off: by a stop, by a failed stop, and so by a driver that lived and was stopped.
+-- Lemmas: blocks are taken back only after a switch-off. This is true of a stop and of a failed stop, and so of a
+-- driver that was started and later stopped.
 module _ (q : AtPort) (old : List Call) (h : Halted) (new : List Call) where
   off_takes : (off : List Call) → IsSwitched q old off false 1000 → Ends q off new → TakesOnceOff q old new
   off_takes off switched ends = inr (once_of q old new old off (none_made (IsAsking q) old old refl) switched ends)
@@ -82,7 +84,8 @@ module _ (q : AtPort) (old : List Call) (h : Halted) (new : List Call) where
   pub stopped_ends : (left : Rest) (late : Option PmdFault) → IsStopped q old h new left late → Ends q old new
   stopped_ends left late x = takes_ends q old new (stopped_takes left late x)
 
--- Calls that take blocks back in this way, one list after another, take them back in this way.
+-- If one list of calls takes blocks back only after a switch-off, and so does the next list, the two lists together do
+-- too.
 pub takes_then : (q : AtPort) (old mid new : List Call) → TakesOnceOff q old mid → TakesOnceOff q mid new
     → TakesOnceOff q old new
 takes_then q old mid new (inl asks) (inl more) = inl (then_made (IsAsking q) old mid new asks more)
@@ -91,7 +94,7 @@ takes_then q old mid new (inl asks) (inr y) =
 takes_then q old mid new (inr x) more =
     inr (once_of q _ _ _ _ x.asks x.switched (then_made (IsEnding q) x.off mid new x.ends (takes_ends q mid new more)))
 
--- What they report concerns only the added calls: where both sides were off.
+-- Lemmas: the point where both sides were off depends only on the added calls, whatever calls came before.
 
 pub of_kind : (P : Event Block → Type 0) → Shift (λ o n. AreMadeOf P o n)
 of_kind P old new (calls, is, are) = given calls is (λ front. (calls, refl, are))

@@ -1,6 +1,6 @@
--- What a driver handed out and sent stays in order during its stop and after it. After the driver's life, neither side
--- is enabled again. The device and the driver still agree while the driver requests that its sides be off. When both
--- are off, nothing more happens on the queue. The same is true of the records that a stopped driver left.
+-- Lemmas: packets and frames stay in order during a driver's stop and after it. After the driver's life, neither side
+-- is enabled again. The device and the driver still agree while the driver disables its sides. When both sides are off,
+-- nothing more is delivered or sent on the queue. The packets that a stopped driver returns are also in order.
 use Rattle.driver_laws.proofs.Reached.{LeadsOver, all_lead, free_left, reached, reached_next}
 use Rattle.ring_laws.proofs.DeviceLaws.{KeptSettings.settings_stand, Standing.stays_within}
 use Rattle.ring_laws.proofs.{Foreign.no_registers, Steady.deed_settles}
@@ -30,8 +30,8 @@ use Rattle.ring_laws.proofs.Steady as steady
 use Rattle.ring_laws.specs.Delivered as receive
 use Rattle.pmd_driver.specs.NicDevice.declared.event.Event.TheVariants as event
 
--- Port and queue name the queue, and the frame limit stays, as long as the halves are led on: no entry writes a
--- setting.
+-- While the halves are led on, port and queue number identify the queue, and the frame limit stays the same, because no
+-- entry writes a setting.
 ground_along : {w : Watched} {mine : Blocks} (q : AtPort) (frame : ℕ) (doers : List Doer) (es : List Entry) {s : State}
     {out : List Piece} {sent : List (List ℕ)} {k : Halves} → Meets w mine s out sent k → Runs w mine s k doers es
     → HasGround w.queue q frame s → HasGround w.queue q frame (leads_to s es)
@@ -49,7 +49,7 @@ further xs None ps is = is
 further xs (Some qs) ps (one, is) = let (two, more) = grows [] qs ps in grind (arith, common_steps)
 
 module _ (w : Watched) (origin : State) (q : AtPort) (frame : ℕ) where
-  -- An event after which port and queue name the queue, and neither side was enabled.
+  -- After an event from `s` to `t`, port and queue number identify the queue, and the event enabled neither side.
   record Moves (s t : State) : Type 0 where
     ground : HasGround w.queue q frame t
     settles : (dir : Dir) → Settles dir w.queue s t
@@ -67,7 +67,7 @@ module _ (w : Watched) (origin : State) (q : AtPort) (frame : ℕ) where
       g (is dir) e made ends in
       search (rules, plain_keeps, ending_plain, settles)
 
-  -- Sides that are settled aren't enabled again.
+  -- Lemmas: a side that is on, or for which no enable request is in effect, isn't enabled again.
   module _ (handed : List Kept) where
     pub record Keeps (done : List Entry) : Type 0 where
       ground : HasGround w.queue q frame (reached w origin done)
@@ -95,7 +95,7 @@ module _ (w : Watched) (origin : State) (q : AtPort) (frame : ℕ) where
         let ends : IsEnding q e.event = subst (λ (n : Call). IsEnding q n.event) (sym same) own in
         keeps_on done e (ending_moves (reached w origin done) e.event met made ends kept.ground kept.settled) kept
 
-    -- Device and driver agree while the driver requests that its sides be off, counting the frames sent since the
+    -- Lemmas: the device and the driver agree while the driver disables its sides, counting the frames sent since the
     -- transmit side was enabled.
     module _ (mine : Blocks) (k : Halves) where
       abbrev sent : List Entry → List (List ℕ)
@@ -158,7 +158,7 @@ module _ (w : Watched) (origin : State) (q : AtPort) (frame : ℕ) where
           (asked_next vfs done e.event met made (subst (λ (n : Call). IsAsking q n.event) (sym same) own)
           (subst (WritesOutside w.queue mine) reported steps) x)
 
--- What calls have lent stays lent.
+-- The blocks that the halves have lent are still among those that the pass lends if the history continues.
 more_lent : (pass : ℕ) (g h : List Entry) (k : Halves) → AreLent (lent_by pass g) k → AreLent (lent_by pass (g ++ h)) k
 more_lent pass g h k x = grind (arith, common_steps, each_map, lent_before)
 
@@ -203,7 +203,7 @@ module _ (x : Life) (new : List Call) (y : IsStopping x new) where
       (made_some x)
       lived_at)
 
-  -- When both sides are off, nothing more is received or sent.
+  -- After both sides are off, nothing more is received or sent.
   pub silent_off : (z : EndsOnceOff q made new) (done rest : List Entry) → done ++ rest ≡ h
       → calls_of w.pass done ≡ z.off → IsSilent w origin h done
   silent_off z done rest all calls =
@@ -223,14 +223,14 @@ module _ (x : Life) (new : List Call) (y : IsStopping x new) where
       (first_sent _ w.queue _ k.transmit
       (over_asks z.off (off_asks q made new z) p.front p.back p.both p.fronts).both.transmit)
 
--- The driver lived, up to where it was about to stop.
+-- The driver's life, up to the point just before its stop.
 abbrev pub life : Ended → Life
 life x =
     let live = x.lived.lives in
     life_of x.course live.made live.fresh x.lived.made (halves_of x.lived.last)
     (record { along = x.along; up = live.up; begins = x.begins; since = drives_lead _ _ _ _ live.drives.apart.drives })
 
--- The calls after the life are calls of a stop, and take blocks back only after both sides were seen off.
+-- Lemmas: the calls after the life are calls of a stop, and take blocks back only after both sides have read as off.
 module _ (x : Ended) (y : IsOver x) where
   open x use {q, new, lived}
 

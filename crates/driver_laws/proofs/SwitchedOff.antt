@@ -1,6 +1,7 @@
 -- Lemmas about the sides of a queue while its driver stops or starts. A side that is on, or for which no enable request
--- is in effect, doesn't become enabled. The driver requests that both sides be off and sees them off, and they stay
--- off. After that, nothing is received or sent, over events that leave the queue alone and calls of a stop.
+-- is in effect, doesn't become enabled. The driver requests that both sides be off and polls them until they read as
+-- off, and they stay off. After that, neither events that leave the queue alone nor calls of a stop receive or send
+-- anything on the queue.
 use Rattle.driver_laws.proofs.Ground.{each_side, ground_kept, ground_names, plain_keeps, side_driven}
 use Rattle.driver_laws.proofs.StartPrelude.{HasGround, IsAlong, IsEnding, IsKept, IsMet, IsOff, IsPlain, IsQuiet, Leads}
 use Rattle.driver_laws.proofs.StartPrelude.{asked, left_deed, memory_rest, no_block, none_begun_while_off, not_again}
@@ -31,7 +32,7 @@ use Rattle.ring_laws.proofs.Steady as steady
 abbrev pub IsSettled : Dir → ℕ → State → Type 0
 IsSettled dir queue s = steady.IsSettled (side_of dir queue s)
 
--- The side still is in this state, and wasn't enabled.
+-- The side is still settled (on, or with no enable request in effect), and wasn't enabled in between.
 abbrev pub Settles : Dir → ℕ → State → State → Type 0
 Settles dir queue s t = steady.Settles (side_of dir queue s) (side_of dir queue t)
 
@@ -39,7 +40,8 @@ pub left_settles : (dir : Dir) (w : Watched) (mine : Blocks) (s : State) (e : Ev
     → IsSettled dir w.queue s → Settles dir w.queue s (after s e)
 left_settles dir w mine s e x is = deed_settles dir w.queue s e (left_deed dir w mine s e x) is
 
--- What an event of a stop does to a side: it leaves the side unchanged, requests that it be off, or is a device step.
+-- Lemmas about what an event of a stop does to a side: it leaves the side unchanged, requests that the side be off, or
+-- is a device step.
 module _ (dir : Dir) (P : Side → Type 0) (R : Side → Side → Type 0) (same : (x y : Side) → y ≡ x → P x → R x y)
     (asks : (x y : Side) (wanted : Bool) → y ≡ record x { wanted = wanted } → wanted ≡ false → P x → R x y)
     (deed :
@@ -58,11 +60,11 @@ module _ (dir : Dir) (P : Side → Type 0) (R : Side → Side → Type 0) (same 
   ending_does e made ends =
       deed queue s e (left_deed dir (watching queue s) no_block s e (step_left queue s e met made ends)) p
 
--- What a stop's event writes is a register of the queue.
+-- If an event of a stop writes a register, it is a register of the queue.
 pub ending_plain : (q : AtPort) (e : Event Block) → IsEnding q e → IsPlain q e
 ending_plain q e ending = grind (arith, common_steps)
 
--- What stays true of a side whatever the device does to it, and after a request that it be off.
+-- A property of a side that stays true whatever the device does to the side, and after a request that the side be off.
 record IsShutting (P : Side → Type 0) : Type 0 where
   stays : IsSteady P
   asks : (x : Side) (wanted : Bool) → wanted ≡ false → P x → P (record x { wanted = wanted })
@@ -70,7 +72,7 @@ record IsShutting (P : Side → Type 0) : Type 0 where
 shutting : IsShutting (λ x. ⊤) × IsShutting IsUnwanted × IsShutting IsOff
 shutting = grind (arith, common_steps, unwanted_steady)
 
--- Events of a stop keep a property of this kind.
+-- Lemmas: events of a stop preserve such a property.
 module _ (P : Side → Type 0) (is : IsShutting P) (queue : ℕ) (q : AtPort) (frame : ℕ) (s : State) where
   ending_keeps : (dir : Dir) (e : Event Block) → IsMet queue s → IsEvent e → IsEnding q e → HasGround queue q frame s
       → P (side_of dir queue s) → P (side_of dir queue (after s e))
@@ -94,7 +96,7 @@ pub ending_quiet : (queue : ℕ) (q : AtPort) (frame : ℕ) (s : State) (e : Eve
 ending_quiet queue q frame s e met made ends b =
     search (rules, plain_keeps, ending_plain, ending_keeps IsOff shutting.2)
 
--- Lemmas about accesses in two parts.
+-- If a list of accesses is split into two parts, so are the calls that make these accesses.
 both_parts : (q : AtPort) (xs ys : List Access) (old new : List Call) → AllAre MayAsk (xs ++ ys)
     → AreMade q old new (xs ++ ys)
     → (mid : List Call) × AreMade q old mid xs × AreMade q mid new ys × AllAre MayAsk xs × AllAre MayAsk ys
@@ -112,13 +114,13 @@ module _ {w : Watched} {origin : State} {h : List Entry} (q : AtPort) (frame : �
     one_kept P stays s e x (g, p) =
         (ground_kept w _ q frame s e x g, steady_kept dir w.queue s e P p stays (left_deed dir w _ s e x))
 
-    -- Calls of a stop keep what they find.
+    -- Lemmas: calls of a stop preserve such a property.
 
     one_ending : (P : Side → Type 0) → IsShutting P → (s : State) (e : Event Block) → IsMet w.queue s → IsEvent e
         → IsEnding q e → One P s → One P (after s e)
     one_ending P is s e met made ends (g, p) = search (rules, plain_keeps, ending_plain, ending_keeps P is)
 
-    -- An access after calls of a stop leads from one property to the other.
+    -- If `P` holds before calls of a stop and `a` is the next access, `Q` holds after that access.
     asked_leads : (P Q : Side → Type 0) → IsShutting P → IsShutting Q → (xs : List Access) (a : Access)
         → OfCall q a (λ c. Leads w.queue c (One P) (One Q)) → AllAre MayAsk xs → (old mid new : List Call)
         → AreMade q old mid xs → IsMade q mid new a → old ≢ [] → AtCalls w origin h old (One P)
@@ -131,7 +133,7 @@ module _ {w : Watched} {origin : State} {h : List Entry} (q : AtPort) (frame : �
         (made_next along (One P) (IsEnding q) (one_kept P is.stays) (one_ending P is) calls old mid same each
         (then_before along (One P) (one_kept P is.stays) old some at)))
 
-  -- Both sides are off after accesses that request that each be off and then see it off.
+  -- Lemmas: both sides are off after accesses that request that each side be off and then read it as off.
   module _ (all : List Access) (ask : AllAre MayAsk all)
       (turns : (dir : Dir) → (xs : List Access) × (ys : List Access) × (zs : List Access)
       × (all ≡ xs ++ Sets (enable_row dir) 0 ∷ (ys ++ Sees (enable_row dir) false ∷ zs))) (old new : List Call)
@@ -180,7 +182,8 @@ switching_off_leads w q frame origin h old new along (first, second, few, made) 
     (each_side _ ([], Sets Txdctl 0 ∷ missed Rx false first, polled Tx false second, simp append_assoc)
     (Sets Rxdctl 0 ∷ [], polled Rx false first ++ missed Tx false second, [], simp append_assoc)) old new made some at
 
--- If no enable request is in effect for a receive side, this stays so.
+-- Lemmas: if no enable request is in effect for a receive side, none comes into effect over events that leave the queue
+-- alone.
 
 pub receive_guard_is_off : ReceiveGuardIsOff
 receive_guard_is_off = record {
@@ -192,7 +195,7 @@ receive_guard_is_off = record {
 pub off_sides_stand : OffSidesStand
 off_sides_stand queue s sound off transmit_off = search (rules, each_side, none_begun_while_off)
 
--- Two sides that are seen off stay as they are, with no block lent.
+-- Lemmas: two sides that are off with no enable request pending stay as they are, with no ring block lent.
 
 pub quiet_sides_stand : QuietSidesStand
 quiet_sides_stand w q frame origin h calls along quiet done rest all is =
@@ -213,7 +216,7 @@ ending_stays queue q frame s e met made ends x =
 
 module _ {w : Watched} {origin : State} {h : List Entry} (q : AtPort) (frame : ℕ) (along : IsAlong w origin h)
     (done : List Entry) where
-  -- The sides are off, and no more was received or sent than before.
+  -- The sides are off, and nothing was received or sent since the entries `done`.
   abbrev Silent : List Entry → Type 0
   Silent now = IsQuiet w.queue q frame (leads_to origin now) × IsSilent w origin now done
 

@@ -1,5 +1,5 @@
 -- Lemmas about a refused start. A start that times out polled 1,000 times, and its polls are among its pass's calls. On
--- a queue with both sides off, no start finds the device at fault except while it fills its receive ring.
+-- a queue with both sides off, a start fails with `DeviceFault` only while it fills its receive ring.
 use Rattle.driver_laws.proofs.Ground.{IsDriven, IsWrite, ground_kept, named_registers_reply, off_sides_are_seen_off}
 use Rattle.driver_laws.proofs.Ground.{plain_keeps, reads_driven, side_driven, words_are_writes, writes_driven}
 use Rattle.driver_laws.proofs.StartPrelude.{AllAre, AreMadeOf, BeforeNext, HasGround, IsAlong, IsEnable, IsEnding}
@@ -33,7 +33,7 @@ use Rattle.ring_laws.proofs.Lent.{again_is_done}
 use Rattle.pmd_driver.specs.NicDevice.declared.event.Event.TheVariants as event
 use Rattle.pmd_driver.specs.NicDevice.declared.event.Reply.TheVariants as reply
 
--- The driver requests that both sides be enabled, and this many reads find one of them off.
+-- Lemmas: after the driver has requested that both sides be enabled, this many reads find one of them off.
 
 abbrev both : Asked
 both = record { receive = true; transmit = true }
@@ -87,7 +87,7 @@ module _ (q : AtPort) (size frame : ℕ) where
           | inr filling ↦ absurd filling.2.fails
         ]
 
-    -- A refusal before any event isn't a timeout.
+    -- Lemmas: a refusal before any event isn't a timeout.
 
     other_faults : start_gate a q size frame ≢ Some StartTimeout
     other_faults is = grind (arith, common_steps)
@@ -122,7 +122,7 @@ module _ (q : AtPort) (w : Enables) (are : AreEnables q w) where
   apart : (n : ℕ) → IsNumberOf q.port Txdctl q.queue n → (n == w.receive) ≡ false
   apart n named = ne_eqb n w.receive (numbers_apart q.port q.queue w.receive n are.receive named)
 
-  -- What a call reports about its access.
+  -- What a call shows about its access: whether it is a miss, and the state after it.
   abbrev Tells : Access → Call → Type 0
   Tells a c = (x : Asked) → (is_missed w x c.event c.reply ≡ is_miss x a) × (asked_after w x c.event ≡ asked_by a x)
 
@@ -145,7 +145,7 @@ polls_are_reported q old new x w are =
     let reported = accesses_reported q w are x.all (old ++ x.before) new none_asked x.enables x.made in
     (reported.0, reported.1, reported.2 ∙ x.polls)
 
--- An access that sees a side off, or requests that it be off.
+-- An access that reads a side as off, or requests that a side be off.
 abbrev IsQuieting : Access → Type 0
 IsQuieting (Sees row on) = IsEnable row × (on ≡ false)
 IsQuieting (Sets row word) = MayAsk (Sets row word)
@@ -164,7 +164,7 @@ module _ {w : Watched} {origin : State} {h : List Entry} (q : AtPort) (frame : �
   abbrev Next : (State → Type 0) → List Call → Type 0
   Next P old = BeforeNext w origin h old P
 
-  -- What holds before the next call, after a driver's own calls.
+  -- Lemmas about what holds before the next call, after a driver's own calls.
 
   plain_next : (old new : List Call) → AreMadeOf (IsPlain q) old new → Next Ground old → Next Ground new
   plain_next old new (calls, is, each) =
@@ -175,7 +175,7 @@ module _ {w : Watched} {origin : State} {h : List Entry} (q : AtPort) (frame : �
   off_grounds old next before c steps apart done rest e all own is =
       (next before c steps apart done rest e all own is).ground
 
-  -- No access is stray.
+  -- Lemmas: no access is stray.
 
   read_never_stray : (row : RowId) → is_driven row ≡ true → (old new : List Call) → IsStrayRead q old new row
       → Next Ground old → Never w origin h new
@@ -199,7 +199,7 @@ module _ {w : Watched} {origin : State} {h : List Entry} (q : AtPort) (frame : �
       write_never_stray a both.1 mid new fails
       (plain_next old mid (accesses_plain q done old mid (writes_driven done both.0) made) at)
 
-  -- While the sides are off, no access sees a side on.
+  -- While the sides are off, no access reads a side as on.
   never_otherwise : (a : Access) → IsQuieting a → (old new : List Call) → IsOtherwise q old new a → Next Off old
       → Never w origin h new
   never_otherwise (Sees row on) (enable, off) old new (inl (number, word, named, seen, adds)) next =
@@ -234,7 +234,7 @@ module _ {w : Watched} {origin : State} {h : List Entry} (q : AtPort) (frame : �
       (asked_last stops.mid stops.fails.1.0 (call_of (event.Lend (zero_block stops.next)) (reply.Twice stops.fails.0))
       stops.next (eq-eqb stops.next stops.next refl))))
 
-  -- The driver requests that both sides be enabled, and polls them.
+  -- Lemmas: the driver requests that both sides be enabled, and polls them.
 
   polls_never_stray : (side : Dir) (polls : ℕ) (old new : List Call)
       → PollsEnd DeviceFault q old new side true polls → Next Ground old → Never w origin h new

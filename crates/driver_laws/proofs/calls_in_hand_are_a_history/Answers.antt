@@ -1,4 +1,5 @@
--- What happened to a device in hand is a history of the device: the calls of pass 0 come after the calls of others.
+-- Lemmas: the calls to a device in hand form a history of the device, in which pass 0's calls come after the earlier
+-- calls of other passes.
 use Rattle.driver_laws.specs.StartPrelude.{entries_in}
 use Rattle.driver_laws.proofs.Prelude.{LeadsTo, LeavesAloneFrom, List, State, [], after, ap, arith, calls_joined}
 use Rattle.driver_laws.proofs.Prelude.{calls_of, calls_other, common_steps, events-append, false, has_begun}
@@ -22,7 +23,7 @@ all_are : (calls : List Call) → calls_of 0 (entries_in calls) ≡ calls
 all_are [] = refl
 all_are (c ∷ calls) = ap (λ (l : List Call). c ∷ l) (all_are calls)
 
--- Entries of the pass alone leave the queue alone, however the queues are separated.
+-- Lemmas: entries that all belong to the driver's pass leave the queue alone, however the queues are separated.
 
 each_own : (calls : List Call) (b : List Entry) (e : Entry) (after : List Entry) → entries_in calls ≡ b ++ e ∷ after
     → e.pass ≡ 0
@@ -31,7 +32,7 @@ each_own [] (y ∷ b) e after is = cc
 each_own (c ∷ calls) [] e after is = grind (arith, common_steps)
 each_own (c ∷ calls) (y ∷ b) e after is = each_own calls b e after (cc)
 
--- The entries made by others before have none of the pass.
+-- Lemmas: none of the earlier entries belongs to the pass.
 
 not_first : (x : Entry) (before : List Entry) → calls_of 0 (x ∷ before) ≡ [] → (x.pass == 0) ≡ false
 not_first x before none = grind (arith, common_steps)

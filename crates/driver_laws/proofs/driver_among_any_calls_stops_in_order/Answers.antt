@@ -4,7 +4,7 @@ use Rattle.driver_laws.proofs.StopCalls.{first_takes, made_first, once_off_shift
 use Rattle.driver_laws.proofs.{Shifted.shifted, Stopped.over_stop, Stopped.sent_over, Stopped.silent_off}
 use Rattle.driver_laws.{proofs.Beside.own_life, proofs.Beside.rings_up, specs.BesideStop.IsStoppedBeside}
 
--- The calls of the stop report what they add.
+-- What the calls of the stop report concerns only the calls that they add.
 stopping : (x : Beside) (new : List Call) (y : IsStoppedBeside x new) → IsStopping (own_life x) (x.own ++ y.since)
 stopping x new y =
     let ends = made_first (IsEnding x.q) (now x).made new y.since y.rest y.ends y.made in

@@ -1,5 +1,5 @@
--- What a driver's stop states about the point where it had switched its queue off, and the silence that follows from
--- this.
+-- Lemmas: what the contract of a driver's stop states about the point where the stop had switched both sides off. It
+-- follows that nothing is delivered or sent after that point.
 use Rattle.driver_laws.proofs.Prelude.{AtPort, Call, Ends, Halted, IsAsking, IsSwitched, List, PmdFault, Rest, Up}
 use Rattle.driver_laws.proofs.Prelude.{calls_of, closed, common_steps, false, halted_of, inr, none_made, refl, subst}
 use Rattle.driver_laws.proofs.Prelude.{◌++◌, ◌≡◌}
@@ -11,7 +11,7 @@ use Rattle.driver_laws.{proofs.Prelude.IsEnding, proofs.Prelude.None, proofs.Sto
 use Rattle.driver_laws.{specs.Silent.SwitchesOff}
 use Rattle.pmd_driver.specs.declared.start.Rest.TheVariants as rest
 
--- What a driver's stop states.
+-- Lemmas about the contract of a driver's stop.
 
 module _ (q : AtPort) (old : List Call) (h : Halted) (new : List Call) where
   abbrev GoesOff : List Call → Type 0

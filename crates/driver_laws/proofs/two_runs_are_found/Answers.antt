@@ -1,4 +1,4 @@
--- A start finds two runs of free blocks exactly if there are two.
+-- Lemmas: a start finds two runs of free blocks exactly if the arena has two such runs that share no block.
 use Rattle.driver_laws.proofs.Prelude.{None, Numbers, Option, Some, arith, both_ways, cases_Bool, count_of, false, inl}
 use Rattle.driver_laws.proofs.Prelude.{inr, is_free, left, refl, suc, true, zero, ℕ, ⊎_elim, ◌+◌, ◌-◌, ◌<◌, ◌≡◌, ◌≢◌}
 use Rattle.driver_laws.proofs.Prelude.{◌≤◌, ◌⊎◌}
@@ -13,7 +13,7 @@ all_free a first count free =
     true_from_ne_false (are_free a first count) (λ taken.
     let (k, below, is) = one_taken a first count (is_free a first) refl taken in both_ways _ is (free k below))
 
--- A search that gets past a run finds a run, and finds none after that run.
+-- If a free run begins at `n` within the range searched, the search finds a run that begins no later than `n`.
 by_run : (a : Numbers) (count number left n : ℕ) → number ≤ n → n < number + left → are_free a n count ≡ true
     → (m : ℕ) × (run_from a count number left ≡ Some m) × (m ≤ n)
 unfolding run_from
@@ -32,7 +32,7 @@ run_finds a count from n some low free =
     by_run a count from (a.first + count_of a - from) n (omega (arith, low, within.0)) (omega (arith, low, within.1))
     (all_free a n count free)
 
--- The search finds two runs.
+-- Lemmas: the search finds two runs.
 
 among_low : (a : Numbers) (count number left n : ℕ) → run_from a count number left ≡ Some n → number ≤ n
 unfolding run_from

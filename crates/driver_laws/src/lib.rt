@@ -2,11 +2,9 @@
 //! The module `starting` contains the laws about the driver's start, and about its receive and transmit halves after
 //! the start.
 //!
-//! Each law is the contract of a function that does nothing. A driver begins well in a history if two conditions hold
-//! just before its first access. Its port and queue number identify the watched queue, and the device's frame limit is
-//! the driver's packet limit (`specs/Start`). `specs/Course` defines the histories over which a driver is started, and
-//! when packets and frames are in order. `specs/Life` defines a life by the calls of the driver's pass, and
-//! `specs/Reported` by what the driver's calls return. `specs/Lends` is about the blocks that the driver lends.
+//! Each law is the contract of a function that does nothing. `specs/Course` defines the histories over which a driver
+//! is started, and when packets and frames are in order. `specs/Life` defines a life by the calls of the driver's pass,
+//! and `specs/Reported` by what the driver's calls return. `specs/Lends` is about the blocks that the driver lends.
 //! `specs/InHand` defines the history of a device in hand. `specs/Order` states what holds for a life over a history of
 //! a shared device. `specs/Faultless` states that neither the driver's start nor its calls fail with `DeviceFault`.
 //! `specs/Looks` is about polls that find no packet, and `specs/Waits` about polls that find a packet waiting.
@@ -17,6 +15,9 @@
 //! driver's rings. `specs/Beside` is about a driver whose author makes any other calls alongside it. For such a driver,
 //! `specs/BesideApart` is about its blocks, `specs/BesideRoom` about its full ring, `specs/BesideStart` about its
 //! start, and `specs/BesideStop` about its stop.
+//!
+//! A driver begins well in a history if two conditions hold just before its first access. Its port and queue number
+//! identify the watched queue, and the device's frame limit is the driver's packet limit (`specs/Start`).
 #![tactic(auto)]
 
 ghost use Rattle.driver_laws.specs.Beside as beside;
@@ -93,9 +94,9 @@ pub fn lives_lend_apart()
 /// sends, and so none fails with `DeviceFault`. Nor does a `tx_burst` that returns the number of accepted packets get
 /// such a reply. The premises: The history is legal and leaves the queue alone, and the driver begins well in it.
 /// Between the driver's calls, the driver's author may make any harmless calls through the same pass. Just before the
-/// driver's first access, each frame that waits for the queue fits the blocks of one of the driver's packets. At that
-/// point, none of the arena's blocks that the driver's pass tries to lend is already lent. After the pass's first
-/// entry, no other pass tries to lend any of these blocks.
+/// driver's first access, each frame that waits for the queue fits the blocks that one of the driver's packets may
+/// take. At that point, none of the arena's blocks that the driver's pass tries to lend is already lent. After the
+/// pass's first entry, no other pass tries to lend any of these blocks.
 pub fn no_call_finds_the_device_at_fault()
     ensures finds { NoCallFindsFault }
     ensures meets { NoBurstMeetsFault }
@@ -163,21 +164,20 @@ pub fn empty_look_leaves_nothing()
 /// Suppose that a driver call in a life ends with a packet outstanding, as a call to `reap` does if it doesn't report
 /// idle. Then the call's last event was a poll. When the call's own first event occurred, some of what the driver had
 /// accepted had not yet been sent. Before that event, other passes may have made any calls, and the driver's own pass
-/// may have made harmless calls. The same follows only from what the calls of a `pmd_driver::Pmd` return; nothing else
-/// about the calls needs to be known.
+/// may have made harmless calls. What the calls of a `pmd_driver::Pmd` return is enough to derive the same.
 pub fn waiting_look_leaves_some_unsent()
     ensures before { WaitingIsNotAllBefore }
     ensures reported { WaitingIsNotAllAsReported }
 {}
 
-/// Packets and frames are in order over a history as in `life_in_order`. Unlike that law, this one assumes nothing
-/// about the driver's calls except what the calls of a `pmd_driver::Pmd` return. A `start` returned the driver. Calls
-/// to `rx`, `tx`, `reap`, `rx_burst`, `tx_burst`, `packet` and `release` followed, in any order and with any results.
-/// Between these calls, the pass may have made harmless calls, for example arrivals of frames. The packets that the
-/// driver handed out are a prefix of those delivered. Suppose that `rx` returns none, or that `rx_burst` returns 0
-/// although packets were requested. Then the packets handed out are all those delivered before the call's last poll,
-/// and so all those delivered before the call's first event. The frames sent are a prefix of those that the driver
-/// accepted. If no packet is outstanding, for example if `reap` reports this, all accepted frames were sent.
+/// Packets and frames are in order over a history as in `life_in_order`. Unlike that law, this one relies only on what
+/// the calls of a `pmd_driver::Pmd` return. A `start` returned the driver. Calls to `rx`, `tx`, `reap`, `rx_burst`,
+/// `tx_burst`, `packet` and `release` followed, in any order and with any results. Between these calls, the pass may
+/// have made harmless calls, for example arrivals of frames. The packets that the driver handed out are a prefix of
+/// those delivered. Suppose that `rx` returns none, or that `rx_burst` returns 0 although packets were requested. Then
+/// the packets handed out are all those delivered before the call's last poll, and so all those delivered before the
+/// call's first event. The frames sent are a prefix of those that the driver accepted. If no packet is outstanding, for
+/// example if `reap` reports this, all accepted frames were sent.
 pub fn driver_in_order()
     ensures handed { reported.HandedIsPrefix }
     ensures none { reported.NoneIsAllBefore }

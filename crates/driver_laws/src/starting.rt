@@ -232,11 +232,10 @@ pub fn calls_lead_both_halves()
 /// After that point, the driver's pass makes only the calls of the halves and calls that leave the queue alone. The
 /// packets that the driver returned are a prefix of those delivered since that point. If the next poll finds its slot
 /// not done, each delivered packet was returned, or is complete and will be returned when the tail advances. If, in
-/// addition, no packet is complete, all delivered packets were returned. Now suppose that no packet was returned since
-/// a second, later point either. Then all packets delivered before that second point had been returned by then. The
-/// frames sent since the first point are a prefix of those that the driver accepted, and all of them if no packet is
-/// outstanding. If the transmit side is enabled at the first point, all of these frames are counted since the side was
-/// enabled.
+/// addition, no packet is complete, all delivered packets were returned. If, moreover, no packet was returned after
+/// some second, later point, all packets delivered before the second point had been returned by then. The frames sent
+/// since the first point are a prefix of those that the driver accepted, and all of them if no packet is outstanding.
+/// If the transmit side is enabled at the first point, all of these frames are counted since the side was enabled.
 pub fn both_sides_in_order()
     ensures handed { HandedIsPrefix }
     ensures taken { NoneIsAllTaken }

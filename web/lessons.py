@@ -64,7 +64,7 @@ def read_one(path: Path) -> Lesson:
 
 
 def joined(text: str) -> str:
-    """Joins each paragraph to one line."""
+    """Joins the lines of each paragraph into one."""
     return "\n\n".join(" ".join(one.split()) for one in re.split(r"\n\s*\n", text))
 
 

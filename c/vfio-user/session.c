@@ -238,7 +238,7 @@ static int raise_each(struct work *it, struct vectors *to, uint32_t start, uint3
     return 0;
 }
 
-/* Sets the file with which the client unmasks the line, or removes it if there is none. */
+/* Sets the eventfd with which the client unmasks the line. If the message contains none, removes the current one. */
 static int give_unmask(struct work *it)
 {
     int file = take_file(it->message, 0);

@@ -30,7 +30,7 @@ void pass_datagrams(const struct interface *it, unsigned int count);
    and reports a fault for each. Waits after each datagram until the driver has reset its card. */
 void pass_offloaded(const struct interface *it, unsigned int count);
 
-/* Checks which destination addresses are received as the interface's filters change. */
+/* Checks which destination addresses are accepted as the interface's filters change. */
 void pass_filters(const struct interface *it);
 
 #endif

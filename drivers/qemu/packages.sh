@@ -62,7 +62,7 @@ archives() {
     apt-get "${APT[@]}" -y --print-uris "$@" 2>"$at/log" | sed -n "/^'/p" >"$at/uris" || die "$name: see $at/log"
     count=$(wc -l <"$at/uris")
     total=$(awk '{ bytes += $3 } END { printf "%d", bytes / 1048576 + 1 }' "$at/uris")
-    say "$name: getting $count $([ "$count" = 1 ] && echo package || echo packages) of $from, $total MB"
+    say "$name: fetching $count $([ "$count" = 1 ] && echo package || echo packages) from $from, $total MB"
     watched "$total" "$name" "$at/archives" "$at/log" apt-get "${APT[@]}" -y "$@" || die "$name: see $at/log"
     for deb in "$at"/archives/*.deb; do
         (cd "$at/archives" && sha256sum "$(basename "$deb")") >>"$at/packages.new"

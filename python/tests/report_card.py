@@ -30,10 +30,10 @@ LACKS = {
     "reclaim": {"no reclaim"},
     "rearm": set(),
     "thread": set(),
-    "suspend": {"no suspend and resume"},
-    "resume": {"no suspend and resume"},
-    "mailbox_send": {"no mailbox_send and mailbox_receive"},
-    "mailbox_receive": {"no mailbox_send and mailbox_receive"},
+    "suspend": {"no suspend or no resume"},
+    "resume": {"no suspend or no resume"},
+    "mailbox_send": {"no mailbox_send or no mailbox_receive"},
+    "mailbox_receive": {"no mailbox_send or no mailbox_receive"},
 }
 
 # The entry for a driver with Can.SHARED_DEVICE.

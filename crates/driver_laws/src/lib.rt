@@ -91,12 +91,12 @@ pub fn lives_lend_apart()
 {}
 
 /// After the driver's start, no call to `rx`, `tx`, `reap`, `rx_burst` or `tx_burst` gets a reply that no healthy queue
-/// sends, and so none fails with `DeviceFault`. Nor does a `tx_burst` that returns the number of accepted packets get
-/// such a reply. The premises: The history is legal and leaves the queue alone, and the driver begins well in it.
-/// Between the driver's calls, the driver's author may make any harmless calls through the same pass. Just before the
-/// driver's first access, each frame that waits for the queue fits the blocks that one of the driver's packets may
-/// take. At that point, none of the arena's blocks that the driver's pass tries to lend is already lent. After the
-/// pass's first entry, no other pass tries to lend any of these blocks.
+/// sends. By their clause `finds`, none therefore fails with `DeviceFault`. Nor does a `tx_burst` that returns the
+/// number of accepted packets get such a reply. The premises: The history is legal and leaves the queue alone, and the
+/// driver begins well in it. Between the driver's calls, the driver's author may make any harmless calls through the
+/// same pass. Just before the driver's first access, each frame that waits for the queue fits the blocks that one of
+/// the driver's packets may take. At that point, none of the arena's blocks that the driver's pass tries to lend is
+/// already lent. After the pass's first entry, no other pass tries to lend any of these blocks.
 pub fn no_call_finds_the_device_at_fault()
     ensures finds { NoCallFindsFault }
     ensures meets { NoBurstMeetsFault }

@@ -94,7 +94,7 @@ fault_at pc field.Opcode = Opcode pc
 fault_at pc field.Operand = Operand pc
 fault_at pc field.Target = Target pc
 
--- The instruction with this number, or its fault, together with the number.
+-- The instruction with this number or, if it is faulty, its fault together with the number.
 abbrev pub at_pc : {A : Type 0} → ℕ → Result A FieldFault → Result A ObjectFault
 at_pc pc (Ok x) = Ok x
 at_pc pc (Err fault) = Err (fault_at pc fault)

@@ -90,8 +90,8 @@ own_again {q = q} {old = old} {m = m} {later = later} {ahead = ahead} {own = own
 pub retagged_along : {w : Watched} {origin : State} {h g : List Entry} → IsRetagged w origin h g → IsAlong w origin g
 retagged_along {origin = origin} {h = h} {g = g} x = grind (arith, common_steps, events_same, legal_same)
 
--- Lemmas about a start that never fails with `DeviceFault` after its first event, because none of its blocks is lent
--- just before it.
+-- Lemmas about a start that never fails with `DeviceFault` at or after its first event, because none of its blocks is
+-- lent just before it.
 
 abbrev apart : BeginsBeside → BeginsApart
 apart x = record {

@@ -1,5 +1,5 @@
--- A driver's start doesn't fail with `DeviceFault` after its first event, whatever other calls its author makes before
--- and alongside it.
+-- A driver's start doesn't fail with `DeviceFault` at or after its first event, whatever other calls its author makes
+-- before and alongside it.
 use Rattle.std.specs.Prelude.{◌++◌, ◌≡◌, ◌≢◌, List, ℕ}
 use Rattle.driver_laws.specs.StartPrelude.{AreUp, AtPort, Call, DeviceFault, Entry, Numbers, Running, StartRefused}
 use Rattle.driver_laws.specs.StartPrelude.{StopsStarting, calls_of}
@@ -37,7 +37,7 @@ pub record BeginsBeside : Type 0 where
 abbrev pub NoFillingFindsFault : Type 0
 NoFillingFindsFault = (x : BeginsBeside) → ¬ FaultsFilling x.q x.size x.frame x.old x.a x.new
 
--- No start of this kind fails with `DeviceFault` after its first event.
+-- No start of this kind fails with `DeviceFault` at or after its first event.
 abbrev pub NoStartFindsFault : Type 0
 NoStartFindsFault =
     (x : BeginsBeside) (e : StartRefused) → StopsStarting x.q x.size x.frame x.old x.a x.new e → e.fault ≢ DeviceFault

@@ -3,8 +3,7 @@ use Rattle.std.specs.Prelude.{[], ◌++◌, ◌∷◌, ◌≡◌, Contains, List
 use Rattle.driver_laws.specs.StartPrelude.{Call, Entry, calls_of}
 use Rattle.pmd_driver.specs.DeviceLock.{Closing.Closes, Pass.PassValue}
 
--- The list contains this pass in its final state: it has made the calls that it had made here, and perhaps more after
--- them.
+-- The list contains this pass, perhaps in a later state: with the calls that it had made, and perhaps more after them.
 pub record IsAmong (ps : List PassValue) (pass : PassValue) : Type 0 where
   pub later : PassValue
   pub among : Contains ps later

@@ -90,7 +90,7 @@ pub record BeginsApart : Type 0 where
 abbrev pub NoFillingFindsFault : Type 0
 NoFillingFindsFault = (x : BeginsApart) → ¬ FaultsFilling x.q x.size x.frame x.old x.a x.new
 
--- No start of this kind fails with `DeviceFault` after its first event.
+-- No start of this kind fails with `DeviceFault` at or after its first event.
 abbrev pub NoStartFindsFault : Type 0
 NoStartFindsFault =
     (x : BeginsApart) (e : StartRefused) → StopsStarting x.q x.size x.frame x.old x.a x.new e → e.fault ≢ DeviceFault

@@ -10,9 +10,9 @@ abbrev pub doers_of : (own : Blocks) (old : List Call) (h : Halves) (new : List 
     → List Doer
 doers_of own old h new f = f.drives.drives.0 ++ (doers_other f.adds.0 ++ f.doer ∷ [])
 
--- Take a history that drives the halves, and in which no other pass tries to lend a block of `own`. No driver call in
--- this history ends with a reply that no healthy queue sends. The premise: The calls before that call lend only what
--- the driver's calls may lend.
+-- Take a history that drives the halves and shares the blocks of `own` with no other pass, as `IsUnshared` says. No
+-- driver call in this history ends with a reply that no healthy queue sends. The premise: The calls before the driver
+-- call lend only what the driver's calls may lend.
 abbrev pub NoFault : Type 0
 NoFault =
     (w : Watched) (origin : State) (start rest more : List Entry) (h : Halves) (doers : List Doer) (own : Blocks)

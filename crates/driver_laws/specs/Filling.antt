@@ -63,7 +63,7 @@ LendsFresh w origin h q size frame old a new (inl x) = NoneIsLent w origin h new
 LendsFresh w origin h q size frame old a new (inr (inl x)) = NoneIsLent w origin h new x.arena
 LendsFresh w origin h q size frame old a new (inr (inr x)) = ⊤
 
--- A start that fails with `DeviceFault` after its first event fails either before both sides are on or while it fills
+-- A start that fails with `DeviceFault` at or after its first event fails before both sides are on or while it fills
 -- the receive ring.
 abbrev pub FaultsAreEarlyOrFilling : Type 0
 FaultsAreEarlyOrFilling =

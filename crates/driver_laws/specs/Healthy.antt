@@ -23,7 +23,8 @@ lent_by h = either (received.has_lent h.receive) (sending.has_lent h.transmit)
 
 -- A history that drives the halves, and in which no other pass tries to lend a block of `own` after the first entries
 -- (`start`). At the end of these first entries, the frames that wait for the queue fit the blocks that the driver takes
--- for a packet. At that point, only the blocks of `own` that the halves have lent are lent.
+-- for a packet. So do all frames that the device accepts. At that point, only the blocks of `own` that the halves have
+-- lent are lent.
 pub record IsUnshared (w : Watched) (origin : State) (start rest : List Entry) (h : Halves) (doers : List Doer)
     (own : Blocks) : Type 0 where
   pub driven : IsDriven w origin start rest h doers

@@ -34,7 +34,7 @@ abbrev pub are_off : Sides → Bool
 are_off p =
     (not (p.side Rx).on && not (p.side Rx).wanted) && (not (p.side Tx).on && not (p.side Tx).wanted)
 
--- Two sides that are off with no enable request pending are at rest in that state, with no ring block lent.
+-- Two sides that are off with no enable request pending are at rest in that state.
 abbrev pub QuietSidesStand : Type 0
 QuietSidesStand =
     (w : Watched) (q : AtPort) (frame : ℕ) (origin : State) (h : List Entry) (calls : List Call) → IsAlong w origin h →

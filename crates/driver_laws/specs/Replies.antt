@@ -7,7 +7,7 @@ use Rattle.pmd_driver.specs.NicDevice.declared.event.Event.TheVariants as event
 use Rattle.pmd_driver.specs.NicDevice.declared.event.Reply.TheVariants as reply
 
 -- Suppose that port and queue number identify a queue of the device. A read of one of the queue's registers that a
--- driver uses returns a value, and a write to that register gets the reply `done`.
+-- driver uses returns a value, and a write to that register gets the reply `Done`.
 pub record RegistersReply (queue : ℕ) (q : AtPort) (s : State) (row : RowId) (number : ℕ) : Type 0 where
   pub read : (word : ℕ) × (reply_to s (event.Read q.port number) ≡ reply.Word word)
   pub write : (word : ℕ) → reply_to s (event.Write q.port number word) ≡ reply.Done

@@ -26,7 +26,7 @@ SwitchesOff q old h new (rest.Running p) (Some f) (after, is, inr (inl unswitche
 SwitchesOff q old h new (rest.Running p) (Some f) (after, is, inr (inr (mid, switched, during))) off = off ≡ mid
 
 -- If the driver's start brought both rings up and the driver was later stopped, nothing is delivered or sent on the
--- queue after that point. This covers the rest of the stop, up to any point during it or after it.
+-- queue after that point. This covers any point during the rest of the stop, and the end of the stop.
 abbrev pub SilentOverStop : Type 0
 SilentOverStop =
     (x : Ended) (off : List Call) (done rest : List Entry) → IsOver x →

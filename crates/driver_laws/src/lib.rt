@@ -102,9 +102,9 @@ pub fn no_call_finds_the_device_at_fault()
     ensures meets { NoBurstMeetsFault }
 {}
 
-/// No start fails with `DeviceFault` after its first event, whether it is filling its receive ring at the time or not.
-/// The premises are those of `no_call_finds_the_device_at_fault`. In addition, just before the driver's first access,
-/// both sides of the queue are off with no enable request pending.
+/// No start fails with `DeviceFault` at or after its first event, whether it is filling its receive ring at the time or
+/// not. The premises are those of `no_call_finds_the_device_at_fault`. In addition, just before the driver's first
+/// access, both sides of the queue are off with no enable request pending.
 pub fn no_start_finds_the_device_at_fault()
     ensures filling { NoFillingFindsFault }
     ensures during { NoStartFindsFault }
@@ -164,7 +164,8 @@ pub fn empty_look_leaves_nothing()
 /// Suppose that a driver call in a life ends with a packet outstanding, as a call to `reap` does if it doesn't report
 /// idle. Then the call's last event was a poll. When the call's own first event occurred, some of what the driver had
 /// accepted had not yet been sent. Before that event, other passes may have made any calls, and the driver's own pass
-/// may have made harmless calls. What the calls of a `pmd_driver::Pmd` return is enough to derive the same.
+/// may have made harmless calls. The same follows from what the calls of a `pmd_driver::Pmd` return; nothing else about
+/// the calls needs to be known.
 pub fn waiting_look_leaves_some_unsent()
     ensures before { WaitingIsNotAllBefore }
     ensures reported { WaitingIsNotAllAsReported }
@@ -226,7 +227,7 @@ pub fn driver_among_any_calls_keeps_its_blocks()
     ensures once { apart.EachInOnePlace }
 {}
 
-/// No start of a driver as in `driver_among_any_calls_in_order` fails with `DeviceFault` after its first event,
+/// No start of a driver as in `driver_among_any_calls_in_order` fails with `DeviceFault` at or after its first event,
 /// whatever calls the driver's author made before. The conditions are those of
 /// `driver_among_any_calls_keeps_its_blocks`. In addition, just before the driver's first access, both sides of its
 /// queue are off with no enable request pending. A start that brings both rings up adds calls to those already made,

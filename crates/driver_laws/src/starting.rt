@@ -56,14 +56,14 @@ pub fn set_up_is_written()
     ensures bytes { BytesAreLowestFirst }
 {}
 
-/// If a start is refused before any event, its fault is the first of the following that applies. `BadSize`: a ring
-/// would have fewer than 8 descriptors, more than 1,024, or a number that isn't a multiple of 8; or the limit on a
-/// frame's length would be below 1,518 or above 9,728 bytes. `NoBuffer`: too few blocks are free. The start needs one
-/// for each slot except one, plus one for each 128 descriptors of both rings. `DeviceFault`: these blocks and two runs
-/// for the rings are free, but the queue number is beyond those that the port can address. A packet is refused for the
-/// first of the following reasons. `BadSize`: the packet is empty, longer than the limit, or longer than the total of
-/// its 2,048-byte blocks. `ForeignBlock`: the packet's blocks can't be returned to the arena, or another ring has one
-/// of them. Full ring: with this packet, no slot of the ring would be left free.
+/// A start is refused before any event if one of the following faults applies; it then fails with the first that
+/// applies. `BadSize`: a ring would have fewer than 8 descriptors, more than 1,024, or a number that isn't a multiple
+/// of 8; or the limit on a frame's length would be below 1,518 or above 9,728 bytes. `NoBuffer`: too few blocks are
+/// free. The start needs one for each slot except one, plus one for each 128 descriptors of both rings. `DeviceFault`:
+/// these blocks and two runs for the rings are free, but the queue number is beyond those that the port can address. A
+/// packet is refused for the first of the following reasons. `BadSize`: the packet is empty, longer than the limit, or
+/// longer than the total of its 2,048-byte blocks. `ForeignBlock`: the packet's blocks can't be returned to the arena,
+/// or another ring has one of them. Full ring: with this packet, no slot of the ring would be left free.
 pub fn refusals_have_an_order()
     ensures starts { StartsHaveAnOrder }
     ensures packets { PacketsHaveAnOrder }
@@ -115,10 +115,10 @@ pub fn accesses_keep_sides_standing()
     ensures lend { LendStands }
 {}
 
-/// Suppose that the register values of a fresh ring are written, and that the ring's blocks are lent and all zero. The
-/// tail number that the driver uses identifies the side's tail register. Then the device and the driver agree, whether
-/// the side is enabled or disabled. On the receive side, they agree that nothing is posted. On the transmit side, they
-/// agree that nothing is sent, if the device's frame limit is the driver's.
+/// Suppose that the register values of a fresh ring are written, and that the ring's blocks are lent and all zero.
+/// Suppose also that the tail number that the driver uses identifies the side's tail register. Then the device and the
+/// driver agree, whether the side is enabled or disabled. On the receive side, they agree that nothing is posted. On
+/// the transmit side, they agree that nothing is sent, if the device's frame limit is the driver's.
 pub fn fresh_sides_agree()
     ensures receive { FreshReceiveAgrees }
     ensures transmit { FreshTransmitAgrees }
@@ -191,7 +191,7 @@ pub fn named_queues_pass_the_gate()
 {}
 
 /// If port and queue number identify a queue of the device, a driver's reads of the queue's registers return values,
-/// and its writes to these registers get the reply `done`. If both sides are disabled with no enable request pending, a
+/// and its writes to these registers get the reply `Done`. If both sides are disabled with no enable request pending, a
 /// read of an enable word returns bit 25 as 0.
 pub fn replies_at_a_start_are_healthy()
     ensures registers { NamedRegistersReply }
@@ -208,9 +208,10 @@ pub fn starts_find_no_device_at_fault()
     ensures switch { SwitchingIsNeverStray }
 {}
 
-/// If a start fails with `DeviceFault` after its first event, it fails before both sides are enabled, or while it fills
-/// its receive ring. Over a history as in `starts_find_no_device_at_fault`, it never fails before both sides are
-/// enabled. Over such a history, the device and the driver agreed on both sides when the start began to fill the ring.
+/// If a start fails with `DeviceFault` at or after its first event, it fails before both sides are enabled or while
+/// filling its receive ring. Over a history as in `starts_find_no_device_at_fault`, it never fails before both sides
+/// are enabled. Over such a history, the device and the driver agreed on both sides when the start began to fill the
+/// ring.
 pub fn faults_at_a_start_come_filling()
     ensures cases { FaultsAreEarlyOrFilling }
     ensures early { NoFaultIsEarly }

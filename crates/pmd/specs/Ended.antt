@@ -21,7 +21,7 @@ abbrev pub is_shut_out : WorkerFault → Bool
 is_shut_out GateShut = true
 is_shut_out other = false
 
--- The fault that ended the worker's rounds early. If there is none, the fault for which the stop was refused, if any.
+-- The fault that ended the worker's rounds early. If there is none, the fault with which the stop failed, if any.
 abbrev pub first_fault : Result (Unit {0}) WorkerFault → Option PmdFault → Option WorkerFault
 first_fault (Err fault) late = Some fault
 first_fault (Ok done) None = None

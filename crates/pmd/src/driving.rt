@@ -114,8 +114,8 @@ fn end<N: Nic>(alloc: Global, nic: &mut N, rest: Rest) -> Rest
     }
 }
 
-/// Returns the fault that ended the worker's rounds early. If there is none, returns the fault for which the stop was
-/// refused, if any.
+/// Returns the fault that ended the worker's rounds early. If there is none, returns the fault with which the stop
+/// failed, if any.
 fn first_fault(worked: Result<(), WorkerFault>, late: Option<PmdFault>) -> Option<WorkerFault>
     ensures { result ≡ first_fault worked late }
 {

@@ -166,10 +166,10 @@ fn run_in<R: Threads + Wait + Sync, G: Gate + Sync, const VFS: u8, const FIFO: u
 /// true of the result's pass and the job. If the result has a fault, `never_asked_on` must be true too. The result is
 /// then in order over the returned history.
 ///
-/// A job isn't refused if its `pf_queue` isn't the queue that its port and queue number identify. Which queue they
-/// identify depends on the device's mode when the job's worker starts, and others may run steps that serve that queue.
-/// If nobody does, the worker ends with `StartTimeout` after 1,000 polls that show a side off. If port and queue number
-/// identify no queue, the worker ends with `DeviceFault`. `Job::steps_its_queue` checks this in advance.
+/// A job isn't refused just because its `pf_queue` isn't the queue that its port and queue number identify. Which queue
+/// they identify depends on the device's mode when the job's worker starts, and others may run steps that serve that
+/// queue. If nobody does, the worker ends with `StartTimeout` after 1,000 polls that show a side off. If port and queue
+/// number identify no queue, the worker ends with `DeviceFault`. `Job::steps_its_queue` checks this in advance.
 ///
 /// The contract doesn't specify how often a worker looks, what it sends, which points it passes, or why the last frames
 /// don't arrive; tests check these facts.

@@ -71,8 +71,8 @@ abbrev pub segments_in : List Packet → List Segment
 segments_in [] = []
 segments_in (p ∷ ps) = segments_of (outgoing_of p) ++ segments_in ps
 
--- The arena after these packets were accepted, in order, and those of their blocks that contain no bytes of the packet
--- were returned to the arena.
+-- The arena after these packets were accepted, in order, and each packet's blocks that contain none of its bytes were
+-- returned to the arena.
 abbrev pub with_rests : Numbers → List Packet → Numbers
 with_rests a [] = a
 with_rests a (p ∷ ps) = with_rests (with_all_free a (drop (parts_for p.len) (numbers_of p.bufs))) ps
@@ -135,7 +135,7 @@ pub record SendsBurst (given left : List Packet) (result : Result ℕ PmdFault) 
     (new : List Call) (s : Running) : Type 0 where
   pub gone : List Packet
   pub waiting : List Packet
-  -- The fault met by the last accepted packet or by the packet after it, if any.
+  -- The fault met by the last accepted packet or by the first packet that wasn't accepted, if any.
   pub met : Option PmdFault
   -- The first packets, as many as reported, were accepted and are now the newest accepted packets.
   pub given_are : given ≡ gone ++ waiting

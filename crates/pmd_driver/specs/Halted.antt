@@ -28,7 +28,8 @@ pub record Halted : Type 0 where
 abbrev pub all_out : Halted → List ℕ
 all_out h = h.way.lent ++ h.held
 
--- No block is in use twice, or both in use and free in the arena. The number of lost blocks fits in 32 bits.
+-- The arena owns all blocks in use. No block is in use twice, or both in use and free in the arena. The number of lost
+-- blocks plus the number of lent blocks fits in 32 bits.
 pub record IsHalted (h : Halted) : Type 0 where
   pub home : AreOut h.arena (all_out h)
   pub few : h.way.lost + length h.way.lent < 4294967296

@@ -15,7 +15,8 @@ use Rattle.pmd_driver.specs.Bursts.{Accepts, AreLeft, FailsDuring, IsRefusedFirs
 use Rattle.pmd_driver.specs.Halves.{halves_of}
 use Rattle.pmd_driver.specs.Running.{Running}
 
--- `sent` packets were queued. The last queued packet, or the packet after it, met the fault `met`, if any.
+-- `sent` packets were queued. The last queued packet, or the first packet that wasn't queued, met the fault `met`, if
+-- any.
 pub record Queues (given left : List Packet) (sent : ℕ) (met : Option PmdFault) (old : List Call) (r : Running)
     (new : List Call) (s : Running) : Type 0 where
   pub gone : List Packet

@@ -43,8 +43,8 @@ pub record HasPlaces (a : Numbers) (size frame receive transmit : ℕ) : Type 0 
   pub runs : AreRuns a (blocks_for size) receive transmit
   pub enough : size - 1 + 2 * blocks_for size ≤ free_count a
 
--- The receive ring is empty. The arena owns its blocks, which are all different, and none of them is free there. At
--- least one block is free for each slot in the ring except one.
+-- The receive ring is empty. The arena owns its blocks, and none of them is free there. At least one block is free for
+-- each slot in the ring except one.
 pub record IsEmpty (a : Numbers) (v : Receive) : Type 0 where
   pub empty : v.layout.blocks ≡ []
   pub stage : v.stage ≡ Looks

@@ -27,8 +27,8 @@ kept_out v = blocks_of v.outstanding ++ ring_blocks v.layout.ring v.layout.size
 abbrev pub rings_out : Running → List ℕ
 rings_out r = blocks_out r.receive ++ kept_out r.transmit
 
--- No block is in use twice, or both in use and free in the arena. The receive ring is filled, and the transmit ring has
--- at least one slot.
+-- The arena owns all blocks in use. No block is in use twice, or both in use and free in the arena. The receive ring is
+-- filled, and the transmit ring has at least one slot.
 pub record IsUp (r : Running) : Type 0 where
   pub home : AreOut r.arena (rings_out r)
   pub filled : IsRunning r.receive

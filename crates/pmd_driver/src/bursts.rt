@@ -16,8 +16,8 @@ use pmd_tx::{TxAnswer, TxFault};
 use std::alloc::Global;
 use std::collections::VecDeque;
 
-/// The number of packets queued, and the fault that stopped the burst, if any. The last packet queued, or the packet
-/// after it, met this fault.
+/// The number of packets queued, and the fault that stopped the burst, if any. The last queued packet, or the first
+/// packet that wasn't queued, met this fault.
 pub(crate) struct Queued {
     pub(crate) sent: u16,
     pub(crate) met: Option<PmdFault>,
@@ -43,12 +43,12 @@ impl Running {
     ) -> Result<u16, PmdFault>
         ensures drives { DrivesRings (N.made nic.old) self.old (N.made nic.new) self.new }
         // As many packets as reported were accepted in order from the front of the list, and removed. The others are
-        // unchanged, with one exception: if the device sent a wrong reply when the first remaining packet was lent,
-        // that packet may be in other blocks with the same numbers. The tail is advanced only after all accepted
-        // packets are queued. If the call returns no fault, the tail has passed all outstanding packets. The burst
-        // stops only for one of these reasons: no packet remains, the ring has no room for the next packet, the next
-        // packet is refused before any event, or a call met a fault during its events. If the first packet is refused
-        // in this way, no event occurs after the call has made room.
+        // unchanged, with one exception. If a wrong reply of the device stopped the burst, the clause promises only the
+        // block numbers of the first remaining packet. The tail is advanced only after all accepted packets are queued.
+        // If the call returns no fault, the tail has passed all outstanding packets. The burst stops only for one of
+        // these reasons: no packet remains, the ring has no room for the next packet, the next packet is refused before
+        // any event, or a call met a fault during its events. If the first packet is refused in this way, no event
+        // occurs after the call has made room.
         ensures sent { IsSendBurst vacant packets.old.items packets.new.items result (N.made nic.old) self.old
             (N.made nic.new) self.new }
         ensures blocks { KeepsUp self.old (numbers_of_all packets.old.items) self.new

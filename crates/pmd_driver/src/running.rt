@@ -48,9 +48,9 @@ impl Model for Running {
 }
 
 impl Running {
-    /// Creates a driver from two rings that are up. The arena owns the rings' blocks, which are all different, and none
-    /// of them is free there. In the receive ring, every slot is posted except one vacant slot and the slots of packets
-    /// that the driver has received, wholly or in part, but not handed out. The transmit ring has at least one slot.
+    /// Creates a driver from two rings that are up. The arena owns the rings' blocks, and none of them is free there.
+    /// In the receive ring, one slot is vacant. The slots of parts that were taken, but whose packets weren't handed
+    /// out, aren't posted. All other slots are posted. The transmit ring has at least one slot.
     pub fn new(arena: Arena, receive: ReceiveRing, transmit: TransmitRing) -> Running
         requires { IsUp (record { arena = arena; receive = receive; transmit = transmit }) }
         ensures { result ≡ record { arena = arena; receive = receive; transmit = transmit } }

@@ -30,8 +30,9 @@ pub record Layout : Type 0 where
 
 -- The driver's state. `layout` is the ring, and `handed` lists the packets handed out. `seen` is what the descriptors
 -- reported, starting at the next slot. `held` is the packet with some parts taken, and `whole` lists the complete
--- packets. `named` lists the blocks that descriptors after the tail name. The named blocks replace the blocks of the
--- complete packets. When the tail advances, named blocks are posted and complete packets are handed out.
+-- packets. `named` lists the blocks that descriptors after the tail name, and `stage` is the driver's stage. The named
+-- blocks replace the blocks of the complete packets. When the tail advances, named blocks are posted and complete
+-- packets are handed out.
 pub record Receive : Type 0 where
   pub layout : Layout
   pub handed : List Kept

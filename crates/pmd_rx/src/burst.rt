@@ -112,13 +112,13 @@ impl ReceiveRing {
     ///
     /// If a refused call left a packet with only some of its parts taken, `receive` finishes only this packet and looks
     /// at no slot. If packets are already complete, because a tail write was refused, `receive` returns the oldest and
-    /// only writes the tail. The contract doesn't promise that `receive` then looks at no slot, nor that it causes no
-    /// other event.
+    /// only writes the tail. However, the contract doesn't promise that `receive` then looks at no slot, or that it
+    /// causes no other event.
     ///
     /// Fails with `NoBuffer` only if a packet is waiting and too few blocks are free to replace its parts. The driver
-    /// is then unchanged except for what it has seen. Fails with `DeviceFault` if a reply is one that a healthy queue
-    /// never sends. Fails with `Call` if a call was refused, or if there was no memory to keep what the driver saw or
-    /// the packet's record; the driver keeps its position, and the next call continues from there.
+    /// is then unchanged except for what it has seen and its stage. Fails with `DeviceFault` if a reply is one that a
+    /// healthy queue never sends. Fails with `Call` if a call was refused, or if there was no memory to keep what the
+    /// driver saw or the packet's record; the driver keeps its position, and the next call continues from there.
     pub fn receive<N: Nic>(
         &mut self,
         alloc: Global,
@@ -154,8 +154,8 @@ impl ReceiveRing {
     /// Receives the next packets in order, up to `most`. Fresh blocks from the arena replace the packets' blocks and
     /// are posted with one tail write. Appends the packets to `out` and returns their number. This number is 0 only if
     /// `most` is 0 or the slot after those already seen isn't done. The contract doesn't specify how many packets, from
-    /// 1 to `most`, the call returns. It specifies neither that one tail write posts all the blocks nor when the call
-    /// looks at no slot.
+    /// 1 to `most`, the call returns. Nor does it promise that one tail write posts all the blocks, or specify when the
+    /// call looks at no slot.
     ///
     /// If a slot isn't done, no posted slot remains, or a device call fails, `receive_burst` stops early and returns
     /// the packets received so far; the next call continues from there. If packets are already complete, because a tail

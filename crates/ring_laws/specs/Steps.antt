@@ -80,8 +80,8 @@ ReceiveStepKeeps =
     SparesBlocks queue v (reply_to s event.RxStep) →
     Agree queue (after s event.RxStep) (out ++ pieces queue s event.RxStep) v
 
--- The event leaves unchanged everything that `Leaves` lists, except whether the side is on and whether an enable
--- request is in effect. Such an event keeps the agreement.
+-- An event leaves unchanged everything that `Leaves` lists, except whether the side is on and whether an enable request
+-- is in effect. Such an event keeps the agreement.
 pub record LeavesButOn (queue : ℕ) (v : Receive) (old new : State) : Type 0 where
   pub ring : (receive_queue_of new.registers queue).ring ≡ (receive_queue_of old.registers queue).ring
   pub control : (receive_queue_of new.registers queue).control ≡ (receive_queue_of old.registers queue).control

@@ -36,7 +36,7 @@ pub fn histories_keep_devices_sound()
 {}
 
 /// Suppose that the reply to a transmit step of a sound device reports that the step wrote something back to memory.
-/// Then all written bytes are in the block in which they begin.
+/// Then all of the written bytes are in the block in which they begin.
 #[tactic(auto, using(crate::proofs::Reports::reports_lie))]
 pub fn reports_lie_in_their_blocks()
     ensures { ReportsLieInBlocks }

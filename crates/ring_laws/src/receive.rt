@@ -102,9 +102,10 @@ pub fn own_replies_are_healthy()
 
 /// Suppose that the device and the driver agree, and the side is enabled with no request to disable it pending. Then
 /// the following stays true through every event that writes no setting and doesn't reset the queue's pool. Each of the
-/// queue's frames in the receive list fits the number of slots that the driver takes for a packet, and longer frames
-/// aren't accepted. The written packets fit too. Each written piece except the last of its frame fills its block. A
-/// separate clause is about a disabled side: no byte of a frame that waits for the queue has been written.
+/// queue's frames in the receive list fits the number of slots that the driver takes for a packet. Longer frames aren't
+/// accepted, and the written packets fit too. Each written piece except the last of its frame fills its block. A
+/// separate clause is about a disabled side of a sound device: no byte of a frame that waits for the queue has been
+/// written.
 pub fn fitting_frames_stay_fitting()
     ensures stay { FramesStayFitting }
     ensures off { NoneBegunWhileOff }

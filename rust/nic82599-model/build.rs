@@ -1,4 +1,4 @@
-//! Generates the controller as plain Rust from the repository's sources, with the code that writes the plain edition.
+//! Generates the controller as plain Rust from the repository's sources, using the code that writes the plain edition.
 //! A packed crate contains the generated files and has no build script.
 
 use std::env;
@@ -12,7 +12,7 @@ mod eraser;
 
 /// The repository, relative to the crate's directory.
 const ROOT: &str = "../..";
-/// What the script reads there, besides the sources of the crates.
+/// The files and folders that the script reads in the repository, besides the crates' sources.
 const READ: [&str; 4] = ["crates.txt", "plain/eraser", "plain/instead", "plain/kit"];
 
 fn main() {

@@ -1,8 +1,9 @@
-//! Finds the library that `make -C c` or an installation provides, and links it. It looks where NIC82599_DIR points (a
-//! folder with the archive, or a prefix with it in `lib` or in Debian's multiarch folder); in `c/out` of the clone that
-//! contains this crate, building it if necessary; in the prefix that contains this crate; in the folder that pkg-config
-//! reports. A packed crate contains the library's sources and builds them unless pkg-config offers a library of the
-//! same version. The archive is preferred, so that a program needs no other file.
+//! Finds the library that `make -C c` or an installation provides, and links it. It looks in the folder that
+//! NIC82599_DIR names (the archive's own folder, or a prefix with the archive in `lib` or in Debian's multiarch
+//! folder); in `c/out` of the clone that contains this crate, building it if necessary; in the prefix that contains
+//! this crate; in the folder that pkg-config reports. A packed crate contains the library's sources and builds them
+//! unless pkg-config offers a library of the same version. It prefers the archive to the shared library, so that a
+//! program needs no other file.
 //!
 //! Without a library, compiling the crate fails with the reason; its documentation still builds.
 
@@ -12,7 +13,7 @@ use std::io;
 use std::path::{Path, PathBuf};
 use std::process::Command;
 
-const HELP: &str = "`make -C c` in a clone builds it, and a release contains it; NIC82599_DIR can name its folder";
+const HELP: &str = "run `make -C c` in a clone, unpack a release, or set NIC82599_DIR to the library's folder";
 
 /// Each feature that has a separate archive, with the archive's name. An archive precedes the ones that it calls.
 const FEATURES: [(&str, &str); 2] = [("drive", "nic82599_drive"), ("explore", "nic82599_explore")];
@@ -176,7 +177,7 @@ fn check_version(folder: &Path, found: Option<String>) -> Result<(), String> {
 }
 
 /// Links only the needed members of each archive: the explorer's archive also contains the library's memory calls.
-/// (Rust 1.63 would link all of it into tests.)
+/// (By default, Rust 1.63 would link the whole archive into tests.)
 fn link(folder: &Path) -> Result<(), String> {
     println!("cargo:rustc-link-search=native={}", folder.display());
     let archive = folder.join("libnic82599.a");

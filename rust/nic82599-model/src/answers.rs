@@ -4,7 +4,7 @@ use crate::error::{Error, ImageFault, TextFault};
 use crate::event::{Event, Fault, Side, Why};
 use crate::nic_device::{self, AsmFault, Group, LoadFault, NewFault, Reply, ReplyNote, RingFault};
 
-/// Returns the event of a step that did something. A fault is reported for this side of its queue.
+/// Returns the event of a step that did something. `side` is the half of the queue to which a fault is attributed.
 pub(crate) fn event_of(side: Side, reply: &ReplyNote) -> Option<Event> {
     match *reply {
         Reply::Dropped(why) => Some(Event::Dropped(why.into())),

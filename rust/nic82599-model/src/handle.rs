@@ -1,7 +1,8 @@
-//! The controller. Each call returns its answer in the crate's types.
+//! The controller. Each call returns its result in the crate's types.
 //!
-//! A call takes the controller out of its cell and puts it back when it ends. A call can panic only because of a fault
-//! in the model. It then leaves the cell empty: the controller may be half changed, and later calls panic.
+//! A call takes the controller out of its cell, and puts it back before returning. A call can panic only because of a
+//! fault in the model. Such a panic leaves the cell empty, because the controller may be half changed. Later calls then
+//! panic too.
 
 use std::cell::Cell;
 use std::fmt;
@@ -108,7 +109,7 @@ impl Handle {
         self.with(|card| card.peek(Port::Pf, address))
     }
 
-    /// Writes a register. Returns false if the address has none.
+    /// Writes a register. Returns false if there is no register at the address.
     #[inline]
     pub(crate) fn write32(&self, address: u32, word: u32) -> bool {
         !self.with(|card| card.write(Port::Pf, address, word))
@@ -200,7 +201,7 @@ impl Handle {
     }
 
     pub(crate) fn rx_step(&self) -> Option<Event> {
-        self.step(Step::Rx).expect("a receive step takes no memory")
+        self.step(Step::Rx).expect("a receive step allocates no memory")
     }
 
     pub(crate) fn tx_step(&self, queue: u16) -> Result<Option<Event>, Error> {

@@ -46,10 +46,10 @@
 //! lend memory in place, search for races and produce report cards. This crate moves memory by value instead
 //! ([`Nic::exchange`]).
 //!
-//! The controller's sources are proved. This crate is Rust generated from them without their proofs. No proof covers
-//! what rustc compiles from it; tests do. A refused call returns an [`Error`] and changes nothing. No argument panics
-//! except an index of [`Registers::at`] or [`VfRegisters::at`] that is out of range. docs/CARD.md of the project lists
-//! where the model differs from the card.
+//! The controller's sources are proved. This crate is Rust generated from those sources without their proofs. No proof
+//! covers what rustc compiles from this Rust; tests do. A refused call returns an [`Error`] and changes nothing. No
+//! argument makes a call panic, except an index out of range in [`Registers::at`] or [`VfRegisters::at`]. The project's
+//! docs/CARD.md lists where the model differs from the card.
 
 #![deny(missing_docs, unsafe_code, unsafe_op_in_unsafe_fn)]
 #![warn(rust_2018_idioms, missing_debug_implementations, unreachable_pub)]

@@ -11,7 +11,7 @@ const GROUPS: u16 = MAX_VFS as u16 + 1;
 /// `settle` starts a new round after this many events.
 const ROOM: usize = 256;
 
-/// A position in the rounds of `settle`: the next step of a round over the queues below `queues`.
+/// A position in the rounds of `settle`: the next step of the current round. A round serves the queues below `queues`.
 #[derive(Debug)]
 pub(crate) struct Place {
     queues: u16,
@@ -52,7 +52,7 @@ pub(crate) fn make(card: &mut Card, step: Step) -> Result<Made, Error> {
         Reply::NoQueue => Made::NoQueue,
         Reply::NoGroup => Made::NoGroup,
         Reply::Done => Made::Event(switched(step)),
-        reply => Made::Event(event_of(side, &reply).expect("every other reply of a step is an event")),
+        reply => Made::Event(event_of(side, &reply).expect("every other reply to a step is an event")),
     })
 }
 
@@ -75,8 +75,8 @@ impl Place {
         3 * self.queues + 2 + GROUPS
     }
 
-    /// The step at this position. A round consists of the receive and transmit enable of each queue, the EEPROM, a
-    /// transmit step of each queue, a receive step, and a message of each group.
+    /// The step at this position. A round consists of the receive and transmit enable steps of each queue; the EEPROM
+    /// step; a transmit step for each queue; a receive step; an interrupt step for each group.
     fn step(&self) -> Step {
         let (enables, at) = (2 * self.queues, self.at);
         if at < enables {

@@ -1,4 +1,4 @@
-//! The smallest driver that the card can run: it receives on one queue, with interrupts or polled.
+//! The smallest driver that the report card can run: it receives on one queue, with interrupts or polled.
 //!
 //!     cargo build --features drive --example small
 //!     ../../c/drive/nicdrive target/debug/examples/small -o /tmp/card

@@ -64,7 +64,8 @@ impl Event {
         }
     }
 
-    /// Returns the event of a step that was neither idle nor refused. A fault is reported for this side of its queue.
+    /// Returns the event of a step that was neither idle nor refused. `side` is the half of the queue to which a fault
+    /// is attributed.
     pub(crate) fn of_step(side: Side, outcome: &Outcome) -> Event {
         let (queue, slot) = (outcome.queue, outcome.slot);
         let back = if outcome.back == 1 { Some(outcome.at) } else { None };

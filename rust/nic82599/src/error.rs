@@ -22,7 +22,7 @@ use crate::memory::BLOCK_BYTES;
 #[derive(Clone, Copy, PartialEq, Eq, Hash)]
 #[non_exhaustive]
 pub enum Error {
-    /// Some of the memory isn't lent; this is the first bus address that isn't.
+    /// Some of the memory isn't lent; the value is the first bus address that isn't lent.
     NotLent(u64),
     /// The block is already lent or doesn't exist.
     NoBlock,

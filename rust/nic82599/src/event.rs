@@ -26,7 +26,7 @@ pub enum Step {
     Int(Option<u8>),
 }
 
-/// What a step of the device did. It displays as the answer that `nicbench run` prints; `{:#}` adds the meaning of a
+/// What a step of the device did. It displays as the reply that `nicbench run` prints; `{:#}` adds the meaning of a
 /// drop or a fault:
 ///
 /// ```
@@ -217,7 +217,7 @@ impl fmt::Display for Why {
             Why::Short => ("short", "it is shorter than 60 bytes"),
             Why::Long => ("long", "it is longer than the limit: 1,514 bytes, or MAXFRS with jumbo frames"),
             Why::Filter => ("filter", "no bit of FCTRL and no address (RAL, RAH, MTA) accepts its destination"),
-            Why::NoPool => ("no pool", "none is assigned to it, or MRQC's mode doesn't have that pool"),
+            Why::NoPool => ("no pool", "no pool is assigned to the frame, or MRQC's mode doesn't have that pool"),
             Why::PoolOff => ("pool off", "VFRE disables its pool"),
             Why::Full => ("full", "as many frames are waiting as Sizes::fifo allows"),
             Why::QueueOff => ("queue off", "its queue isn't on: RXDCTL bit 25 reads 0"),

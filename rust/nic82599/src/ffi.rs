@@ -1,10 +1,11 @@
 //! The calls in `nic82599.h`. Controllers and snapshots are owned handles; their methods take slices and references,
-//! and return the calls' answers.
+//! and return the calls' results.
 //!
 //! This file upholds what the header requires of a caller. A handle has a device from `open` to its drop, so every call
 //! gets an open controller. Pointers come from references and slices: they aren't null, they point to as many bytes as
 //! the length says, and they don't overlap, because none of them points into the handle. Numbers may have any value. No
-//! call calls back, so nothing else uses a handle during a call. A handle isn't `Sync`, so no other thread does either.
+//! call calls back into Rust, so nothing else uses a handle during a call. A handle isn't `Sync`, so no other thread
+//! uses it either.
 #![allow(unsafe_code)]
 
 use std::cell::UnsafeCell;
@@ -81,8 +82,8 @@ extern "C" {
     fn nic_vf_address(gcr_ext: u32, vf: u8, offset: u32, address: *mut u32) -> u8;
 }
 
-/// Returns a status, but panics if the library hit an internal fault in this call or an earlier one on the controller:
-/// the controller may be half changed, and the library's own code panicked.
+/// Returns a status. Panics if the library's own code panicked in this call or in an earlier call on the controller:
+/// the controller may then be half changed.
 fn unbroken(status: u8) -> u8 {
     assert!(status != status::BROKEN, "the library had an internal fault: see standard error");
     status
@@ -110,7 +111,7 @@ macro_rules! plain_calls {
             $(
                 pub(crate) fn $filled(&self, $($part: $type),*) -> (u8, $place) {
                     let mut place = <$place>::default();
-                    // SAFETY: the controller is open; `place` has room for the answer.
+                    // SAFETY: the controller is open; `place` has room for the result.
                     (unbroken(unsafe { $filling(self.n().raw, $($part,)* &mut place) }), place)
                 }
             )+
@@ -161,7 +162,7 @@ pub(crate) fn edition() -> &'static str {
     text.to_str().unwrap_or("")
 }
 
-/// Records the controllers that are opened from now on, or stops doing so.
+/// Records the controllers that are opened from now on; with `None`, stops recording new controllers.
 pub(crate) fn record(path: Option<&CStr>) -> bool {
     // SAFETY: the pointer is null, which the call allows, or points to a NUL-terminated string, which the call copies.
     unsafe { nic_record(path.map_or(ptr::null(), CStr::as_ptr)) }
@@ -198,7 +199,7 @@ impl std::fmt::Debug for RawKept {
 }
 
 // SAFETY: a snapshot shares nothing with another snapshot or a controller, and its calls don't depend on the thread, so
-// it may move to another thread. (It contains a pointer, so it isn't `Sync`.)
+// a snapshot may move to another thread. (It contains a pointer, so it isn't `Sync`.)
 unsafe impl Send for Kept {}
 
 impl Drop for Kept {
@@ -211,7 +212,7 @@ impl Drop for Kept {
 
 /// While this value lives, memory that the library allocates on this thread belongs to the program. A search has
 /// separate memory, which is reset for each schedule (c/explore/engine/heap.h). The program's controllers and snapshots
-/// must not use it: they would be lost with it.
+/// must not use that memory: the reset would lose them.
 struct OwnMemory {
     #[cfg(feature = "explore")]
     ends_a_pause: bool,
@@ -226,7 +227,7 @@ extern "C" {
 #[cfg(feature = "explore")]
 impl OwnMemory {
     fn begin() -> OwnMemory {
-        // SAFETY: the call takes no pointer, and only changes where further memory on this thread comes from.
+        // SAFETY: the call takes no pointer, and only changes the heap that this thread allocates from.
         OwnMemory { ends_a_pause: crate::explore::raw::is_running() && unsafe { nicxi_heap_pause() } }
     }
 }
@@ -260,8 +261,8 @@ pub(crate) struct Handle {
     raw: UnsafeCell<RawNic>,
 }
 
-// SAFETY: a controller shares nothing with another one except the recorder, which has a lock, and its calls don't
-// depend on the thread, so it may move to another thread. (It contains a cell, so it isn't `Sync`.)
+// SAFETY: controllers share only the recorder, which has a lock, and a controller's calls don't depend on the thread,
+// so it may move to another thread. (It contains a cell, so it isn't `Sync`.)
 unsafe impl Send for Handle {}
 
 impl Drop for Handle {
@@ -361,14 +362,15 @@ impl Handle {
         (status, count)
     }
 
-    /// Runs the next step that has something to do, starting at a place in the round.
+    /// Runs the next step that has something to do, starting at a position in the round.
     pub(crate) fn next_step(&self, place: &mut Settling) -> (u8, Outcome) {
         let mut outcome = Outcome::default();
         // SAFETY: the controller is open; `place` and `outcome` have room for values of their types.
         (unsafe { nic_next_step(self.n().raw, place, &mut outcome) }, outcome)
     }
 
-    /// Writes what keeps pending work from proceeding to `room`, and returns the length of the whole text.
+    /// Writes to `room` what blocks pending work. Returns the length of the whole text, even if `room` is too small for
+    /// it.
     pub(crate) fn why(&self, room: &mut [u8]) -> usize {
         // SAFETY: the controller is open; the room's pointer is valid for its length.
         unsafe { nic_why(self.n().raw, room.as_mut_ptr(), room.len()) }

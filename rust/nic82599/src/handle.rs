@@ -1,4 +1,4 @@
-//! A controller of the C library. Each call returns its answer in the crate's types.
+//! A controller of the C library. Each call returns its result in the crate's types.
 
 use crate::error::Error;
 use crate::event::{Event, Side, Why};
@@ -89,7 +89,7 @@ impl Handle {
         word_or_stray(self.calls.peek32(address)).ok()
     }
 
-    /// Writes a register. Returns false if the address has none.
+    /// Writes a register. Returns false if there is no register at the address.
     pub(crate) fn write32(&self, address: u32, word: u32) -> bool {
         self.calls.write32(address, word) == status::DONE
     }

@@ -14,7 +14,7 @@ use crate::handle;
 /// ```
 /// let mut key = [0; 40];
 /// key[..4].copy_from_slice(&[0x6D, 0x5A, 0x56, 0xDA]); // in register 0 of RSSRK this is 0xDA56_5A6D
-/// assert_eq!(nic82599::rss_hash(&key, &[0x80]), Ok(0x6D5A_56DA)); // the first bit takes the key's first 32
+/// assert_eq!(nic82599::rss_hash(&key, &[0x80]), Ok(0x6D5A_56DA)); // the first bit selects the key's first 32 bits
 /// assert_eq!(nic82599::rss_hash(&[0; 40], &[1, 2, 3]), Ok(0));
 /// assert_eq!(nic82599::rss_hash(&[0; 40], &[0; 37]), Err(nic82599::Error::TooLong));
 /// ```

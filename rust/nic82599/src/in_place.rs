@@ -113,7 +113,8 @@ impl Memory<'_> {
         Error::unless_done(unsafe { self.nic.handle().calls().lend_memory(bus, memory.as_ptr(), length) })
     }
 
-    /// Takes back memory that was lent in place. It may be a part of the memory that one call lent. Its bytes are kept.
+    /// Takes back memory that was lent in place. The range may be part of the memory that one call lent. Its bytes stay
+    /// unchanged.
     ///
     /// # Errors
     ///

@@ -46,8 +46,8 @@
 //! ready-made scenarios.
 //!
 //! The device's behavior is proved; this crate is tested. A refused call returns an [`Error`] and changes nothing. No
-//! argument panics except an index of [`Registers::at`] or [`VfRegisters::at`] that is out of range. docs/CARD.md of
-//! the project lists where the model differs from the card.
+//! argument makes a call panic, except an index out of range in [`Registers::at`] or [`VfRegisters::at`]. The project's
+//! docs/CARD.md lists where the model differs from the card.
 
 #![deny(missing_docs, unsafe_code, unsafe_op_in_unsafe_fn)]
 #![deny(clippy::undocumented_unsafe_blocks)]

@@ -13,10 +13,10 @@ impl Nic {
 
     // --- why nothing happens ---
 
-    /// Explains what keeps pending work from proceeding, one reason a line: for each waiting frame, each queue that
-    /// isn't idle and each cause that sends no message. It also lists which frames were dropped. The result is empty if
-    /// nothing is waiting and nothing was dropped. The call changes nothing; it copies lent memory while it runs. Use
-    /// it in a failing test: `assert_eq!(nic.read(RDH.at(3)), 1, "{}", nic.why())`. With the environment variable
+    /// Explains what blocks pending work, one reason per line: for each waiting frame, each queue that isn't idle and
+    /// each cause that sends no message. It also lists which frames were dropped. The result is empty if nothing is
+    /// waiting and nothing was dropped. The call changes nothing; it copies lent memory while it runs. Use it in a
+    /// failing test: `assert_eq!(nic.read(RDH.at(3)), 1, "{}", nic.why())`. With the environment variable
     /// NIC82599_TELL=1, faults, drops and stray accesses are reported on standard error when they happen.
     ///
     /// ```

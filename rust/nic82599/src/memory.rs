@@ -55,7 +55,7 @@ impl<'a> Memory<'a> {
     ///
     /// # Errors
     ///
-    /// [`Error::NotLent`] if one of them isn't lent; [`Error::BadRange`] if the range ends before it starts.
+    /// [`Error::NotLent`] if one of the bytes isn't lent; [`Error::BadRange`] if the range ends before it starts.
     pub fn read(&self, range: impl RangeBounds<u64>) -> Result<Vec<u8>, Error> {
         let (first, length) = self.place(range)?;
         let mut bytes = vec![0; length];

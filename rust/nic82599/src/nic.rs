@@ -72,8 +72,8 @@ impl Snapshot {
 
 /// A controller. Dropping it frees its memory and discards its frames.
 ///
-/// All methods take `&self`, because the parts of a driver share the device: each of them may hold a reference. A `Nic`
-/// is `Send` but not `Sync`: you may move it to another thread, and two threads that share one need a lock around it.
+/// All methods take `&self`, because the parts of a driver share the device: each part may hold a reference. A `Nic` is
+/// `Send` but not `Sync`: you may move it to another thread, and two threads that share one need a lock around it.
 ///
 /// ```
 /// use nic82599::{regs, Nic, Sizes};
@@ -214,8 +214,8 @@ impl Nic {
         word_of(self.handle.read32(address))
     }
 
-    /// Returns the virtual function with this number. If it doesn't exist, all its registers are stray and read as
-    /// 0xFFFFFFFF.
+    /// Returns the virtual function with this number. If the function doesn't exist, accesses to all its registers are
+    /// stray, and reads return 0xFFFFFFFF.
     pub fn vf(&self, number: u8) -> Function<'_> {
         Function { nic: self, number }
     }
@@ -338,13 +338,14 @@ impl Nic {
         self.handle.int_step(0).unwrap_or(None)
     }
 
-    /// Runs steps until none has anything to do, and returns their events in order. It runs in rounds. A round
-    /// consists of the receive and then the transmit enable of each queue below `queues`; the EEPROM; one transmit step
-    /// of each of these queues; one receive step; one message of each function. A new round begins after every 256
-    /// events.
+    /// Runs steps until none has anything to do, and returns their events in order. It runs in rounds. A round consists
+    /// of the receive and then the transmit enable step of each queue below `queues`; the EEPROM step; one transmit
+    /// step for each of these queues; one receive step; one interrupt step for each function. A new round begins after
+    /// every 256 events.
     ///
-    /// All steps are complete when the call returns. [`Nic::steps`] runs each step on demand. Queues at or above
-    /// `queues` are never enabled: a driver that polls RXDCTL or TXDCTL of one of them polls forever.
+    /// All steps are complete when the call returns. To act between two events, use [`Nic::steps`], which runs each
+    /// step on demand. Queues at or above `queues` are never enabled: a driver that polls RXDCTL or TXDCTL of one of
+    /// them polls forever.
     ///
     /// # Errors
     ///
@@ -365,9 +366,9 @@ impl Nic {
         Settled::of(self, queues)
     }
 
-    /// Returns an iterator that runs the steps of [`Nic::settle`] in the same order, each when its event is requested.
-    /// A driver can therefore act on an event before the device continues, as an interrupt handler does on a message.
-    /// The iterator ends when a whole round has nothing to do.
+    /// Returns an iterator that runs the steps of [`Nic::settle`] in the same order. It runs a step when its event is
+    /// requested. A driver can therefore act on an event before the device continues, as an interrupt handler does on a
+    /// message. The iterator ends when a whole round has nothing to do.
     ///
     /// # Errors
     ///
@@ -436,7 +437,7 @@ pub struct Function<'a> {
 }
 
 impl Function<'_> {
-    /// Returns why the function has no register at an offset. `is_some` says whether any function has one there.
+    /// Returns why the function has no register at an offset. `is_some` says whether any function has a register there.
     fn why_absent(&self, is_some: bool) -> Absent {
         why_absent(self.number, self.nic.sizes().vfs, self.nic.peek(regs::GCR_EXT), is_some)
     }
@@ -523,8 +524,8 @@ impl Function<'_> {
 }
 
 /// Returns the physical function's address of the register that virtual function `number` has at an offset, in the mode
-/// that bits 1:0 of the GCR_EXT value select. The result doesn't depend on a controller: yours need not have the
-/// function.
+/// that bits 1:0 of the GCR_EXT value select. The result doesn't depend on a controller, so your controller need not
+/// have this function.
 ///
 /// # Errors
 ///
@@ -547,7 +548,7 @@ pub fn vf_address(gcr_ext: u32, number: u8, offset: u32) -> Result<u32, Error> {
 const POOLS: [(u8, u8); 4] = [(0, 0), (16, 8), (32, 4), (64, 2)];
 
 /// Returns why a virtual function has no register at an offset, for a controller with `vfs` functions and this value of
-/// GCR_EXT. If any function has the register (`is_some`), what is missing is its queue.
+/// GCR_EXT. If any function has the register (`is_some`), the reason is that the pool lacks the register's queue.
 pub(crate) fn why_absent(number: u8, vfs: u8, gcr_ext: u32, is_some: bool) -> Absent {
     let (pools, queues) = POOLS[gcr_ext as usize & 3];
     if number >= vfs {

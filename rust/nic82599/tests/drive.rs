@@ -1,8 +1,8 @@
-//! The report card: a correct driver passes the rows that apply, a faulty one fails in the row that names the fault,
-//! and a forbidden action fails its row while others pass.
+//! The report card: a correct driver passes the rows that apply, a faulty driver fails in the row that names the fault,
+//! and a forbidden action fails its row while other rows pass.
 //!
-//! The card also runs this program: with `--row`, `--list` or `--name` it is the driver that the environment variable
-//! NIC82599_DRIVER names.
+//! The report card also runs this program: with `--row`, `--list` or `--name` it is the driver that the environment
+//! variable NIC82599_DRIVER names.
 
 use std::cell::{Cell, RefCell};
 use std::env;
@@ -321,7 +321,7 @@ const NEVER_DOES: Can =
 const ALL_CAN: Can = Can::SHARED_SEND.and(Can::FUNCTIONS).and(Can::SHARED_DEVICE).and(Can::HOST);
 const NO_RESET: &str = "no device reset (NICD_SHARED_DEVICE)";
 
-/// The card's text for each function that can be left out; no row needs `rearm` by itself.
+/// The report card's text for each function that can be left out; no row needs only `rearm`.
 const LACKS: [&str; 18] = [
     "no receive",
     "no send",
@@ -398,7 +398,7 @@ fn program(name: &str) -> ExitCode {
 
 // --- the tests ---
 
-/// Runs a program for the card. Returns its status and what it prints.
+/// Runs a program as the report card does. Returns its status and its output.
 fn ran(driver: &str, words: &[&str]) -> (Option<i32>, String) {
     let program = env::current_exe().expect("the program has a path");
     let made = Command::new(program).args(words).env("NIC82599_DRIVER", driver).output().expect("it can be run");
@@ -442,7 +442,7 @@ fn what_is_left_out_is_reported(_folder: &Path) {
     }
 }
 
-/// Rows that need what a driver never does by design aren't on its card.
+/// Rows that need what a driver never does by design aren't on its report card.
 fn what_it_never_does_is_reported(_folder: &Path) {
     let (status, list) = ran(&format!("without-{NEVER}"), &["--list"]);
     assert_eq!(status, Some(0), "{list}");

@@ -11,7 +11,7 @@ fn number(word: &str) -> u64 {
         Some(digits) => u64::from_str_radix(digits, 16),
         None => word.parse(),
     };
-    parsed.unwrap_or_else(|_| panic!("{word} is no number"))
+    parsed.unwrap_or_else(|_| panic!("why.cases: {word} isn't a number"))
 }
 
 /// Runs a line of a setup.
@@ -38,7 +38,7 @@ fn make(nic: &Nic, line: &str) {
         ("rx", []) => drop(nic.rx_step()),
         ("int", &[0]) => assert!(nic.int_step().is_some()),
         ("int", &[group]) => assert!(nic.vf(group as u8 - 1).int_step().unwrap().is_some()),
-        _ => panic!("what is this: {line}"),
+        _ => panic!("why.cases: unknown instruction: {line}"),
     }
 }
 

@@ -42,7 +42,7 @@ mod register {
     pub const FCTRL: u32 = 0x05080;
     pub const RAL0: u32 = 0x0A200;
     pub const RAH0: u32 = 0x0A204;
-    // The first register of queue 0's receive and transmit side, then the registers of a side as offsets from it.
+    // The first register of queue 0's receive side and transmit side; then each register's offset from the first one.
     pub const RECEIVE: u32 = 0x01000;
     pub const TRANSMIT: u32 = 0x06000;
     pub const BAL: u32 = 0x00;

@@ -45,7 +45,7 @@ impl Bench<'_> {
 }
 
 impl Machine for Bench<'_> {
-    /// Reading a register twice in a row means polling, so the device acts first.
+    /// Reads a register. A repeated read of one register means polling, so the device acts before the read.
     fn read(&self, offset: u32) -> u32 {
         if self.last.replace(offset) == offset {
             self.let_device_act();
@@ -75,7 +75,7 @@ impl Machine for Bench<'_> {
         &self.memory[bus as usize..][..bytes]
     }
 
-    /// The device sees every store at its next step.
+    /// Does nothing: the device sees every store at its next step.
     fn wmb(&self) {}
     fn rmb(&self) {}
 }
@@ -108,7 +108,7 @@ fn run(frames: usize) -> Result<(), Box<dyn Error>> {
     let bench = Bench { nic, memory, used: Cell::new(BLOCK), last: Cell::new(u32::MAX), was_raised: Cell::new(false) };
     let (driver, mut given, mut received, mut returned) = (Driver::default(), 0, 0, 0);
     if !driver.open(&bench, ADDRESS, 64, true) {
-        return Err("out of memory for the driver".into());
+        return Err("the driver's open failed: out of memory".into());
     }
     while given < frames && returned == given {
         for _ in 0..(1 + given % 7).min(frames - given) {

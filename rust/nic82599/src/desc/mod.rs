@@ -63,7 +63,7 @@ impl Descriptor {
     }
 
     /// Creates a transmit descriptor for `bytes` bytes of the buffer. `frame` is the length of the whole frame (18
-    /// bits). Set [`txd::EOP`] for the frame's last buffer, and [`txd::RS`] if the device must report.
+    /// bits). Set [`txd::EOP`] for the frame's last buffer, and [`txd::RS`] if the device must report completion.
     pub const fn transmit(buffer: u64, bytes: u16, frame: u32, flags: u64) -> Descriptor {
         let lengths = txd::DTALEN.is(bytes as u64) | txd::PAYLEN.is(frame as u64);
         Descriptor { first: buffer, second: TX_DATA | lengths | flags }

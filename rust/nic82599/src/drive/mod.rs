@@ -1,8 +1,8 @@
 //! A report card for a driver, like the one that docs/report-card.md describes for C: it runs the driver's functions in
 //! ready-made scenarios. It is the crate's `drive` feature, and also links `libnic82599_drive.a`.
 //!
-//! A [`Driver`] is a type with `open` and `close`, and with constants that name its other functions. A function that it
-//! lacks is `None`, and rows that need it aren't applicable. Its program is one line:
+//! A [`Driver`] is a type with `open` and `close`, and with constants that name its other functions. A function that
+//! the driver lacks is `None`, and rows that need that function aren't applicable. The driver's `main` is one line:
 //!
 //! ```no_run
 //! use std::cell::Cell;
@@ -44,8 +44,8 @@
 //! }
 //! ```
 //!
-//! `c/drive/nicdrive PROGRAM` produces the card of the program. A function that panics fails its row, with the panic's
-//! message and location, and the other rows still run.
+//! `c/drive/nicdrive PROGRAM` produces the program's report card. A function that panics fails its row, with the
+//! panic's message and location, and the other rows still run.
 //!
 //! Each call to a [`Platform`] is a point at which another function of the driver may run: `receive` of one queue
 //! during `send` of another, a handler during both. Functions therefore take `&self`, and the driver keeps its state in
@@ -63,7 +63,7 @@ use std::process::ExitCode;
 
 use crate::explore::Bus;
 
-/// The largest number of queues that the card opens.
+/// The largest number of queues with which the report card opens a driver.
 pub const MOST_QUEUES: u16 = 4;
 /// The length of the longest frame, in bytes.
 pub const MOST_FRAME: usize = 9724;
@@ -73,7 +73,7 @@ pub const MAILBOX_WORDS: usize = 16;
 /// A driver's functions. A function given by a constant is `None` if the driver lacks it: rows that need it are
 /// reported as not applicable. The driver needs `RECEIVE`, `THREADS` or `SEND`.
 ///
-/// For each queue the card calls each of `RECEIVE`, `SEND` and `RECLAIM` in one thread at a time. Calls for
+/// For each queue, the report card calls each of `RECEIVE`, `SEND` and `RECLAIM` in one thread at a time. Calls for
 /// different queues run concurrently. `INTERRUPT` may run at any time between open and close, interrupting any thread
 /// or concurrently with all of them, but never concurrently with itself for one vector. One thread makes the other
 /// calls (close, reset, filter, rss, mtu, resize, suspend, resume), and no receive, send or reclaim runs during them.
@@ -95,8 +95,8 @@ pub trait Driver: Sized + 'static {
     fn new() -> Self;
 
     /// Sets up the controller, from power-up or from the state that `close` left, and returns true when frames can be
-    /// received and sent. Returns false on failure, for example if an allocation fails. It then keeps nothing that it
-    /// allocated, and may be called again.
+    /// received and sent. Returns false on failure, for example if an allocation fails. After a failure the driver
+    /// keeps nothing that it allocated, and `open` may be called again.
     fn open(&self, platform: &Platform, setup: &Setup) -> bool;
 
     /// Shuts the driver down. On return the device accesses none of the driver's memory and sends no message, and the
@@ -114,7 +114,7 @@ pub trait Driver: Sized + 'static {
     /// Enables a queue's interrupts again after it was polled.
     const REARM: Option<Rearm<Self>> = None;
     /// The driver's own threads, at most 4. They start when `open` has returned true, and may wait forever. Without
-    /// `RECEIVE` they pass received frames to [`Platform::deliver`], and the card always opens the driver with
+    /// `RECEIVE` they pass received frames to [`Platform::deliver`], and the report card always opens the driver with
     /// interrupts.
     const THREADS: &'static [fn(&Self, &Platform)] = &[];
 
@@ -142,7 +142,7 @@ pub trait Driver: Sized + 'static {
 
     /// Sends a message to the other side.
     const MAILBOX_SEND: Option<MailboxSend<Self>> = None;
-    /// Receives a message from the other side and acknowledges it. Returns `None` if there is none.
+    /// Receives a message from the other side and acknowledges it. Returns `None` if there is no message.
     const MAILBOX_RECEIVE: Option<MailboxReceive<Self>> = None;
     /// For a virtual function: returns whether the device is ready because the PF's driver has set it up (RSTD, or a PF
     /// driver that was already up).
@@ -151,14 +151,14 @@ pub trait Driver: Sized + 'static {
 
 /// Returns a queue's next complete frame, or `None` immediately if there is none.
 pub type Receive<D> = fn(&D, &Platform, u16) -> Option<Frame>;
-/// Sends a frame on a queue. It is at least 60 bytes long, and at most the setup's `frame`. Returns true if the frame
-/// is accepted: the caller may then reuse its bytes. Returns false if the ring has no room now or the frame is too
-/// long.
+/// Sends a frame on a queue. The frame's length is at least 60 bytes and at most the setup's `frame`. Returns true if
+/// the driver accepted the frame: the caller may then reuse the frame's bytes. Returns false if the ring has no room
+/// now or the frame is too long.
 pub type Send<D> = fn(&D, &Platform, u16, &[u8]) -> bool;
 /// Reclaims the sent frames of a queue. Returns how many of its frames are still unsent, as far as the driver knows.
 pub type Reclaim<D> = fn(&D, &Platform, u16) -> u32;
-/// Handles a vector's message. Returns the queues to poll, as bit q for queue q. For each of them the card calls
-/// `RECEIVE` until it returns `None`, then `RECLAIM`, then `REARM`.
+/// Handles a vector's message. Returns the queues to poll, as bit q for queue q. For each of these queues, the report
+/// card calls `RECEIVE` until it returns `None`, then `RECLAIM`, then `REARM`.
 pub type Interrupt<D> = fn(&D, &Platform, u8) -> u32;
 /// Enables the interrupts of a polled queue again.
 pub type Rearm<D> = fn(&D, &Platform, u16);
@@ -198,8 +198,8 @@ impl Can {
     pub const SHARED_DEVICE: Can = Can(4);
     /// `open` supports `functions` above 0.
     pub const HOST: Can = Can(8);
-    /// By design, the driver writes no interval to EITR. With this flag or one below, rows that require what the driver
-    /// never does aren't applicable.
+    /// By design, the driver writes no interval to EITR. This flag and the ones below make the rows that require such
+    /// an action not applicable.
     pub const NO_MODERATION: Can = Can(16);
     /// By design, the driver writes neither RDH nor TDH.
     pub const NO_HEADS: Can = Can(32);
@@ -225,7 +225,7 @@ impl BitOr for Can {
     }
 }
 
-/// What the card requests from `open`.
+/// What the report card requests from `open`.
 #[derive(Clone, Copy, Debug, PartialEq, Eq)]
 #[non_exhaustive]
 pub struct Setup {
@@ -237,7 +237,7 @@ pub struct Setup {
     pub slots: u16,
     /// The longest frame, in bytes: 1,514 to [`MOST_FRAME`].
     pub frame: u32,
-    /// Whether `INTERRUPT` will be called. If not, the driver leaves all causes masked.
+    /// Whether the report card will call `INTERRUPT`. If false, the driver leaves all causes masked.
     pub interrupts: bool,
     /// The port's address, as its EEPROM or the PF's driver provides it.
     pub address: [u8; 6],
@@ -308,9 +308,9 @@ impl Platform {
     }
 
     /// Allocates DMA memory of 1 to 524,288 zeroed bytes. Returns the bus address of its first byte, a multiple of 128.
-    /// The memory after it isn't lent, so any access there by the driver or the device is reported. Returns `None` if
-    /// memory has run out, or if the scenario makes the allocation fail. There is room for 123 allocations of 2 KB, or
-    /// for one of 503,808 bytes.
+    /// The memory after the allocation isn't lent, so any access there by the driver or the device is reported. Returns
+    /// `None` if memory has run out, or if the scenario makes the allocation fail. There is room for 123 allocations of
+    /// 2 KB, or for one of 503,808 bytes.
     pub fn dma_alloc(&self, bytes: usize) -> Option<u64> {
         Some(raw::dma_alloc(bytes)).filter(|it| *it != 0)
     }
@@ -338,8 +338,8 @@ impl Platform {
         Some(Own { value: Box::new(value), _token: token })
     }
 
-    /// Passes a frame received on a queue to the card, from one of the driver's own threads. For a driver without
-    /// `RECEIVE`.
+    /// Passes a frame received on a queue to the report card. One of the driver's own threads calls it, in a driver
+    /// without `RECEIVE`.
     pub fn deliver(&self, queue: u16, bytes: &[u8]) {
         raw::deliver(queue, bytes);
     }
@@ -374,7 +374,7 @@ impl<T> DerefMut for Own<T> {
 /// Runs a whole program, controlled by the command line: `--list` prints the scenarios; `--row NAME` runs one, and
 /// accepts the options of a search after the name. Status 0: nothing was found. 1: a failure was found. 2: the driver
 /// or an argument is refused. 4: the scenario isn't applicable. 5: `open` never returns. `c/drive/nicdrive` runs all
-/// scenarios and prints the card.
+/// scenarios and prints the report card.
 pub fn main<D: Driver>() -> ExitCode {
     ExitCode::from(raw::run::<D>(env::args().collect()))
 }

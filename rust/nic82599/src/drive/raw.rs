@@ -1,8 +1,9 @@
-//! The calls in `nic82599_drive.h`, and the functions that the card calls: all `unsafe` code of the report card.
+//! The calls in `nic82599_drive.h`, and the functions that the report card calls: all of the report card's `unsafe`
+//! code. In this file, "the card" is the report card.
 //!
 //! A process has one set of scenarios and one explorer, which run on the thread that called `nicd_main`. The driver's
-//! functions run on separate stacks, as the explorer's tasks do (explore/raw.rs). A panic is caught where C called, and
-//! only this file creates a `Platform`, for functions that the card calls.
+//! functions run on separate stacks, as the explorer's tasks do (explore/raw.rs). A panic is caught in the function
+//! that C called. Only this file creates a `Platform`, for functions that the card calls.
 #![allow(unsafe_code)]
 
 use std::any::Any;
@@ -116,7 +117,7 @@ thread_local! {
     static FUNCTIONS: Cell<u8> = const { Cell::new(0) };
 }
 
-/// Returns the result of one of the driver's functions. If it panics, returns `failed`, and the row fails.
+/// Returns the result of one of the driver's functions. If the function panics, returns `failed`, and the row fails.
 fn called<D: Driver, T>(failed: T, action: impl FnOnce(&D, &Platform) -> T) -> T {
     let done = unwinding(|| {
         caught(|| {
@@ -127,14 +128,14 @@ fn called<D: Driver, T>(failed: T, action: impl FnOnce(&D, &Platform) -> T) -> T
     });
     done.unwrap_or_else(|words| {
         let words = c_words(words);
-        // SAFETY: both are strings, and `words` stays valid until the next message. In a task the call doesn't return,
-        // and nothing here needs dropping; outside a task the schedule fails at its next step.
+        // SAFETY: both arguments are strings, and `words` stays valid until the next message. In a task the call
+        // doesn't return, and nothing here needs dropping. Outside a task the schedule fails at its next step.
         unsafe { nicd_failed(b"%s\0".as_ptr().cast(), words) }
         failed
     })
 }
 
-/// Returns a function that the driver provides; the card calls no others.
+/// Unwraps a function that the driver provides; the card calls only such functions.
 fn of<T: Copy>(function: Option<T>) -> T {
     function.expect("the driver has this function")
 }

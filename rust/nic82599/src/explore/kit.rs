@@ -75,14 +75,14 @@ impl Bus {
         raw::rss(&flow.raw())
     }
 
-    /// Sends to a virtual function's mailbox as the PF's driver: waits for the mailbox and takes it, writes at most 16
-    /// words, and signals the function.
+    /// Sends to a virtual function's mailbox as the PF's driver: waits until the mailbox is free, takes it, writes at
+    /// most 16 words, and signals the function.
     pub fn host_sends(&self, vf: u8, words: &[u32]) {
         raw::host_sends(vf, words);
     }
 
-    /// Returns whether the function has sent a message; each is reported once. If so, reads as many words as `words`
-    /// holds and acknowledges.
+    /// Returns whether the function has sent a message; each message is reported once. If so, reads as many words as
+    /// `words` holds and acknowledges the message.
     pub fn host_receives(&self, vf: u8, words: &mut [u32]) -> bool {
         raw::host_receives(vf, words)
     }
@@ -110,13 +110,13 @@ impl Mailbox {
         Mailbox { raw: raw::RawMailbox { vf, seen: 0 } }
     }
 
-    /// Waits for the mailbox and takes it, writes at most 16 words, and signals the PF's driver.
+    /// Waits until the mailbox is free, takes it, writes at most 16 words, and signals the PF's driver.
     pub fn send(&mut self, _bus: &Bus, words: &[u32]) {
         raw::function_sends(&mut self.raw, words);
     }
 
-    /// Returns whether the PF's driver has sent a message; each is reported once. If so, reads as many words as `words`
-    /// holds and acknowledges.
+    /// Returns whether the PF's driver has sent a message; each message is reported once. If so, reads as many words as
+    /// `words` holds and acknowledges the message.
     pub fn receive(&mut self, _bus: &Bus, words: &mut [u32]) -> bool {
         raw::function_receives(&mut self.raw, words)
     }

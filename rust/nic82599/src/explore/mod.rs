@@ -40,16 +40,17 @@
 //! assert_eq!(search(Sender, &["--runs", "100", "--quiet", "--out", "/tmp"]), Outcome::Nothing);
 //! ```
 //!
-//! To make a whole program of it, call [`main`], which reads the command line.
+//! To run searches as a whole program, call [`main`], which reads the command line.
 //!
 //! Searches fork processes. Don't hold a guard of a `RefCell` across a call to a task's `Bus`: another task would find
 //! the cell borrowed. Don't use locks from `std`; use [`Lock`]. If a schedule abandons a task during a call, a panic
-//! unwinds it. That panic calls no hook, drops what is on the task's stack, and waits for its scoped threads. While a
-//! task panics, its calls are no-ops that return 0, false or `Ok`. A drop that then panics ends the process, which the
-//! search reports as a crash. With `panic = "abort"` this unwinding is impossible, so searches are refused.
+//! unwinds the task. That panic calls no hook, drops the values on the task's stack, and waits for the task's scoped
+//! threads. While a task panics, its calls are no-ops that return 0, false or `Ok`. A drop that then panics ends the
+//! process, which the search reports as a crash. With `panic = "abort"` this unwinding is impossible, so searches are
+//! refused.
 //!
 //! Like any other value, a [`Nic`] or a snapshot that your program opens isn't part of the search. A scenario's
-//! functions may open and use one, no schedule resets it, and you may keep it after the search.
+//! functions may open and use such a value. No schedule resets it, and you may keep it after the search.
 
 mod kit;
 pub(crate) mod raw;
@@ -81,11 +82,11 @@ pub trait Scenario: 'static {
     /// The driver's own state, which its tasks share.
     type State: 'static;
 
-    /// The base name of the files written: letters, digits, '-' and '_', at most 63.
+    /// The base name of the files that a search writes: letters, digits, '-' and '_', at most 63.
     fn name(&self) -> &str;
 
-    /// The sizes of the device. No script is written for a device with more than 256 blocks, which is the limit for a
-    /// script.
+    /// The sizes of the device. A search writes no script for a device with more than 256 blocks, because a script
+    /// supports at most 256.
     fn sizes(&self) -> Sizes {
         Sizes { blocks: 2, ..Sizes::default() }
     }
@@ -115,15 +116,15 @@ pub trait Scenario: 'static {
         false
     }
 
-    /// How the driver's stores to lent memory and its loads from it may be reordered. Memory is strong unless this or
-    /// `--memory weak` makes it weak.
+    /// How the driver's stores to lent memory and its loads from it may be reordered. Memory is strong unless this
+    /// value or `--memory weak` makes it weak.
     fn memory(&self) -> MemoryOrder {
         MemoryOrder::default()
     }
 
-    /// Promises that tasks and handlers touch the driver's shared memory only under a common [`Lock`], and that no
-    /// condition touches it. The exhaustive search then leaves out orders of steps that touch different parts of the
-    /// device. If the promise doesn't hold, the search may miss a failure.
+    /// Returns whether the scenario promises that tasks and handlers touch the driver's shared memory only under a
+    /// common [`Lock`], and that no condition touches this memory. If so, the exhaustive search leaves out orders of
+    /// steps that touch different parts of the device. If the promise doesn't hold, the search may miss a failure.
     fn is_race_free(&self) -> bool {
         false
     }
@@ -131,11 +132,11 @@ pub trait Scenario: 'static {
     /// Creates the driver's state for a schedule.
     fn state(&self) -> Self::State;
 
-    /// Sets the device up, once in each process. Its calls are not points.
+    /// Sets the device up, once in each process. The calls that it makes aren't points.
     ///
     /// # Errors
     ///
-    /// Why it failed. With `?`, an [`Error`] becomes its message.
+    /// The reason for the failure. The `?` operator converts an [`Error`] to its message.
     fn bring_up(&self, bus: &Bus) -> Result<(), String>;
 
     /// Names the tasks, the handlers, and the frames and link changes of a schedule. Runs before each schedule.
@@ -145,7 +146,7 @@ pub trait Scenario: 'static {
     ///
     /// # Errors
     ///
-    /// What is wrong.
+    /// A description of what is wrong.
     fn always(&self, _state: &Self::State, _device: &Look<'_>) -> Result<(), String> {
         Ok(())
     }
@@ -154,14 +155,14 @@ pub trait Scenario: 'static {
     ///
     /// # Errors
     ///
-    /// What is wrong.
+    /// A description of what is wrong.
     fn end(&self, state: &Self::State, device: &Look<'_>) -> Result<(), String>;
 }
 
 /// How lent memory behaves, and which register accesses order it (docs/explore.md, "Missing barriers").
 #[derive(Clone, Copy, Debug, Default, PartialEq, Eq)]
 pub struct MemoryOrder {
-    /// Until a barrier, stores may reach memory late and loads may return old values. Without this field, the other
+    /// Until a barrier, stores may reach memory late and loads may return old values. If this field is false, the other
     /// fields apply only with `--memory weak`.
     pub is_weak: bool,
     /// A register write comes after all earlier stores, as with Linux's `writel()`.
@@ -285,7 +286,8 @@ pub enum Where {
 pub enum When {
     /// When no other actor can run.
     AtRest,
-    /// At any of this many points after it was armed; at the last of them it runs before all other actors.
+    /// At any of this many points after the timer was armed; at the last of these points it fires before any other
+    /// actor runs.
     Within(NonZeroU32),
 }
 
@@ -320,7 +322,8 @@ impl<S: 'static> Begin<S> {
         Task(raw::task(name, false, self.thread(function)))
     }
 
-    /// Names a task that may wait forever, as a loop that serves interrupts does. Waiting at the end isn't a deadlock.
+    /// Names a task that may wait forever, as a loop that serves interrupts does. A service that still waits at the end
+    /// of the schedule isn't a deadlock.
     pub fn service(&self, name: &str, function: impl Fn(&Bus, &S) + 'static) -> Task {
         Task(raw::task(name, true, self.thread(function)))
     }
@@ -353,12 +356,13 @@ impl<S: 'static> Begin<S> {
         Timer(raw::timer(name, within, self.thread(function)))
     }
 
-    /// Arms a timer as the schedule starts.
+    /// Arms a timer at the start of the schedule.
     pub fn arm(&self, timer: Timer) {
         raw::arm(timer.0);
     }
 
-    /// Returns a value below the bound (1 to 256) that is part of the schedule, for example which input arrives.
+    /// Returns a value below the bound (1 to 256). The search chooses it as part of the schedule: for example, which
+    /// input arrives.
     pub fn choose(&self, bound: u32) -> u32 {
         raw::choose(bound)
     }
@@ -482,8 +486,8 @@ impl Bus {
         raw::wait();
     }
 
-    /// Waits until a condition on the driver's own memory holds. This is one point, while a loop of [`Bus::wait`] is a
-    /// point after each step of another actor.
+    /// Waits until a condition on the driver's own memory holds. The call is one point, but a loop that calls
+    /// [`Bus::wait`] has a point after each step of another actor.
     pub fn wait_until(&self, condition: impl Fn() -> bool) {
         raw::wait_until(&condition);
     }
@@ -502,12 +506,12 @@ impl Bus {
     }
 
     /// A store barrier, for weak memory: when it returns, all earlier stores of the task's processor have reached
-    /// memory. With strong memory, all barriers are no-ops without points.
+    /// memory. With strong memory, all barriers are no-ops and aren't points.
     pub fn wmb(&self) {
         raw::wmb();
     }
 
-    /// A load barrier: a later load doesn't return a value from before it.
+    /// A load barrier: no later load returns a value from before the barrier.
     pub fn rmb(&self) {
         raw::rmb();
     }
@@ -517,9 +521,9 @@ impl Bus {
         raw::mb();
     }
 
-    /// Returns a value below the bound (1 to 256) that is part of the schedule, for example whether an allocation fails
-    /// or which input arrives. All strategies explore it, and shrinking tries lower values. In [`Scenario::bring_up`]
-    /// the call fails.
+    /// Returns a value below the bound (1 to 256). The search chooses it as part of the schedule: for example, whether
+    /// an allocation fails or which input arrives. All strategies explore these values, and shrinking tries lower ones.
+    /// In [`Scenario::bring_up`] the call fails.
     pub fn choose(&self, bound: u32) -> u32 {
         raw::choose(bound)
     }
@@ -649,8 +653,8 @@ pub struct Look<'a> {
 }
 
 impl Look<'_> {
-    /// Returns the number of frames that have arrived so far, including dropped ones. Shrinking leaves frames out of a
-    /// failure, so `end` should compare with this number, not with the number of frames named.
+    /// Returns the number of frames that have arrived so far, including dropped ones. Shrinking removes frames from a
+    /// failing schedule, so `end` should compare with this number instead of the number of frames named.
     pub fn came(&self) -> u32 {
         raw::came()
     }

@@ -1,7 +1,7 @@
 //! The calls in `nic82599_explore.h`, and the functions that the explorer calls: all `unsafe` code of the search.
 //!
-//! A process has one explorer, which runs on the thread that called `nicx_main`. [`within`] admits one at a time,
-//! and only this file creates a `Bus` or a `Look`, for functions that the explorer calls. Tasks have separate stacks.
+//! A process has one explorer, which runs on the thread that called `nicx_main`. [`within`] admits one search at a
+//! time. Only this file creates a `Bus` or a `Look`, for functions that the explorer calls. Tasks have separate stacks.
 //! When a schedule ends, it unwinds each task that it abandons during a call, before the stack is reused
 //! (`c/explore/engine/left.h`): the call returns, and [`at_point`] starts a panic that drops what is on the stack.
 //! While a task panics its calls are no-ops, so no other task runs during a panic. No panic leaves a function that C
@@ -232,7 +232,7 @@ pub(super) struct Settings<'a> {
     pub(super) race_free: bool,
 }
 
-/// A task or a handler. The explorer identifies it by its address.
+/// A task or a handler, which the explorer identifies by this struct's address.
 struct Thread {
     function: Box<dyn Fn()>,
 }
@@ -268,7 +268,7 @@ impl Running {
         names.entry(name.to_owned()).or_insert_with(|| text(name)).as_ptr()
     }
 
-    /// Stores a message until the next one is returned. It is put on one line, as a failure's files require.
+    /// Stores a message until the next one is returned. The message becomes one line, as a failure's files require.
     fn tell(&self, words: &str) -> *const c_char {
         *self.words.borrow_mut() = text(&words.split_whitespace().collect::<Vec<_>>().join(" "));
         self.words.borrow().as_ptr()
@@ -308,7 +308,7 @@ pub(super) fn panics_at(place: Option<&Location<'_>>) {
 /// Passes the running search to a function that the explorer called. Panics outside a search.
 fn running<T>(action: impl FnOnce(&Running) -> T) -> T {
     let it = RUNNING.with(Cell::get);
-    assert!(!it.is_null(), "this call is only for functions that a search runs");
+    assert!(!it.is_null(), "this call works only in functions that a search runs");
     // SAFETY: the pointer isn't null, so `within` is on this thread's stack and keeps the search until it resets the
     // pointer.
     action(unsafe { &*it })
@@ -375,10 +375,10 @@ fn with_device(action: impl FnOnce(&dyn Driven, &Nic) -> Option<String>) -> *con
     driven(|it| looked(|device| action(it, device)))
 }
 
-/// Passes the device to a check of the scenario, or to a task that finds out why its call was refused.
+/// Passes the device to one of the scenario's checks, or to a task that finds out why its call was refused.
 pub(super) fn looked<T>(action: impl FnOnce(&Nic) -> T) -> T {
-    // SAFETY: the explorer's controller is open while it calls a function of the scenario and while tasks run. A copy
-    // of the struct refers to the same controller, and this copy isn't dropped. It is only read, so the struct itself
+    // SAFETY: the explorer's controller is open while it calls a function of the scenario and while tasks run. The copy
+    // of its struct refers to the same controller and isn't dropped. The copy is only read, so the original struct
     // doesn't change.
     let device = ManuallyDrop::new(unsafe { ffi::Handle::another(nicx_device()) });
     // SAFETY: `within` borrows the scenario for as long as the search runs.
@@ -395,8 +395,8 @@ extern "C" fn go(argument: *mut c_void) {
     }
 }
 
-/// Runs an action on the stack of a task or handler that C called. If the schedule abandons the task, its frames are
-/// unwound, and this doesn't return.
+/// Runs an action on the stack of a task or handler that C called. If the schedule abandons the task, the task's stack
+/// is unwound, and this function doesn't return.
 pub(crate) fn unwinding<T>(action: impl FnOnce() -> T) -> T {
     // SAFETY: the call takes no pointer.
     let outer = unsafe { nicxi_unwinds(true) };
@@ -469,7 +469,7 @@ pub(crate) fn within(driven: &dyn Driven, is_quiet: bool, action: impl FnOnce() 
     RUNNING.with(|it| it.set(ptr::null()));
     match dropped {
         Err(words) if status == 0 => {
-            eprintln!("a value captured by a task's closure panicked in its drop: {words}");
+            eprintln!("dropping a value that a task's closure captured caused a panic: {words}");
             REFUSED
         }
         _ => status,

@@ -10,8 +10,8 @@ pub const FREED_BY_ITS_FIELDS: &[&str] = &["Card"];
 /// Third-party crates for which the kit has modules.
 pub const LIBRARIES: &[&str] = &["arrayvec", "bitflags", "byteorder", "clap", "hex", "rtrb", "thiserror"];
 
-/// Names and methods that are in Rattle's prelude but not in Rust's, their module in the kit, and what to import from
-/// it.
+/// Names and methods that are in Rattle's prelude but not in Rust's, each with its module in the kit and what to import
+/// from that module.
 pub const PRELUDE: &[(&str, &str, &str)] = &[
     ("Box", "boxed", "Box"),
     ("HostRuntime", "host", "HostRuntime"),

@@ -4,7 +4,7 @@
 /// The maximum number of characters in a line.
 pub const WIDTH: usize = 100;
 
-/// Returns a text with the lines after the first indented further.
+/// Returns a text in which all lines after the first are indented further.
 pub fn indented(text: &str, deeper: &str) -> String {
     let lines = text.lines().enumerate();
     let deepened = lines.map(|(at, line)| {

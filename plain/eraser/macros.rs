@@ -1,8 +1,8 @@
 //! Adapts the kit's macros for use inside another crate.
 //!
 //! The edition exports the macros and calls them through the crate's root. A crate that includes modules written by its
-//! build script can't do so, because Rust refuses to call a macro by a path if an included file exports it. In such a
-//! crate, each macro becomes an item of its module, which the root imports, and the crate's users don't see it.
+//! build script can't call macros this way: Rust refuses to call a macro by a path if an included file exports it. In
+//! such a crate, each macro becomes an item of its module, which the root imports, and the crate's users don't see it.
 
 use super::fault::Fault;
 use std::path::Path;

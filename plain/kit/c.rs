@@ -2,8 +2,8 @@
 //!
 //! Proofs rule out panics. This edition has no proofs, so a panic may happen, for example because of an index out of
 //! range or an integer overflow. The call then returns `NIC_BROKEN`, and so does each later call with that handle,
-//! because its object may be half changed. It can still be freed, and returns the caller's memory. Standard error shows
-//! where the panic happened.
+//! because the handle's object may be half changed. The object can still be freed, and still returns the caller's
+//! memory. Standard error shows where the panic happened.
 
 use super::raw::keeping;
 pub use super::raw::{slice, slice_mut};
@@ -89,8 +89,8 @@ pub fn guarded<H: Held, R: Answer>(handle: &mut H, call: impl FnOnce(&mut H) -> 
 }
 
 /// Runs a call that exchanges memory, even if the handle is broken, because the caller must get its memory back. During
-/// an exchange, two owners share an allocation, and a panic would free it for one of them, so a panic frees nothing
-/// here. C knows both allocations, and its next exchange shows which one the handle has.
+/// an exchange, two owners share an allocation, and a panic would free the allocation for one of them, so a panic frees
+/// nothing here. C knows both allocations, and its next exchange shows which one the handle has.
 #[inline]
 pub fn exchanging<H: Held, R: Answer>(handle: &mut H, call: impl FnOnce(&mut H) -> R) -> R {
     caught(handle.address(), handle, |handle| {
@@ -112,7 +112,7 @@ fn caught<H, R: Answer>(address: usize, handle: &mut H, call: impl FnOnce(&mut H
 }
 
 /// If this edition is compiled with `--cfg planted` (dev/check_broken), the place with the number NIC82599_PLANTED
-/// panics. There is one place in each call, and there are two in an exchange, before and after it.
+/// panics. Each call has one such place. An exchange has two: one before the exchange and one after it.
 #[inline]
 pub fn planted(_place: &str) {
     #[allow(unexpected_cfgs)]

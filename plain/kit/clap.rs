@@ -264,7 +264,7 @@ impl<'a> Command<'a> {
         Command { after_help, ..self }
     }
 
-    /// Does nothing: a program with commands always requires one.
+    /// Does nothing: a program with commands always requires a command.
     pub fn subcommand_required(self, _is_required: bool) -> Self {
         self
     }

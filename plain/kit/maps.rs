@@ -1,4 +1,4 @@
-//! A map and a set ordered by key. It is the kit's own B-tree, because Rust's aborts when memory runs out.
+//! A map and a set ordered by key. They use the kit's own B-tree, because Rust's B-tree aborts when memory runs out.
 //!
 //! A node has up to 15 pairs, as in Rattle, and is split on the way down if an insert needs room. The map therefore
 //! allocates exactly when Rattle's does.

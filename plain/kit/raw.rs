@@ -1,5 +1,5 @@
-//! All `unsafe` code of the kit, each use with its reason. All calls that it exports are safe, except the slices from
-//! C's pointers and the handles of boxes, whose callers must meet the requirements of C's header.
+//! All `unsafe` code of the kit, with a reason for each use. All exported calls are safe, except the slices from C's
+//! pointers and the handles of boxes. Callers of these must meet the requirements of the C header.
 
 #[cfg(any(feature = "c", test))]
 mod keeping;

@@ -1,5 +1,6 @@
-//! The `rtrb` crate: a ring from one thread to another. The original has no locks. This one has a lock for each place,
-//! but no thread waits for a lock: an end takes it only if the counts show that the other end is done with the place.
+//! The `rtrb` crate: a ring from one thread to another. The original has no locks. This version has a lock for each
+//! place, but no thread waits for a lock: an end takes the lock only if the counts show that the other end is done with
+//! the place.
 
 use super::alloc::{AllocError, Global};
 use super::sync::Arc;

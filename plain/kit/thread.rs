@@ -1,6 +1,6 @@
-//! `std::thread`: work split among threads. If a thread can't be created, the caller's thread does the work, so running
-//! out of memory makes it slower, but loses nothing. A caller that needs a separate thread uses `beside`, which reports
-//! whether one was created.
+//! `std::thread`: work split among threads. If a thread can't be created, the caller's thread does the work: running
+//! out of memory makes the program slower, but no work is lost. A caller that needs a separate thread uses `beside`,
+//! which reports whether a thread was created.
 
 pub use super::raw::beside;
 pub use std::thread::yield_now;

@@ -17,7 +17,7 @@ function writeAll(bytes) {
 }
 
 if (!existsSync(module)) {
-    console.error(`nicbench: there is no module ${module}: plain/wasm/make builds it, or NIC82599_WASM names another`);
+    console.error(`nicbench: there is no module ${module}: run plain/wasm/make, or name one in NIC82599_WASM`);
     process.exit(MISSING);
 }
 const words = process.argv.slice(2);

@@ -5,7 +5,7 @@
 //! that ended the program. The host calls `room` for the first two, writes them at the returned addresses, calls `run`,
 //! and reads the other strings, of `length` bytes at `address`. If a call doesn't return, the program hit a fault that
 //! the proofs rule out: the last string then describes it, and no other call is allowed. Each run has a fresh instance,
-//! so nothing remains from another run.
+//! so no data remains from another run.
 
 #![deny(unsafe_code)]
 

@@ -28,8 +28,8 @@ fn run_cells<E: Send, T: Task<E> + Send>(starts: &[Start], host: &mut dyn FnMut(
 
 /// Runs the task of each cell on a separate thread, and calls the host on this thread in the meantime.
 ///
-/// Waits for a created thread, however long it takes to start. If no thread can be created, the task is given up
-/// immediately, before the host is called, and its `Start` reports this from then on.
+/// Waits for a created thread, however long the thread takes to start. If no thread can be created, the task is given
+/// up immediately, before the host is called, and its `Start` reports this from then on.
 pub fn run<R: Threads + Wait, E: Send, T: Task<E> + Send, H: FnMut()>(
     _: &R,
     starts: &[Start],

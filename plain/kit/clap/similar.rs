@@ -1,5 +1,5 @@
-//! Finds the name to which a word is close, by Jaro similarity: the share of letters that both have near the same
-//! position, reduced for letters in a different order.
+//! Finds the names close to a word, by Jaro similarity: the share of letters that the name and the word both have near
+//! the same position, reduced for letters in a different order.
 
 use super::super::alloc::{AllocError, Global};
 use super::super::vec::Vec;

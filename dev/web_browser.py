@@ -188,7 +188,7 @@ def links(page: Page) -> None:
     bad = {
         "AAAA": "cut off, or was changed",
         "%3Cb%3E": "never has",
-        deflated(bytes(50_000_000)): "more than 1,048,576",
+        deflated(bytes(50_000_000)): "longer than 1,048,576",
         deflated(b"\xff\xfe"): "can't be read",
         "": "never has",
     }
@@ -360,7 +360,7 @@ def tried(checks: Any, what: str, parts: list[Callable[[Page], None]]) -> None:
                 part(page)
             except (Wrong, AssertionError) as fault:
                 faults.append(f"{part.__name__}: {fault}")
-        faults += [f"the console says: {it}" for it in page.browser.errors]
+        faults += [f"the browser's console shows: {it}" for it in page.browser.errors]
         checks.tell(what, len(parts), faults)
 
 

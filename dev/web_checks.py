@@ -331,7 +331,7 @@ def missing(part: str, checks: Checks) -> str | None:
     if part in IN_NODE and not shutil.which("node"):
         return "node isn't installed"
     if part == "browser" and not browser_program(name):
-        return f"{BROWSERS[name]} isn't installed: dev/get_browser {name} fetches it"
+        return f"{BROWSERS[name]} isn't installed: run dev/get_browser {name}"
     return None
 
 
@@ -366,8 +366,8 @@ def drawn(given: argparse.Namespace, folder: Path) -> int:
     """Draws the guide's pictures again."""
     made = made_page(given, folder)
     is_there = browser_program() is not None
-    if why := made.why or ("" if is_there else "Chromium isn't installed: dev/get_browser chromium fetches it"):
-        print(f"dev/check_web: there is no picture of the page: {why}", file=sys.stderr)
+    if why := made.why or ("" if is_there else "Chromium isn't installed: run dev/get_browser chromium"):
+        print(f"dev/check_web: the page isn't drawn: {why}", file=sys.stderr)
         return 2
     web_browser.draw(made.path, ROOT / "docs/pictures")
     return 0

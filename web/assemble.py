@@ -17,8 +17,8 @@ ROOT = Path(__file__).resolve().parent.parent
 WEB = ROOT / "web"
 TOOLS = ROOT / "python/nic82599/tools"
 sys.path.insert(0, str(ROOT / "python"))
-# Each module follows the ones that it needs. The package's own frames.py is `packets`, because a tool's module has that
-# name.
+# Each module follows the ones that it needs. The package's own frames.py is named `packets` here, because a tool's
+# module is named `frames`.
 OF_TOOLS = (
     "known fields tables regs frames printable script trace memory reason_table advice reasons about forms refusals "
     "run page as_test"

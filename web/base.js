@@ -31,12 +31,12 @@ function keep(name, value) {
   try {
     localStorage.setItem(`nic82599:${name}`, JSON.stringify(value));
   } catch {
-    if (isKept) notice("This browser stores nothing for the page: save the script as a file before you close it.");
+    if (isKept) notice("This browser stores nothing: save the script as a file before you close the page.");
     isKept = false;
   }
 }
 
-// The worker. A run that takes long can be stopped: another worker then replaces this one.
+// The worker. A long run can be stopped: another worker then replaces this one.
 
 const LONG = 400;
 const source = URL.createObjectURL(new Blob([element("model").textContent], { type: "text/javascript" }));
@@ -58,7 +58,7 @@ function begin() {
 class Stopped extends Error {}
 // The requests that run a script; others finish quickly.
 const RUNS = ["answers", "view", "test", "solved", "reason"];
-// Stops the run of a script, and reports this to its waiters. All other requests are sent again.
+// Stops the run of a script, and reports this to the code that waits for the run. Sends all other requests again.
 function endRun() {
   worker.terminate();
   begin();

@@ -7,8 +7,8 @@
 A submitted file is what the page saves: a JSON object with `student` and `lessons`, which maps numbers to `script` and
 `outcome`. ./nicbench determines the outcome again, whatever the file says.
 
-Status 0: done; 1: an answer doesn't solve its lesson, or a file can't be read, as its line says; 2: there is no
-program; 3: wrong arguments.
+Status 0: done; 1: an answer doesn't solve its lesson, or a file can't be read (its line says why); 2: there is no
+nicbench; 3: wrong arguments.
 """
 
 from __future__ import annotations
@@ -124,14 +124,14 @@ def handed_in(path: Path) -> tuple[str, dict[str, Any]]:
     """Returns the student's name in a file, and its lessons. Raises Bad."""
     try:
         if path.stat().st_size > MOST_FILE:
-            raise Bad(f"it is longer than {MOST_FILE:,} bytes")
+            raise Bad(f"the file is longer than {MOST_FILE:,} bytes")
         found = json.loads(path.read_text(encoding="utf-8"))
         student, lessons = found["student"], found["lessons"]
         if not isinstance(student, str) or not isinstance(lessons, dict):
-            raise Bad("it isn't what the page saves")
+            raise Bad("the file isn't one that the page saves")
         return student, lessons
     except (OSError, ValueError, KeyError, TypeError, RecursionError) as fault:
-        raise Bad(f"it isn't what the page saves ({type(fault).__name__})") from None
+        raise Bad(f"the file isn't one that the page saves ({type(fault).__name__})") from None
 
 
 def grade(files: list[Path]) -> int:

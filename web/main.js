@@ -78,4 +78,4 @@ async function start() {
   else putText(kept("script", firstText()), null, false);
   showTab(kept("tab", "work"));
 }
-start().catch((fault) => notice(`The page can't start here: ${fault.message}. It needs a browser from 2024 or newer.`));
+start().catch((fault) => notice(`The page can't start here: ${fault.message}. Use a browser from 2024 or newer.`));

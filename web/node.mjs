@@ -1,11 +1,11 @@
 #!/usr/bin/env node
 // The page's worker in Node, for tests. It reads messages as lines of JSON, `{"what": .., "given": [..]}`, and prints
-// for each what the worker answers, `{"made": ..}` or `{"fault": ..}`. Bytes are `{"base64": ".."}` in both directions.
+// the worker's reply to each message, `{"made": ..}` or `{"fault": ..}`. Bytes are `{"base64": ".."}` in both
+// directions.
 //
 //     web/node.mjs web/out/bench.html [PROGRAM] < messages
 //
-// With PROGRAM, a nicbench, that program answers instead of the module, so the rest of the page can be tested without
-// it.
+// With PROGRAM, a nicbench, that program answers instead of the module, so the page can be tested without the module.
 
 import { spawnSync } from "node:child_process";
 import { readFileSync } from "node:fs";

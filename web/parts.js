@@ -151,7 +151,7 @@ async function through(stream, bytes, most) {
     length += value.length;
     if (length > most) {
       reader.cancel().catch(() => {});
-      throw new Error(`its script is longer than ${most.toLocaleString("en")} bytes`);
+      throw new Error(`the script is longer than ${most.toLocaleString("en")} bytes`);
     }
     parts.push(value);
   }
@@ -171,10 +171,10 @@ async function ofLink(hash) {
   try {
     bytes = octetsOf(packed.replaceAll("-", "+").replaceAll("_", "/"));
   } catch {
-    throw new Error("it is cut off");
+    throw new Error("the link is cut off");
   }
   const raw = await through(new DecompressionStream("deflate-raw"), bytes, MOST_LINK).catch((fault) => {
-    throw fault instanceof TypeError ? new Error("it is cut off, or was changed") : fault;
+    throw fault instanceof TypeError ? new Error("the link is cut off, or was changed") : fault;
   });
   const number = (name, least, most) => {
     const word = words.get(name) ?? "";
@@ -200,7 +200,7 @@ async function saveTest(language) {
     notice();
     saved(words.exec(made)[1], made);
   } catch (fault) {
-    notice(`A script that the bench refuses has no test (${fault.message}): F4 goes to the line.`);
+    notice(`There is no test, because the bench refuses the script (${fault.message}): F4 goes to the refused line.`);
   }
 }
 async function openLink() {
@@ -284,7 +284,7 @@ function openLesson(number) {
   showTab("work");
 }
 async function checkLesson(it, said) {
-  const failed = (fault) => ({ is: false, why: `It couldn't be checked: ${fault.message}.` });
+  const failed = (fault) => ({ is: false, why: `The script couldn't be checked: ${fault.message}.` });
   const text = element("text").value, { is, why } = await ask("solved", text, it).catch(failed), done = progress();
   done[it.number] = { solved: is || Boolean(done[it.number]?.solved) };
   keep("lessons", done);

@@ -1,4 +1,4 @@
-// The page's worker: it answers messages one by one. The first one contains the module.
+// The page's worker: it answers one message at a time. The first message contains the module.
 const ACTS = { answers, view, packet, capture, test, solved, reason, listing, bench };
 onmessage = ({ data: { id, what, given, module } }) => {
   if (module) wasm = module;

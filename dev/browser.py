@@ -1,7 +1,7 @@
 """A headless browser for checks: it loads a page, presses keys, evaluates expressions and takes screenshots.
 
 Chromium is controlled over two pipes, with JSON messages that end in a zero byte (`--remote-debugging-pipe`). For
-Firefox see firefox.py. dev/get_browser knows where the browsers are.
+Firefox see firefox.py. dev/get_browser finds the browsers.
 """
 
 from __future__ import annotations

@@ -1,8 +1,8 @@
 """Reads what a crate's sources promise: each public contract with the sentences of its comments.
 
 A contract is a public function with its `ensures` clauses, or a public type with its invariants. Its sentences are its
-doc comment. A clause has a sentence of its own if a `//` comment is right above it, or if it only applies a definition
-of specs/ that has a comment. For a record, the comments of its fields follow.
+doc comment. A clause has a separate sentence if a `//` comment is right above it, or if the clause only applies a
+definition of specs/ that has a comment. For a record, the comments of its fields follow.
 """
 
 from __future__ import annotations

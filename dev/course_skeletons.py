@@ -1,7 +1,7 @@
 #!/usr/bin/env python3
-"""Writes the skeletons in course/ from the answers in c/drive/tests/course: the same text, without the lines between a
-`TODO N: ..` comment and the next `END`. The text after the colon of `END: ..` replaces this hole, one statement per
-line. For tests, `at` returns the text with the holes filled up to a milestone.
+"""Writes the skeletons in course/ from the answers in c/drive/tests/course: the same text, with a hole in place of the
+lines between each `TODO N: ..` comment and the next `END`. The text after the colon in `END: ..` fills the hole, one
+statement per line. For tests, `at` returns the text with the holes filled up to a milestone.
 
     dev/course_skeletons.py [--check]
 """

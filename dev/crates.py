@@ -1,8 +1,9 @@
 """Packs the Rust crates: the files of each, and its `.crate` file.
 
 `nic82599-model` is pure Rust. In the repository, a build script writes its controller, and the crate compiles the API
-and the tests of the neighbouring crate. A packed crate contains all of them and no script. `nic82599` contains the
-sources of the C library in its `sources` folder; its build script builds the library from them if it finds no library.
+and the tests of the neighbouring crate. A packed `nic82599-model` contains the controller, the API and the tests, but
+no script. A packed `nic82599` contains the sources of the C library in its `sources` folder; its build script builds
+the library from these sources if it finds no library.
 """
 
 from __future__ import annotations

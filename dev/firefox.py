@@ -1,5 +1,5 @@
-"""Firefox, driven by WebDriver BiDi: JSON messages over a websocket (`--remote-debugging-port`). It implements the part
-of RFC 6455 that a client with unfragmented messages needs."""
+"""Firefox, driven by WebDriver BiDi: JSON messages over a websocket (`--remote-debugging-port`). This module implements
+the part of RFC 6455 that a client with unfragmented messages needs."""
 
 from __future__ import annotations
 

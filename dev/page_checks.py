@@ -41,7 +41,7 @@ class Look:
         place = "start" if number is None else str(number)
         shown = (self.text("at"), self.browser.value("location.hash"), self.text("now-title").split(",")[0])
         title = "At the start" if number is None else f"Step {number}"
-        self.expect(shown == (f"{place} / {self.count - 1}", f"#{place}", title), f"{way} leads to {shown}")
+        self.expect(shown == (f"{place} / {self.count - 1}", f"#{place}", title), f"{way}: the page shows {shown}")
 
 
 def check_walk(look: Look, rings: list[str], pictures: Path | None) -> None:
@@ -63,7 +63,7 @@ def check_walk(look: Look, rings: list[str], pictures: Path | None) -> None:
             browser.picture(pictures / f"{look.file.stem}-{width}-{'dark' if dark else 'light'}.png", True)
     browser.press("Home")
     look.is_at(None, "Home")
-    look.expect(not browser.errors, f"the console says {browser.errors}")
+    look.expect(not browser.errors, f"the browser's console shows {browser.errors}")
     browser.errors.clear()
 
 

@@ -1,5 +1,5 @@
 #!/usr/bin/env python3
-"""Writes the register table to every file that contains it, from the list in python/nic82599/tools/tables.py.
+"""Writes the register table to every file that contains the table, from the list in python/nic82599/tools/tables.py.
 
     dev/register_table.py            rewrites the files
     dev/register_table.py --check    names the stale files, and exits with status 1 if there are any

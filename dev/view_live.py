@@ -448,7 +448,7 @@ def check_following(browser: Browser, folder: Path, expect: Expect) -> None:
         it.end()
         seen.until("the page reports that nicview has exited", "element('notice').textContent.includes('has ended')")
     browser.errors = [it for it in browser.errors if "net::ERR" not in it]
-    expect(not browser.errors, f"live page: the console says {browser.errors}")
+    expect(not browser.errors, f"live page: the browser's console shows {browser.errors}")
     browser.errors.clear()
 
 
@@ -489,7 +489,7 @@ def check_live(folder: Path, expect: Expect, is_quick: bool) -> None:
     try:
         places.library()
     except places.Missing as missing:
-        print(f"no live page is checked: {missing}")
+        print(f"no live page was checked: {missing}")
         return
     parts = [check_growing, check_who, check_hostile, check_guest, check_script, check_marks]
     for part in parts if is_quick else [*parts, check_many]:

@@ -588,7 +588,7 @@ def check_recordings(scripts: dict[Path, int | None], folder: Path, seed: int, e
     try:
         places.library()
     except places.Missing as missing:
-        print(f"no recording is checked: {missing}")
+        print(f"no recording was checked: {missing}")
         return
     chance = random.Random(seed)
     for script, vfs in scripts.items():

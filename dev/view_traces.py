@@ -117,7 +117,7 @@ def check_tshark(made: Path, got: list[tuple[int, int, str]], expect: Expect) ->
     """Checks that tshark reads the same frames, if it is installed."""
     program = shutil.which("tshark")
     if program is None:
-        print("tshark isn't installed, so it reads no capture")
+        print("tshark isn't installed, so it checked no capture")
         return
     words = [program, "-r", made, "-T", "fields", "-E", "separator=|"]
     for field in ("frame.time_epoch", "frame.packet_flags_direction", "frame.comment", "frame.interface_name"):
@@ -176,6 +176,6 @@ def check_traces(folder: Path, expect: Expect) -> None:
     try:
         places.library()
     except places.Missing as missing:
-        print(f"no capture is checked: {missing}")
+        print(f"no capture was checked: {missing}")
         return
     check_capture(folder, expect)

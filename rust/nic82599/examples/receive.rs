@@ -1,4 +1,4 @@
-//! A TCP frame arrives. Its hash picks queue 3, the device writes it to the ring, and an interrupt reports it.
+//! A TCP frame arrives. Its hash picks queue 3, the device writes the frame to the ring, and an interrupt reports it.
 
 use nic82599::desc::Descriptor;
 use nic82599::regs::*;
@@ -22,11 +22,11 @@ fn main() -> Result<(), Error> {
     nic.write(SRRCTL.at(3), srrctl::DESCTYPE.is(1) | srrctl::BSIZEPACKET.is(2));
     nic.write(RXDCTL.at(3), rxdctl::ENABLE);
     nic.write(GPIE, gpie::MULTIPLE_MSIX); // MSI-X mode, which the card needs here
-    nic.write(IVAR.at(1), ivar::INT_ALLOC_2.is(5) | ivar::INT_ALLOC_VAL_2); // its cause: bit 5
+    nic.write(IVAR.at(1), ivar::INT_ALLOC_2.is(5) | ivar::INT_ALLOC_VAL_2); // queue 3 raises cause 5
     nic.write(EIMS, 1 << 5);
     nic.settle(4)?; // the device enables the queue
     nic.memory().put_descriptor(0, 0, Descriptor::receive(0x800))?; // slot 0: its buffer is block 1
-    nic.write(RDT.at(3), 1); // slot 0 is the device's
+    nic.write(RDT.at(3), 1); // the device owns slot 0
     println!("arrives: {:?}", nic.arrive(&FRAME)?);
     for event in nic.settle(4)? {
         println!("{}: {event}", event.step());

@@ -7,7 +7,7 @@ use crate::nic::Nic;
 use crate::register::{Register, VfRegister};
 
 /// The accesses that driver code makes to the device. A [`Nic`] implements it, and so does the `Bus` of each task in a
-/// search. Code that takes `&impl Device` therefore runs in an ordinary program and is searched for races unchanged.
+/// search. Code that takes `&impl Device` therefore runs unchanged in an ordinary program and in a search for races.
 ///
 /// ```
 /// use nic82599::desc::Descriptor;
@@ -51,7 +51,7 @@ pub trait Device {
     ///
     /// # Errors
     ///
-    /// [`Error::Stray`] if there is no such function, or it has no such register.
+    /// [`Error::Stray`] if there is no such function, or the function has no such register.
     fn vf_write(&self, number: u8, register: VfRegister, word: u32) -> Result<(), Error>;
 
     /// Fills `bytes` from packet memory, starting at a bus address.

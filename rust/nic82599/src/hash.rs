@@ -3,9 +3,9 @@
 use crate::error::Error;
 use crate::handle;
 
-/// Returns the RSS hash of an input under a key. The input is the addresses, followed by the ports if they are hashed,
-/// in the order of the frame. For TCP or UDP over IPv4 without options it is `frame[26..38]`; over IPv6 without further
-/// headers it is `frame[22..58]`. docs/DESCRIPTORS.md lists the inputs by RSS type.
+/// Returns the RSS hash of an input under a key. The input consists of the addresses, followed by the ports if they are
+/// hashed, in the frame's order. For TCP or UDP over IPv4 without options it is `frame[26..38]`; over IPv6 without
+/// further headers it is `frame[22..58]`. docs/DESCRIPTORS.md lists the inputs by RSS type.
 ///
 /// # Errors
 ///

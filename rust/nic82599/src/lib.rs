@@ -3,10 +3,10 @@
 //!
 //! [`Nic::open`] creates a controller in its power-up state. You reach registers by their names in [`regs`] or by
 //! address, and packet memory by bus address ([`Nic::memory`]). [`Nic::arrive`] delivers a frame to the card;
-//! [`Nic::collect`] takes a transmitted one. Nothing happens by itself: the device acts in steps, each of them a call,
-//! so a race is an order of calls. [`Nic::settle`] runs steps until none has anything to do.
+//! [`Nic::collect`] takes a transmitted frame. Nothing happens by itself: the device acts in steps, each of which is a
+//! call, so a race is an order of calls. [`Nic::settle`] runs steps until none has anything to do.
 //!
-//! A TCP frame arrives; its hash picks queue 3, the device writes it to the ring, and an interrupt reports it:
+//! A TCP frame arrives; its hash picks queue 3, the device writes the frame to the ring, and an interrupt reports it:
 //!
 //! ```
 //! use nic82599::desc::Descriptor;
@@ -27,11 +27,11 @@
 //! nic.write(SRRCTL.at(3), srrctl::DESCTYPE.is(1) | srrctl::BSIZEPACKET.is(2));
 //! nic.write(RXDCTL.at(3), rxdctl::ENABLE);
 //! nic.write(GPIE, gpie::MULTIPLE_MSIX); // MSI-X mode, which the card needs here
-//! nic.write(IVAR.at(1), ivar::INT_ALLOC_2.is(5) | ivar::INT_ALLOC_VAL_2); // its cause: bit 5
+//! nic.write(IVAR.at(1), ivar::INT_ALLOC_2.is(5) | ivar::INT_ALLOC_VAL_2); // queue 3 raises cause 5
 //! nic.write(EIMS, 1 << 5);
 //! nic.settle(4)?; // the device enables the queue
 //! nic.memory().put_descriptor(0, 0, Descriptor::receive(0x800))?; // slot 0: its buffer is block 1
-//! nic.write(RDT.at(3), 1); // slot 0 is the device's
+//! nic.write(RDT.at(3), 1); // the device owns slot 0
 //!
 //! assert_eq!(nic.arrive(&frame)?, Arrival::Waits);
 //! let events: Vec<String> = nic.settle(4)?.map(|event| format!("{}: {event}", event.step())).collect();

@@ -240,7 +240,7 @@ impl Nic {
     ///
     /// # Errors
     ///
-    /// [`Error::OutOfMemory`]; the blocks below the one that failed are then lent.
+    /// [`Error::OutOfMemory`]; the blocks below the refused block are then lent.
     pub fn lend_all(&self) -> Result<(), Error> {
         self.handle.lend_all()
     }
@@ -296,7 +296,7 @@ impl Nic {
         std::iter::from_fn(move || self.collect())
     }
 
-    /// Sets the link up or down. Returns false if it is already in that state. The link is up initially.
+    /// Sets the link up or down. Returns false if the link is already in that state. The link is up initially.
     pub fn link(&self, up: bool) -> bool {
         self.handle.link(up)
     }

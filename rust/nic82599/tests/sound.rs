@@ -304,7 +304,7 @@ fn what_is_left_on_a_stack_is_dropped_once() {
         name: "dropped",
         begin: |begin| {
             let (made, dropped) = MADE.with(Cell::get);
-            assert_eq!(made, dropped, "what an earlier schedule left");
+            assert_eq!(made, dropped, "an earlier schedule left a value that wasn't dropped");
             left(begin, |bus, state| {
                 let _counted = (Counted::new(), Counted::new());
                 let _held = state.cell.borrow_mut();
@@ -319,11 +319,11 @@ fn what_is_left_on_a_stack_is_dropped_once() {
                 assert!(waited.is_err());
                 let _counted = Counted::new();
                 bus.write(EIMS, 1); // (it unwinds here)
-                unreachable!("a call of a task that is left returned");
+                unreachable!("a call by an abandoned task returned");
             });
         },
         end: |state| match state.cell.try_borrow() {
-            Ok(_) => Err("the task that is left holds nothing".to_owned()),
+            Ok(_) => Err("the abandoned task no longer borrows the cell".to_owned()),
             Err(_) => Ok(()),
         },
         ..TRIED
@@ -517,5 +517,5 @@ fn no_search_begins_where_a_captured_value_is_dropped() {
         });
         done.send(()).unwrap();
     });
-    assert!(end.recv_timeout(Duration::from_secs(600)).is_ok(), "it waits for itself, or failed");
+    assert!(end.recv_timeout(Duration::from_secs(600)).is_ok(), "the search waits for itself, or it failed");
 }

@@ -56,8 +56,8 @@ impl Descriptor {
     /// The size of a descriptor in bytes: slot s of a ring is at its base + `BYTES` * s.
     pub const BYTES: u64 = 16;
 
-    /// Creates a receive descriptor as a driver writes it. `buffer` is a bus address; its bit 0 is cleared. There is no
-    /// header buffer.
+    /// Creates a receive descriptor as a driver writes it. `buffer` is a bus address; its bit 0 is cleared. The
+    /// descriptor has no header buffer.
     pub const fn receive(buffer: u64) -> Descriptor {
         Descriptor { first: buffer & rxd::BUFFER, second: 0 }
     }

@@ -82,7 +82,7 @@ pub const MAILBOX_WORDS: usize = 16;
 pub trait Driver: Sized + 'static {
     /// The driver's name: 1 to 40 letters, digits, '-' and '_'.
     const NAME: &'static str;
-    /// What the driver supports besides its functions.
+    /// What the driver supports in addition to its functions.
     const CAN: Can = Can::NOTHING;
     /// The largest number of queues that `open` supports, 1 to [`MOST_QUEUES`].
     const QUEUES: u16 = 1;
@@ -91,7 +91,7 @@ pub trait Driver: Sized + 'static {
     /// The longest frame that the driver supports, in bytes: 1,514 to [`MOST_FRAME`].
     const FRAME: u32 = 1514;
 
-    /// Creates the driver's state at the start of each schedule. Doesn't access the device.
+    /// Creates the driver's state at the start of each schedule. The function must not access the device.
     fn new() -> Self;
 
     /// Sets up the controller, from power-up or from the state that `close` left, and returns true when frames can be
@@ -129,15 +129,17 @@ pub trait Driver: Sized + 'static {
     const RESIZE: Option<fn(&Self, &Platform, u16) -> bool> = None;
     /// Sets everything up again after a fault, with the same setup; frames in flight may be lost.
     const RESET: Option<Plain<Self>> = None;
-    /// Quiesces the device until `RESUME`: no frame, no message and no access.
+    /// Quiesces the device: until `RESUME` no frame is written or sent, no message is sent, and only a handler that is
+    /// still running accesses the device.
     const SUSPEND: Option<Plain<Self>> = None;
     /// Resumes the device.
     const RESUME: Option<Plain<Self>> = None;
-    /// Returns whether the link is up, as far as the driver knows. Doesn't access the device.
+    /// Returns whether the link is up, as far as the driver knows. The function must not access the device.
     const LINK: Option<fn(&Self) -> bool> = None;
 
-    /// Returns the counts since `open`. Any thread may call it concurrently with other calls. Frames and bytes of a
-    /// direction must match, no count may decrease, and none may be lost. Doesn't access the device.
+    /// Returns the counts since `open`. Any thread may call it concurrently with other calls. The frames and bytes of a
+    /// direction must match, no count may decrease, and no frame may go uncounted. The function must not access the
+    /// device.
     const STATS: Option<fn(&Self) -> Stats> = None;
 
     /// Sends a message to the other side.
@@ -155,7 +157,8 @@ pub type Receive<D> = fn(&D, &Platform, u16) -> Option<Frame>;
 /// the driver accepted the frame: the caller may then reuse the frame's bytes. Returns false if the ring has no room
 /// now or the frame is too long.
 pub type Send<D> = fn(&D, &Platform, u16, &[u8]) -> bool;
-/// Reclaims the sent frames of a queue. Returns how many of its frames are still unsent, as far as the driver knows.
+/// Reclaims the sent frames of a queue. Returns how many of the queue's frames are still unsent, as far as the driver
+/// knows.
 pub type Reclaim<D> = fn(&D, &Platform, u16) -> u32;
 /// Handles a vector's message. Returns the queues to poll, as bit q for queue q. For each of these queues, the report
 /// card calls `RECEIVE` until it returns `None`, then `RECLAIM`, then `REARM`.
@@ -229,7 +232,7 @@ impl BitOr for Can {
 #[derive(Clone, Copy, Debug, PartialEq, Eq)]
 #[non_exhaustive]
 pub struct Setup {
-    /// 0 for the physical function; v + 1 for virtual function v, with 64 pools.
+    /// 0 for the physical function; v + 1 for virtual function v (of 64).
     pub port: u8,
     /// The number of queues: use receive and transmit queues 0 to `queues` - 1 of the port.
     pub queues: u16,
@@ -251,7 +254,7 @@ pub struct Setup {
 pub struct Frame {
     /// The frame's bytes, 1 to [`MOST_FRAME`] of them.
     pub bytes: Vec<u8>,
-    /// The RSS hash; 0 if the driver doesn't report it.
+    /// The RSS hash; 0 if the driver doesn't report the hash.
     pub hash: u32,
 }
 
@@ -275,7 +278,7 @@ pub struct Filter {
 pub struct Rss {
     /// The key, as [`rss_hash`](crate::rss_hash) takes it.
     pub key: [u8; 40],
-    /// The queue number for each entry.
+    /// The redirection table: the queue number for each entry.
     pub table: [u8; 128],
     /// A mask: bit t enables the hash of type t, a code of [`RssType`](crate::desc::RssType).
     pub types: u32,

@@ -66,7 +66,7 @@ driver.md
     Stop, and a driver that doesn't run: pmd_driver
     A driver whose rings are up: pmd_driver/running pmd_driver/bursts
     Packets: pmd_access/packet pmd_access/bufs pmd_access/frames
-    Ways to a device: pmd_access pmd_driver/arriving
+    How a driver reaches a device: pmd_access pmd_driver/arriving
     Setup, queues and blocks: pmd_access/names pmd_access/setup pmd_access/sides pmd_access/both pmd_access/slots \
 pmd_access/home
     The receive half: pmd_rx
@@ -76,7 +76,7 @@ laws.md
     Registers: device_laws@new_device_reads_reset_values
     Counters and causes: device_laws@events_count
     Resets and the EEPROM: device_laws@asked_reset_resets
-    Each event has a reach: device_laws@other_events_keep_settings
+    What each event can change: device_laws@other_events_keep_settings
     Memory, frames and steps: device_laws@receiving_has_an_order
     Virtual functions: device_laws@vf_access_is_the_physical_functions
     Registers and interrupts, by the datasheet's names: datasheet_laws/interrupts
@@ -84,9 +84,9 @@ laws.md
     Frames and memory, by the registers' bits: datasheet_laws/frames
 interleaving.md
     A driver's life: driver_laws
-    Together with other calls of its author: driver_laws@driver_among_any_calls_in_order
-    Stop, and a start that was refused: driver_laws@what_is_left_is_in_order
-    Where a start leads, and both halves: driver_laws/starting
+    With other calls by the driver's author: driver_laws@driver_among_any_calls_in_order
+    Stop, and a refused start: driver_laws@what_is_left_is_in_order
+    Results of a start, and both halves: driver_laws/starting
     The receive ring: ring_laws/receive
     The transmit ring: ring_laws/transmit
     Histories: ring_laws/history
@@ -101,7 +101,7 @@ script.md
     The arguments of the command line: bench_commands/examples bench_commands/parse
     `nicbench threads`: bench
 c.md
-    The calls of C: nic82599_c
+    The calls for C: nic82599_c
     A card in Rattle: card
 """.replace("\\\n", "")
 

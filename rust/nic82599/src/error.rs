@@ -135,7 +135,7 @@ impl fmt::Display for Error {
             }
             Error::NoBlock => "the block is already lent or doesn't exist",
             Error::BadMemory => "memory in place must begin and end at multiples of 2,048 bytes and not be lent yet",
-            Error::NoQueue => "there are 128 queues",
+            Error::NoQueue => "the queue's number is above the limit: there are 128 queues",
             Error::NoGroup => "no such virtual function, or the mode has no pool for it",
             Error::Stray { at, word, why } => return write_stray(f, *at, *word, *why),
             Error::BadRange => "a range of memory ends before it begins",

@@ -37,7 +37,7 @@ pub enum Step {
 /// assert_eq!(event.step().to_string(), "int pf");
 /// let dropped = Event::Dropped(Why::QueueOff);
 /// assert_eq!(dropped.to_string(), "dropped queue off");
-/// assert_eq!(format!("{dropped:#}"), "dropped queue off: its queue isn't on: RXDCTL bit 25 reads 0");
+/// assert_eq!(format!("{dropped:#}"), "dropped queue off: the frame's queue isn't on: RXDCTL bit 25 reads 0");
 /// ```
 #[derive(Clone, Copy, Debug, PartialEq, Eq, Hash)]
 pub enum Event {
@@ -212,16 +212,16 @@ impl fmt::Display for Event {
 impl fmt::Display for Why {
     fn fmt(&self, f: &mut fmt::Formatter<'_>) -> fmt::Result {
         let (word, meaning) = match self {
-            Why::LinkDown => ("link down", "Nic::link turned it off"),
+            Why::LinkDown => ("link down", "Nic::link set the link down"),
             Why::Off => ("off", "RXCTRL bit 0 is 0"),
-            Why::Short => ("short", "it is shorter than 60 bytes"),
-            Why::Long => ("long", "it is longer than the limit: 1,514 bytes, or MAXFRS with jumbo frames"),
-            Why::Filter => ("filter", "no bit of FCTRL and no address (RAL, RAH, MTA) accepts its destination"),
+            Why::Short => ("short", "the frame is shorter than 60 bytes"),
+            Why::Long => ("long", "the frame is longer than the limit: 1,514 bytes, or MAXFRS with jumbo frames"),
+            Why::Filter => ("filter", "no bit of FCTRL and no address (RAL, RAH, MTA) accepts the frame's destination"),
             Why::NoPool => ("no pool", "no pool is assigned to the frame, or MRQC's mode doesn't have that pool"),
-            Why::PoolOff => ("pool off", "VFRE disables its pool"),
+            Why::PoolOff => ("pool off", "VFRE disables the frame's pool"),
             Why::Full => ("full", "as many frames are waiting as Sizes::fifo allows"),
-            Why::QueueOff => ("queue off", "its queue isn't on: RXDCTL bit 25 reads 0"),
-            Why::NoSlot => ("no slot", "head and tail of its queue meet, and SRRCTL has DROP_EN"),
+            Why::QueueOff => ("queue off", "the frame's queue isn't on: RXDCTL bit 25 reads 0"),
+            Why::NoSlot => ("no slot", "head and tail of the frame's queue meet, and SRRCTL has DROP_EN"),
         };
         f.write_str(word)?;
         meant(f, meaning)

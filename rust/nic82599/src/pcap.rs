@@ -125,7 +125,7 @@ impl<W: Write> Writer<W> {
     pub fn put(&mut self, time: u64, frame: &[u8]) -> io::Result<()> {
         let length = match u32::try_from(frame.len()) {
             Ok(length) if length <= LONGEST => length,
-            _ => return Err(io::Error::new(ErrorKind::InvalidInput, "a frame is too long")),
+            _ => return Err(io::Error::new(ErrorKind::InvalidInput, "a frame is longer than 262,144 bytes")),
         };
         for word in [(time / 1_000_000) as u32, (time % 1_000_000) as u32, length, length] {
             self.file.write_all(&word.to_le_bytes())?;

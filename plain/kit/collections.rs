@@ -187,13 +187,13 @@ impl<T> Index<usize> for VecDeque<T> {
     type Output = T;
 
     fn index(&self, place: usize) -> &T {
-        self.get(place).expect("a place beyond a queue's end")
+        self.get(place).expect("the index is beyond the queue's end")
     }
 }
 
 impl<T> IndexMut<usize> for VecDeque<T> {
     fn index_mut(&mut self, place: usize) -> &mut T {
-        self.get_mut(place).expect("a place beyond a queue's end")
+        self.get_mut(place).expect("the index is beyond the queue's end")
     }
 }
 

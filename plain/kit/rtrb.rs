@@ -113,7 +113,7 @@ impl<T> Consumer<T> {
 
     /// Removes an item that is known to exist.
     pub fn pop_known(&mut self) -> T {
-        self.pop().expect("an item of a ring")
+        self.pop().expect("the ring is empty")
     }
 
     /// Returns the number of items.

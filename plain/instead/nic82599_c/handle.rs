@@ -27,7 +27,7 @@ impl Handle {
     /// Borrows the card. C makes no call with a null handle.
     #[inline]
     pub fn get_mut(&mut self) -> &mut Card {
-        self.card.as_mut().expect("a handle of a card")
+        self.card.as_mut().expect("the handle is null: it has no card")
     }
 }
 
@@ -35,7 +35,7 @@ impl KeptHandle {
     /// Borrows the snapshot. C makes no call with a null handle.
     #[inline]
     pub fn get_mut(&mut self) -> &mut Kept {
-        self.kept.as_mut().expect("a handle of a kept card")
+        self.kept.as_mut().expect("the handle is null: it has no snapshot")
     }
 }
 

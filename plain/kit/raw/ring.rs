@@ -98,7 +98,7 @@ impl<T> Ring<T> {
     /// Appends an element. Panics if there is no room.
     #[inline]
     pub(in crate::kit) fn push_back(&mut self, value: T) {
-        assert!(self.len < self.slots.len(), "no room in a ring");
+        assert!(self.len < self.slots.len(), "the ring has no room");
         let slot = self.slot(self.len);
         self.slots[slot] = MaybeUninit::new(value);
         self.len += 1;
@@ -107,7 +107,7 @@ impl<T> Ring<T> {
     /// Prepends an element. Panics if there is no room.
     #[inline]
     pub(in crate::kit) fn push_front(&mut self, value: T) {
-        assert!(self.len < self.slots.len(), "no room in a ring");
+        assert!(self.len < self.slots.len(), "the ring has no room");
         self.head = if self.head == 0 { self.slots.len() - 1 } else { self.head - 1 };
         self.slots[self.head] = MaybeUninit::new(value);
         self.len += 1;

@@ -30,7 +30,7 @@ def first(lines: list[str], what: str, is_it: re.Pattern[str]) -> int:
     """Returns the number of the only line that matches a pattern."""
     found = [at for at, line in enumerate(lines) if is_it.search(line)]
     if len(found) != 1:
-        sys.exit(f"dev/page_excerpts.py: {len(found)} lines are {what}")
+        sys.exit(f"dev/page_excerpts.py: {len(found)} lines define {what}, instead of one")
     return found[0]
 
 
@@ -42,7 +42,7 @@ def item_of(text: str, item: str) -> list[str]:
     if counted := re.fullmatch(r"(.+)\+(\d+)", item):
         begin = next((at for at, line in enumerate(lines) if counted[1] in line), None)
         if begin is None:
-            sys.exit(f"dev/page_excerpts.py: no line has {counted[1]}")
+            sys.exit(f"dev/page_excerpts.py: no line contains {counted[1]}")
         return lines[begin : begin + int(counted[2])]
     begin = first(lines, item, re.compile(rf"^(?:pub(?:\(crate\))? )?(?:fn|const) {item}\b"))
     end = next(at for at, line in enumerate(lines) if at >= begin and re.match(r"\S*[};]$|\S.*;$", line))

@@ -162,9 +162,9 @@ def distributed(crates: dict[str, Crate], sections: list[Section]) -> Iterator[s
             if best.rank(crate.name, it.module, laws):
                 best.contracts.append((crate, it))
             else:
-                yield f"{it.place}: on no page of docs/promises"
+                yield f"{it.place}: the contract is on no page of docs/promises"
     for section in sections:
-        yield from (f"{section.heading}: `{it}` selects nothing" for it in section.selectors if not selects(crates, it))
+        yield from (f"{section.heading}: `{it}` has no contract" for it in section.selectors if not selects(crates, it))
         section.contracts.sort(key=lambda pair: section.order(pair[0].name, pair[1].module))
 
 
@@ -243,12 +243,12 @@ def statements(text: str) -> int:
 def faults_of(crate: Crate, it: Contract) -> Iterator[str]:
     """Yields the faults of a contract's comments."""
     if not it.sentences:
-        yield f"{it.place}: no doc comment"
+        yield f"{it.place}: the contract has no doc comment"
     said = statements(it.sentences)
     unsaid = [c for c in it.clauses if not c.comment and not crate.definition(it, c) and c.body]
     if len(unsaid) > max(said, 1):
         names = ", ".join(c.name for c in unsaid)
-        yield f"{it.place}: {said} statements for the clauses {names}"
+        yield f"{it.place}: its comments have {said} statements for the clauses {names}"
 
 
 def named(text: str) -> Iterator[tuple[str, list[str]]]:
@@ -272,7 +272,7 @@ def missing(crate: Crate, path: str, rest: str, clauses: list[str]) -> Iterator[
     """Yields the contract or the clauses that a page names but the crate lacks."""
     found = [it for it in crate.all if rest == it.path or rest.endswith(f"::{it.path}")]
     if not found and rest not in crate.types | {it.module for it in crate.all}:
-        yield f"no `{path}`"
+        yield f"there is no `{path}`"
     there = {clause.name for it in found for clause in it.clauses}
     yield from (f"`{path}` has no clause `{it}`" for it in clauses if found and it not in there)
 

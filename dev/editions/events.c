@@ -352,7 +352,7 @@ static void load(struct side *side, const char *file, const char *folder, size_t
     void *opened = dlopen(file, RTLD_NOW | RTLD_LOCAL);
     char *path = malloc(strlen(folder) + 16);
     if (!opened || !path) {
-        fprintf(stderr, "events: %s\n", opened ? "no memory" : dlerror());
+        fprintf(stderr, "events: %s\n", opened ? "out of memory" : dlerror());
         exit(2);
     }
     sprintf(path, "%s/%zu", folder, k);

@@ -1,13 +1,13 @@
 //! The parts of Rattle's library that the sources use, as plain Rust.
 //!
-//! The sources name `std::..`, which is a separate library in Rattle. It uses Rust's names, and differs from Rust's
-//! library in three ways that this module reproduces:
+//! The sources name `std::..`, which is a separate library in Rattle. Rattle's library uses Rust's names, and differs
+//! from Rust's library in three ways that this module reproduces:
 //!
 //! - Running out of memory is an error, not an abort. A call that allocates takes an allocator, `Global`, and returns a
-//!   `Result`; the error returns what couldn't be stored. Rust's `Vec` and `String` have fallible calls, which are used
-//!   here. Rust's `Box`, `Arc`, `VecDeque`, maps and sets abort the process, so the kit has its own.
+//!   `Result`; the error returns what couldn't be stored. Rust's `Vec` and `String` have fallible calls, which the kit
+//!   uses. Rust's `Box`, `Arc`, `VecDeque`, maps and sets abort the process, so the kit has its own.
 //! - Access to the process needs a handle, `HostRuntime`, which `main` receives.
-//! - A value that owns something may need an explicit call to destroy it. Rust drops it like any other.
+//! - A value that owns something may need an explicit call to destroy it. Rust drops such a value like any other.
 //!
 //! Each module's documentation says what it replaces. All `unsafe` code of the kit is in `raw`.
 

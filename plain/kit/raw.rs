@@ -40,8 +40,8 @@ pub(super) fn boxed<T>(value: T) -> Result<Box<T>, T> {
     }
 }
 
-/// Moves the elements to a block of their exact size. If the allocator refuses that block, they stay in their old one;
-/// Rust's vectors abort in that case.
+/// Moves the elements to a block of their exact size. If the allocator refuses that block, the elements stay in their
+/// old block; Rust's vectors abort in that case.
 pub(super) fn shrunk<T>(items: Vec<T>) -> Vec<T> {
     let (len, room) = (items.len(), items.capacity());
     if len == room || len == 0 || core::mem::size_of::<T>() == 0 {
@@ -136,7 +136,7 @@ mod heap {
 
     // SAFETY: the calls behave like malloc, realloc and free (plain/heap.c). They return memory that nothing else uses,
     // aligned for every type in the crate (no type needs more than malloc's alignment), keep its contents, and return
-    // null if there is none.
+    // null if memory runs out.
     unsafe impl GlobalAlloc for Heap {
         #[inline]
         unsafe fn alloc(&self, layout: Layout) -> *mut u8 {

@@ -72,7 +72,7 @@ def nicbench() -> str:
 
 
 def model() -> str:
-    """Returns the tools, and the model that answers them, as one script for a worker."""
+    """Returns the tools, and the model that answers their requests, as one script for a worker."""
     reasons = in_script((TOOLS / "reasons.txt").read_text(encoding="utf-8"))
     trees = f"new Map(Object.entries({in_script(expressions())}))"
     given = f'P.files.set("reasons.txt", {reasons});\nP.modules.ast.trees = {trees};\n'

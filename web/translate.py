@@ -2,7 +2,7 @@
 
 The tools' Python is the only source. The output calls web/python.js for Python's own behaviour: integers of any size,
 truth, equality by value, methods of strings and lists. It refuses an unknown construct with its file and line instead
-of guessing. What needs a process or a file is left out by name, and web/model.js provides it.
+of guessing. Code that needs a process or a file is left out by name, and web/model.js replaces it.
 """
 
 from __future__ import annotations

@@ -1,5 +1,5 @@
 """Builds the Debian packages of a release: the main package, and the one with its debugging symbols. dev/release passes
-it a tree that has the libraries in the folder of the machine's architecture."""
+this module a tree that has the libraries in the folder of the machine's architecture."""
 
 from __future__ import annotations
 

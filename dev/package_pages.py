@@ -4,7 +4,7 @@
     dev/package_pages.py --check             generates all pages, and names each dead link and each command that names a
                                              file which isn't shipped
     dev/package_pages.py --links FOLDER      names each dead link of the pages below a folder
-    dev/package_pages.py --commands PAGE ..  prints what a reader of these installed pages runs to build and start C
+    dev/package_pages.py --commands PAGE ..  prints these installed pages' commands that build and start C programs
 
 A link to a file that isn't shipped is replaced by its text; a link to a header of the library points to the installed
 header. Commands use what is installed: `nicbench`, the tools, and pkg-config's output instead of a clone's folders.

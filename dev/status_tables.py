@@ -6,9 +6,9 @@ python/nic82599/statuses.py, and src/status.rs of rust/nic82599.
     dev/status_tables.py --check    names the stale files, and exits with status 1 if there are any
 
 The numbers come from c/include/nic82599.h, which is written by hand and documents them. The library's crate also
-defines them, in its proved sources; if the header differs, both forms exit with status 1. The header lacks two of the
-crate's numbers, because no call returns them. Only the header has the numbers that the C code around the crate's calls
-returns; the crate doesn't use these.
+defines them, in its proved sources; if the header differs, the script exits with status 1 in both forms. The header
+lacks two of the crate's numbers, because no call returns them. Only the header has the numbers that the C code around
+the crate's calls returns; the crate doesn't use these.
 """
 
 from __future__ import annotations

@@ -1,7 +1,7 @@
 #!/usr/bin/env python3
 """Writes what the tools that show runs need to know about registers in addition to their table:
-python/nic82599/tools/known.py, so that the package doesn't depend on a clone. For C, writes the registers that the
-bench lacks, c/library/absent.inc.
+python/nic82599/tools/known.py, so that the package doesn't depend on a clone. For C, it writes the registers that the
+bench lacks to c/library/absent.inc.
 
     dev/tool_tables.py            rewrites the files
     dev/tool_tables.py --check    names the stale files, and exits with status 1 if there are any

@@ -142,7 +142,8 @@ typedef struct nicd_driver {
     uint32_t (*interrupt)(uint8_t vector);
     void (*rearm)(uint16_t queue);
 
-    /* The driver's own threads, 0 .. threads - 1 (at most 4). They start when `open` is called and may wait forever. */
+    /* The driver's own threads, 0 .. threads - 1 (at most 4). They start after `open` has returned true, and may wait
+       forever. */
     uint32_t threads;
     void (*thread)(uint32_t number);
 

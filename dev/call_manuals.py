@@ -1,5 +1,5 @@
-"""Generates the manual pages of the C calls, section 3, from the comments in the headers: a page for the functions that
-share a comment, and one for each header. dev/manuals writes them."""
+"""Generates the section 3 manual pages for the C calls from the comments in the headers: one page for each group of
+functions that share a comment, and one for each header. dev/manuals writes them."""
 
 from __future__ import annotations
 

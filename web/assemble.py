@@ -195,7 +195,7 @@ def page(module: bytes, foot: str) -> str:
     code = "".join((WEB / name).read_text() for name in PARTS)
     worker = model() + (WEB / "worker.js").read_text()
     if "</script" in worker + code or "<!--" in worker + code:
-        raise ValueError("a part of the page would end its script")
+        raise ValueError("a part of the page contains `</script` or `<!--`, which would end the inline script")
     scripts = " ".join(map(hash_of, (f"\n{code}\n", view()[2])))
     policy = (
         f"default-src 'none'; script-src {scripts} 'wasm-unsafe-eval' blob:; worker-src blob:; "

@@ -99,7 +99,7 @@ void interface_set_up(const struct interface *it, bool up)
     request.ifr_flags = (short)(up ? request.ifr_flags | IFF_UP : request.ifr_flags & ~IFF_UP);
     if (!error)
         error = call(it, SIOCSIFFLAGS, &request);
-    tell_failure(it, up ? "up" : "down", error);
+    tell_failure(it, up ? "bringing it up" : "bringing it down", error);
 }
 
 bool interface_has_link(const struct interface *it)
@@ -128,14 +128,14 @@ void interface_set_mac(struct interface *it, const uint8_t mac[6])
 {
     struct ifreq request = {.ifr_hwaddr.sa_family = ARPHRD_ETHER};
     memcpy(request.ifr_hwaddr.sa_data, mac, 6);
-    tell_failure(it, "its address", call(it, SIOCSIFHWADDR, &request));
+    tell_failure(it, "setting its MAC address", call(it, SIOCSIFHWADDR, &request));
     memcpy(it->mac, mac, 6);
 }
 
 void interface_set_mtu(const struct interface *it, unsigned int mtu)
 {
     struct ifreq request = {.ifr_mtu = (int)mtu};
-    tell_failure(it, "its MTU", call(it, SIOCSIFMTU, &request));
+    tell_failure(it, "setting its MTU", call(it, SIOCSIFMTU, &request));
 }
 
 void interface_set_queues(const struct interface *it, unsigned int queues)
@@ -149,7 +149,7 @@ void interface_set_queues(const struct interface *it, unsigned int queues)
     channels.cmd = ETHTOOL_GCHANNELS;
     if (!error)
         error = ethtool(it, &channels);
-    tell_failure(it, "its queues", error);
+    tell_failure(it, "setting its number of queues", error);
     equal("queues that the driver supports, and queues requested", channels.combined_count, queues);
 }
 
@@ -161,7 +161,7 @@ void interface_set_key(const struct interface *it)
     } key = {.head = {.cmd = ETHTOOL_SRSSH, .indir_size = ETH_RXFH_INDIR_NO_CHANGE, .key_size = KEY_BYTES}};
     for (unsigned int i = 0; i < KEY_BYTES; i++)
         key.key[i] = (uint8_t)(0x6d + 0x35 * i + (i * i >> 1));
-    tell_failure(it, "its RSS key", ethtool(it, &key));
+    tell_failure(it, "setting its RSS key", ethtool(it, &key));
 }
 
 void interface_redirect(const struct interface *it, unsigned int queues)
@@ -176,7 +176,7 @@ void interface_redirect(const struct interface *it, unsigned int queues)
     table.head.cmd = ETHTOOL_SRXFHINDIR;
     if (!error)
         error = ethtool(it, &table);
-    tell_failure(it, "its redirection table", error);
+    tell_failure(it, "setting its redirection table", error);
 }
 
 void interface_turn_offloads_off(const struct interface *it)
@@ -185,8 +185,8 @@ void interface_turn_offloads_off(const struct interface *it)
         uint32_t set;
         const char *what;
     } all[] = {
-        {ETHTOOL_STSO, "tso off"},   {ETHTOOL_SGSO, "gso off"},   {ETHTOOL_SSG, "sg off"},
-        {ETHTOOL_STXCSUM, "tx off"}, {ETHTOOL_SRXCSUM, "rx off"}, {ETHTOOL_SGRO, "gro off"},
+        {ETHTOOL_STSO, "turning tso off"},   {ETHTOOL_SGSO, "turning gso off"},   {ETHTOOL_SSG, "turning sg off"},
+        {ETHTOOL_STXCSUM, "turning tx off"}, {ETHTOOL_SRXCSUM, "turning rx off"}, {ETHTOOL_SGRO, "turning gro off"},
     };
     for (unsigned int i = 0; i < sizeof all / sizeof *all; i++) {
         struct ethtool_value off = {.cmd = all[i].set};
@@ -196,7 +196,7 @@ void interface_turn_offloads_off(const struct interface *it)
     ethtool(it, &flags);
     flags.cmd = ETHTOOL_SFLAGS;
     flags.data &= ~(uint32_t)(ETH_FLAG_LRO | ETH_FLAG_NTUPLE);
-    tell_failure(it, "lro off", ethtool(it, &flags));
+    tell_failure(it, "turning LRO off", ethtool(it, &flags));
 }
 
 /* ---- reports ---- */
@@ -215,7 +215,7 @@ static struct ethtool_gstrings *set_names(const struct interface *it, unsigned i
 {
     struct ethtool_gstrings *names = calloc(1, sizeof *names + (size_t)size * ETH_GSTRING_LEN);
     *names = (struct ethtool_gstrings){.cmd = ETHTOOL_GSTRINGS, .string_set = set, .len = size};
-    tell_failure(it, "names", ethtool(it, names));
+    tell_failure(it, "reading its statistics' names", ethtool(it, names));
     return names;
 }
 
@@ -226,7 +226,7 @@ uint64_t interface_statistic(const struct interface *it, const char *name)
     struct ethtool_stats *values = calloc(1, sizeof *values + (size_t)size * sizeof *values->data);
     uint64_t value = UINT64_MAX;
     *values = (struct ethtool_stats){.cmd = ETHTOOL_GSTATS, .n_stats = size};
-    tell_failure(it, "statistics", ethtool(it, values));
+    tell_failure(it, "reading its statistics", ethtool(it, values));
     for (unsigned int i = 0; i < size; i++)
         if (strncmp((const char *)names->data + (size_t)i * ETH_GSTRING_LEN, name, ETH_GSTRING_LEN) == 0)
             value = values->data[i];
@@ -256,7 +256,7 @@ unsigned int interface_test(const struct interface *it, struct test_result *resu
     struct ethtool_gstrings *names = set_names(it, ETH_SS_TEST, size);
     struct ethtool_test *test = calloc(1, sizeof *test + (size_t)size * sizeof *test->data);
     *test = (struct ethtool_test){.cmd = ETHTOOL_TEST, .len = size, .flags = ETH_TEST_FL_OFFLINE};
-    tell_failure(it, "its test", ethtool(it, test));
+    tell_failure(it, "running its self-test", ethtool(it, test));
     for (unsigned int i = 0; i < size && i < most; i++) {
         snprintf(results[i].name, TEST_NAME, "%.31s", (const char *)names->data + (size_t)i * ETH_GSTRING_LEN);
         results[i].value = test->data[i];
@@ -280,16 +280,16 @@ void interface_set_address(const struct interface *it, const char *address, cons
     struct ifreq request = {0};
     struct arpreq neighbour = {.arp_flags = ATF_PERM | ATF_COM};
     put_address(&request.ifr_addr, address ? address : "0.0.0.0");
-    tell_failure(it, "its IP address", call(it, SIOCSIFADDR, &request));
+    tell_failure(it, "setting its IP address", call(it, SIOCSIFADDR, &request));
     if (!address)
         return;
     put_address(&request.ifr_netmask, "255.255.255.0");
-    tell_failure(it, "its network", call(it, SIOCSIFNETMASK, &request));
+    tell_failure(it, "setting its netmask", call(it, SIOCSIFNETMASK, &request));
     put_address(&neighbour.arp_pa, peer);
     neighbour.arp_ha.sa_family = ARPHRD_ETHER;
     memcpy(neighbour.arp_ha.sa_data, mac, 6);
     strcpy(neighbour.arp_dev, it->name);
-    tell_failure(it, "its neighbour", ioctl(control, SIOCSARP, &neighbour) < 0 ? errno : 0);
+    tell_failure(it, "adding its neighbour", ioctl(control, SIOCSARP, &neighbour) < 0 ? errno : 0);
 }
 
 int interface_socket(const struct interface *it)

@@ -600,7 +600,7 @@ def vlan(place: Place) -> str:
     has(text, "guest", r"^MTU: 1500 1500$")
     if len(re.findall(r"^10 packets transmitted, 10 packets received", text, re.MULTILINE)) != 2:
         raise Wrong("20 pings weren't answered:\n" + text[-2000:])
-    has(text, "guest", r"^sums are equal$")
+    has(text, "guest", r"^checksums match$")
     has(text, "guest", r"^fragments made: 0$")
     longer: list[str] = []
     for each in (output, other):
@@ -616,7 +616,7 @@ def two_guests(mtu: int) -> Callable[[Place], str]:
     def run(place: Place) -> str:
         scripts = [(HERE / f"guest/{it}.sh").read_text().replace("MTU", str(mtu)) for it in ("serve", "get")]
         text, _, other = back_to_back(place, str(mtu), scripts)
-        has(text, "guest", r"^sums are equal$")
+        has(text, "guest", r"^checksums match$")
         took = re.search(r"^real\s+(\S.*)$", text, re.MULTILINE)
         has(other, "server", r"[1-9]\d* TSO sends in [1-9]\d* segments, dropped 0, given up 0;")
         return f"8 MiB over HTTP, sums equal, in {took[1] if took else '?'}; " + other.splitlines()[-1]

@@ -183,7 +183,7 @@ def between_two(place: Place, card: Card) -> float:
         finally:
             serving.kill()
     other.end()
-    has(text, "guest", r"^sums are equal$")
+    has(text, "guest", r"^checksums match$")
     minutes, seconds = re.findall(r"^real\s+(\d+)m ([\d.]+)s$", text, re.MULTILINE)[-1]
     return MEGABYTES * 1.048576 / (60 * int(minutes) + float(seconds))
 

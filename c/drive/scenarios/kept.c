@@ -162,7 +162,7 @@ static const char *judge_ring(uint16_t number)
 
 static const struct setting settings[SETTINGS] = {
     {"filter",
-     "only the port's own address is accepted again",
+     "the filter again accepts only the port's own address",
      FILTER,
      {0},
      let_own_in,

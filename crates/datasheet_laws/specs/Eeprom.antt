@@ -43,7 +43,8 @@ all_point_in words =
     list_all (points_in words)
     (0x03 ∷ 0x04 ∷ 0x05 ∷ 0x06 ∷ 0x07 ∷ 0x08 ∷ 0x09 ∷ 0x0A ∷ 0x0B ∷ 0x0C ∷ 0x0D ∷ 0x0E ∷ [])
 
--- Words 0x00 to 0x3F, and what follows the words that words 0x03 to 0x0E point to, add up to 0xBABA, modulo 2^16.
+-- Words 0x00 to 0x3F, and the contents of the sections that words 0x03 to 0x0E point to, add up to 0xBABA, modulo 2^16.
+-- The length word at the start of each section isn't added.
 abbrev pub adds_up : List ℕ → Bool
 adds_up words =
     (sum (take 64 words) + sum_by (pointed_sum words)

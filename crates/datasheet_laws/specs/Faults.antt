@@ -7,8 +7,8 @@ use Rattle.datasheet_laws.specs.FramePrelude.{RingFault, State, Waiting, Wrote, 
 use Rattle.datasheet_laws.specs.FramePrelude.{word_of}
 use Rattle.datasheet_laws.specs.Bits.{field}
 
--- The head and the tail of a receive ring, RDH and RDT bits 15 to 0, are slots of the ring. The ring has a slot for
--- each 16 bytes of RDLEN bits 19 to 0.
+-- The head and the tail of a receive ring, RDH and RDT bits 15 to 0, are slots of the ring. The ring has one slot
+-- for each 16 bytes of its length, RDLEN bits 19 to 0.
 pub record IsInside (r : Registers) (queue : ℕ) : Type 0 where
   pub head : field 15 0 (word_of r Rdh queue) < field 19 0 (word_of r Rdlen queue) / 16
   pub tail : field 15 0 (word_of r Rdt queue) < field 19 0 (word_of r Rdlen queue) / 16

@@ -4,7 +4,8 @@ use Rattle.nic_device.specs.RegTable.declared.rows.RowId.TheVariants.{Rdlen, Rdh
 use Rattle.nic_device.specs.declared.event.Event.TheVariants as event
 use Rattle.datasheet_laws.specs.Prelude.{Advanced, IsSound, Registers, Sent, State, Wrote, after, reply_to, word_of}
 
--- The slot after a slot, or slot 0 after the last. A ring has a slot for each 16 bytes of bits 19 to 0 of its length.
+-- The slot after a slot, or slot 0 after the last. A ring has one slot for each 16 bytes of its length, whose bits 19
+-- to 0 count.
 abbrev pub slot_after : (length slot : ℕ) → ℕ
 slot_after length slot = if slot + 1 == length % 1048576 / 16 then 0 else slot + 1
 

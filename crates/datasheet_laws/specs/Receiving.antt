@@ -18,7 +18,7 @@ pub record IsMet (s : State) (w : Waiting) (others : List Waiting) : Type 0 wher
   pub on : bit 25 (word_of s.registers Rxdctl w.queue) ≡ 1
 
 -- A receive queue has no slot for the device: head and tail, RDH and RDT bits 15 to 0, are the same slot of the ring.
--- The ring has a slot for each 16 bytes of RDLEN bits 19 to 0.
+-- The ring has one slot for each 16 bytes of its length, RDLEN bits 19 to 0.
 pub record HasNoSlot (r : Registers) (queue : ℕ) : Type 0 where
   pub inside : field 15 0 (word_of r Rdh queue) < field 19 0 (word_of r Rdlen queue) / 16
   pub same : field 15 0 (word_of r Rdh queue) ≡ field 15 0 (word_of r Rdt queue)

@@ -24,7 +24,7 @@ pub record IsMuted (r : Registers) (queue : ℕ) : Type 0 where
   pub off : bit (pool % 32) (word_of r Vfte (pool / 32)) ≡ 0
 
 -- A transmit queue has no slot for the device: head and tail, TDH and TDT bits 15 to 0, are the same slot of the ring.
--- The ring has a slot for each 16 bytes of TDLEN bits 19 to 0.
+-- The ring has one slot for each 16 bytes of its length, TDLEN bits 19 to 0.
 pub record HasNoSlot (r : Registers) (queue : ℕ) : Type 0 where
   pub inside : field 15 0 (word_of r Tdh queue) < field 19 0 (word_of r Tdlen queue) / 16
   pub same : field 15 0 (word_of r Tdh queue) ≡ field 15 0 (word_of r Tdt queue)

@@ -153,8 +153,8 @@ pub fn status_and_links_are_reported()
 {}
 
 /// A receive step that writes a slot of queue q advances RDH[q] bits 15 to 0 to the next slot: the next number, or 0
-/// after the ring's last slot. The ring has a slot for each 16 bytes of RDLEN[q] bits 19 to 0. A transmit step that is
-/// done advances TDH[q] in the same way, according to TDLEN[q], whether or not a frame is sent.
+/// after the ring's last slot. The ring has one slot for each 16 bytes of its length, RDLEN[q] bits 19 to 0. A transmit
+/// step that is done advances TDH[q] in the same way, according to TDLEN[q], whether or not a frame is sent.
 #[tactic(auto, using(crate::proofs::Heads::heads))]
 pub fn heads_move_on()
     ensures { HeadsMoveOn }

@@ -1,4 +1,4 @@
--- How far a start had come when it failed with `DeviceFault`.
+-- How far a start had got when it failed with `DeviceFault`.
 use Rattle.std.specs.Prelude.{[], ⊤, ◌≡◌, ◌⊎◌, List, true, ℕ}
 use Rattle.pmd_driver.specs.PmdRx.Filling.{StopsFilling}
 use Rattle.ring_laws.specs.ReceiveUp.{IsUp}

@@ -55,7 +55,7 @@ fn a_device_needs_its_blocks(rt: HostRuntime) {
     done(rt, arena.close());
 }
 
-/// Checks that a device equals the snapshot's device in CTRL_EXT and in the contents of block 4.
+/// Checks that a device has the same CTRL_EXT and the same contents of block 4 as the snapshot's device.
 fn is_the_one(rt: &impl Hand, device: &mut Device) {
     holds(
         rt,

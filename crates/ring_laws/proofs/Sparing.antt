@@ -114,7 +114,8 @@ module _ {s : State} {queue : ℕ} {sent : List (List ℕ)} {v : Sender} {f : �
 
 -- An event that spares a driver keeps the agreement between the driver and the device.
 
--- If the staged bytes are unchanged, the remaining segments are sent as before, and a side that was cut off still is.
+-- Suppose that the staged bytes are unchanged, and that a side that was cut off is then disabled with no enable
+-- request. Then the remaining segments are sent as before, or the side is still cut off.
 pub sends_on : (s t : State) (queue : ℕ) (sent : List (List ℕ)) (limit : ℕ) (left : List Segment) (ks : List Kept)
     → staged_by t queue ≡ staged_by s queue
     → (IsCutOff (transmit_queue_of s.registers queue) sent left ks

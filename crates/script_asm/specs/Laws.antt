@@ -130,8 +130,8 @@ ProgramIsWhatLinesSay = (text : List ℕ) (program : Listing) → (program_of te
 
 -- The statements before a label or a data string determine its number.
 pub record NamesHaveTheirPlaces : Type 0 where
-  -- The first label with a name is numbered with the count of instructions before it. The first data string with a name
-  -- is numbered with the count of data strings before it.
+  -- The number of the first label with a name is the count of instructions before it. The number of the first data
+  -- string with a name is the count of data strings before it.
   pub label : (before after : List Statement) (name : List ℕ) → label_from 0 before name ≡ None
       → label_from 0 (before ++ Label name ∷ after) name ≡ Some (length (drafts_in before))
   pub «data» : (before after : List Statement) (name string : List ℕ) → data_from 0 before name ≡ None

@@ -9,6 +9,6 @@ pub record HasWidths (program : Listing) : Type 0 where
   pub strings : AllByRecursion (AllByRecursion (λ byte. byte < 256)) program.strings
   pub instructions : AllByRecursion (λ i. HaveWidths (fields_of i)) program.instructions
 
--- A program's source means that program.
+-- A program's disassembled source assembles to the same program.
 abbrev pub TextsReadBack : Type 0
 TextsReadBack = (program : Listing) → IsListing program → HasWidths program → program_of (text_of program) ≡ Ok program

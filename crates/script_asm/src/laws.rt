@@ -26,8 +26,8 @@ pub fn faults_come_in_order()
     ensures { FaultsComeInOrder }
 {}
 
-/// The first label with a given name is numbered with the count of instructions on the lines before it. The first data
-/// string with a given name is numbered with the count of data strings on the lines before it. A name that no line
+/// The number of the first label with a given name is the count of instructions on the lines before it. The number of
+/// the first data string with a given name is the count of data strings on the lines before it. A name that no line
 /// defines has no number.
 pub fn names_have_their_places()
     ensures { NamesHaveTheirPlaces }

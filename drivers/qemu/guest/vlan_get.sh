@@ -10,7 +10,7 @@ ping -c 10 -i 0.1 -s 1472 10.0.0.3
 cd /tmp
 wget -q -O sum http://10.7.0.3/sum
 wget -q -O big http://10.7.0.3/big
-md5sum -c sum && echo "sums are equal"
+md5sum -c sum && echo "checksums match"
 awk '/^Ip:/ { if (at) print "fragments made: " $at; for (i = 1; i <= NF; i++) if ($i == "FragCreates") at = i }' \
     /proc/net/snmp
 cat /proc/net/vlan/v7

@@ -28,7 +28,7 @@ fn a_counter_comes_to_its_highest_word() {
 #[test]
 fn a_note_has_its_blocks_bytes() {
     let mut notes = Notes::new(Global);
-    let mut arena = Arena::new(Global, 0, 1).unwrap_or_else(|_| panic!("an arena of a block"));
+    let mut arena = Arena::new(Global, 0, 1).unwrap_or_else(|_| panic!("an arena of one block"));
     let mut buf = arena.take().expect("a block");
     for step in 0..64 {
         // Each byte string is noted twice, and the next one has the same length.

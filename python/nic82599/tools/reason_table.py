@@ -105,7 +105,7 @@ def rows() -> dict[str, Row]:
         for which in (0, 1)[: 1 + is_pair]:
             row = read(section, [one_of(line, which) if is_pair else line for line in lines])
             if found.setdefault(row.name, row) is not row:
-                raise Bad(f"twice: {row.name}")
+                raise Bad(f"duplicate row: {row.name}")
     return found
 
 

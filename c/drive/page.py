@@ -13,8 +13,8 @@ CARD, PORT, README = ROOT / "docs/report-card.md", ROOT / "docs/port.md", ROOT /
 END = "<!-- to here -->\n"
 # Patterns of the places that state the number of rows.
 COUNTS = {
-    CARD: (r"the card tries it in (\d+)\s", r"so (\d+) rows take"),
-    README: (r"ready-made scenarios, (\d+) of them",),
+    CARD: (r"the driver in (\d+) built-in scenarios", r"so (\d+) rows take"),
+    README: (r"through (\d+) ready-made scenarios",),
 }
 # The last line of a card, in which all three numbers count rows.
 RESULT = re.compile(r"(\d+) passed, (\d+) failed, \d+ not applicable")

@@ -41,8 +41,8 @@ struct nicp_driver {
 
 static struct nicp_driver python;
 
-/* Calls a Python function. If it raises, the schedule fails: immediately in a task, without returning, otherwise at the
-   next step. */
+/* Calls a Python function. If it raises, the schedule fails: in a task immediately, so that this call doesn't return;
+   elsewhere at the next step. */
 static int64_t call(enum function function, uint64_t a, uint64_t b, uint64_t c)
 {
     int64_t answer = nicp_ask(function, a, b, c);

@@ -27,8 +27,8 @@ impl Notes {
         }
     }
 
-    /// Returns the note of a block. If the last note in the block's entry has equal bytes and there is memory for
-    /// sharing, the new note shares these bytes; no clause states this.
+    /// Returns the note of a block. If the last note that this store remembers in the block's entry has the same bytes,
+    /// the new note shares them, provided that there is enough memory to set up the sharing; no clause states this.
     ///
     /// Fails with `AllocError` if there isn't enough memory for a new copy of the bytes.
     #[inline(always)]

@@ -19,8 +19,8 @@ const QUEUES_IN_A_WORD: u16 = 4;
 const COUNTERS: u32 = 16;
 
 impl RegisterFile {
-    /// Increments a clear-on-read counter: the register of a row at an index below the row's count. The counter
-    /// saturates at 0xFFFFFFFF.
+    /// Increments a clear-on-read counter, given by its row and its index in the row, which must be below the row's
+    /// count. The counter saturates at 0xFFFFFFFF.
     #[inline(always)]
     pub fn count(&mut self, row: RowId, index: u16)
         requires index { index < (row_of row).count }
@@ -31,8 +31,8 @@ impl RegisterFile {
         self.set_word(row, index, bump(word));
     }
 
-    /// Increments a read-only counter: the register of a row at an index below the row's count. The counter wraps from
-    /// 0xFFFFFFFF to 0.
+    /// Increments a read-only counter, given by its row and its index in the row, which must be below the row's count.
+    /// The counter wraps from 0xFFFFFFFF to 0.
     pub fn count_wrapping(&mut self, row: RowId, index: u16)
         requires index { index < (row_of row).count }
         requires counter { (row_of row).kind ≡ Ro }

@@ -65,7 +65,7 @@ put_cases words p v P new old =
       ]
     ]
 
--- Storing a word keeps the length of each row.
+-- Storing a word doesn't change the length of any row.
 pub length-row_words-put : (words : Words) (p : Place) (v : ℕ) (r : RowId)
     → length (row_words (put words p v) r) ≡ length (row_words words r)
 length-row_words-put words p v r =

@@ -5,8 +5,9 @@ use core::cell::Cell;
 use std::alloc::System;
 
 thread_local! {
-    /// The number of requests still granted, and the number made.
+    /// How many more requests will be granted; `u64::MAX`: all.
     static GRANTS: Cell<u64> = const { Cell::new(u64::MAX) };
+    /// How many requests have been made so far.
     static ASKED: Cell<u64> = const { Cell::new(0) };
 }
 

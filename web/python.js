@@ -652,7 +652,8 @@ const P = (() => {
     },
     unpack: (how, data) => struct.unpack_from(how, data),
   };
-  // Returns the blocks that two strings have in common, the longest first, as difflib's SequenceMatcher does.
+  // Returns the total length of the blocks that two strings have in common. Like difflib's SequenceMatcher, it picks
+  // the longest block first, then searches on either side of it.
   function common(a, b) {
     let best = [0, 0, 0];
     for (let i = 0; i < a.length; i++)

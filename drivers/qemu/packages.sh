@@ -59,11 +59,12 @@ archives() {
     shift 2
     mkdir -p "$at/archives/partial" "$at/root"
     APT+=(-o "Dir::Cache::archives=$at/archives")
-    apt-get "${APT[@]}" -y --print-uris "$@" 2>"$at/log" | sed -n "/^'/p" >"$at/uris" || die "$name: see $at/log"
+    apt-get "${APT[@]}" -y --print-uris "$@" 2>"$at/log" | sed -n "/^'/p" >"$at/uris" || die "$name: the packages can't be determined: see $at/log"
     count=$(wc -l <"$at/uris")
     total=$(awk '{ bytes += $3 } END { printf "%d", bytes / 1048576 + 1 }' "$at/uris")
     say "$name: fetching $count $([ "$count" = 1 ] && echo package || echo packages) from $from, $total MB"
-    watched "$total" "$name" "$at/archives" "$at/log" apt-get "${APT[@]}" -y "$@" || die "$name: see $at/log"
+    watched "$total" "$name" "$at/archives" "$at/log" apt-get "${APT[@]}" -y "$@" ||
+        die "$name: the packages can't be fetched: see $at/log"
     for deb in "$at"/archives/*.deb; do
         (cd "$at/archives" && sha256sum "$(basename "$deb")") >>"$at/packages.new"
         dpkg-deb -x "$deb" "$at/root"

@@ -29,7 +29,7 @@ bit_then i left bits x bit b =
       auto_mask = contains (x.auto_mask k) bit;
     }
 
--- A bit written through a view, if the group contains it.
+-- For a bit of the group: a write through a view sets it if and only if both the word and the view contain it.
 pub own_written : (g : Group) (word view bit : ℕ) → bit < bits_in g
     → (contains (bit_and word view) bit && contains (group_bits g) bit) ≡ (has_bit bit word && has_bit bit view)
 own_written g word view bit b =

@@ -58,7 +58,8 @@ head_descriptor s queue =
     ((word_of s.registers Tdbah queue * 2 ^ 32 + word_of s.registers Tdbal queue
     + 16 * field 15 0 (word_of s.registers Tdh queue)) % 2 ^ 64) 16
 
--- The bytes that a descriptor names: at the address in its first half, as many as bits 15 to 0 of its second half say.
+-- The bytes that a descriptor names. They start at the address in its first half, and bits 15 to 0 of its second half
+-- are their number.
 abbrev pub named_bytes : State → List ℕ → List ℕ
 named_bytes s descriptor = read_at s.memory (first_half descriptor) (field 15 0 (second_half descriptor))
 

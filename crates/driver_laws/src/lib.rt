@@ -172,13 +172,13 @@ pub fn waiting_look_leaves_some_unsent()
 {}
 
 /// Packets and frames are in order over a history as in `life_in_order`. Unlike that law, this one relies only on what
-/// the calls of a `pmd_driver::Pmd` return. A `start` returned the driver. Calls to `rx`, `tx`, `reap`, `rx_burst`,
-/// `tx_burst`, `packet` and `release` followed, in any order and with any results. Between these calls, the pass may
-/// have made harmless calls, for example arrivals of frames. The packets that the driver handed out are a prefix of
-/// those delivered. Suppose that `rx` returns none, or that `rx_burst` returns 0 although packets were requested. Then
-/// the packets handed out are all those delivered before the call's last poll, and so all those delivered before the
-/// call's first event. The frames sent are a prefix of those that the driver accepted. If no packet is outstanding, for
-/// example if `reap` reports this, all accepted frames were sent.
+/// the calls of a `pmd_driver::Pmd` return. Suppose that a `start` returned the driver, and that calls to `rx`, `tx`,
+/// `reap`, `rx_burst`, `tx_burst`, `packet` and `release` followed, in any order and with any results. Between these
+/// calls, the pass may have made harmless calls, such as frame arrivals. The packets that the driver handed out are a
+/// prefix of those delivered. Suppose that `rx` returns none, or that `rx_burst` returns 0 although packets were
+/// requested. Then the packets handed out are all those delivered before the call's last poll, and so all those
+/// delivered before the call's first event. The frames sent are a prefix of those that the driver accepted. If no
+/// packet is outstanding, for example if `reap` reports this, all accepted frames were sent.
 pub fn driver_in_order()
     ensures handed { reported.HandedIsPrefix }
     ensures none { reported.NoneIsAllBefore }

@@ -28,7 +28,7 @@ impl Notes {
     }
 
     /// Returns the note of a block. If the last note that this store remembers in the block's entry has the same bytes,
-    /// the new note shares them, provided that there is enough memory to set up the sharing; no clause states this.
+    /// the new note shares them. This needs memory to set up the sharing; no clause states any of it.
     ///
     /// Fails with `AllocError` if there isn't enough memory for a new copy of the bytes.
     #[inline(always)]

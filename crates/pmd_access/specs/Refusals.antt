@@ -20,7 +20,7 @@ CanRefuse way (ForeignPass event) = IsTrue way.foreign
 CanRefuse way (HistoryFull event) = IsTrue way.full
 CanRefuse way (OutOfMemory event) = ⊤
 
--- If the driver fails because a call was refused, the `Nic` may refuse calls for that reason.
+-- If the driver fails because a call was refused, the refusal has a reason for which this `Nic` may refuse calls.
 abbrev pub CanFail : Refusals → PmdFault → Type 0
 CanFail way (fault.Call refusal) = CanRefuse way refusal
 CanFail way fault.BadSize = ⊤

@@ -39,7 +39,7 @@ abbrev pub LendsEach : List Call → List Call → List ℕ → Type 0
 LendsEach old new [] = new ≡ old
 LendsEach old new (n ∷ ns) = (mid : List Call) × IsLent old mid (zero_block n) None × LendsEach mid new ns
 
--- The ring's registers were written; its blocks, free before, were taken from the arena and lent.
+-- The ring's registers were written. Its blocks, which had been free, were taken from the arena and lent.
 pub record IsPrepared (q : AtPort) (side : Dir) (size : ℕ) (old : List Call) (a : Numbers) (new : List Call)
     (b : Numbers) (ring : ℕ) : Type 0 where
   pub drawn : IsDrawn a (ring_blocks ring size) b

@@ -236,7 +236,7 @@ impl Pmd {
     /// is from 1,518 to 9,728.
     ///
     /// Before any event, it checks its arguments in this order. It fails with `BadSize` if the size or the frame length
-    /// is out of range; with `NoBuffer` if too few blocks are free, or no two such runs are free; with `DeviceFault` if
+    /// is out of range; with `NoBuffer` if too few blocks are free, or if the free blocks don't contain two such runs; with `DeviceFault` if
     /// the port can't address the queue. After that, it fails with `DeviceFault` if a side of the queue is on, or if
     /// the device sends a reply that a healthy queue can't send; with `StartTimeout` if 1,000 polls show a side off;
     /// with `Call` if a call was refused. If the start had already lent a block, the error contains the half-started
@@ -252,11 +252,11 @@ impl Pmd {
     ) -> Result<Pmd, StartRefused>
         ensures shut { IsShut (start_gate arena (record { port = port; queue = queue }) size frame) arena
             (N.made nic.old) (N.made nic.new) result }
-        // Before it lent any block, the driver read that both sides were off, wrote "off", and read again that they
-        // were off. It wrote the registers of one ring and lent the ring's free, consecutive blocks in order; then it
-        // did the same for the other ring. It requested that both sides be enabled, polled both sides, with fewer than
-        // 1,000 polls that showed a side off, and filled the receive ring. Apart from device steps in between, it made
-        // no other calls.
+        // Before it lent any block, the driver read both sides as off, wrote "off" to both, and again read both as
+        // off. It wrote the registers of one ring and lent the ring's free, consecutive blocks in order; then it did
+        // the same for the other ring. It requested that both sides be enabled, and polled both sides until they were
+        // on; fewer than 1,000 polls showed a side off. Then it filled the receive ring. Apart from device steps in
+        // between, it made no other calls.
         ensures started { IfOk result (λ p. HasStarted (record { port = port; queue = queue }) size frame
             (N.made nic.old) arena (N.made nic.new) p) }
         ensures stops { IfErr result (λ e. start_gate arena (record { port = port; queue = queue }) size frame ≡ None

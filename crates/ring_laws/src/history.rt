@@ -56,10 +56,10 @@ pub fn only_known_blocks_are_lent()
 /// slot at the head of the side's ring: it fills a receive slot with a piece of the receive list's oldest frame, or
 /// fetches a transmit slot. It shuts the side because of a fault. It enables or disables the side as requested. Or it
 /// does nothing to the side. If the event takes no slot of a side, nothing is received or sent on that side. If it
-/// takes no slot of either side, it leaves each of the blocks unchanged. Such an event changes neither the frame limit
-/// nor how the queues are separated. A second clause is about a single side of a sound device's queue. An event that
-/// leaves this side unchanged, or is a step of this side, does one of the four things to this side, whatever it does to
-/// the other.
+/// takes no slot of either side, it leaves each of the blocks unchanged. No event that leaves the queue and the blocks
+/// alone changes the frame limit or how the queues are separated. A second clause is about a single side of a sound
+/// device's queue. An event that leaves this side unchanged, or is a step of this side, does one of the four things to
+/// this side, whatever it does to the other.
 pub fn events_take_shut_or_switch_a_side()
     ensures left { LeftDid }
     ensures side { SidesDo }

@@ -33,7 +33,8 @@ ANY_WORD = 1 << 32
 # The size of a card's packet memory in bytes. Its first block is never allocated.
 MOST_DMA = 524_288
 
-# The functions that the card calls, in the order of c/drive/python/calls.c. `receive` and all after it are optional.
+# The functions that the card calls, in the order of c/drive/python/calls.c. `receive` and all after
+# it are optional, except `condition`.
 FUNCTIONS = (
     "begin", "open", "close", "receive", "send", "reclaim", "interrupt", "rearm", "thread", "filter", "rss", "mtu",
     "resize", "reset", "suspend", "resume", "link", "mailbox_send", "mailbox_receive", "mailbox_ready", "stats",

@@ -59,7 +59,8 @@ archives() {
     shift 2
     mkdir -p "$at/archives/partial" "$at/root"
     APT+=(-o "Dir::Cache::archives=$at/archives")
-    apt-get "${APT[@]}" -y --print-uris "$@" 2>"$at/log" | sed -n "/^'/p" >"$at/uris" || die "$name: the packages can't be determined: see $at/log"
+    apt-get "${APT[@]}" -y --print-uris "$@" 2>"$at/log" | sed -n "/^'/p" >"$at/uris" ||
+        die "$name: the packages can't be determined: see $at/log"
     count=$(wc -l <"$at/uris")
     total=$(awk '{ bytes += $3 } END { printf "%d", bytes / 1048576 + 1 }' "$at/uris")
     say "$name: fetching $count $([ "$count" = 1 ] && echo package || echo packages) from $from, $total MB"

@@ -416,6 +416,6 @@ const struct scenario nicd_setup_rows[] = {
            "With DROP_EN, a frame without a free descriptor is dropped; otherwise all frames after it wait",
            "Split Receive Control", .queues = 2),
     CHECKS("setup-loaded", PHYSICAL, "the firmware learns that a driver is loaded", check_loaded,
-           "A driver sets DRV_LOAD when it loads and clears the bit when it unloads; the bit has no effect on the bench",
+           "A driver sets DRV_LOAD when it loads and clears it when it unloads; the bit has no effect on the bench",
            "Extended Device Control", .queues = 1),
     {0}};

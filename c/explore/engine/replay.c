@@ -1,6 +1,6 @@
 /* Replays, in this process, a schedule that is read from a file, so that you can attach a debugger. An exact replay
    refuses a schedule that doesn't fit. A lenient one follows the file as far as possible: it prints where a changed
-   driver departs from the file, and then uses those of the remaining points that still fit, until there is a verdict. */
+   driver departs from the file, and then uses those of the remaining points that still fit, until a verdict. */
 #include "replay.h"
 
 #include <inttypes.h>

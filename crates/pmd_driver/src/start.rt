@@ -236,11 +236,11 @@ impl Pmd {
     /// is from 1,518 to 9,728.
     ///
     /// Before any event, it checks its arguments in this order. It fails with `BadSize` if the size or the frame length
-    /// is out of range; with `NoBuffer` if too few blocks are free, or if the free blocks don't contain two such runs; with `DeviceFault` if
-    /// the port can't address the queue. After that, it fails with `DeviceFault` if a side of the queue is on, or if
-    /// the device sends a reply that a healthy queue can't send; with `StartTimeout` if 1,000 polls show a side off;
-    /// with `Call` if a call was refused. If the start had already lent a block, the error contains the half-started
-    /// driver; otherwise it contains the arena.
+    /// is out of range; with `NoBuffer` if too few blocks are free, or if the free blocks don't contain two such runs;
+    /// with `DeviceFault` if the port can't address the queue. After that, it fails with `DeviceFault` if a side of the
+    /// queue is on, or if the device sends a reply that a healthy queue can't send; with `StartTimeout` if 1,000 polls
+    /// show a side off; with `Call` if a call was refused. If the start had already lent a block, the error contains
+    /// the half-started driver; otherwise it contains the arena.
     pub fn start<N: Nic>(
         alloc: Global,
         nic: &mut N,

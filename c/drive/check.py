@@ -722,7 +722,7 @@ def check_reached(kit: Kit, each: int = 1) -> str:
 
 # What is reported if a setting was lost.
 KEPT = {
-    "filter": "was received, but the filter doesn't accept it \\(the filter again accepts only the port's own address; then ",
+    "filter": "was received, but the filter doesn't accept it \\(.* accepts only the port's own address; then ",
     "list": "wasn't received, but the filter accepts it|was received, but the filter doesn't accept it",
     "promiscuous": "wasn't received, but the filter accepts it \\(all frames are accepted; then ",
     "mtu": "4096 bytes long, wasn't received, but the agreed length|send on queue 0 fails forever",

@@ -17,8 +17,12 @@
 #pragma GCC diagnostic ignored "-Wtsan" /* fences are supported here */
 #endif
 
-enum { MOST_TASKS = 4, MOST_OUTCOMES = 32, MOST_RUNS = 400000, OF_FOUR = 2 /* bound on preemptions in tests with four
-                                                                              tasks */ };
+enum {
+    MOST_TASKS = 4,
+    MOST_OUTCOMES = 32,
+    MOST_RUNS = 400000,
+    OF_FOUR = 2 /* bound on preemptions in tests with four tasks */
+};
 
 static atomic_int x, y, z;
 static int r[4];

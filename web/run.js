@@ -106,7 +106,8 @@ function showView(run, number, lines) {
   element("views").append(frame);
 }
 let wasMoved = false;
-// The view moved to another step: moves to its line.
+// Called when the view shows another step: marks that step's line in the script, and scrolls to it if the user moved
+// the view.
 function followed(at) {
   step = at.textContent.startsWith("start") ? 0 : parseInt(at.textContent, 10) + 1;
   shownText.here = lineNow();

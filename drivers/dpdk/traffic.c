@@ -250,7 +250,7 @@ void counters(uint16_t port)
            stats.opackets);
     printf("missed and bad %" PRIu64 "\n", stats.imissed + stats.ierrors + stats.oerrors);
     printf("  bytes in %" PRId64 ", out %" PRId64
-           ": the bench lacks their registers; the driver subtracts 4 per frame\n",
+           ": the bench lacks byte counters; the driver subtracts 4 per frame\n",
            (int64_t)stats.ibytes, (int64_t)stats.obytes);
 }
 

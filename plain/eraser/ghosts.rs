@@ -113,7 +113,7 @@ fn ghosts(source: &mut Source) -> Result<(), Fault> {
     Ok(())
 }
 
-/// Erases `#[tactic(..)]` and `#[cycle(..)]`. The formatter's attribute has another name in Rust.
+/// Erases `#[tactic(..)]` and `#[cycle(..)]`, and renames the formatter's attribute to `rustfmt`.
 fn attributes(source: &mut Source) -> Result<(), Fault> {
     for at in 0..source.tokens.len() {
         if source.at(at) != "#" {

@@ -5,7 +5,7 @@
     dev/descriptor_tables.py --check    names the page if it is stale, and exits with status 1
 
 The bits of descriptors are constants in crates/dma_ring/src; the hash types and the bits of MRQC are in
-crates/rss_hash/specs. The text around the tables is part of the page.
+crates/rss_hash/specs. The text around the tables isn't generated: edit it in the page.
 """
 
 from __future__ import annotations

@@ -40,8 +40,8 @@ AROUND = {"BAD_MEMORY", "BROKEN", "CLOSED"}
 # Names that differ between the crate and the header.
 OTHERWISE = {"DESC_TYPE": "TYPE"}
 HEAD_PYTHON = '''\
-"""The numbers that C library calls return, generated from the header nic82599.h by dev/generate statuses: the
-statuses and the faults, and, by number, the words for drop reasons, faults and steps.
+"""The numbers that C library calls return (statuses and faults), and the words for drop reasons, faults and steps, by
+number. Generated from the header nic82599.h by `dev/generate statuses`.
 """
 
 '''

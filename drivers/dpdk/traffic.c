@@ -249,8 +249,7 @@ void counters(uint16_t port)
     printf("  frames in %" PRIu64 ", out %" PRIu64 ", as the run counts them on each queue; ", stats.ipackets,
            stats.opackets);
     printf("missed and bad %" PRIu64 "\n", stats.imissed + stats.ierrors + stats.oerrors);
-    printf("  bytes in %" PRId64 ", out %" PRId64
-           ": the bench lacks byte counters; the driver subtracts 4 per frame\n",
+    printf("  bytes in %" PRId64 ", out %" PRId64 ": the bench lacks byte counters; the driver subtracts 4 per frame\n",
            (int64_t)stats.ibytes, (int64_t)stats.obytes);
 }
 

@@ -261,7 +261,7 @@ void peer_tell(void)
 {
     printf("the peer sent %" PRIu64 " frames; by queue", all.sent);
     tell_queues(all.by_queue_in);
-    printf("  the queue of %" PRIu64 " of them was compared with the queue that RSS selects\n", all.compared_queues);
+    printf("  for %" PRIu64 " of them, the queue was compared with the one that RSS selects\n", all.compared_queues);
     printf("the peer compared %" PRIu64 " frames; by queue", all.expected);
     tell_queues(all.by_queue_out);
     if (all.echoes)

@@ -1,5 +1,5 @@
-"""The numbers that C library calls return, generated from the header nic82599.h by dev/generate statuses: the
-statuses and the faults, and, by number, the words for drop reasons, faults and steps.
+"""The numbers that C library calls return (statuses and faults), and the words for drop reasons, faults and steps, by
+number. Generated from the header nic82599.h by `dev/generate statuses`.
 """
 
 # What a call returns.

@@ -64,7 +64,7 @@ static void tick(unsigned who)
     past[who].list[time].at[who] = time;
 }
 
-/* Returns everything that a thread knew at one of its times. */
+/* Returns what a thread knew at a given time on its own clock. */
 static const struct clock *clock_at(unsigned who, uint32_t time)
 {
     return time < now[who].at[who] ? &past[who].list[time] : &now[who];

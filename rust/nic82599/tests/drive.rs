@@ -321,7 +321,8 @@ const NEVER_DOES: Can =
 const ALL_CAN: Can = Can::SHARED_SEND.and(Can::FUNCTIONS).and(Can::SHARED_DEVICE).and(Can::HOST);
 const NO_RESET: &str = "no device reset (NICD_SHARED_DEVICE)";
 
-/// The report card's text for each function that can be left out; no row needs only `rearm`.
+/// The report card's text for each function that can be left out. It is empty for `rearm`, because no row is skipped
+/// for lack of `rearm` alone.
 const LACKS: [&str; 18] = [
     "no receive",
     "no send",

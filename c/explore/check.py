@@ -88,8 +88,8 @@ class Kit:
             self.built[program] = wanted
 
     def build_form(self, source: Path, *defines: str, of_memory: bool = False, form: str = "threads") -> Path:
-        """Builds with the link form that intercepts a driver's own threads, or the one for a whole program, which
-        prints nothing of its own. With `of_memory`, memory accesses are observed."""
+        """Builds with the link form that intercepts a driver's own threads, or the one for a whole program, whose
+        own output isn't printed. With `of_memory`, memory accesses are observed."""
         program = self.folder / "-".join([source.stem, form, *["memory"] * of_memory, *defines]).lower()
         made = program.with_suffix(".o")
         kind = ["-fsanitize=thread"] if of_memory else []
@@ -110,7 +110,7 @@ def corpus() -> list[Path]:
 
 
 def outside() -> list[Path]:
-    """Drivers that weren't written for the search."""
+    """Returns the drivers that weren't written for the search."""
     return sorted((HERE / "outside").glob("*.c"))
 
 
@@ -300,9 +300,9 @@ NEVER = {
 FINE = ("fine", "polls", "spins", "two", "descriptor", "handlers")
 
 REFUSALS = {
-    "stuck": "bring_up waits forever: .*its last access: r RXDCTL.1. = 0x00000000; queue 1 isn't below .queues",
-    "stuck_spinning": "bring_up waits forever: .*its last access: r RXDCTL.1. = 0x00000000; queue 1",
-    "begin_waits": "begin waits forever: .*its last access: r RDH.0. = 0x00000000",
+    "stuck": "bring_up waits forever: .*; last access: r RXDCTL.1. = 0x00000000; queue 1 isn't below .queues",
+    "stuck_spinning": "bring_up waits forever: .*; last access: r RXDCTL.1. = 0x00000000; queue 1",
+    "begin_waits": "begin waits forever: .*; last access: r RDH.0. = 0x00000000",
     "refused": "bring_up: there is no cable",
     "checked": "bring_up: a check of the bring-up",
     "memory_early": "bring_up: the scenario calls nic_lend_memory, but the search can't see stores",
@@ -552,18 +552,18 @@ def check_shards(kit: Kit) -> str:
     every = ["--strategy", "exhaustive", "--preemptions", 1, "--no-sleep"]
     parts = [made(*every, "--shard", f"{k}/{shards}") for k in range(1, shards + 1)]
     if sum(parts) != made(*every) + 2 * (shards - 1) or min(parts) < 20:
-        raise Wrong(f"the shards of the exhaustive search run {parts} schedules")
+        raise Wrong(f"the shards of the exhaustive search run {parts} schedules: too few in one, or a wrong sum")
     for jobs in (1, 2):
         parts = [made("--runs", 100, "--shard", f"{k}/{shards}", jobs=jobs) for k in range(1, shards + 1)]
         if parts != [34, 33, 33]:
-            raise Wrong(f"the shards of 100 schedules run {parts}")
+            raise Wrong(f"the shards of 100 schedules run {parts}, not [34, 33, 33]")
     words = [race, "--quiet", "--no-shrink", "--jobs", 2, "--out", out]
     found = [ran([*words, "--shard", f"{k}/{shards}"], 1) for k in range(1, shards + 1)]
     runs = [int(re.findall(r"in run (\d+)", said)[0]) for said in found]
     whole = int(re.findall(r"in run (\d+)", ran(words, 1))[0])
     if [run % shards for run in runs] != list(range(shards)) or min(runs) != whole:
         raise Wrong(f"shards find the failure in runs {runs}, but a single search in run {whole}")
-    return f"{shards} shards make what one search makes"
+    return f"{shards} shards run the schedules of a single search"
 
 
 def count_program(kit: Kit) -> Path:
@@ -628,7 +628,7 @@ def check_unpointed(kit: Kit) -> str:
     """A missing point is reported if a driver touches what other tasks touch. Nothing is reported about the version
     that has all its points, and its bug is found. If accesses are observed, the bug is found without any point."""
     if os.uname().machine != "x86_64":
-        return "no missing points, which are looked for on x86-64 alone"
+        return "missing points not checked: the search looks for them only on x86-64"
     source, out = HERE / "tests/unpointed.c", kit.out("unpointed-found")
     debug = replace(kit, flags=[*kit.flags, "-g"])
     silent, pointed, seen = debug.build(source), debug.build(source, "POINTED"), kit.build_form(source, of_memory=True)
@@ -765,9 +765,9 @@ CPP = {
 
 
 def check_cpp(kit: Kit) -> str:
-    """C++ threads, if a C++ compiler is installed."""
+    """C++ threads work in the link form. Not checked if g++ isn't installed."""
     if not shutil.which("g++"):
-        return "no threads of C++, whose compiler isn't here"
+        return "C++ threads not checked: g++ isn't installed"
     source, words = HERE / "tests/std_threads.cc", ["--quiet", "--jobs", 2, "--no-shrink", "--out", kit.folder]
     for define, wanted in CPP.items():
         program, made = kit.folder / "std_threads", kit.folder / "std_threads.o"

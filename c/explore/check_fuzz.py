@@ -36,7 +36,7 @@ def check_inputs(kit: Kit) -> int:
         must_print(again, f"FAILED end: {FAILS}" if is_failing else "race: fine", f"input {given.hex()}")
         failing += is_failing
     must_print(ran([show, "/nowhere"], 2), "/nowhere: can't read the file", "an input that isn't there")
-    must_print(ran([show], 2), "give it an input file", "no input")
+    must_print(ran([show], 2), "pass an input file", "no input")
     return failing
 
 

@@ -1,4 +1,4 @@
-/* A driver with one buffer refills it for the next frame before the device reports that the first one was sent. */
+/* A driver with one buffer refills it for the next frame before the device reports the first frame as sent. */
 #include "corpus.h"
 
 enum { FRAMES = 2 };

@@ -1,5 +1,5 @@
-/* A driver removes a queue from RETA, and stops checking its ring when it has been empty once. Frames that were already
-   inside the device still arrive there. */
+/* A driver removes a queue from RETA, and stops checking the queue's ring as soon as the ring is empty. Frames that
+   were already inside the device still arrive in that ring. */
 #include "corpus.h"
 
 enum { FRAMES = 3, OLD = 1 };

@@ -1,7 +1,7 @@
 /* A receiver hands frames to a worker through a ring, and both threads access its index as plain memory. It works in
    every order of their steps, as long as the compiler and the processor keep the order of the stores; C promises
-   neither. The search reports it as a data race if it sees each access: built with -fsanitize=thread. A correct ring
-   stores the index with release, and loads it with acquire. */
+   neither. The search reports a data race if it sees each access, that is, if the driver is built with
+   -fsanitize=thread. A correct ring stores the index with release, and loads it with acquire. */
 #include "corpus.h"
 
 enum { FRAMES = 1, HANDED = 4 };

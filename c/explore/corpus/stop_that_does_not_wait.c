@@ -1,5 +1,5 @@
-/* A driver takes a queue's buffers back before the queue is off. Until then it still receives, and the device writes to
-   memory that is no longer the queue's. */
+/* A driver takes a queue's buffers back before the queue is off. Until then the queue still receives, and the device
+   writes to memory that is no longer the queue's. */
 #include "corpus.h"
 
 enum { FRAMES = 2, POSTED = 2 };

@@ -632,7 +632,7 @@ static void give_up(void)
 {
     char words[MOST_WORDS], access[MOST_WORDS + 24] = "", beyond[48] = "", all[sizeof access + 128];
     if (outside.kind != STEP_NONE)
-        snprintf(access, sizeof access, "; its last access: %s", nicxi_words(&outside, words));
+        snprintf(access, sizeof access, "; last access: %s", nicxi_words(&outside, words));
     if (nicxi.notes->beyond)
         snprintf(beyond, sizeof beyond, "; queue %u isn't below .queues", (unsigned)nicxi.notes->beyond - 1);
     snprintf(all, sizeof all, "%s waits forever: the device has no step left%s%s",

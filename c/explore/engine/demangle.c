@@ -79,7 +79,8 @@ struct escape {
     const char *name, *text;
 };
 
-/* "$LT$", or "$u7b$" for a character by its code. */
+/* Appends the character that an escape stands for: "$LT$", or "$u7b$" with the character's code. Returns the escape's
+   length. */
 static size_t put_escape(struct names *it, const char *from, size_t left)
 {
     static const struct escape escapes[] = {{"$SP$", "@"}, {"$BP$", "*"}, {"$RF$", "&"}, {"$LT$", "<"},
@@ -148,7 +149,7 @@ static bool demangle_older(struct names *it)
 static void path(struct names *it);
 static void type(struct names *it);
 
-/* A number in base 62 (digits, small letters, capitals): "_" is 0, "0_" is 1. A number of more than 64 bits is
+/* Reads a number in base 62 (digits, small letters, capitals): "_" is 0, "0_" is 1. A number of more than 64 bits is
    truncated to its low bits: numbers this large distinguish crates, and aren't positions. */
 static uint64_t take_base62(struct names *it)
 {

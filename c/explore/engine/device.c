@@ -23,7 +23,8 @@ void nicxi_drop_kept(void)
 }
 
 /* Called by the library before it lends the caller's memory. A search doesn't see stores into that memory, so it would
-   miss races on it; and restoring the device wouldn't restore it. If a task makes the call, the call doesn't return. */
+   miss races on that memory; and restoring the device wouldn't restore its contents. If a task makes the call, the call
+   doesn't return. */
 bool nicxi_refuses_memory(const nic *n);
 bool nicxi_refuses_memory(const nic *n)
 {

@@ -208,7 +208,7 @@ struct engine {
     uint16_t frame_count;
     bool links[NICX_FRAMES];
     uint16_t link_count;
-    struct omitted omitted; /* set by a search that shrinks, and by a schedule's file */
+    struct omitted omitted; /* set while a search shrinks a failure, and from a schedule's file */
     bool is_weak;           /* stores may be late and loads old (weak.h) */
     bool is_tso;            /* as on x86: stores may be late but stay in order, and no load is old */
     bool knows_memory;      /* every access to the driver's own memory is reported (nicxi_touched) */
@@ -331,7 +331,7 @@ void nicxi_wake(const struct step *step);
 enum { FEW_QUEUES = 2 };
 extern uint16_t nicxi_few_queues;
 
-/* Whether the number of an actor is a value of nicx_choose. */
+/* Whether an actor's number stands for a value that nicx_choose may return. */
 static inline bool nicxi_is_value(uint16_t actor)
 {
     return actor >= VALUES && actor != NOBODY;
@@ -347,14 +347,14 @@ bool nicxi_fires_at_rest(const struct actor *actor);
 /* Reports an access to the driver's own memory by the running thread. Every access is reported if `knows_memory` is
    set. */
 void nicxi_touched(const void *place, size_t size, bool writes);
-/* Notes that this thread of the process runs the schedules; no other thread may make these calls. */
+/* After this call, this thread of the process runs the schedules, and no other thread may make a driver's calls. */
 void nicxi_is_made_here(void);
 /* The prefix of a driver's calls in reports: "nicx_", or another language's prefix. */
 extern const char *nicxi_calls;
 /* The words that reports use for a condition. */
 extern const char *nicxi_condition;
-/* Advice printed for a driver that uses the process's own threads or locks: the link form, unless the card sets other
-   words. */
+/* Advice printed for a driver that uses the process's own threads or locks: to use the link form, unless the report
+   card sets other words. */
 extern const char *nicxi_for_threads;
 /* Whether this process runs schedules for a search. */
 bool nicxi_is_in_search(void);
@@ -378,7 +378,7 @@ static inline uint32_t nicxi_peek(uint32_t address)
     return nicl_word_at(&nicxi.device, address);
 }
 
-/* Saves the device's state, restores it, and drops the saved state. */
+/* Save the device's state, restore the saved state, and drop it. */
 const char *nicxi_keep(void);
 void nicxi_back(void);
 void nicxi_drop_kept(void);

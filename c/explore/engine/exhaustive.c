@@ -247,14 +247,14 @@ static void drop_node(struct exhaustive *it)
 
 /* --- a schedule --- */
 
-/* The number of the next part that no process has taken. */
+/* Takes the next part that no process has taken, and returns its number. */
 static uint64_t next_part(struct parts *parts)
 {
     uint64_t next = __sync_fetch_and_add(&parts->next, 1);
     return parts->shards ? next * parts->shards + parts->shard : next;
 }
 
-/* Starts a part, which this process or another one has taken. */
+/* Starts the next part, whether this process or another one searches it. */
 static void begin_part(struct exhaustive *it)
 {
     *it->part = it->parts->base + it->seen + 1;
@@ -328,8 +328,8 @@ static uint32_t choose_again(struct exhaustive *it, const struct node *node, con
     return k;
 }
 
-/* The point after the choice of another process's part is the last one. It serves only to learn whether that choice's
-   actor could continue; a device step is tried to find out. */
+/* In another process's part, the schedule ends at the point after the part's choice. That point only shows whether the
+   chosen actor could continue; if the actor is a device step, the step is tried to find out. */
 static uint32_t end_glance(struct exhaustive *it, const uint16_t *can, uint32_t count, bool again)
 {
     struct node *node = &it->nodes[it->depth - 1];

@@ -5,11 +5,12 @@
 
 #include "engine.h"
 
-/* How processes share an exhaustive search: each takes the next part when it is done with its own. A part contains the
-   schedules that follow the first one up to some point, and make the same other choice there. */
+/* How processes share an exhaustive search: each takes the next part when it is done with its own. All schedules in a
+   part follow the first schedule up to some point, and there all make the same choice, which differs from the first
+   schedule's. */
 struct parts {
     uint64_t next;
-    volatile uint64_t most; /* highest-numbered part of which a schedule was run */
+    volatile uint64_t most; /* highest number of a part from which a schedule was run */
     uint64_t base;          /* added to a part's number */
     uint32_t shard, shards; /* of every `shards` parts, number `shard` is searched; if `shards` is 0, all parts are */
 };

@@ -84,7 +84,8 @@ void nicxi_fiber_entry(void);
 void nicxi_fiber_first(struct fiber *fiber);
 
 /* Saves the callee-saved registers on the stack being left, and loads them from the stack being entered. A new fiber
-   finds itself in r12. There is no return address above its first frame, which stops a debugger's backtrace. */
+   starts with its own address in r12. There is no return address above its first frame, which stops a debugger's
+   backtrace. */
 __asm__(".text\n"
         ".p2align 4\n"
         ".globl nicxi_fiber_exchange\n"

@@ -17,8 +17,8 @@
 #include <ucontext.h>
 #endif
 
-/* The size of the guard below a stack. The guard is larger than a page, because a function's frame may be larger
-   too. */
+/* The size of the guard below a stack. The guard is larger than a page, because a function's stack frame may also be
+   larger than a page. */
 enum { NICX_GUARD = 65536 };
 
 /* `bottom` is the lowest usable byte, just above the guard. The process's own fiber uses the process's stack. */

@@ -1,4 +1,4 @@
-/* The files of a failure: its schedule, and a script of the device's side. */
+/* The files of a failure: its schedule, and a script of the device's events. */
 #ifndef NICX_FILES_H
 #define NICX_FILES_H
 
@@ -36,9 +36,9 @@ struct schedule_file {
     struct omitted omitted;
 };
 
-/* Reads a schedule. Returns null or "PATH:LINE: why", which is valid until the next call. The actors must be listed. If
-   lenient, the file may belong to another scenario: actors that this scenario lacks become NOBODY, and whatever else it
-   lacks is left out. */
+/* Reads a schedule. Returns null or "PATH:LINE: why", which is valid until the next call. Call nicxi_list_actors first.
+   If lenient, the file may belong to another scenario: actors that this scenario lacks become NOBODY, and whatever else
+   it lacks is left out. */
 const char *nicxi_read_schedule(const char *path, bool is_lenient, struct schedule_file *file);
 void nicxi_free_schedule(struct schedule_file *file);
 

@@ -145,7 +145,8 @@ static bool writes_elsewhere(const struct step *a, const struct step *b)
     return !outcome->back || !nicxi_overlap(a->bus, a->length, outcome->at, NIC_DESC_BYTES);
 }
 
-/* A receive step that wrote a frame also read only its descriptor. */
+/* Like writes_elsewhere, for a store by the driver. The receive step must have written a frame: then the only memory
+   that it read is the frame's descriptor. */
 static bool wrote_elsewhere(const struct step *a, const struct step *b)
 {
     return b->status == NIC_WROTE && writes_elsewhere(a, b);
@@ -306,7 +307,7 @@ static int row_in_order(const struct step *a, const struct step *b)
     return -1;
 }
 
-/* Whether a device step had nothing to do. Another step may give it work, so it commutes with none. */
+/* Whether a device step had nothing to do. Another step may give it work, so it is independent of no step. */
 static bool is_none(const struct step *step)
 {
     return nicxi_is_device_step(step->kind) && (step->status == NIC_IDLE || step->status == NIC_NO_GROUP);

@@ -1,4 +1,4 @@
-/* The files kept for a failure: its schedule, a script of the device's side, and a page. */
+/* The files kept for a failure: its schedule, a script of the device's events, and a page. */
 #ifndef NICX_KEEP_H
 #define NICX_KEEP_H
 

@@ -1,5 +1,6 @@
-/* Shared by scenarios: descriptors in a single access, frames that carry a number, a flow's queue, and mailbox calls
-   for the PF's driver and a virtual function's. All helpers use a driver's calls, so their accesses are points. */
+/* Helpers that scenarios share. They read or write a descriptor in a single access, build frames that carry a number,
+   find a flow's queue, and make the mailbox calls of the PF's driver and of a virtual function's driver. All helpers
+   use a driver's calls, so their accesses are points. */
 #include <string.h>
 
 #include "engine.h"
@@ -259,7 +260,8 @@ static void host_takes(uint8_t vf)
     }
 }
 
-/* 16 functions share a register of requests and acknowledgements; writing ones clears its bits. */
+/* Returns whether a virtual function's request or acknowledgement bit is set, and clears it. 16 virtual functions share
+   a register; writing 1 to a bit clears it. */
 static bool has_come_from(uint8_t vf, uint32_t bit)
 {
     uint32_t own = bit << vf % 16;

@@ -36,7 +36,8 @@ const char *nicxi_overflow_words(const volatile struct overflow *overflow, char 
     return room;
 }
 
-/* When this returns, the fault occurs again and reaches the previous handler. A signal that was sent is sent again. */
+/* When this returns, the fault occurs again and reaches the previous handler. A signal that a process sent is raised
+   again. */
 static void handle(int number, siginfo_t *info, void *context)
 {
     char words[160];

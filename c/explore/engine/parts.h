@@ -1,5 +1,5 @@
-/* Optional parts of the explorer, from c/explore/threads: threads as a driver creates them, and data races. A linked
-   part sets its pointer before `main`; the pointer of a part that isn't linked is null. */
+/* Optional parts of the explorer, from c/explore/threads: the threads that a driver creates, and the detection of data
+   races. A linked part sets its pointer before `main`; the pointer of a part that isn't linked is null. */
 #ifndef NICX_PARTS_H
 #define NICX_PARTS_H
 
@@ -50,8 +50,8 @@ extern const struct nicxi_races *nicxi_races;
 /* Turns accesses to the driver's own memory into points: all accesses, or only those to a variable or in a function
    with this name. Returns null, or why not. */
 extern const char *(*nicxi_ask_for_memory)(const char *name);
-/* Like nicxi_ask_for_memory, for the argument of --points or of a schedule's file: "memory" or "memory:NAME". It is
-   kept for the files of failures. Returns null, or why not. */
+/* Like nicxi_ask_for_memory, for the argument of --points, or of "points" in a schedule's file: "memory" or
+   "memory:NAME". It is kept for the files of failures. Returns null, or why not. */
 const char *nicxi_ask_for_points(const char *words);
 bool nicxi_are_points(const char *words);
 extern const char *nicxi_asked_points; /* the argument of nicxi_ask_for_points, or null */

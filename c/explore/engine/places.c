@@ -38,7 +38,7 @@ static bool has_prefix(const char *name, const char *prefix)
     return !strncmp(name, prefix, strlen(prefix));
 }
 
-/* The nic82599_explore.h calls, and the calls that link forms substitute for the driver's own. */
+/* Whether a call is one of nic82599_explore.h's, or one that a link form substitutes for the driver's own call. */
 static bool is_of_engine(const void *call)
 {
     char name[MOST_SYMBOL];
@@ -91,7 +91,8 @@ static bool is_of_card(const char *file)
     return strstr(file, "/drive/engine/") || strstr(file, "/drive/scenarios/") || strstr(file, "/drive/python/");
 }
 
-/* Leaves out the frames through which the card called the driver, unless the card itself took the step. */
+/* Leaves out the frames through which the report card called the driver, unless the report card itself took the
+   step. */
 static void end_at_adapter(struct place *place)
 {
     unsigned count = place->count;
@@ -218,7 +219,8 @@ const char *nicxi_line_of_wait(const struct thread *thread, char room[MOST_PLACE
 
 /* --- the object of a wait or a lock: its source text if known, otherwise its symbol, otherwise a number --- */
 
-/* The arguments of a call in a source line, up to its closing parenthesis. */
+/* Copies the arguments of a call in a source line, up to the closing parenthesis. Returns false if the line doesn't
+   contain the whole call. */
 static bool arguments_of(const char *text, const char *call, char *room, size_t size)
 {
     const char *from = strstr(text, call);

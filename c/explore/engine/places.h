@@ -32,11 +32,12 @@ const char *nicxi_place_words(const struct place *place, char room[MOST_PLACE]);
    if unknown. */
 const char *nicxi_place_here(char room[MOST_PLACE]);
 
-/* Describes a step, as in "locks driver.lock", and names what it locks or waits for in `about`, or "". */
+/* Describes a step, as in "locks driver.lock". Stores in `about` what the step locks or waits for, or "" if it does
+   neither. */
 void nicxi_step_words(const struct step *step, const struct place *place, char room[MOST_DESCRIPTION],
                       char about[MOST_DESCRIPTION]);
 
-/* Returns the driver's line of a call, given its return address: "poll.c:17", or "" if unknown. */
+/* Returns the driver's line that makes a call, given the call's return address: "poll.c:17", or "" if unknown. */
 const char *nicxi_line_of_call(const void *return_address, char room[MOST_PLACE]);
 
 /* Returns the driver's line at which a thread waits. */

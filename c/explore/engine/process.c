@@ -16,8 +16,8 @@
 #include <sys/wait.h>
 #include <unistd.h>
 
-/* Exit statuses of a child: a task reached no point; a task waits for a lock of the process; a thread that isn't a task
-   made a call. */
+/* Exit statuses of a child: a task reached no point; a task waits for a lock that the explorer doesn't control; a
+   thread that isn't a task made a call. */
 enum { HUNG = 77, LOCKED_UP = 78, FOREIGN = 79 };
 
 #define FOREIGN_WORDS "a thread that isn't a task calls the explorer: "
@@ -64,7 +64,8 @@ void nicxi_note_in(struct post *post)
 static struct post *watched;
 static uint32_t seconds_left, seconds_given;
 
-/* Whether the interrupted code waits for a lock of the process: the system call will be restarted after the signal. */
+/* Whether the signal interrupted a wait for a lock that the explorer doesn't control: then the next instruction repeats
+   the futex system call. */
 static bool is_locked_up(const void *context)
 {
 #if defined(__linux__) && defined(__x86_64__)

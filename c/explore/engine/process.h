@@ -56,7 +56,8 @@ bool nicxi_do(struct post *post, uint32_t hang, void (*work)(struct post *, void
 /* Called if another thread of the process made a call that only tasks may make: reports that, and exits. */
 void nicxi_refuse_thread(void);
 
-/* After this call, a stack overflow's task is noted in `where`, or printed to standard error if `where` is null. */
+/* After this call, a task that overflows its stack is noted in `where`, or printed to standard error if `where` is
+   null. */
 void nicxi_catch_overflows(volatile struct overflow *where);
 const char *nicxi_overflow_words(const volatile struct overflow *overflow, char *room, size_t size);
 

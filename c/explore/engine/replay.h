@@ -12,7 +12,7 @@ struct notes;
 /* Prints notes: not failures themselves, but possibly the reason for one. */
 void nicxi_tell_notes(FILE *to, const struct notes *notes);
 
-/* Replays a schedule exactly, or leniently: as far as the driver follows it. Returns null, or how the file doesn't fit.
+/* Replays a schedule exactly, or leniently: as far as the driver follows it. Returns null, or why the file doesn't fit.
    Prints each point and the verdict to `to`. */
 const char *nicxi_follow(FILE *to, const char *path, bool is_lenient, nicx_result *result);
 

@@ -147,7 +147,7 @@ static void words(struct form *it, const char *name, char *room, size_t size)
         memcpy(room, got, strlen(got) + 1);
 }
 
-/* A count that must equal the scenario's. */
+/* Writes or reads a count. A count that is read must equal the scenario's. */
 static void same(struct form *it, const char *name, uint64_t wanted)
 {
     uint64_t got = number(it, name, wanted, MOST_COUNT);

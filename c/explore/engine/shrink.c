@@ -69,7 +69,8 @@ static bool are_alike(const char *a, const char *b)
     }
 }
 
-/* The last actor in an endless schedule is a matter of chance. Messages are compared as files contain them. */
+/* The last actor in an endless schedule is a matter of chance. Messages are compared in the form in which files store
+   them, without unprintable characters. */
 bool nicxi_is_the_same(const nicx_result *a, const nicx_result *b)
 {
     char words[sizeof a->words], others[sizeof b->words];

@@ -16,9 +16,9 @@ void nicxi_forget_stored(const struct step *step);
 /* Returns " at ring.c:9 < driver.c:40" for this thread's write, if it was the last one to that place, or "". */
 const char *nicxi_stored_at(const struct thread *thread, uint64_t bus, char room[MOST_PLACE]);
 
-/* Adds the source of the address to the report of a fault at memory that isn't lent: the write of the descriptor; the
-   write of the tail, if the driver didn't write the descriptor; or the write of the ring's base, if the descriptor
-   isn't lent. */
+/* If a fault is at memory that isn't lent, adds to its report which of the driver's writes gave the device that
+   address: the write of the descriptor; if the driver didn't write the descriptor, the write of the tail; if the
+   descriptor itself isn't lent, the write of the ring's base. */
 void nicxi_name_giver(const struct step *step);
 
 #endif

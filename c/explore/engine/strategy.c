@@ -94,8 +94,8 @@ static uint16_t listed(const struct by_list *state, uint32_t point)
     return state->list[point];
 }
 
-/* Called again at the same point if the chosen device step had nothing to do. Tries device steps that may be idle if
-   the listed actor is offered only when all others are idle, and after the list's end. */
+/* Called again at the same point if the chosen device step had nothing to do. Tries device steps that may be idle in
+   two cases: if the listed actor is offered only when all others are idle, and after the list's end. */
 static uint32_t choose_to_the_letter(void *argument, const uint16_t *can, uint32_t count)
 {
     struct by_list *state = argument;

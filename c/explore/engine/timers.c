@@ -1,4 +1,5 @@
-/* Timers: handlers started by time. An armed timer fires once: at rest, or at any point up to its last one. */
+/* Timers: handlers started by time. An armed timer fires once: when all is at rest, or at any point up to its
+   deadline. */
 #include "engine.h"
 #include "left.h"
 

@@ -57,7 +57,8 @@ static void go_on(struct post *post, void *argument)
     }
 }
 
-/* A child process that ends during a schedule has failed in it; the next child continues after that schedule. */
+/* If a child process ends during a schedule, that schedule has failed, and the next child process continues with the
+   schedule after it. */
 static void count_fine(const struct options *options, struct post *post, const struct beginning *beginning,
                        uint32_t wanted, uint32_t *tried)
 {

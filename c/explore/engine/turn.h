@@ -8,7 +8,7 @@ enum { MOST_TURN = 300 };
 
 enum turn_kind {
     TURN_UNKNOWN,
-    TURN_FOUND, /* before `point` some schedule was fine in which `other` acted; after it, none was */
+    TURN_FOUND, /* a schedule in which `other` acted at `point` was fine; after the failure's step there, none was */
     TURN_NONE,  /* no schedule was fine: the order of steps doesn't matter */
     TURN_RACE   /* like TURN_NONE, but for a data race, which any order of the steps reveals */
 };

@@ -94,7 +94,7 @@ static void raise_interrupt(void)
     pthread_mutex_unlock(&interrupt.lock);
 }
 
-/* Returns false if all is over. */
+/* Waits for a message. Returns false if the program is ending. */
 static bool wait_for_interrupt(void)
 {
     pthread_mutex_lock(&interrupt.lock);
@@ -124,7 +124,7 @@ static void push(const struct packet *packet)
     pthread_mutex_unlock(&queue.lock);
 }
 
-/* Returns false if all is over. */
+/* Waits for a packet. Returns false if the program is ending and no packet is left. */
 static bool pop(struct packet *packet)
 {
     pthread_mutex_lock(&queue.lock);

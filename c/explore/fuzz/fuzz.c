@@ -180,7 +180,7 @@ static int fuzz(void)
 #else
 static int fuzz(void)
 {
-    fprintf(stderr, "%s: give it an input file, or build it with afl-clang-fast\n", scenario->name);
+    fprintf(stderr, "%s: pass an input file as an argument, or build with afl-clang-fast\n", scenario->name);
     return 2;
 }
 #endif

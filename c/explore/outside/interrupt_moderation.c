@@ -3,7 +3,7 @@
    masked for an interval.
 
    The poll clears `scheduled` after its last look, but the moderator may already have unmasked: a message sent in the
-   meantime is lost. With -DFIXED it clears `scheduled` before its first look. */
+   meantime is lost. With -DFIXED the poll clears `scheduled` before its first look. */
 #include <string.h>
 
 #include "../driver.h"

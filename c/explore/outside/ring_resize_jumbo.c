@@ -3,7 +3,7 @@
    queue is off are lost; all others are delivered.
 
    A partial frame from the old ring is kept although its end is lost, and the next frame is appended to it. With
-   -DFIXED it is dropped. */
+   -DFIXED the partial frame is dropped. */
 #include <string.h>
 
 #include "../driver.h"

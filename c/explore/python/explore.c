@@ -90,7 +90,7 @@ static const char *end(void)
     return judged(ASK_END);
 }
 
-/* Runs a task, a handler or a timer. If it raises an exception, it has already reported that. */
+/* Runs a task, a handler or a timer. If the function raises an exception, the module has already reported that. */
 static void run(void *number)
 {
     if (nicp_ask(ASK_THREAD, (uintptr_t)number, 0, 0) == NICP_RAISED)
@@ -139,7 +139,7 @@ static void refuse_foreign(void)
     nicxi_failed(NICX_MISUSE, "a thread that isn't a task calls the explorer");
 }
 
-/* Called for a bring-up that waits forever: leaves the call that it is in. */
+/* Called for a bring-up that waits forever: leaves the call that waits. */
 static void give_up(const char *words)
 {
     nicxi_failed(NICX_MISUSE, "%s", words);
@@ -287,7 +287,7 @@ const char *nicp_run(uint32_t hang, struct nicp_made *made)
     return NULL;
 }
 
-/* Replays a schedule from a file. Returns null, or how it doesn't fit. */
+/* Replays a schedule from a file. Returns null, or why the file doesn't fit. */
 const char *nicp_replay(const char *path, bool is_lenient, uint32_t hang, struct nicp_made *made)
 {
     FILE *to = open_text(made);

@@ -126,7 +126,7 @@ static void take_over(void)
     nicxi_heap_is_mine();
 }
 
-/* Waits for the turn. Returns false if a thread hangs. */
+/* Waits until the main thread may have its turn. Returns false if the running thread hangs. */
 static bool comes(void)
 {
     struct pollfd turn = {.fd = outside.turn, .events = POLLIN};
@@ -140,7 +140,7 @@ static bool comes(void)
     return !nicp_hang;
 }
 
-/* Returns false if the running thread hangs. */
+/* Waits for the main thread's turn. Returns false if the running thread hangs. */
 static bool wait_outside(void)
 {
     uint64_t count;

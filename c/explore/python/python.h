@@ -60,7 +60,7 @@ void nicp_open_stacks(void (*begin_thread)(void *host));
 void nicp_live(void *host);
 /* If not null, called when a schedule is over, before its threads leave it. */
 extern void (*nicp_at_end)(void);
-/* A thread that reaches no point for this many seconds hangs; 0: no limit, or another process watches. */
+/* A thread that reaches no point for this many seconds counts as hung; 0: no limit, or another process watches. */
 extern uint32_t nicp_hang;
 
 /* A driver's call. Returns its result, or NICP_OVER. The thread returns here too if the schedule ends during the

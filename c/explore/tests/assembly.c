@@ -18,8 +18,8 @@ static int count;
         int old = 0;                                                                                                   \
         __asm__ volatile("lock; cmpxchgl %2,%1" : "+a"(old), "+m"(count) : "r"(1) : "memory", "cc");                   \
     } while (0)
-/* Not a barrier but a call, whose displacement contains the bytes of one. The call's target is 0x751F1 bytes before it,
-   so the program must be large enough: PADDED makes that room, whatever else the program contains. */
+/* Not a barrier but a call, whose displacement contains the bytes of a barrier. The call's target is 0x751F1 bytes
+   before it, so the program must be large enough: PADDED makes that room, whatever else the program contains. */
 #define DISTANCE __asm__ volatile("jmp 1f\n .byte 0xE8, 0x0F, 0xAE, 0xF8, 0xFF\n 1:" ::: "memory")
 #ifdef PADDED
 __asm__(".text\n .skip 0x80000\n");

@@ -1,6 +1,6 @@
 /* `freed MODE words..`, built with -fsanitize=thread: memory from malloc that is used after it was freed although a
-   lock orders the two, that is freed twice, or that is accessed out of bounds. With FIXED each mode is correct. So is
-   "kinds", which allocates and frees memory with every call for that. */
+   lock orders the free and the use, that is freed twice, or that is accessed out of bounds. With FIXED each mode is
+   correct. The mode "kinds", which uses every call that allocates or frees memory, is always correct. */
 #define _GNU_SOURCE
 #include <pthread.h>
 #include <stdatomic.h>

@@ -1,5 +1,5 @@
-/* A whole program: its main sets `is_over`, and returns. Until main has returned, its thread keeps running, and exits
-   the process with status 3; with FIXED it doesn't. */
+/* A whole program. Its main creates a thread, sets `is_over`, and returns. The thread waits for `is_over`, and then
+   exits the process with status 3, unless main has already returned. With FIXED the thread just ends. */
 #include <pthread.h>
 #include <stdatomic.h>
 #include <stdlib.h>

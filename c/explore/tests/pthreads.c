@@ -68,7 +68,7 @@ static void *use_recursive(void *argument)
 {
     pthread_mutex_lock(argument);
     use_mutex(argument);
-    nicx_check(pthread_mutex_trylock(argument) == 0, "it isn't taken again");
+    nicx_check(pthread_mutex_trylock(argument) == 0, "the holder can't lock a recursive mutex again");
     pthread_mutex_unlock(argument);
     pthread_mutex_unlock(argument);
     return NULL;
@@ -84,7 +84,7 @@ static void recursive(void)
     pthread_t other = make(use_recursive, &mutex);
     use_recursive(&mutex);
     joined(other);
-    nicx_check(pthread_mutex_destroy(&mutex) == 0 && count == 2, "two didn't come in");
+    nicx_check(pthread_mutex_destroy(&mutex) == 0 && count == 2, "the mutex is still held, or the count isn't 2");
 }
 
 static void checked(void)
@@ -94,10 +94,10 @@ static void checked(void)
     pthread_mutexattr_init(&how);
     pthread_mutexattr_settype(&how, PTHREAD_MUTEX_ERRORCHECK);
     pthread_mutex_init(&mutex, &how);
-    nicx_check(pthread_mutex_unlock(&mutex) == EPERM, "it is unlocked by nobody");
+    nicx_check(pthread_mutex_unlock(&mutex) == EPERM, "a mutex that nobody holds is unlocked");
     pthread_mutex_lock(&mutex);
-    nicx_check(pthread_mutex_lock(&mutex) == EDEADLK, "it is locked twice");
-    nicx_check(pthread_mutex_trylock(&mutex) == EBUSY, "it is free");
+    nicx_check(pthread_mutex_lock(&mutex) == EDEADLK, "the holder locks the mutex twice");
+    nicx_check(pthread_mutex_trylock(&mutex) == EBUSY, "a held mutex can be locked");
     pthread_mutex_unlock(&mutex);
 }
 
@@ -105,7 +105,7 @@ static void *try_mutex(void *unused)
 {
     struct timespec until = {0, 0};
     int status = is("trylock") ? pthread_mutex_trylock(&first) : pthread_mutex_timedlock(&first, &until);
-    nicx_check(!status || status == (is("trylock") ? EBUSY : ETIMEDOUT), "another answer");
+    nicx_check(!status || status == (is("trylock") ? EBUSY : ETIMEDOUT), "an unexpected status");
     if (status)
         return unused;
     be_inside();
@@ -123,7 +123,7 @@ static void trylock(void)
 static void *use_spin(void *argument)
 {
     pthread_spin_lock(argument);
-    nicx_check(pthread_spin_trylock(argument) == EBUSY, "it is free");
+    nicx_check(pthread_spin_trylock(argument) == EBUSY, "a held spin lock can be locked");
     be_inside();
     pthread_spin_unlock(argument);
     return NULL;
@@ -227,9 +227,9 @@ static void semaphores(void)
     struct timespec until = {0, 0};
     sem_init(&semaphore, 0, 0);
     pthread_t other = make(post, NULL);
-    nicx_check(sem_trywait(&semaphore) == 0 || (errno == EAGAIN && sem_wait(&semaphore) == 0), "no wait");
+    nicx_check(sem_trywait(&semaphore) == 0 || (errno == EAGAIN && sem_wait(&semaphore) == 0), "sem_wait fails");
     joined(other);
-    nicx_check(sem_getvalue(&semaphore, &value) == 0 && value == 0, "a value is left");
+    nicx_check(sem_getvalue(&semaphore, &value) == 0 && value == 0, "the semaphore's value isn't 0");
     nicx_check(sem_timedwait(&semaphore, &until) < 0 && errno == ETIMEDOUT, "a timed wait doesn't time out");
     sem_destroy(&semaphore);
 }
@@ -268,7 +268,7 @@ static void count_once(void)
 static void *do_once(void *unused)
 {
     pthread_once(&once, count_once);
-    nicx_check(count == 1 && seen, "it didn't run exactly once");
+    nicx_check(count == 1 && seen, "the function didn't run exactly once");
     return unused;
 }
 
@@ -290,12 +290,12 @@ static void count_value(void *value)
 
 static void *use_own(void *unused)
 {
-    nicx_check(own == 3 && !pthread_getspecific(key), "another's value");
+    nicx_check(own == 3 && !pthread_getspecific(key), "a value is another thread's");
     own = 4;
     errno = 5;
     pthread_setspecific(key, &count);
     nicx_point();
-    nicx_check(own == 4 && errno == 5 && pthread_getspecific(key) == &count, "another's value");
+    nicx_check(own == 4 && errno == 5 && pthread_getspecific(key) == &count, "a value is another thread's");
     return unused;
 }
 
@@ -329,7 +329,7 @@ static void *wait_a_while(void *unused)
 static void exits(void)
 {
     pthread_t one = make(leave, NULL), two = make(wait_a_while, NULL);
-    nicx_check(joined(one) == &count && pthread_join(one, NULL) == EINVAL, "another result");
+    nicx_check(joined(one) == &count && pthread_join(one, NULL) == EINVAL, "a wrong result");
     nicx_check(pthread_detach(two) == 0 && pthread_join(two, NULL) == EINVAL, "the thread isn't detached");
 }
 
@@ -357,9 +357,9 @@ static void c11(void)
     nicx_check(mtx_init(&lock, mtx_plain) == thrd_success && cnd_init(&cnd) == thrd_success, "no lock");
     mtx_lock(&lock);
     nicx_check(thrd_create(&other, run_c11, &number) == thrd_success, "no thread");
-    nicx_check(cnd_wait(&cnd, &lock) == thrd_success && mtx_trylock(&lock) == thrd_busy, "it isn't held");
+    nicx_check(cnd_wait(&cnd, &lock) == thrd_success && mtx_trylock(&lock) == thrd_busy, "the mutex isn't held");
     mtx_unlock(&lock);
-    nicx_check(thrd_join(other, &result) == thrd_success && result == 7 && count == 1, "another result");
+    nicx_check(thrd_join(other, &result) == thrd_success && result == 7 && count == 1, "a wrong result");
     mtx_destroy(&lock);
 }
 
@@ -378,7 +378,7 @@ static void keep_aligned(void)
 {
     enum { SIZE = 700 };
     unsigned char *bytes = aligned_alloc(64, 704), *others[10];
-    nicx_check(bytes && (uintptr_t)bytes % 64 == 0, "it isn't aligned");
+    nicx_check(bytes && (uintptr_t)bytes % 64 == 0, "the memory isn't aligned");
     memset(bytes, 7, SIZE);
     bytes = realloc(bytes, 5000);
     nicx_check(bytes && is_filled(bytes, SIZE, 7), "the memory lost bytes when it moved");
@@ -398,7 +398,7 @@ static void *spoil(void *unused)
     strcpy(text, "spoilt");
     free(malloc(100));
     void *left = NULL;
-    nicx_check(posix_memalign(&left, 4096, 100) == 0 && (uintptr_t)left % 4096 == 0, "it isn't aligned");
+    nicx_check(posix_memalign(&left, 4096, 100) == 0 && (uintptr_t)left % 4096 == 0, "the page isn't aligned");
     keep_aligned();
     nicx_check((text = realloc(text, 5000)) && !strcmp(text, "spoilt"), "the text changed");
     return unused;

@@ -68,7 +68,7 @@ static void two_write(void)
     pthread_t one = make(write_both, NULL), two = make(write_both, NULL);
     join(one);
     join(two);
-    nicx_check(data.value == 2, "one is lost");
+    nicx_check(data.value == 2, "an increment is lost");
 }
 
 /* --- one thread writes, and signals the other --- */
@@ -139,10 +139,10 @@ static void one_tells(void)
     } else if (!is("no_join")) {
         hear();
     }
-    nicx_check(data.value == 1 || is("no_join"), "it isn't there");
+    nicx_check(data.value == 1 || is("no_join"), "the other thread's store isn't there");
     uint8_t copied[64];
     memcpy(copied, data.bytes, sizeof copied);
-    nicx_check(copied[63] == 1 || is("no_join"), "it isn't there");
+    nicx_check(copied[63] == 1 || is("no_join"), "the other thread's store isn't there");
 }
 
 /* --- heap and stacks: freed memory may next belong to another thread --- */
@@ -215,7 +215,7 @@ static void device(void)
         while (!is_done(RX_RING, 0, RX_DONE))
             nicx_wait();
     nicx_dma_read(buffer(0), bytes, sizeof bytes);
-    nicx_check(is("no_done") || data.value == 1, "it isn't there");
+    nicx_check(is("no_done") || data.value == 1, "the other thread's store isn't there");
 }
 
 static void *write_late(void *unused)

@@ -284,7 +284,7 @@ int main(int argc, char **argv)
         all += many;
         fewer += few;
         if (with != without) {
-            printf("scenario %u, bound %u: other ends with sleep sets than without\n", k, (unsigned)bounds[k % 4]);
+            printf("scenario %u, bound %u: sleep sets change the final states\n", k, (unsigned)bounds[k % 4]);
             return 1;
         }
     }

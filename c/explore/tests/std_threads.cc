@@ -1,6 +1,6 @@
-// The same link form intercepts threads of C++, with -static-libstdc++. With -DLOST a signal comes before the wait for
-// it. With -DORDER=relaxed a std::atomic orders nothing; with -DORDER=seq_cst it orders what comes before it.
-// c/explore/check.py runs it.
+// The link form also intercepts C++ threads, if libstdc++ is linked statically. With -DLOST a signal comes before the
+// wait for it. With -DORDER=relaxed a std::atomic orders nothing; with -DORDER=seq_cst it orders all accesses before
+// it. c/explore/check.py runs this test.
 #include <atomic>
 #include <condition_variable>
 #include <mutex>
@@ -36,7 +36,7 @@ void run(void *)
     while (!driver.is_reported.load(BY_ORDER(ORDER)))
         std::this_thread::yield();
     if (driver.value != 1)
-        nicx_fail("what was told isn't there");
+        nicx_fail("the other thread's store isn't there");
     other.join();
 }
 #else

@@ -4,8 +4,8 @@
    netif_stop_queue and netif_wake_queue. Without it, both may see the old value, and the queue stays stopped forever.
    With FIXED it is correct.
 
-   flags: no barrier; release: a barrier of stores, which isn't enough; lent: the cleaner also writes a descriptor, and
-   publishes it by nicx_wmb, which is a barrier of stores too. */
+   flags: no barrier; release: a store barrier, which isn't enough; lent: the cleaner also writes a descriptor, and
+   publishes it with nicx_wmb, which is only a store barrier too. */
 #include <stdatomic.h>
 
 #include "corpus.h"

@@ -42,7 +42,7 @@ static void use(nic *n, unsigned number)
     expect(nic_arrive(n, bytes, sizeof bytes, &outcome) == NIC_DONE, "no frame arrives");
     expect(nic_rx_step(n, &outcome) == NIC_WROTE, "no frame is written");
     expect(nic_get64(n, 16 * slot + 8, &second) == NIC_DONE && (second & DD), "no descriptor is done");
-    expect(nic_get(n, NIC_RETA(0)) == number, "a register is another's");
+    expect(nic_get(n, NIC_RETA(0)) == number, "a register has another device's value");
 }
 
 static void open_and_use(nic *n, unsigned number)
@@ -60,7 +60,7 @@ static void *make_devices(void *made)
     while (!__atomic_load_n(&is_over, __ATOMIC_ACQUIRE)) {
         nic *n = &kept[count % KEPT];
         if (count >= KEPT) {
-            expect(nic_get(n, NIC_RETA(0)) == count - KEPT, "a register is another's");
+            expect(nic_get(n, NIC_RETA(0)) == count - KEPT, "a register has another device's value");
             nic_close(n);
         }
         open_and_use(n, count++);
@@ -120,8 +120,8 @@ static void on_another(void *(*function)(void *), void *argument)
     pthread_join(other, NULL);
 }
 
-/* Another thread closes a device of the search's thread, and vice versa; and a thread runs schedules that didn't open
-   the scenario. */
+/* Another thread closes a device of the search's thread, and vice versa; and a thread that didn't open the scenario
+   runs schedules. */
 static void cross_over(void)
 {
     nic here, there;
@@ -134,7 +134,7 @@ static void cross_over(void)
     on_another(make_schedule, &first);
     use(&there, 10);
     make_schedule(&second);
-    expect(first.outcome == second.outcome && first.points == second.points, "one schedule goes two ways");
+    expect(first.outcome == second.outcome && first.points == second.points, "one schedule has two results");
     nicx_close();
     use(&there, 11);
     nic_close(&there);

@@ -348,7 +348,7 @@ static void try_one(bool is_weak, bool sleeps, bool tells, unsigned *runs)
         for (unsigned k = 0; k < 9; k++)
             if (seen >> k & 1)
                 printf(" %u%u", k / 3, k % 3);
-        printf("%s\n", seen == wanted ? "" : ", and shouldn't");
+        printf("%s\n", seen == wanted ? "" : ": not the outcomes listed");
     }
     if (seen != wanted)
         exit(1);

@@ -81,7 +81,7 @@ void __wrap_call_once(once_flag *flag, void (*function)(void))
         __real_call_once(flag, function);
 }
 
-/* A C11 thread returns an int, so it starts in a wrapper, which takes its function from this struct. */
+/* A C11 thread returns an int, so it starts in a wrapper, which takes the thread's own function from this struct. */
 struct beginning {
     thrd_start_t function;
     void *argument;

@@ -169,7 +169,7 @@ uint8_t __wrap_nic_collect(nic *n, uint8_t *room, size_t length, nic_outcome *ou
     return __real_nic_collect(n, room, length, outcome);
 }
 
-/* --- a whole program's controller: opened with the program's numbers, and kept for the next schedule --- */
+/* --- a whole program's controller: opened with nic_open's arguments, and kept for the next schedule --- */
 
 uint8_t __real_nic_new(uint8_t vfs, uint16_t fifo, uint32_t blocks, void **device);
 uint8_t __wrap_nic_new(uint8_t vfs, uint16_t fifo, uint32_t blocks, void **device)

@@ -40,7 +40,7 @@ extern struct posix_thread nicxi_posix[MOST_THREADS + 1];
 /* The address of the call to the current function. */
 #define HERE ((const char *)__builtin_return_address(0) - 1)
 
-/* Whether a thread call belongs to the search: a scenario is open, and the search's own thread calls. */
+/* Whether a thread call belongs to the search: a scenario is open, and the caller is the search's own thread. */
 static inline bool nicxi_is_ours(void)
 {
     return nicxi.phase != CLOSED && nicxi_is_maker();

@@ -58,9 +58,9 @@ static bool is_own(uint64_t at)
     return at - (uintptr_t)fiber->bottom < fiber->size || nicxi_state_is_local(at);
 }
 
-/* Whether a handler bound to the running task may start at this access: its message was sent, or the task gave the
-   device a reason for one since its last point. Any other message may as well arrive at the task's point, because the
-   device's steps change nothing in the driver's own memory. */
+/* Whether a handler bound to the running task may start at this access: its message was sent, or since its last point
+   the task gave the device a reason to send it. Any other message can arrive at the task's point with the same effect,
+   because the device's steps change nothing in the driver's own memory. */
 static bool may_be_interrupted(void)
 {
     const struct thread *self = nicxi.self;

@@ -637,7 +637,7 @@ static void handler_starts(void)
         join(&now[number], clock_of(SIDE, TIMERS + number));
     else
         join(&now[number], clock_of(SIDE, MESSAGES + 16u * handler->group + handler->vector));
-    /* after the task's end, too, the handler follows it on the same processor */
+    /* the handler runs on the task's processor, so it is ordered after the task, even after the task's end */
     int task = handler->on >= 0 ? handler->on : handler->where;
     if (task < 0)
         return;

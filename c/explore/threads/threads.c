@@ -146,7 +146,7 @@ int __wrap_pthread_create(pthread_t *handle, const pthread_attr_t *how, void *(*
     return nicxi_create(handle, &creation, "pthread_create", HERE);
 }
 
-/* A thread that the driver created, or null: a scenario's task can't be joined. */
+/* Returns the thread with this number if the driver created it, otherwise null: a scenario's task can't be joined. */
 static struct posix_thread *made_of(pthread_t number)
 {
     if (!number || number > MOST_THREADS || !nicxi.threads[number - 1].is_made || !nicxi.threads[number - 1].function)

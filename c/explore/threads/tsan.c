@@ -82,7 +82,7 @@ void __tsan_vptr_read(void **at)
     access(at, sizeof *at, READS, HERE);
 }
 
-/* Writing the same value again changes nothing; destructors do that. */
+/* Destructors write the same value again, which changes nothing. */
 void __tsan_vptr_update(void **at, void *value)
 {
     if (*at != value)

@@ -625,8 +625,9 @@ POINTED = {"count": "FAILED end: a count is lost", "push": "FAILED end: a slot i
 
 
 def check_unpointed(kit: Kit) -> str:
-    """A missing point is reported if a driver touches what other tasks touch. Nothing is reported about the version
-    that has all its points, and its bug is found. If accesses are observed, the bug is found without any point."""
+    """If a driver lacks a point between accesses to memory that other tasks access too, the search reports that. In
+    the version that has all its points, nothing is reported, and the bug is found. If accesses are observed, the bug is
+    found without any point."""
     if os.uname().machine != "x86_64":
         return "missing points not checked: the search looks for them only on x86-64"
     source, out = HERE / "tests/unpointed.c", kit.out("unpointed-found")
@@ -971,7 +972,7 @@ POINTS = {
 
 
 def check_points(kit: Kit) -> str:
-    """A bug is found that needs another thread to act just before a call takes effect. The twins pass each schedule."""
+    """Finds bugs that need another thread to act just before a call takes effect. The twins pass each schedule."""
     source, out = HERE / "tests/points.c", kit.out("points")
     words = ["--quiet", "--jobs", 2, "--out", out, "--no-shrink"]
     wrong, right = (kit.build_form(source, *defines, of_memory=True) for defines in ([], ["FIXED"]))
@@ -1056,7 +1057,8 @@ def check_own_memory(kit: Kit) -> str:
 
 
 def check_program(kit: Kit, runs: int) -> str:
-    """A whole program is searched unchanged: its bug is found from the way it ends, and as a race; its twin passes."""
+    """A whole program is searched unchanged. Its bug is found from how the program ends, and as a race. Its twin
+    passes."""
     source, out = HERE / "examples/forwarder.c", kit.out("program")
     words = ["--quiet", "--jobs", 2, "--out", out]
     lost = "(end: main returns 1|deadlock: main waits in pthread_cond_wait for sent)"

@@ -1,4 +1,4 @@
-# The explorer for threads as a driver creates them, out/libnic82599_threads.a: the engine, the library and the link
+# The explorer for the threads that a driver creates, out/libnic82599_threads.a: the engine, the library and the link
 # form. Comes with linker options (out/nic82599_threads.opts; nic82599_program.opts for a whole program) and
 # nic82599_threads.ld. Included by ../Makefile.
 

@@ -250,7 +250,7 @@ static void tell_queues(struct telling *it, int side)
     report_line(it);
 }
 
-/* If no queue received anything, the lines about frames already say so. */
+/* Whether any queue received a frame. If none did, the lines about frames already say so. */
 static bool has_received(const struct coverage *coverage)
 {
     for (uint32_t queue = 0; queue < 128; queue++)

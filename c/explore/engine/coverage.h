@@ -8,7 +8,7 @@
 #include "nic82599_explore.h"
 
 enum {
-    DELIVERED = 1, /* the frame's end was written; bits 1 << enum nic_why: reasons it was dropped */
+    DELIVERED = 1, /* the frame's end was written; the bits 1 << enum nic_why say why it was dropped */
     FAULTED = 1 << 14,
     LET_IN = 1 << 15 /* the frame waited inside the device */
 };

@@ -127,7 +127,7 @@ static bool is_hash(const char *from, size_t length)
     return is_it;
 }
 
-/* C++ names don't end in a hash like this. */
+/* Demangles a name only if it ends in a hash, which no C++ name does. */
 static bool demangle_older(struct names *it)
 {
     bool has_hash = false;

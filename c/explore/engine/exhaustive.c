@@ -141,8 +141,8 @@ static uint32_t left_after(const struct exhaustive *it, const struct node *node,
     return it->preemptions == UNBOUNDED ? UNBOUNDED : node->left - cost(node, k);
 }
 
-/* Exploring z, t from a point covers t, z unless z, t cost more preemptions. Then the bound may have cut that search
-   short. */
+/* Whether exploring the sleeping step z before another step also covers the opposite order. It doesn't if the first
+   order cost more preemptions, because the bound may then have cut that search short. */
 static bool had_as_many(const struct exhaustive *it, const struct asleep *z, uint32_t left)
 {
     return it->preemptions == UNBOUNDED || z->left >= left + z->goes_on;

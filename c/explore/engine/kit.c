@@ -1,6 +1,6 @@
 /* Helpers that scenarios share. They read or write a descriptor in a single access, build frames that carry a number,
-   find a flow's queue, and make the mailbox calls of the PF's driver and of a virtual function's driver. All helpers
-   use a driver's calls, so their accesses are points. */
+   and find a flow's queue. They also make the mailbox calls of the PF's driver and of a virtual function's driver. All
+   helpers use a driver's calls, so their accesses are points. */
 #include <string.h>
 
 #include "engine.h"

@@ -100,7 +100,7 @@ static bool open_image(const char *path)
     return true;
 }
 
-/* A part of the file, or null if the file doesn't contain all of it. */
+/* Returns a part of the file, or null if the file doesn't contain all of it. */
 static const void *piece(uint64_t at, uint64_t size)
 {
     return at <= image.size && size <= image.size - at ? image.bytes + at : NULL;

@@ -83,7 +83,7 @@ static int refused(const nicx_scenario *scenario, const char *wanted)
     return 1;
 }
 
-/* Schedules with the same choices are equal. */
+/* Whether schedules with the same choices differ, which they must not. */
 static int differs(void)
 {
     static const nicx_scenario looks = {.name = "looks",

@@ -96,7 +96,7 @@ static void begin_handlers(void)
     frames_come(1);
 }
 
-/* Takes two locks in either order. */
+/* Takes both locks, the one in `argument` first. */
 static void locker(void *argument)
 {
     nicx_mutex *first = argument, *second = first == locks ? locks + 1 : locks;
@@ -111,7 +111,7 @@ static bool reads(void *unused)
     return nicx_read32(NIC_RDH(0)) < SLOTS;
 }
 
-/* Calls that aren't allowed, and what is reported about them. */
+/* Makes calls that aren't allowed, or that the search must report. */
 static void misuse(void)
 {
     if (is("condition"))

@@ -186,7 +186,7 @@ struct pick {
 /* Registers of a queue's side, as offsets from its first one. */
 static const uint32_t of_side[] = {0, 4, 8, 0x10, 0x14, 0x18, 0x28, 0x38, 0x3C};
 
-/* A virtual function's offset: of a queue's side, its mailbox, or its interrupts. */
+/* Returns a random offset of a virtual function: in a queue's side, its mailbox, or its interrupts. */
 static uint32_t some_offset(void)
 {
     static const uint32_t of_group[] = {NIC_VTEICR, NIC_VTEICS, NIC_VTEIMS,     NIC_VTEIMC,
@@ -201,7 +201,7 @@ static uint32_t some_offset(void)
     }
 }
 
-/* A register of the physical function's interrupts, or of a mailbox's memory. */
+/* Returns a random address of the physical function's interrupt registers, or of a mailbox's memory. */
 static uint32_t some_part(void)
 {
     static const uint32_t interrupts[] = {NIC_EICR, NIC_EICS, NIC_EIAC,    NIC_EIMS,

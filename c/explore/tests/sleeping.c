@@ -1,4 +1,4 @@
-/* Whether the exhaustive search reaches the same final states with sleep sets as without. Compares, for random
+/* Checks that the exhaustive search reaches the same final states with sleep sets as without. Compares, for random
    scenarios, what the driver saw and the device's state at the end of each schedule. `sleeping SCENARIOS SEED MODE..`,
    with these modes: `vf`: the queue and the driver belong to a virtual function. `apart`: the tasks share nothing but a
    lock and what it protects, and the scenario says that it is race-free. `seen`: each access to the driver's memory is

@@ -1,4 +1,4 @@
-/* Threads as a driver creates them: calls to the C library's thread functions become tasks, locks and points. With
+/* The threads that a driver creates: calls to the C library's thread functions become tasks, locks and points. With
    --wrap the linker replaces NAME with this archive's __wrap_NAME in the driver's code alone; the rest of this archive
    calls __real_NAME. docs/explore.md says how to link a program. */
 #ifndef NICX_THREADS_FORM_H

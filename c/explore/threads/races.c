@@ -23,7 +23,7 @@ struct clock {
 
 static struct clock now[CLOCKS];
 
-/* A thread's clock at each of its earlier times. Each time ended with a release. */
+/* Each thread's clock at the end of each of its earlier times. A time ends with a release. */
 static struct {
     struct clock *list;
     uint32_t room;

@@ -119,7 +119,7 @@ static void note_change(void)
     polls_of(nicxi.self)->times = 0;
 }
 
-/* Called before a virtual function's access: notes the address that it has in the physical function. */
+/* Called before a virtual function's access: notes the physical function's address for the same register. */
 static void note_physical(struct step *step)
 {
     step->physical = nicxi_physical(nicxi_peek(NIC_GCR_EXT), step->vf, step->address);
@@ -138,7 +138,7 @@ static bool is_change(const struct step *step)
     }
 }
 
-/* --- notes: no failures, but reported after the search --- */
+/* --- notes: not failures, but reported after the search --- */
 
 static const char *outside_name(void)
 {

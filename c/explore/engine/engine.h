@@ -298,9 +298,10 @@ void nicxi_observed(uint16_t actor, const struct step *step);
 /* Returns the first index at or after `from` that isn't left out, or `count`. */
 uint16_t nicxi_next_kept(const bool *omitted, uint16_t from, uint16_t count);
 
-/* Lists the actors of a schedule, after its tasks and handlers are named. */
+/* Lists the actors of a schedule. Called after its tasks and handlers are named. */
 void nicxi_list_actors(void);
-/* Whether an actor is runnable, as far as known without trying it; whether a thread in any state can continue. */
+/* The first returns whether an actor is runnable, as far as is known without trying the actor. The second returns
+   whether a thread in any state can continue. */
 bool nicxi_can_act(const struct actor *actor);
 bool nicxi_can_go_on(const struct thread *thread);
 /* Whether a device step, given by its actor's number, is idle. */

@@ -17,8 +17,8 @@ void nicxo_observe(const nicxo_observer *observer)
     nicxi.observer = observer;
 }
 
-/* Returns the thread that itself took the step. There is none for choosing a value, a store that reaches memory, or an
-   older load. */
+/* Returns the thread that itself took the step, or NICXO_NO_THREAD for a chosen value, a store that reaches memory, or
+   an older load. */
 static uint8_t thread_of(uint16_t actor)
 {
     if (actor == NOBODY || nicxi_is_value(actor) || nicxi.actors[actor].kind != BY_THREAD)

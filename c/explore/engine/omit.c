@@ -36,7 +36,7 @@ static bool try_without(struct shrinking *it, bool *list, uint32_t from, uint32_
            (nicxi_attempt(it) || nicxi_attempt_by_chance(it));
 }
 
-/* Tries all of a list, then halves of it, down to single entries, the last ones first. */
+/* Tries to leave out a whole list, then halves of it, and so on down to single entries, always starting at its end. */
 static bool omit_of(struct shrinking *it, bool *list, uint32_t count)
 {
     bool any = false;

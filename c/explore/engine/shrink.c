@@ -172,7 +172,7 @@ bool nicxi_shrinking_is_over(const struct shrinking *it)
     return it->tries >= MOST_TRIES || nicxi_is_over(&it->limit);
 }
 
-/* If it fails and is better, the schedule as it ran becomes the best. */
+/* If the attempt fails and is better, the schedule that actually ran becomes the best. */
 bool nicxi_attempt(struct shrinking *it)
 {
     if (nicxi_shrinking_is_over(it))

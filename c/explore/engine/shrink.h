@@ -18,8 +18,8 @@ struct shrinking {
 };
 
 bool nicxi_shrinking_is_over(const struct shrinking *it);
-/* Runs `list` without `omitted`. Returns whether it fails like the best failure and beats it; then it becomes the
-   best. */
+/* Runs `list` without `omitted`. Returns whether the schedule fails like the best failure and beats it. If so, the
+   schedule becomes the best failure. */
 bool nicxi_attempt(struct shrinking *it);
 /* Like nicxi_attempt, for random schedules without `omitted`; shrinks the first one that fails the same way. */
 bool nicxi_attempt_by_chance(struct shrinking *it);

@@ -60,7 +60,8 @@ void nicxi_land_everywhere(uint64_t at, uint64_t length);
 /* Notes that a device step, or one outside of threads, changed memory. */
 void nicxi_memory_changed(const struct step *step);
 
-/* Whether an actor is runnable: a store that reaches memory, or an older load. Makes a store reach memory. */
+/* The first two return whether an actor is runnable, for a pending store and for an older load. The third makes the
+   actor's store reach memory. */
 bool nicxi_can_land(const struct actor *actor);
 bool nicxi_can_be_older(const struct actor *actor);
 void nicxi_land(const struct actor *actor, struct step *step);

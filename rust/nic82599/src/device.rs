@@ -34,17 +34,17 @@ pub trait Device {
     /// Writes a register.
     fn write(&self, register: Register, word: u32);
 
-    /// Reads by address. Returns the value that a driver sees, even where there is no register.
+    /// Reads the register at an address. Returns the value that a driver sees, even if there is no register.
     fn see32(&self, address: u32) -> u32;
 
-    /// Writes by address.
+    /// Writes the register at an address.
     ///
     /// # Errors
     ///
     /// [`Error::Stray`] if there is no register at the address.
     fn write32(&self, address: u32, word: u32) -> Result<(), Error>;
 
-    /// Reads a register of a virtual function. Returns the value that a driver sees, even where there is no register.
+    /// Reads a register of a virtual function. Returns the value that a driver sees, even if there is no register.
     fn vf_read(&self, number: u8, register: VfRegister) -> u32;
 
     /// Writes a register of a virtual function.

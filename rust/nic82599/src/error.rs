@@ -214,7 +214,7 @@ impl fmt::Display for TextFault {
             TextFault::Syntax(line) => write!(f, "line {line} has a syntax error"),
             TextFault::TwoValues(index) => write!(f, "two lines set word {index}"),
             TextFault::Reserved(index) => write!(f, "the source can't set word {index}"),
-            TextFault::DoesNotFit => f.write_str("an index or the CSR section exceeds the size"),
+            TextFault::DoesNotFit => f.write_str("an index or the CSR section exceeds the image's size"),
             TextFault::PointerOutside => f.write_str("a pointer is below 0x40, or its section is outside the image"),
         }
     }

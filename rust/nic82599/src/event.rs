@@ -162,8 +162,8 @@ impl Event {
         }
     }
 
-    /// Returns whether the event loses a frame: one was dropped, or a slot can't be processed. A program that only
-    /// looks for messages misses both.
+    /// Returns whether the event loses a frame: a frame was dropped, or a slot can't be processed. A program that only
+    /// looks for messages misses such events.
     ///
     /// ```
     /// use nic82599::{Event, Fault, Side, Why};

@@ -82,8 +82,8 @@ extern "C" {
     fn nic_vf_address(gcr_ext: u32, vf: u8, offset: u32, address: *mut u32) -> u8;
 }
 
-/// Returns a status. Panics if the library's own code panicked in this call or in an earlier call on the controller:
-/// the controller may then be half changed.
+/// Returns the status unchanged. Panics if the library's own code panicked in this call or in an earlier call on the
+/// controller: the controller may then be half changed.
 fn unbroken(status: u8) -> u8 {
     assert!(status != status::BROKEN, "the library had an internal fault: see standard error");
     status

@@ -44,7 +44,7 @@ pub(crate) fn vf_address(gcr_ext: u32, number: u8, offset: u32) -> Result<Option
     }
 }
 
-/// Returns a read's value. Where there is no register, the error is the value that a driver sees.
+/// Returns the value that was read. If there is no register, returns the value that a driver sees as the error.
 fn word_or_stray((status, word): (u8, u32)) -> Result<u32, u32> {
     if status == status::DONE {
         Ok(word)

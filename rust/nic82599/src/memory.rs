@@ -179,7 +179,7 @@ pub(crate) fn unless_lent(is_done: bool, bus: impl FnOnce() -> u64) -> Result<()
     }
 }
 
-/// Returns the first bus address of a refused access that isn't lent. It probes one byte of each block.
+/// Returns the first address in a refused access at which no memory is lent. It probes one byte of each block.
 pub(crate) fn first_not_lent(handle: &Handle, bus: u64, length: u64) -> u64 {
     let (mut at, end) = (bus, bus.saturating_add(length));
     while at < end {

@@ -172,7 +172,7 @@ impl Nic {
         self.handle.peek32(register.address()).unwrap_or(0)
     }
 
-    /// Reads by address. [`Nic::see32`] returns a value whether or not there is a register.
+    /// Reads the register at an address. Use [`Nic::see32`] to get a value even if there is no register.
     ///
     /// # Errors
     ///
@@ -191,7 +191,7 @@ impl Nic {
         word_or_stray(self.handle.read32(address), address, || Absent::Register)
     }
 
-    /// Writes by address.
+    /// Writes the register at an address.
     ///
     /// # Errors
     ///
@@ -200,7 +200,7 @@ impl Nic {
         done_or_stray(self.handle.write32(address, word), address, || Absent::Register)
     }
 
-    /// Like [`Nic::peek`], by address.
+    /// Like [`Nic::peek`], for the register at an address.
     ///
     /// # Errors
     ///
@@ -209,7 +209,7 @@ impl Nic {
         word_or_absent(self.handle.peek32(address), address, || Absent::Register)
     }
 
-    /// Reads by address. Returns the value that a driver sees, even where there is no register.
+    /// Reads the register at an address. Returns the value that a driver sees, even if there is no register.
     pub fn see32(&self, address: u32) -> u32 {
         word_of(self.handle.read32(address))
     }
@@ -478,7 +478,7 @@ impl Function<'_> {
         word_or_absent(self.nic.handle.vf_peek32(self.number, offset), offset, || self.why_absent(true))
     }
 
-    /// Reads by offset.
+    /// Reads the register at an offset.
     ///
     /// # Errors
     ///
@@ -487,7 +487,7 @@ impl Function<'_> {
         word_or_stray(self.nic.handle.vf_read32(self.number, offset), offset, || self.why_absent(false))
     }
 
-    /// Writes by offset.
+    /// Writes the register at an offset.
     ///
     /// # Errors
     ///
@@ -505,7 +505,7 @@ impl Function<'_> {
         word_or_absent(self.nic.handle.vf_peek32(self.number, offset), offset, || self.why_absent(false))
     }
 
-    /// Reads by offset. Returns the value that a driver sees, even where there is no register.
+    /// Reads the register at an offset. Returns the value that a driver sees, even if there is no register.
     pub fn see32(&self, offset: u32) -> u32 {
         word_of(self.nic.handle.vf_read32(self.number, offset))
     }

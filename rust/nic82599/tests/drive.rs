@@ -429,7 +429,7 @@ fn a_right_driver_passes(folder: &Path) {
     }
 }
 
-/// A driver that lacks one function is reported to lack only that: the C struct has the pointer of each other function.
+/// A driver that lacks one function is reported to lack only that one: the C struct has pointers to all the others.
 fn what_is_left_out_is_reported(_folder: &Path) {
     for (number, lack) in LACKS.iter().enumerate() {
         let (status, list) = ran(&format!("without-{number}"), &["--list"]);

@@ -197,7 +197,7 @@ impl Can {
     pub const SHARED_SEND: Can = Can(1);
     /// `open` supports the port of a virtual function.
     pub const FUNCTIONS: Can = Can(2);
-    /// `open` and `close` change nothing that the setup doesn't assign to them, and don't reset the device.
+    /// `open` and `close` change only what the setup assigns to them, and don't reset the device.
     pub const SHARED_DEVICE: Can = Can(4);
     /// `open` supports `functions` above 0.
     pub const HOST: Can = Can(8);

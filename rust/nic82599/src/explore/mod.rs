@@ -200,8 +200,8 @@ pub fn search(scenario: impl Scenario, words: &[&str]) -> Outcome {
     run(scenario, std::iter::once(program).chain(words.iter().map(|&it| it.to_owned())).collect())
 }
 
-/// Guards the panic hook. A task's panic is a failure that the search reports, one of perhaps thousands, so only a
-/// replay prints it.
+/// Ensures that the panic hook is installed only once. A search may cause thousands of task panics, and reports each as
+/// a failure, so only a replay also prints them.
 static HOOK: Once = Once::new();
 
 pub(crate) fn hook_panics() {
@@ -403,17 +403,17 @@ impl Bus {
         raw::write32(register.address(), word);
     }
 
-    /// Reads by address. Returns the value that a driver sees.
+    /// Reads the register at an address. Returns the value that a driver sees.
     pub fn read32(&self, address: u32) -> u32 {
         raw::read32(address)
     }
 
-    /// Writes by address. Returns false if there is no register.
+    /// Writes the register at an address. Returns false if there is no register.
     pub fn write32(&self, address: u32, word: u32) -> bool {
         raw::write32(address, word) == status::DONE
     }
 
-    /// Reads a register of a virtual function. Returns the value that a driver sees, even where there is no register.
+    /// Reads a register of a virtual function. Returns the value that a driver sees, even if there is no register.
     pub fn vf_read(&self, number: u8, register: VfRegister) -> u32 {
         raw::vf_read32(number, register.offset())
     }

@@ -623,8 +623,8 @@ impl Lock {
         at_point(|| unsafe { nicx_lock(self.parts.raw.get()) });
     }
 
-    /// Releases the lock. A task that panics releases none: it has failed. A lock that a schedule leaves held is free
-    /// in the next one.
+    /// Releases the lock, unless the task is panicking: such a task has failed. A lock that is still held when a
+    /// schedule ends is free in the next schedule.
     pub(super) fn unlock(&self) {
         // SAFETY: as above.
         at_point(|| unsafe { nicx_unlock(self.parts.raw.get()) });

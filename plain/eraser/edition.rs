@@ -191,7 +191,7 @@ fn files_of_crate(root: &Path, layer: &Layer, by_hand: &[File]) -> Result<Vec<Fi
     for path in sorted(&folder)? {
         let name = path.file_stem().map_or(String::new(), |it| it.to_string_lossy().into_owned());
         if path.extension().map_or(true, |it| it != "rt") {
-            return Err(Fault::of(&path, "a file of a source folder that isn't a source"));
+            return Err(Fault::of(&path, "this file is in a source folder, but isn't a source"));
         }
         let file = if ["lib", "main"].contains(&name.as_str()) { "mod" } else { &name };
         let to = Path::new("src").join(&layer.name).join(format!("{file}.rs"));
@@ -204,7 +204,7 @@ fn files_of_crate(root: &Path, layer: &Layer, by_hand: &[File]) -> Result<Vec<Fi
     }
     let all = Path::new("src").join(&layer.name);
     match by_hand.iter().find(|it| it.0.starts_with(&all) && !files.contains(it)) {
-        Some((path, _)) => Err(Fault::of(path, "plain/instead has this file, and the crate has no source of the name")),
+        Some((path, _)) => Err(Fault::of(path, "plain/instead has this file, but the crate has no such source")),
         None => Ok(files),
     }
 }

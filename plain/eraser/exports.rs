@@ -17,7 +17,7 @@ pub fn rewrite(source: &mut Source) -> Result<(), Fault> {
         let external = source.after(item);
         let abi = source.after(external);
         if source.at(item) != "pub" || source.at(external) != "extern" || source.at(abi) != "\"C\"" {
-            return Err(source.fault(at, "an export of another form than `pub extern \"C\" fn`"));
+            return Err(source.fault(at, "an export whose form isn't `pub extern \"C\" fn`"));
         }
         source.erase_line(at, item);
         let function = source.after(abi);
@@ -62,7 +62,7 @@ fn call(name: &str, parameters: &[String], gives: &str) -> String {
         if let Some((pointer, function, of)) = slice {
             let of = of.trim_end_matches(']');
             taken.extend([format!("{what}: *{pointer} {of}"), "length: usize".to_string()]);
-            slices += "        // SAFETY: The header asks for a pointer to so many, or a length of 0.\n";
+            slices += "        // SAFETY: The header requires a pointer to this many elements, or a length of 0.\n";
             slices += &format!("        let {what} = unsafe {{ c::{function}({what}, length) }};\n");
         } else if kind != "Global" {
             taken.push(parameter.clone());

@@ -10,7 +10,7 @@ pub fn rewrite(source: &mut Source) -> Result<(), Fault> {
     for derive in without_derive(source, "Error")? {
         let is_item = |it: &usize| source.is_word(*it, "enum") || source.is_word(*it, "struct");
         let item = (derive..source.tokens.len()).find(is_item);
-        let item = item.ok_or_else(|| source.fault(derive, "a derive of Error of neither an enum nor a struct"))?;
+        let item = item.ok_or_else(|| source.fault(derive, "Error is derived for neither an enum nor a struct"))?;
         if source.at(item) == "struct" {
             message_of_struct(source, derive, item)?;
         } else {
@@ -33,7 +33,7 @@ fn message_of_struct(source: &mut Source, derive: usize, item: usize) -> Result<
     let is_message = |it: &usize| source.at(*it) == "#" && source.is_at(*it, &["#", "[", "error", "("]);
     let message = match (derive..item).find(is_message) {
         Some(message) if source.at(end) == ";" => message,
-        _ => return Err(source.fault(item, format!("no message of the struct {name}"))),
+        _ => return Err(source.fault(item, format!("the struct {name} has no message"))),
     };
     let text = message_at(source, message)?;
     let written = impls(&name, &[format!("        f.write_str({text})\n")], "");
@@ -67,11 +67,11 @@ fn messages_of_enum(source: &mut Source, item: usize) -> Result<(), Fault> {
                 source.clear(begin, kind);
             }
             if source.code(next + 1, close).contains(',') {
-                return Err(source.fault(variant, "a message of more than one value"));
+                return Err(source.fault(variant, "a message with more than one value"));
             }
             pattern += if text.contains("{0") { "(it)" } else { "(_)" };
         } else if source.at(next) == "{" {
-            return Err(source.fault(variant, "a message of named values"));
+            return Err(source.fault(variant, "a message with named values"));
         }
         arms.push(arm(&pattern, &text.replace("{0", "{it")));
         at = source.find(next, &[",", "}"])?;
@@ -89,7 +89,7 @@ fn message_at(source: &mut Source, at: usize) -> Result<String, Fault> {
     let paren = source.find(open + 1, &["("])?;
     let text = source.code(paren + 1, source.closing(paren)?);
     if !text.starts_with('"') || !text.ends_with('"') {
-        return Err(source.fault(at, "a message that isn't a text alone"));
+        return Err(source.fault(at, "a message that isn't just a string"));
     }
     source.erase_line(at, close + 1);
     Ok(text)

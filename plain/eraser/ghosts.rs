@@ -31,7 +31,7 @@ fn clauses(source: &mut Source) -> Result<(), Fault> {
             at += 1;
             continue;
         }
-        let head = source.before(at).ok_or_else(|| source.fault(at, "a clause of nothing"))?;
+        let head = source.before(at).ok_or_else(|| source.fault(at, "a clause that follows no function or closure"))?;
         let mut body = at;
         while is_clause(source, body) {
             body = past_clause(source, body)?;
@@ -66,7 +66,7 @@ fn past_clause(source: &Source, clause: usize) -> Result<usize, Fault> {
         at = source.after(at);
     }
     if source.at(at) != "{" {
-        return Err(source.fault(clause, "a clause of another form than `requires name { .. }`"));
+        return Err(source.fault(clause, "a clause whose form isn't `requires name { .. }`"));
     }
     Ok(source.after(source.closing(at)?))
 }
@@ -104,7 +104,7 @@ fn ghosts(source: &mut Source) -> Result<(), Fault> {
         let end = match (source.at(name), source.at(sign)) {
             ("use", _) | (_, "=") => source.find(name, &[";"])?,
             (_, ":") => source.find(sign, &[";", ",", "}"])?,
-            _ => return Err(source.fault(at, "a ghost item of another form")),
+            _ => return Err(source.fault(at, "a ghost item in an unknown form")),
         };
         let past = if source.at(end) == "}" { end } else { end + 1 };
         let start = source.start_of_item(at);
@@ -166,7 +166,7 @@ pub fn without_derive(source: &mut Source, name: &str) -> Result<Vec<usize>, Fau
         let hash = source.before(bracket).unwrap_or(at);
         let close = source.after(end);
         if source.at(hash) != "#" || source.at(close) != "]" {
-            return Err(source.fault(at, "a derive of another form than `#[derive(..)]`"));
+            return Err(source.fault(at, "a derive whose form isn't `#[derive(..)]`"));
         }
         source.erase_line(hash, close + 1);
     }
@@ -204,7 +204,7 @@ fn drops(source: &mut Source) -> Result<(), Fault> {
         let name = source.text_before(open);
         if !known::FREED_BY_ITS_FIELDS.contains(&name) {
             return Err(
-                source.fault(at, format!("whether the fields of {name} free all that its drop does isn't known"))
+                source.fault(at, format!("it isn't known whether the fields of {name} free all that its drop frees"))
             );
         }
         let end = source.closing(open)?;
@@ -242,7 +242,7 @@ fn bounds(source: &mut Source) -> Result<(), Fault> {
             _ => continue,
         };
         if source.at(before) == ":" && source.at(source.after(at)) == "+" {
-            return Err(source.fault(at, "the bound Drop before another one"));
+            return Err(source.fault(at, "the bound Drop before another bound"));
         }
         source.erase(before, at + 1);
         let of = source.before(before).unwrap_or(before);
@@ -251,7 +251,7 @@ fn bounds(source: &mut Source) -> Result<(), Fault> {
             let comma = source.after(at);
             let brace = source.after(comma);
             if source.at(comma) != "," || source.at(brace) != "{" {
-                return Err(source.fault(at, "the bound Drop beside others after where"));
+                return Err(source.fault(at, "the bound Drop next to other bounds after where"));
             }
             source.erase(comes, brace);
             source.tokens[comes].kind = Kind::Space;

@@ -99,7 +99,7 @@ pub const PATHS: &[&str] = &[
 /// Refuses constructs that no rewrite knows, after everything that only a proof reads has been erased.
 pub fn check(source: &Source) -> Result<(), Fault> {
     if let Some(at) = WORDS.iter().flat_map(|it| source.words(it)).min() {
-        return Err(source.fault(at, format!("{} of another form", source.at(at))));
+        return Err(source.fault(at, format!("{} in an unknown form", source.at(at))));
     }
     for at in 0..source.tokens.len() {
         let it = &source.tokens[at];

@@ -19,7 +19,7 @@ pub fn kept_inside(path: &Path, text: &str) -> Result<(String, Vec<String>), Fau
         if line == EXPORT {
             let name =
                 lines.peek().and_then(|it| it.strip_prefix("macro_rules! ")).and_then(|it| it.strip_suffix(" {"));
-            names.push(name.ok_or_else(|| Fault::of(path, "an export that isn't of a macro"))?.to_string());
+            names.push(name.ok_or_else(|| Fault::of(path, "an export of something that isn't a macro"))?.to_string());
         } else if !is_import(line) {
             written += &line.replace("pub use crate::{", "pub(crate) use crate::{");
             written += "\n";

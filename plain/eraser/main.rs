@@ -24,7 +24,7 @@ fn main() -> ExitCode {
         ["--controller", root, out] => edition::write_controller(Path::new(root), Path::new(out)).map(|_| ()),
         [root, out] => edition::write(Path::new(root), Path::new(out)).map(|_| ()),
         _ => {
-            eprintln!("eraser: it takes ROOT OUT, --controller ROOT OUT, or --case FILE");
+            eprintln!("eraser: expected ROOT OUT, --controller ROOT OUT, or --case FILE");
             return ExitCode::from(2);
         }
     };

@@ -120,7 +120,7 @@ impl Source {
                 }
             }
         }
-        Err(self.fault(open, "a bracket without its end"))
+        Err(self.fault(open, "a bracket that is never closed"))
     }
 
     /// Returns the first of these tokens from a position on, outside brackets.

@@ -3,7 +3,7 @@
 
 use core::ops::{BitAnd, BitOr, Not};
 
-/// A named bit, or several.
+/// A name for one or several bits.
 pub struct Flag<F: 'static> {
     pub name: &'static str,
     pub value: F,

@@ -20,7 +20,7 @@ use parse::Parser;
 use texts::Place;
 
 pub mod error {
-    //! Why the arguments contain no request.
+    //! Why no command is run: for example, an argument is invalid, or help was requested.
 
     #[derive(Clone, Copy, Debug, PartialEq, Eq)]
     pub enum ErrorKind {
@@ -119,7 +119,7 @@ pub enum ArgAction {
     Version,
 }
 
-/// The reason why the arguments contain no request, with the text for the user.
+/// The reason why no command is run, with the text to print.
 #[derive(Debug)]
 pub struct Error {
     kind: ErrorKind,

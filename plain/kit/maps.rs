@@ -121,7 +121,7 @@ impl<K: Ord, V> BTreeMap<K, V> {
         self.get(key).is_some()
     }
 
-    /// Returns the value of a key; without a value, returns whether the leaf in which the key belongs is full.
+    /// Returns a key's value. If the map lacks the key, returns whether the leaf in which the key belongs is full.
     fn found(&mut self, key: &K) -> Result<&mut V, bool> {
         let mut node = self.root.as_mut().ok_or(false)?;
         loop {
@@ -193,7 +193,7 @@ impl<K: Ord, V> BTreeMap<K, V> {
         }
     }
 
-    /// Replaces a root without pairs, which a refused insert left, by the node below it.
+    /// If a refused insert left a root without pairs, replaces the root with the node below it.
     fn without_empty_root(&mut self) {
         if let Some(root) = &mut self.root {
             if root.len == 0 {

@@ -24,7 +24,7 @@ impl<T> Ring<T> {
         core::mem::replace(&mut place.lock().unwrap_or_else(PoisonError::into_inner), value)
     }
 
-    /// Returns the count after another one.
+    /// Returns the count that follows this one.
     fn after(&self, count: usize) -> usize {
         (count + 1) % (2 * self.places.len())
     }

@@ -6,7 +6,7 @@ use alloc::string::String as Text;
 use core::fmt;
 use core::ops::Deref;
 
-/// A text.
+/// A string.
 #[derive(Debug, PartialEq, Eq, PartialOrd, Ord)]
 pub struct String(Text);
 

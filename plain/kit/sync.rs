@@ -95,7 +95,7 @@ impl<T> DerefMut for MutexGuard<'_, T> {
     }
 }
 
-/// A condition variable: threads that hold the lock can wait for it.
+/// A condition variable: threads that hold the lock can wait on it.
 #[derive(Debug)]
 pub struct Condvar(std::sync::Condvar);
 

@@ -55,7 +55,7 @@ export class Calls {
         } catch (error) {
             // (a stack overflow leaves no message)
             const text = decoder.decode(this.read(FAULT)) || error.message;
-            throw new Fault(`nicbench met a fault in itself, not in its input: ${text}`, { cause: error });
+            throw new Fault(`internal fault in nicbench, not in its input: ${text}`, { cause: error });
         }
     }
 

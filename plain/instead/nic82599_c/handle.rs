@@ -1,4 +1,4 @@
-//! C's handles of a card and of a snapshot: opaque pointers.
+//! C's handles to a card and to a snapshot: opaque pointers.
 //!
 //! In Rattle they are pointers, and a box is recreated to free them. In C, a Rust box or its absence is a pointer or
 //! null, so here they are optional boxes, which Rust frees.
@@ -13,7 +13,7 @@ pub struct Handle {
     card: Option<Box<Card>>,
 }
 
-/// A handle of a snapshot on the heap. In C it is a struct with one pointer.
+/// A handle to a snapshot on the heap. In C it is a struct with one pointer.
 #[repr(C)]
 pub struct KeptHandle {
     kept: Option<Box<Kept>>,

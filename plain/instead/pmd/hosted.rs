@@ -6,7 +6,7 @@ use super::start::Start;
 use crate::kit::sync::Wait;
 use crate::kit::thread::{beside, Threads};
 
-/// Runs the task of a cell, or gives it up if it has no thread.
+/// Runs a cell's task, or gives the task up if no thread could be created for it.
 fn work_at<E, T: Task<E>>(start: &Start, cell: &mut TaskCell<T, E>) {
     let task = take(cell);
     let end = if start.is_missing() { task.give_up() } else { task.run() };

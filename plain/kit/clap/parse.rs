@@ -146,7 +146,7 @@ impl<'c, 'a> Parser<'c, 'a> {
             (ArgAction::Set, Some(text)) => {
                 self.only_once(at)?;
                 let number = self.number(option, text);
-                // (An option with a refused value counts as given in a later message.)
+                // (The usage in a later message includes an option whose value was refused.)
                 self.given.push((at, *number.as_ref().unwrap_or(&0)))?;
                 number.map(|_| ())
             }

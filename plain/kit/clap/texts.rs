@@ -66,7 +66,7 @@ impl<'a> Place<'_, 'a> {
         Ok(())
     }
 
-    /// Returns a message, with the usage line if the given options determine it.
+    /// Returns the error for invalid arguments. Its text includes the usage with the options in `used`, if given.
     pub(super) fn refusal(
         &self,
         kind: ErrorKind,

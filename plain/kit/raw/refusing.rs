@@ -51,7 +51,7 @@ unsafe impl GlobalAlloc for Refusing {
     }
 }
 
-/// Returns the result of a call of which only the first `requests` memory requests are granted.
+/// Runs a call, granting only its first `requests` memory requests, and returns its result.
 pub(in crate::kit) fn granted<R>(requests: u64, call: impl FnOnce() -> R) -> R {
     GRANTS.with(|it| it.set(requests));
     let result = call();
@@ -59,7 +59,7 @@ pub(in crate::kit) fn granted<R>(requests: u64, call: impl FnOnce() -> R) -> R {
     result
 }
 
-/// Returns the result of a call, and the number of its memory requests.
+/// Runs a call, and returns its result and the number of memory requests that it made.
 pub(in crate::kit) fn counted<R>(call: impl FnOnce() -> R) -> (R, u64) {
     let before = ASKED.with(Cell::get);
     let result = call();

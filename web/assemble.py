@@ -60,7 +60,7 @@ def expressions() -> dict[str, Any]:
 
 
 def in_script(value: Any) -> str:
-    """Returns a value for a script in a page."""
+    """Returns a value as JSON without `<`, which could end the script element around it."""
     return json.dumps(value, separators=(",", ":")).replace("<", "\\u003c")
 
 

@@ -109,7 +109,7 @@ def check() -> int:
         for name, wanted in (("answer", True), ("start", False)):
             said = outcome(it, it.parts[name])
             if (said == "solved") != wanted:
-                print(f"lesson {it.number}, {it.title}: its {name}: {said}")
+                print(f"lesson {it.number}, {it.title}: the result of its {name} is: {said}")
                 faults += 1
     print(f"lessons: {len(read())}, {faults} faults")
     return 1 if faults else 0

@@ -395,7 +395,7 @@ const P = (() => {
   function int(value, base = 10) {
     if (isNumber(value)) return Number.isInteger(value) || typeof value === "bigint" ? value : Math.trunc(Number(value));
     const text = value.trim().replaceAll("_", ""), digits = text.replace(/^0[xX]/, ""), isHex = base === 16 || (!base && digits !== text);
-    if (!(isHex ? /^[0-9a-fA-F]+$/ : /^[+-]?[0-9]+$/).test(digits)) throw new ValueError(`no number: ${value}`);
+    if (!(isHex ? /^[0-9a-fA-F]+$/ : /^[+-]?[0-9]+$/).test(digits)) throw new ValueError(`not a number: ${value}`);
     return exact(BigInt(isHex ? `0x${digits}` : digits));
   }
   int.from_bytes = (value, way) => {

@@ -66,7 +66,7 @@ def replaced(text: str, begin: str, new: str, end: str) -> str:
     """Returns a page with new content between the line `begin`, which occurs once, and the next line `end`."""
     before, *rest = text.split(begin)
     if len(rest) != 1 or end not in rest[0]:
-        sys.exit(f"dev/{Path(sys.argv[0]).name}: the page must contain '{begin.strip()}' with its end exactly once")
+        sys.exit(f"dev/{Path(sys.argv[0]).name}: the page must contain '{begin.strip()}' once, followed by its end")
     return before + begin + new + end + rest[0].partition(end)[2]
 
 

@@ -58,7 +58,7 @@ def check_walk(look: Look, rings: list[str], pictures: Path | None) -> None:
         titles = browser.value("[...document.querySelectorAll('#grid .line')].map((one) => one.title)")
         look.expect(sorted(titles) == sorted(rings), f"the page's rings are {titles}")
         wide = browser.value("document.documentElement.scrollWidth - document.documentElement.clientWidth")
-        look.expect(wide <= 0, f"{wide} pixels wider than a window of {width}")
+        look.expect(wide <= 0, f"the page is {wide} pixels wider than a window of {width} pixels")
         if pictures:
             browser.picture(pictures / f"{look.file.stem}-{width}-{'dark' if dark else 'light'}.png", True)
     browser.press("Home")
@@ -250,7 +250,7 @@ def check_narrow(look: Look, number: int) -> None:
             " return [line.top, line.bottom, Math.max(box.top, top), Math.min(box.bottom, innerHeight)]; })()"
         )
         is_seen = seen[0] >= seen[2] - 1 and seen[1] <= seen[3] + 1
-        look.expect(is_seen, f"{wide} pixels wide: the line is at {seen[:2]} of {seen[2:]}")
+        look.expect(is_seen, f"in a window {wide} pixels wide, the line is at {seen[:2]}, outside {seen[2:]}")
 
 
 def check_vector(look: Look, name: str, vector: str) -> None:
@@ -263,7 +263,7 @@ def check_vector(look: Look, name: str, vector: str) -> None:
             ".map((one) => [...one.children].map((it) => it.textContent))"
         )
         vectors = {row[0]: row[-1] for row in rows}
-        look.expect(vectors.get(name) == vector, f"{place}: the vector of {name} in {rows}")
+        look.expect(vectors.get(name) == vector, f"{place}: a wrong vector for {name} in {rows}")
 
 
 def check_mailboxes(look: Look) -> None:
@@ -303,7 +303,7 @@ def check_unread(look: Look, number: int) -> None:
             "([box, rows, under]) => Math.min(...[...document.querySelectorAll(rows)].map((one) =>"
             " one.offsetTop - under - box.scrollTop).filter((at) => at > -15).map(Math.abs)))"
         )
-        look.expect(all(at <= 1 for at in cut), f"{wide} pixels wide: the first rows are {cut} pixels off")
+        look.expect(all(at <= 1 for at in cut), f"in a window {wide} pixels wide, the first rows are {cut} pixels off")
 
 
 def check_fits(look: Look) -> None:

@@ -35,7 +35,7 @@ MANY, MOST_MIB = 1_000_000, 500
 
 
 def heeding_interrupts() -> None:
-    """(a shell's background job ignores interrupts, and so would everything that it starts)"""
+    """Lets interrupts end a process. A shell's background job ignores them, and so would everything that it starts."""
     signal.signal(signal.SIGINT, signal.SIG_DFL)
 
 
@@ -456,7 +456,7 @@ def check_widths(browser: Browser, expect: Expect) -> None:
     for width, is_dark in ((400, True), (1_280, False), (560, False)):
         browser.size(width, 900, is_dark)
         wide = browser.value("document.documentElement.scrollWidth - document.documentElement.clientWidth")
-        expect(wide <= 0, f"live page: {wide} pixels wider than a window of {width}")
+        expect(wide <= 0, f"live page: it is {wide} pixels wider than a window of {width} pixels")
 
 
 def check_buttons(browser: Browser, folder: Path, expect: Expect) -> None:

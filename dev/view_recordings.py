@@ -316,7 +316,7 @@ def check_lent(folder: Path, expect: Expect) -> None:
     text = file.read_text()
     expect("#: lend 0 to 599             # done\n" in text, f"600 blocks are lent as {text[:400]}")
     run = of_recording(str(file))
-    expect([step.lent for step in run.steps[:3]] == [[("+", 0, 599)], [], [("-", 3, 3)]], "600 blocks: steps")
+    expect([step.lent for step in run.steps[:3]] == [[("+", 0, 599)], [], [("-", 3, 3)]], "600 blocks: wrong lends")
     expect(run.shown(0) == "lend 0 to 599", f"600 blocks are shown as {run.shown(0)}")
     part = of_recording(str(file), 1)
     expect(part.steps[0].lent == [("+", 0, 2), ("+", 4, 599)], f"600 blocks, at the end: {part.steps[0].lent}")

@@ -101,7 +101,7 @@ def check_capture(folder: Path, expect: Expect) -> None:
         is_it = lines[line - 1].startswith("arrive" if way == 1 else "tx 2")
         expect(is_it, f"nic2pcap: {comment} names the line {lines[line - 1]}")
         expect(comment == f"{want}, step {time}, line {line}", f"nic2pcap: {comment}; expected {want}")
-        expect(way == (1 if want.startswith("in") else 2), f"nic2pcap: the direction of {comment}")
+        expect(way == (1 if want.startswith("in") else 2), f"nic2pcap: wrong direction: {comment}")
     check_tshark(made, got, expect)
     for words, says in (([made, file, "--queue", 2], "0 frames in, 2 out"), ([made, file, "--limit", 3], "0 in")):
         status, said = run_tool([ROOT / "tools/nic2pcap", *words])
@@ -136,7 +136,7 @@ def check_events(run: Run, expect: Expect) -> dict[str, list[dict[str, Any]]]:
     its place. Returns its slices by track."""
     events = json.loads(perfetto.trace(run))["traceEvents"]
     names = {one["tid"]: one["args"]["name"] for one in events if one["name"] == "thread_name"}
-    expect(len(set(names.values())) == len(names), f"{run.name}: tracks {names}")
+    expect(len(set(names.values())) == len(names), f"{run.name}: two tracks have the same name: {names}")
     tracks = {name: of_track(events, track) for track, name in names.items()}
     count = sum(one["ph"] == "X" for one in events)
     expect(sum(map(len, tracks.values())) == count, f"{run.name}: a slice is on no track")
@@ -152,10 +152,10 @@ def check_events(run: Run, expect: Expect) -> dict[str, list[dict[str, Any]]]:
     expect(of_actors == list(range(len(run.steps))), f"{run.name}: a step has no actor, or several")
     begun = {(one["cat"], one["id"]): one["ts"] for one in events if one["ph"] == "b"}
     ended = {(one["cat"], one["id"]): one["ts"] for one in events if one["ph"] == "e"}
-    expect(begun.keys() == ended.keys() and all(begun[it] < ended[it] for it in begun), f"{run.name}: spans")
-    expect(len(begun) == len(run.seen.arrived) + len(run.seen.sent), f"{run.name}: {len(begun)} spans")
+    expect(begun.keys() == ended.keys() and all(begun[it] < ended[it] for it in begun), f"{run.name}: spans don't end")
+    expect(len(begun) == len(run.seen.arrived) + len(run.seen.sent), f"{run.name}: {len(begun)} spans, a wrong number")
     messages = [step.reply.removeprefix("message ") for step in run.steps if step.kind == "message"]
-    expect([one["name"] for one in tracks["messages"]] == messages, f"{run.name}: messages")
+    expect([one["name"] for one in tracks["messages"]] == messages, f"{run.name}: the messages differ")
     return tracks
 
 
@@ -172,7 +172,7 @@ def check_traces(folder: Path, expect: Expect) -> None:
     made = folder / "trace.json"
     subprocess.run([ROOT / "tools/nicview", ROOT / "examples/first.nic", "--perfetto", "-o", made], check=False,
                    stderr=subprocess.DEVNULL)  # fmt: skip
-    expect(len(json.loads(made.read_text())["traceEvents"]) > 8, "nicview --perfetto")
+    expect(len(json.loads(made.read_text())["traceEvents"]) > 8, "nicview --perfetto: the trace has too few events")
     try:
         places.library()
     except places.Missing as missing:

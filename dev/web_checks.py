@@ -229,7 +229,7 @@ def tools(checks: Checks) -> None:
 
 def file_faults(text: str) -> list[str]:
     """Returns the faults of the page's file: its size, references to other files, and a policy that isn't strict."""
-    faults = [] if len(text.encode()) <= MOST_BYTES else [f"{len(text.encode()):,} bytes"]
+    faults = [] if len(text.encode()) <= MOST_BYTES else [f"it has {len(text.encode()):,} bytes, too many"]
     outside = re.findall(r"""(?:src|href|action)\s*=\s*["'](?!data:,)[^"']*["']|@import|url\(\s*["']?http""", text)
     faults += [f"it refers to {it}" for it in outside]
     policy = re.search(r'http-equiv="Content-Security-Policy" content="([^"]*)"', text)
@@ -293,13 +293,13 @@ def lessons_part(checks: Checks) -> None:
         for name, wanted in (("answer", True), ("start", False)):
             said = lessons.outcome(it, it.parts[name])
             if (said == "solved") != wanted:
-                faults.append(f"lesson {it.number}: its {name}: {said}")
+                faults.append(f"lesson {it.number}: the result of its {name} is: {said}")
     checks.tell("lessons", 2 * len(known), faults)
     checks.tell("grading", 4, graded(checks.folder))
     if shutil.which("node"):
         messages = [("solved", [it.parts[name], lessons.as_data(it)]) for it in known for name in ("answer", "start")]
         found = [it["made"]["is"] for it in asked_in_node(checks.page, messages)]
-        wrong = [f"message {k}" for k, it in enumerate(found) if it != (k % 2 == 0)]
+        wrong = [f"message {k}: a wrong result" for k, it in enumerate(found) if it != (k % 2 == 0)]
         checks.tell("lessons in the page", len(found), wrong)
 
 

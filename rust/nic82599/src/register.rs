@@ -41,7 +41,7 @@ impl Registers {
         Registers { first, stride, near: count, further: 0, count }
     }
 
-    /// An array of this one register.
+    /// Returns an array that contains only this register.
     pub(crate) const fn one(register: Register) -> Registers {
         Registers::array(register.address, 4, 1)
     }

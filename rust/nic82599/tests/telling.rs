@@ -1,5 +1,5 @@
 //! What a program reports on standard error as it happens with NIC82599_TELL=1, and that it reports nothing without it.
-//! The variable is read once in a process, so the program is this test in a separate process.
+//! A process reads the variable only once, so this test starts itself as the program, in a separate process.
 
 use std::process::Command;
 use std::{env, str};

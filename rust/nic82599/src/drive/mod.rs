@@ -142,9 +142,9 @@ pub trait Driver: Sized + 'static {
     /// device.
     const STATS: Option<fn(&Self) -> Stats> = None;
 
-    /// Sends a message to the other side.
+    /// Sends a mailbox message: to the PF's driver, or as the PF's driver, to a virtual function.
     const MAILBOX_SEND: Option<MailboxSend<Self>> = None;
-    /// Receives a message from the other side and acknowledges it. Returns `None` if there is no message.
+    /// Receives a mailbox message and acknowledges it. Returns `None` if there is no message.
     const MAILBOX_RECEIVE: Option<MailboxReceive<Self>> = None;
     /// For a virtual function: returns whether the device is ready because the PF's driver has set it up (RSTD, or a PF
     /// driver that was already up).

@@ -1,5 +1,5 @@
-/* The heap of the plain edition's C library, as plain/kit/raw.rs declares it. It is the C library's heap, under names
-   that c/heap.syms lists for renaming. The proved library contains its own heap; the explorer replaces either
+/* The heap of the plain edition's C library, as plain/kit/raw.rs declares it. It is libc's heap, under names that
+   c/heap.syms lists for renaming. The proved library contains its own heap; the explorer replaces either
    (c/explore/engine/heap.c). A request for 0 bytes allocates as many bytes as its alignment, which is at most malloc's
    alignment. */
 #include <stddef.h>

@@ -6,7 +6,7 @@ use alloc::boxed::Box as Boxed;
 use core::marker::PhantomData;
 use core::ops::{Deref, DerefMut};
 
-/// A value on the heap. For C it is a pointer, and `Option<Box<T>>` is one that may be null.
+/// A value on the heap. For C it is a pointer, and `Option<Box<T>>` is a pointer that may be null.
 #[derive(Debug, PartialEq, Eq)]
 #[repr(transparent)]
 pub struct Box<T, A = Global>(Boxed<T>, PhantomData<A>);

@@ -30,8 +30,8 @@ fn text(number: usize) -> MutexGuard<'static, Vec<u8>> {
     TEXTS[number].lock().unwrap_or_else(PoisonError::into_inner)
 }
 
-/// The calls of the host. `no_mangle` counts as unsafe code, because another symbol could have the same name; none
-/// does.
+/// The calls that the host makes. `no_mangle` counts as unsafe code, because another symbol could have the same name;
+/// none does.
 #[allow(unsafe_code)]
 mod calls {
     use super::*;

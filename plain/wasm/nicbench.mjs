@@ -37,7 +37,7 @@ function lineOf(words) {
     return line;
 }
 
-// The calls of a fresh instance (described in module.rs). Each reports its fault.
+// The calls to a fresh instance, which module.rs describes. Each throws a Fault if the program has an internal fault.
 export class Calls {
     #calls;
 

@@ -33,7 +33,7 @@ impl<'c, 'a> Parser<'c, 'a> {
         &self.place.command.options[at]
     }
 
-    /// Returns what the arguments request from this command, and the following command.
+    /// Returns the options given to this command, and the command that follows it, if any.
     pub(super) fn matches(mut self, words: &'c [&'a str]) -> Result<(ArgMatches<'a>, Next<'c, 'a>), Error> {
         let command = self.place.command;
         let next = self.walk(words)?;

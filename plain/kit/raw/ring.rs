@@ -30,8 +30,8 @@ impl<T> Ring<T> {
     pub(in crate::kit) fn of(from: Vec<T>) -> Self {
         let mut from = ManuallyDrop::new(from);
         let (at, len, room) = (from.as_mut_ptr(), from.len(), from.capacity());
-        // SAFETY: the block belongs to the vector, which is no longer used. A slot may contain nothing, so all of them
-        // count.
+        // SAFETY: the block belongs to the vector, which is no longer used. A slot needn't contain an element, so the
+        // new length may be the whole capacity.
         let slots = unsafe { Vec::from_raw_parts(at.cast::<MaybeUninit<T>>(), room, room) };
         Ring { slots, head: 0, len }
     }

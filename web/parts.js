@@ -192,7 +192,7 @@ async function copyLink() {
     notice(`The link is in the address bar: ${link.length.toLocaleString("en")} characters.`);
   }
 }
-// Saves the run as a test in a language, under the name in the test's first lines.
+// Saves the run as a test in C or Python, under the file name in the test's first lines.
 async function saveTest(language) {
   const text = element("text").value, words = language === "c" ? /(\w+\.c) \$/ : /python3 (\w+\.py)/;
   try {
@@ -294,7 +294,7 @@ async function checkLesson(it, said) {
   said.scrollIntoView({ block: "nearest" });
   return is;
 }
-// Another script counts as unsolved until it is checked.
+// Removes the message that the lesson is solved when the script changes: the new script must be checked.
 function unsolved() {
   const said = element("lesson-said");
   if (!said?.classList.contains("solved")) return;

@@ -11,7 +11,7 @@ function sizes() {
 const scriptKey = () => (lessonNow === null ? "script" : `lesson:${lessonNow}`);
 const nameOf = () => (lessonNow === null ? kept("name", "script.nic") : `lesson-${lessonNow}.nic`);
 
-// The text has changed: stores it, and requests its answers.
+// Called when the text changes: stores the text, and requests its replies.
 function changed() {
   setLines();
   keep(scriptKey(), element("text").value);
@@ -65,7 +65,7 @@ function showAnswers({ refused, last, replies }) {
   drawRows();
   showAbout();
 }
-// Marks the displayed run as an earlier one, or as missing, while the script is refused.
+// While the script is refused, marks the displayed run as an earlier one, or the view as empty if no run is displayed.
 function markRun() {
   const isRefused = shownText.refused.size > 0;
   element("views").classList.toggle("old", isRefused && drawn.length > 0);
@@ -122,7 +122,7 @@ function show(n) {
 // Returns the line of the displayed step if it is still in the text, otherwise 0.
 const lineNow = () => (step && shown ? shownText.ran.get(lineAt(step)) ?? 0 : 0);
 const lineAt = (n) => shown.line_of[shown.steps[n - 1][0]];
-// Moves forward or back to the next step on a line with a breakpoint, otherwise to the end.
+// Moves forward or back to the next step on a line with a breakpoint. Without one, moves to the last step or the start.
 function toBreakpoint(way) {
   if (!shown) return;
   let n = step + way;
@@ -174,7 +174,7 @@ function nextRefused() {
   const found = lines.find((it) => it > line) ?? lines[0];
   if (found) goTo(found, shownText.refused.get(found).column);
 }
-// Returns the selected rings as a separate picture, with the view's colours.
+// Saves the ring in front as a separate picture, with the view's colours.
 function picture() {
   const frame = drawn[0], svg = frame?.contentDocument.querySelector("#front svg");
   if (!svg) return notice("There is no ring to draw at this step.");

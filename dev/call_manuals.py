@@ -204,7 +204,8 @@ def overview(header: str, groups: list[Group], version: str, date: str) -> str:
 
 
 def pages(version: str, date: str) -> dict[str, str]:
-    """Returns the pages of section 3 by name. A function that isn't the first of its page redirects to it."""
+    """Returns the pages of section 3 by name. A page has the name of its first function. The
+    names of its other functions redirect to it."""
     made = {}
     for header in HEADERS:
         groups = groups_of(header)

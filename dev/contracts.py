@@ -54,12 +54,12 @@ class Contract:
 
     @property
     def path(self) -> str:
-        """Its path in its crate, without modules."""
+        """The item's path in its crate, without modules."""
         return f"{self.owner}::{self.name}" if self.owner else self.name
 
     @property
     def module(self) -> str:
-        """Its file, relative to the crate's src/."""
+        """The item's file, relative to the crate's src/."""
         return self.file.relative_to(ROOT / "crates").with_suffix("").as_posix().partition("/src/")[2]
 
     @property

@@ -27,7 +27,7 @@ OTHER = "../nic82599/"
 ALONG = ("src/desc", "tests/common", "tests/digests.txt")
 # The build script's output as its root includes it; a packed crate has no build script.
 INCLUDED = 'include!(concat!(env!("OUT_DIR"), "/modules.rs"));\n'
-# What `make -C c` reads, and the part of it that the archives of a packed crate don't need.
+# What `make -C c` reads, and a pattern for the files among these that the archives of a packed crate don't need.
 SOURCES = ("LICENSE", "VERSION", "c", "crates.txt", "dev/need", "dev/plain", "plain")
 UNREAD = re.compile(r"c/(tests|fuzz|bus|vfio-user|test$)|c/\w+/(tests|corpus|examples)/|plain/eraser/cases/|.*\.md$")
 

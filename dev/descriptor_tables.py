@@ -87,7 +87,7 @@ def transmit_table() -> str:
     return table(["Bits", "Field", "Meaning"], rows)
 
 
-# The frames of each hash type, and its name in the definition of the input.
+# The frames of each hash type, by the type's name in the definition of the input.
 FRAMES = {
     "NoHash": "none of these",
     "TcpIpv4": "TCP over IPv4",

@@ -13,11 +13,11 @@ macro_rules! register {
         pub const $name: Register = Register::new($address);
     };
     ($name:ident $meaning:literal $first:literal $stride:literal $count:literal) => {
-        #[doc = concat!($meaning, ", ", $count, " of them.")]
+        #[doc = concat!($meaning, ": ", $count, " registers.")]
         pub const $name: Registers = Registers::array($first, $stride, $count);
     };
     ($name:ident $meaning:literal $first:literal $stride:literal $near:literal $further:literal $count:literal) => {
-        #[doc = concat!($meaning, ", ", $count, " of them.")]
+        #[doc = concat!($meaning, ": ", $count, " registers.")]
         pub const $name: Registers = Registers::parted($first, $stride, $near, $further, $count);
     };
 }

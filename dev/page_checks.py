@@ -131,7 +131,7 @@ def check_words(look: Look) -> None:
     """Checks that buttons, the key and the help have text, and that comments wrap and can be hidden."""
     browser = look.browser
     look.expect([one.strip() for one in browser.value(words("[data-next]"))]
-                == ["Next fault", "Next message", "Next idle", "Next warning"], "the buttons' labels")  # fmt: skip
+                == ["Next fault", "Next message", "Next idle", "Next warning"], "wrong button labels")  # fmt: skip
     look.expect("Key:" in browser.value(words(".legend b")), "the key has no title")
     look.expect({"Keys", "Rings"} <= set(browser.value(words("#keys h2"))), "the help has no titles")
     wide = "[...document.querySelectorAll('#lines .said')].filter((one) => one.scrollWidth > one.clientWidth).length"

@@ -102,7 +102,7 @@ def served(*words: str | Path) -> Iterator[Served]:
 def alike(part: dict[str, Any], file: Path, events: int, expect: Expect, what: str) -> None:
     """Checks that a part equals nicview's page for a file that ends at the same event."""
     if not part.get("data"):
-        expect(False, f"live, {what}: no part, and {part.get('said')!r}")
+        expect(False, f"live, {what}: no part, but the message {part.get('said')!r}")
         return
     want = json.loads(json.dumps(Data(of_recording(str(file), part["until"] - part["before"])).whole()))
     got = part["data"] | {"name": file.name}

@@ -150,7 +150,7 @@ def check_right(kit: Kit, runs: int) -> str:
         for row in rows.values():
             for name, count in row["reached"].items():
                 if not count and row["state"] == "passed":
-                    raise Wrong(f"{row['name']} passed, and never reached: {name}")
+                    raise Wrong(f"{row['name']} passed but never reached: {name}")
         said.append(f"{states.count('passed')} of {len(states)} rows")
     return f"the correct driver passes {said[0]}, with its own threads {said[1]}, with weak memory {said[2]}"
 
@@ -435,7 +435,7 @@ def check_in_place(kit: Kit, runs: int, each: int = 1) -> str:
         expect(kit.card(program, 1, "--rows", name, "--runs", 50, "--every", 50)[name], cause, mode)
     check_seen_in_place(kit)
     passed, tried = sum(row["state"] == "passed" for row in rows), len(FAULTS_OF_POINTERS[::each])
-    return f"in place {passed} rows passed, {len(BUGS_IN_PLACE[::each])} bugs and {tried} stray pointers found"
+    return f"memory in place: {passed} rows passed, {len(BUGS_IN_PLACE[::each])} bugs, {tried} stray pointers found"
 
 
 def check_stores(kit: Kit) -> str:
@@ -513,7 +513,7 @@ def check_address(kit: Kit) -> None:
     page = (HERE / "tests/ported.c").read_text()
     lines = re.findall(r"^    (?:static const char image|uint64_t line;|nic_install_text).*\n", page, re.M)
     if ran([adapter(kit, found[0], silent, opened="".join(lines))]) != (ADAPTER_FOLDER / "adapter.out").read_text():
-        raise Wrong("examples/adapter with port.md's EEPROM image prints something else than adapter.out")
+        raise Wrong("examples/adapter with port.md's EEPROM image prints something other than adapter.out")
 
 
 # Puts the driver's rings and buffers in a single piece of memory, which the glue provides.
@@ -533,7 +533,7 @@ def check_one_piece(kit: Kit) -> str:
     and rows of its card."""
     program = adapter(kit, more=ONE_PIECE)
     if ran([program]) != (ADAPTER_FOLDER / "adapter.out").read_text():
-        raise Wrong("examples/adapter with its memory in one piece prints something else than adapter.out")
+        raise Wrong("examples/adapter with its memory in one piece prints something other than adapter.out")
     rows = none_failed(kit.card(program, None, "--rows", "receive,send,open,memory", "--runs", 2, "--every", 2))
     return f"{sum(row['state'] == 'passed' for row in rows)} rows with its memory in one piece"
 
@@ -549,7 +549,7 @@ def check_adapter(kit: Kit, sanitized: list[str] | None) -> str:
     """The example, with a single adapter for its run and its card: it runs, records, says why no frame arrives, and
     gets a card. A sanitizer finds device writes outside a buffer."""
     if ran([adapter(kit)]) != (ADAPTER_FOLDER / "adapter.out").read_text():
-        raise Wrong("examples/adapter prints something else than adapter.out")
+        raise Wrong("examples/adapter prints something other than adapter.out")
     rows = none_failed(kit.card(kit.folder / "adapter-program", None, "--runs", 2, "--every", 2))
     check_address(kit)
     check_recorded(kit)
@@ -725,12 +725,13 @@ KEPT = {
     "filter": "was received, but the filter doesn't accept it \\(.* accepts only the port's own address; then ",
     "list": "wasn't received, but the filter accepts it|was received, but the filter doesn't accept it",
     "promiscuous": "wasn't received, but the filter accepts it \\(all frames are accepted; then ",
-    "mtu": "4096 bytes long, wasn't received, but the agreed length|send on queue 0 fails forever",
+    "mtu": "4096 bytes long, wasn't received, but the frame limit|send on queue 0 fails forever",
     "rss": "arrived in queue \\d instead of \\d",
     "rings": "by a 128-byte ring, but 16 slots were requested|never reached the caller",
 }
 
-# Prints how the command handles pages if a row failed, given a toolchain and the programs of ./nicbench that exist.
+# A program that prints what the command says about pages if a row failed and a compiler exists. Its argument is the
+# path at which the command looks for the compiled ./nicbench.
 PAGES = """import sys
 from pathlib import Path
 sys.path[:0] = [FOLDERS]
@@ -751,11 +752,11 @@ def check_pages() -> str:
         words = [sys.executable, "-B", "-c", PAGES.replace("FOLDERS", folders), there]
         made = subprocess.run(words, capture_output=True, text=True, check=False)
         if (made.stdout, made.stderr) != ("drawn\n", wanted):
-            raise Wrong(f"of pages, with ./nicbench's program at {there}, it prints: {made.stdout}{made.stderr}")
+            raise Wrong(f"with {there} as ./nicbench's program, the command prints: {made.stdout}{made.stderr}")
     return "the notice about the pages"
 
 
-# Prints what a row reports if it exceeds its time limit, which depends on --hang.
+# A program that prints what a row reports if it exceeds its time limit, which depends on --hang.
 PATIENCE = """import sys
 from pathlib import Path
 sys.path[:0] = [FOLDERS]
@@ -812,7 +813,7 @@ def check_files(kit: Kit) -> str:
             raise Wrong(f"card.html has no {wanted}")
     found = re.search(r'href="(setup-crc\.html)#p(\d+)"', page)
     if not found or '"actor"' not in (before / found[1]).read_text():
-        raise Wrong("card.html doesn't lead to the page of the schedule of setup-crc, at a point of it")
+        raise Wrong("card.html has no link to a point on the page of setup-crc's schedule")
     lines = (before / "setup-crc.nic").read_text().splitlines()
     deep = [line for line in lines if re.search(r"small\.c:\d+ < .*(actors|main)\.c:", line)]
     if deep or not any("at small.c:" in line for line in lines):
@@ -833,7 +834,7 @@ def check_foreign_cards(kit: Kit, card: Path) -> None:
     bad.write_text(json.dumps(data | {"driver": "\x1b]0;title\x07"}))
     said = nicdrive(kit.folder, ["--compare", bad, card], 0)
     if "\x1b" in said or "before: \\x1b]0;title\\x07: " not in said:
-        raise Wrong(f"--compare prints what acts on the terminal:\n{said!r}")
+        raise Wrong(f"--compare prints a card's control characters:\n{said!r}")
     for text, wanted in {
         "[" * 200_000: "not a card: nested too deeply\n$",
         json.dumps(data | {"rows": [data["rows"][0] | {"name": [1]}]}): "not a card: name of a row isn't a str\n$",

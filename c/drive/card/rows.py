@@ -100,7 +100,7 @@ def accesses_of(program: Path) -> bool:
     try:
         return ran([program, "--accesses"], LIST_SECONDS).printed.strip() == "seen"
     except (OSError, TooLong):
-        return False  # the list of its rows reports any problem
+        return False  # if the program can't be run, listing its rows reports it
 
 
 class Runner:

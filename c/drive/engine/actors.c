@@ -19,7 +19,7 @@ static uint16_t number_of(const void *given)
 
 /* --- open and close --- */
 
-/* Interrupts everything: frames received or accepted before this call may be lost. */
+/* Counts an interruption of the flow: frames received or accepted before this call may be lost. */
 static void next_life(void)
 {
     nicd.life++;
@@ -150,7 +150,7 @@ void nicd_hold(void)
     nicx_wait_until(is_quiet, NULL);
 }
 
-/* Returns how many frames may now arrive. */
+/* Releases `count` of the late frames. Returns how many of the declared frames have now been released. */
 static uint16_t let_come(uint16_t count)
 {
     nicd.late = (uint16_t)(nicd.late - count);
@@ -220,8 +220,8 @@ void nicd_wait_for_event(uint32_t seen)
         nicx_wait_until(has_happened, &seen);
 }
 
-/* Returns the number of events before a poll. The poll sees at least the stores of these events: a polling thread
-   eventually sees each store. */
+/* Returns the number of events so far. A poll after this call sees at least the stores made in these events, so a
+   polling thread eventually sees each store. */
 uint32_t nicd_before_look(void)
 {
     uint32_t seen = nicd.events;
@@ -433,7 +433,8 @@ struct sender {
 static struct sender senders[NICX_TASKS];
 static uint32_t sender_count;
 
-/* Tries to send a frame. If it is refused and reclaim frees nothing, waits for an event. */
+/* Tries to send a frame. Returns whether the driver accepted it. If `send` refuses the frame and `reclaim` frees
+   nothing, waits for an event. */
 static bool try_to_send(uint16_t queue, uint32_t length)
 {
     uint32_t seen = nicd_before_look();
@@ -453,7 +454,8 @@ void nicd_send_surely(uint16_t queue, uint32_t length)
         continue;
 }
 
-/* Returns false if all frames of a queue are sent. Otherwise waits for an event, if the driver is running. */
+/* Returns false if all of a queue's frames are sent. Otherwise waits for an event if the driver is running, and returns
+   true. */
 static bool wait_for_some(uint16_t queue)
 {
     uint32_t seen = nicd_before_look();

@@ -1,10 +1,11 @@
 /* What the adapter's contract says about the order of two calls, and about calls that never overlap. The search for
-   data races relies on it: what a driver does in two calls that the contract orders needs no lock of its own. */
+   data races relies on it: memory that a driver accesses only in calls ordered by the contract needs no lock. */
 #include "drive.h"
 
 enum { VECTORS = 16 };
 
-/* Synchronization objects, used by address: the flow resumed, a queue's call returned, a mailbox call returned. */
+/* The addresses of these objects identify events for the search for races: the flow resumed, a queue's call returned, a
+   mailbox call returned. */
 static const char flow, ended, mailbox;
 
 static struct vector {

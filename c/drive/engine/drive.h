@@ -148,7 +148,7 @@ struct scenario {
     uint32_t needs, ways;
     nicd_setup setup; /* 0 in queues, slots or frame means 1, 8 or 1,514 */
     uint32_t points;
-    /* What the scenario adds to the card's own handlers, in the order in which it is declared. A `sends` or `comes`
+    /* What a schedule declares besides the card's own handlers, in the order of declaration. A `sends` or `comes`
        other than 0 counts frames in addition to the frames that fill `rings` rings. The `late` frames arrive only after
        the flow resumes. */
     void (*control)(void); /* body of a thread that calls the driver, or null */
@@ -229,10 +229,10 @@ struct sent {
     uint32_t length, life;
 };
 
-/* A transmitted frame, in its queue's order. */
+/* A transmitted frame. Each queue's frames are stored in the order in which they were sent. */
 struct went {
     uint16_t slot; /* slot of its last descriptor */
-    bool back;     /* whether the device wrote back for it */
+    bool back;     /* whether the device wrote back its descriptor or the head */
 };
 
 struct drive {

@@ -164,8 +164,8 @@ static bool differs(uint64_t at, uint64_t end)
     return !is_alike(at, end - at < UNIT ? end : at + UNIT);
 }
 
-/* Writes a run of changed units in one block. A thread that runs before the store also finds it and may write it first:
-   no thread proceeds to its call until everything stored so far has reached the device. */
+/* Writes a run of changed units in one block. Another thread that runs before this write finds the same change and
+   may write it first: all earlier stores must reach the device before any thread proceeds to its call. */
 static uint64_t write_run(uint64_t from, uint64_t end)
 {
     uint64_t to = from;

@@ -56,7 +56,7 @@ static bool is_frame(uint16_t number, const uint8_t *bytes, uint32_t length)
     return nicd_make(&nicd.coming[number], number, whole) == length && !memcmp(whole, bytes, length);
 }
 
-/* Reports a frame that was delivered before the next frame of its queue. */
+/* Reports a frame that was delivered before an earlier frame of its queue. */
 static void tell_too_early(uint16_t queue, uint16_t number)
 {
     uint16_t next = nicd.written[queue][nicd.next[queue]];

@@ -277,7 +277,7 @@ static const char *fault_of(const nicd_driver *d)
     if (d->threads > MOST_THREAD || (d->threads && !d->thread))
         return "threads is above 4, or thread isn't set";
     if (d->can & ~(uint32_t)NICD_CAN)
-        return "can has bits that enum nicd_can doesn't define";
+        return "nicd_driver.can has bits that enum nicd_can doesn't define";
     return NULL;
 }
 
@@ -301,7 +301,8 @@ int nicd_main(int argc, char **argv, const nicd_driver *driver)
         return REFUSED;
     }
     if (unsaid()) {
-        fprintf(stderr, "%s: scenarios/reaches.c: row and entry %s don't match\n", argv[0], unsaid());
+        fprintf(stderr, "%s: scenarios/reaches.c: %s is a row without an entry, or an entry without a row\n", argv[0],
+                unsaid());
         return REFUSED;
     }
     if (argc == 2 && !strcmp(argv[1], "--list")) {

@@ -118,7 +118,7 @@ bool nicd_memory_has(uint64_t bus)
     return false;
 }
 
-/* The size is stored before the piece. Freeing only updates the count. */
+/* Stores the size in front of the memory. Freeing only updates the count: the memory isn't reused. */
 void *nicd_alloc(size_t bytes)
 {
     size_t whole = OWN_HEAD + (bytes + OWN_HEAD - 1) / OWN_HEAD * OWN_HEAD;

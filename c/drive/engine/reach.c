@@ -134,7 +134,7 @@ void nicd_reach(enum reach reach)
     nicd_reach_of(reach, 0);
 }
 
-/* Progress in the current schedule that a later step completes. */
+/* Counts in the current schedule, for requirements that one step can't show. */
 static struct {
     uint32_t firsts[2]; /* how often slot 0 of queue 0 was written, and sent */
 } now;
@@ -163,8 +163,9 @@ void nicd_reach_delivered(uint16_t queue, uint16_t number)
 
 /* --- during a call --- */
 
-/* Whether a frame is on its way in. Written frames of this life and of the two before it count: holding the flow starts
-   a life, and closing starts another. Older frames may remain where they were lost. */
+/* Whether a frame has arrived but isn't delivered yet. A frame that the device has written counts only if at most two
+   interruptions (nicd.life) followed its arrival: holding the flow is one, closing another. An older frame may have
+   been lost. */
 static bool is_on_way_in(void)
 {
     for (uint16_t k = 0; k < nicd.count; k++)

@@ -115,7 +115,7 @@ static const char *judge_length(uint16_t number)
     bool came = nicd.frames[number].state == IS_DELIVERED;
     if (came == (nicd.coming[number].length <= LONG_FRAME))
         return NULL;
-    nicd_note("frame %u, %u bytes long, %s, but the agreed length is %u bytes", number,
+    nicd_note("frame %u, %u bytes long, %s, but the frame limit is %u bytes", number,
               (unsigned)nicd.coming[number].length, came ? "was received" : "wasn't received", LONG_FRAME);
     return nicd.fault;
 }

@@ -131,7 +131,7 @@ static void write_physical(struct bus *it, uint32_t address, uint32_t word)
     answer_stray_write(it, address, word);
 }
 
-/* A reset sets the heads and tails of its queues to 0. */
+/* Calls `reset` for each of these queues: a reset of the device or of a pool sets their heads and tails to 0. */
 static void forget(const struct bus *it, unsigned int first, unsigned int count)
 {
     const struct bus_calls *calls = &it->options.calls;

@@ -198,8 +198,8 @@ unsigned int bus_messages(struct bus *it);
 /* Takes and delivers a function's message if one is due. Returns whether it did. */
 bool bus_message(struct bus *it, unsigned int function);
 
-/* Returns whether the card's interrupt line is up for a cause that belongs to no queue: the cause is set in EICR and
-   EIMS. */
+/* Returns whether the card's interrupt line is asserted for a cause that belongs to no queue: the cause is set in EICR
+   and EIMS. */
 bool bus_line(const struct bus *it);
 
 /* ---- answers ---- */

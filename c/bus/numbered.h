@@ -13,7 +13,7 @@ struct frame;
 struct numbered {
     unsigned int count, good, twice, wrong; /* wrong: frames that match none */
     uint64_t *prints;                       /* hash of each frame, at number - 1 */
-    uint32_t *places;                       /* numbers by hash, 0: none */
+    uint32_t *places;                       /* hash table of frame numbers; 0: none */
     bool *has_come;
     uint32_t room;
     /* used only while the frames are being built: */

@@ -1,6 +1,6 @@
-/* A PCI function's configuration space: 4,096 bytes and a mask of the bits that a write changes. Capabilities are added
-   and chained one by one. The public sources are the PCI Local Bus Specification and the PCI Express Base
-   Specification. */
+/* A PCI function's configuration space: 4,096 bytes and a mask of the bits that a write changes. Each capability
+   that is added is linked to the previous one. The public sources are the PCI Local Bus Specification and the PCI
+   Express Base Specification. */
 #ifndef BUS_PCI_CONFIG_H
 #define BUS_PCI_CONFIG_H
 
@@ -64,7 +64,8 @@ void pci_write(struct pci_config *it, unsigned int at, const uint8_t *bytes, uns
 
 bool pci_msi_is_on(const struct pci_config *it);
 bool pci_msix_is_on(const struct pci_config *it);
-/* Returns whether the command register lets the function raise its line, and sets the status register's bit for it. */
+/* Return whether the command register lets the function assert its interrupt line, and set the status register's
+   interrupt bit. */
 bool pci_line_is_on(const struct pci_config *it);
 void pci_line_status(struct pci_config *it, bool level);
 /* Returns whether a function level reset was requested, and clears the request. */

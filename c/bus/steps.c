@@ -126,8 +126,8 @@ bool bus_is_settled(struct bus *it, uint16_t queues)
     size_t count = 0;
     uint8_t status = nic_settle(&it->device, queues, outcomes, sizeof outcomes / sizeof *outcomes, &count);
     for (size_t i = 0; i < count; i++)
-        fprintf(stderr, "bus: a step remains: %s of %u: %s\n", nic_step_name(outcomes[i].step), outcomes[i].of,
-                nic_status_name(outcomes[i].status));
+        fprintf(stderr, "bus: the device wasn't at rest: `%s` for queue or group %u: %s\n",
+                nic_step_name(outcomes[i].step), outcomes[i].of, nic_status_name(outcomes[i].status));
     return status == NIC_DONE && count == 0;
 }
 

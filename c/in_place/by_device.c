@@ -15,7 +15,7 @@ static size_t room_of(const struct nicl_by_device *it)
     return it->chains ? it->room : (size_t)NICL_FIRST_CHAINS;
 }
 
-/* Memory from malloc is aligned to 16 bytes. */
+/* Returns the chain for a controller. Its pointer's low four bits don't count: malloc aligns memory to 16 bytes. */
 static size_t chain_of(size_t room, const void *device)
 {
     uint64_t word = (uint64_t)(uintptr_t)device >> 4;

@@ -20,8 +20,8 @@ uint8_t nicl_exchange(nic *n, uint32_t block, struct memory memory, struct memor
    controller. */
 __attribute__((weak)) bool nicxi_refuses_memory(const nic *n);
 
-/* Puts other memory into a lent block. Returns its former memory. Returns null if the library hits an internal fault
-   now, or did so earlier and so had no memory to pass in. */
+/* Puts other memory into a lent block. Returns the block's former memory, or null if the library hits an internal
+   fault. Does nothing and returns null if `bytes` is null, as after an earlier fault. */
 static uint8_t *exchange(nic *n, uint32_t block, uint8_t *bytes)
 {
     struct memory former = {NULL};
@@ -31,9 +31,9 @@ static uint8_t *exchange(nic *n, uint32_t block, uint8_t *bytes)
     return former.bytes;
 }
 
-/* Puts the caller's memory into a block, and the block's own memory into the table. If an earlier exchange, meant to
-   take the caller's memory out, failed before it did anything, that memory is still in the block and is returned. The
-   table then still holds the block's own memory. */
+/* Puts the caller's memory into a block, and the block's own memory into the table. Returns whether it succeeded. An
+   earlier exchange that should have taken the caller's memory out may have failed before it did anything. Then the
+   exchange here returns the caller's memory, and the table still holds the block's own memory. */
 static bool put_in(nic *n, struct nicl_table *it, uint32_t number)
 {
     struct nicl_block *block = &it->runs.blocks[number];
@@ -43,8 +43,8 @@ static bool put_in(nic *n, struct nicl_table *it, uint32_t number)
     return former;
 }
 
-/* Puts a block's own memory back, and removes it from the table. If an earlier exchange did this and only its result
-   was lost, the block's own memory is already in, and is returned. */
+/* Puts a block's own memory back, and removes it from the table. Returns whether it succeeded. If an earlier exchange
+   did this and only its result was lost, the block already has its own memory, and the exchange here returns it. */
 static bool take_out(nic *n, struct nicl_table *it, uint32_t number)
 {
     bool is_out = exchange(n, number, it->runs.blocks[number].own);
@@ -58,7 +58,7 @@ static bool is_whole(uint64_t bus, size_t bytes)
     return bus % NICL_BLOCK == 0 && bytes % NICL_BLOCK == 0;
 }
 
-/* Computes the blocks at these bus addresses. Returns false if there can't be blocks with these numbers. */
+/* Computes the blocks at these bus addresses. Returns false if no controller can have blocks with these numbers. */
 static bool blocks_of(uint64_t bus, size_t bytes, struct range *range)
 {
     if (bus / NICL_BLOCK > NICL_MOST_BLOCKS || bytes / NICL_BLOCK > NICL_MOST_BLOCKS - bus / NICL_BLOCK)
@@ -68,7 +68,7 @@ static bool blocks_of(uint64_t bus, size_t bytes, struct range *range)
     return true;
 }
 
-/* Returns BROKEN if the controller is broken, otherwise DONE. */
+/* Takes the blocks of the range back. Returns BROKEN if the controller is broken, otherwise DONE. */
 static uint8_t take_each(nic *n, struct range range)
 {
     uint8_t status = NIC_DONE;

@@ -1,6 +1,6 @@
 /* Indexes the caller's memory of one controller by address. A run is a range of blocks that are consecutive both on the
    bus and in the caller's memory. Its first block represents it in a tree, with heights that follow from the block
-   numbers. The steps of a search grow with the logarithm of the number of runs. */
+   numbers. The number of steps in a search grows with the logarithm of the number of runs. */
 #ifndef NICL_RUNS_H
 #define NICL_RUNS_H
 
@@ -45,7 +45,7 @@ static inline uintptr_t nicl_run_end(const struct nicl_runs *it, uint32_t run)
 
 /* Adds blocks first to end - 1, with their `host` set to consecutive memory, as a run or at the end of one. */
 void nicl_runs_add(struct nicl_runs *it, uint32_t first, uint32_t end);
-/* Removes blocks first to end - 1, all of one run. */
+/* Removes blocks first to end - 1, which all belong to one run. */
 void nicl_runs_remove(struct nicl_runs *it, uint32_t first, uint32_t end);
 
 #endif

@@ -89,7 +89,7 @@ static __attribute__((noinline)) bool is_callers(uintptr_t address)
 }
 
 /* Called by the archive to free memory. The archive would free the caller's memory like its own, so this skips it. No
-   caller's memory is outside the bounds, even while another thread moves them. */
+   caller's memory is outside the bounds, even while another thread changes the bounds. */
 void nicl_dealloc(void *piece)
 {
     uintptr_t address = (uintptr_t)piece;
@@ -106,7 +106,8 @@ static void note_count(void)
     __atomic_store_n(&count, tables.count, __ATOMIC_RELAXED);
 }
 
-/* If there are no tables, no call waits for the lock. A thread sees the tables that it created. */
+/* If there are no tables, no call waits for the lock. A relaxed load is enough: a thread sees the tables that it
+   created. */
 struct nicl_table *nicl_table_of(const nic *n)
 {
     if (!__atomic_load_n(&count, __ATOMIC_RELAXED))
@@ -182,7 +183,7 @@ bool nicl_table_has(const struct nicl_table *it, uint32_t block)
     return it && block < it->room && it->runs.blocks[block].host;
 }
 
-/* Notes that blocks first to end - 1, all of one run, have the controller's own memory again. */
+/* Notes that blocks first to end - 1, which all belong to one run, have the controller's own memory again. */
 static void forget(struct nicl_table *it, uint32_t first, uint32_t end)
 {
     nicl_table_hold();

@@ -703,7 +703,7 @@ uint8_t nic_settle(nic *n, uint16_t queues, nic_outcome *outcome, size_t length,
     return status;
 }
 
-/* --- the steps of nic_settle, one by one --- */
+/* --- the steps of nic_settle, run singly --- */
 
 enum { GROUPS = 64 };
 

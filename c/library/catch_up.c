@@ -1,5 +1,6 @@
 /* A step reads the descriptor at its ring's head, and the bytes that a transmit descriptor points to. This file
-   records both before the step. If a device step ever reads more, a replay of random calls (c/test) differs. */
+   records both before the step. If a device step ever reads more, c/test fails, because its replay of random calls then
+   differs. */
 #include "catch_up.h"
 
 #include "../in_place/shadow.h"

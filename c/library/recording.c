@@ -461,8 +461,8 @@ void nicl_add_reply(struct recording *it)
     nicl_text_ends(it, &more);
 }
 
-/* Removes the last line, about lent blocks; if it is in the file already, `text` replaces it there. A file that can't
-   be rewritten, such as a pipe, keeps it. */
+/* Removes the last line, which is about lent blocks. If it is already in the file, `text` replaces it there. Returns
+   false if the file can't be rewritten, for example a pipe: then the line stays. */
 static bool is_taken_back(struct recording *it)
 {
     if (it->used >= LENT)

@@ -37,7 +37,8 @@ struct nicl_on *nicl_on_of(struct recording *it);
 /* Return the number of a new snapshot, and of one being restored: 0 if it isn't from this recording. */
 uint32_t nicl_keep(struct recording *it, const nic_kept *kept);
 uint32_t nicl_kept(const struct recording *it, const nic_kept *kept);
-/* Forgets a snapshot that is being freed. Enters and returns the recording that it is from, or null. */
+/* Forgets a snapshot that is being freed. Locks the recordings, like nicl_enter, and returns the one in which the
+   snapshot was taken, or null. */
 struct recording *nicl_enter_dropped(nic_kept kept, uint32_t *number);
 
 /* --- text --- */
@@ -59,7 +60,8 @@ uint32_t nicl_add_data(struct recording *it, const uint8_t *bytes, size_t length
 void nicl_add_poke(struct recording *it, uint64_t bus, uint32_t name);
 /* Adds blanks up to the replies' column, counted from the start of the last line, and the start of a reply. */
 void nicl_add_reply(struct recording *it);
-/* Adds a line for a lent block, `lend 3`. It joins a line about the block before, as `#: lend 2 to 3`, and so on. */
+/* Adds a line for a lent block, `lend 3`. If the last line is about the block before, the two become one line,
+   `#: lend 2 to 3`, and so on. */
 void nicl_add_lent(struct recording *it, uint32_t block);
 
 #endif

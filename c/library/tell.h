@@ -17,7 +17,7 @@ bool nicl_is_telling(void);
 void nicl_tell_begin(const nic *n);
 void nicl_tell_end(const nic *n);
 void nicl_tell_all_ends(void);
-/* In a child of fork: what was counted before is left to the parent to report. */
+/* Called in a child of fork: marks what was counted so far as printed, because the parent reports it. */
 void nicl_tell_forked(void);
 
 /* Report a stray access, as a script's line; what happened to an arriving frame; and what a step did. */

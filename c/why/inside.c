@@ -7,8 +7,8 @@
 #include "../library/proved.h"
 #include "why.h"
 
-/* Returns the causes that the next messages of a group report. With all causes in the group's auto-clear register, the
-   messages clear them. */
+/* Returns the causes that the next messages of a group report. Puts all causes into the group's auto-clear
+   register, so that the messages clear the causes that they report. */
 static uint32_t due(nic *copy, uint8_t group)
 {
     uint32_t causes = group ? (uint32_t)NIC_PVTEICR(group - 1) : (uint32_t)NIC_EICR;

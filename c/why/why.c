@@ -75,7 +75,7 @@ static bool is_on(struct nicl_why *it, int side, uint16_t queue)
     return WORD(side == NICL_TX ? NIC_TXDCTL(queue) : NIC_RXDCTL(queue)) & NIC_RXDCTL_ENABLE;
 }
 
-/* Returns whether a driver set up a ring or its head moved. */
+/* Returns whether a ring was set up or used: its length, head or tail isn't 0. */
 static bool has_ring(const struct nicl_ring *ring)
 {
     return ring->slots || ring->head || ring->tail;
@@ -88,7 +88,7 @@ static bool is_in_use(struct nicl_why *it, int side, uint16_t queue)
     return has_ring(&ring) || has_frames || is_on(it, side, queue) || it->inside.is_wanted[side][queue];
 }
 
-/* Finds the first slot owned by the device that can't take even the shortest frame. */
+/* Reports the first slot owned by the device that can't take even the shortest frame. */
 static void rx_slots(struct nicl_why *it, const struct nicl_ring *ring, uint16_t queue)
 {
     uint64_t size = FIELD(NIC_SRRCTL(queue), NIC_SRRCTL_BSIZEPACKET) * KILOBYTE;
@@ -158,7 +158,7 @@ static void rx_queue(struct nicl_why *it, uint16_t queue)
 
 /* --- a transmit queue --- */
 
-/* Reports why a data descriptor is a fault, after this many bytes of its frame. */
+/* Reports why a data descriptor causes a fault, if it does. `frame` is the length of its frame's earlier buffers. */
 static bool tx_data(struct nicl_why *it, const struct nicl_ring *ring, uint32_t slot, nic_desc d, uint64_t frame)
 {
     uint64_t length = nic_desc_field(d.second, NIC_TXD_DTALEN);
@@ -199,7 +199,7 @@ static bool tx_slot(struct nicl_why *it, const struct nicl_ring *ring, uint32_t 
     return false;
 }
 
-/* Finds the first slot owned by the device that causes a fault. */
+/* Reports the first slot owned by the device that causes a fault. */
 static void tx_slots(struct nicl_why *it, const struct nicl_ring *ring, uint16_t queue)
 {
     uint64_t frame = 0;

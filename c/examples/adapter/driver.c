@@ -73,7 +73,7 @@ enum {
 /* --- descriptors, as the device reads and writes them --- */
 
 struct descriptor {
-    volatile uint64_t address; /* bus address of the packet; the device's write-back there isn't used */
+    volatile uint64_t address; /* bus address of the packet; the driver ignores what the device writes here */
     volatile uint32_t command; /* transmit: length and commands; receive write-back: DD and EOP */
     volatile uint32_t status;  /* transmit: DD and the frame's length; receive write-back: the length */
 };

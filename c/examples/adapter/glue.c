@@ -12,7 +12,7 @@
 
 enum { BLOCKS = 4096, PIECES = 8, SLOTS = 64, FRAMES = 10000, BURST = 7, VECTORS = 16 };
 
-static bool is_card; /* otherwise a run, with the controller `n` */
+static bool is_card; /* called by the report card; if false, the program runs the driver on `n` */
 static nic n;
 
 /* --- the device of a run: it acts when the driver waits, and when the run requests it --- */
@@ -27,7 +27,7 @@ static void let_device_act(void)
         if (outcome.status == NIC_MESSAGE)
             was_raised[outcome.vector] = true;
         if (outcome.status == NIC_FAULT)
-            printf("queue %u: a fault: %s\n", outcome.queue, nic_fault_name(outcome.why));
+            printf("fault in queue %u: %s\n", outcome.queue, nic_fault_name(outcome.why));
         if (outcome.status == NIC_DROPPED)
             printf("a frame is dropped: %s\n", nic_why_name(outcome.why));
     }

@@ -1,10 +1,10 @@
-/* Accesses to a function's configuration space. An operation is a byte (1, 2 or 4 bytes; read or write; what to
+/* Makes accesses to a function's configuration space. An operation is a byte (1, 2 or 4 bytes; read or write; what to
    check after it), two bytes of offset, and four of value. A write must not change a read-only bit, or anything outside
    its bytes. */
 #include "input.h"
 #include "pci_config.h"
 
-/* A write may change the bits of its mask, and may have the effect of a reset or a status bit. */
+/* Checks a write: it changed only bits that the mask allows, only in the bytes that it addressed, and kept the mask. */
 static void check_write(const struct pci_config *before, const struct pci_config *after, unsigned int at,
                         unsigned int bytes)
 {

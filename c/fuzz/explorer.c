@@ -1,7 +1,7 @@
-/* Files of the explorer: schedules, read strictly and leniently, and results of searches. The input's first byte
-   selects which. For a result, the rest is all but the last line, the checksum of the lines before it, which is added
-   here. An accepted schedule must name only actors of the scenario. An accepted result must be accepted again after it
-   is written. */
+/* Reads files as the explorer does: schedules, strictly or leniently, and results of searches. The input's first byte
+   selects how, and the rest is the file. For one of its values, the rest is a result without its last line: the
+   checksum, which is then added here. Each actor in an accepted schedule must belong to the scenario, or be NOBODY if
+   the schedule was read leniently. An accepted result must be accepted again after it is written. */
 #define _GNU_SOURCE
 #include <fcntl.h>
 #include <inttypes.h>

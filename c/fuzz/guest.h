@@ -24,8 +24,8 @@ typedef void guest_acts(struct guest *it, void *given);
 /* Runs a guest. The first one starts the server, with these additional null-terminated arguments. */
 void guest_run(const char *const *words, guest_acts *acts, void *given);
 
-/* Sends a message with this many files, which the caller keeps. What the server doesn't receive is lost: by then it has
-   closed the connection. */
+/* Sends a message with this many files, which the caller keeps. If the server has closed the connection, the
+   message is lost. */
 void guest_send(struct guest *it, uint16_t command, uint32_t flags, const void *body, size_t length, const int *files,
                 unsigned int count);
 /* Sends the version, and maps the guest's memory at address 0. */

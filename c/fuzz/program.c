@@ -1,7 +1,7 @@
-/* A command of nicbench and its input: scripts, objects, EEPROM descriptions and images, lines of hex. The input's
+/* Runs a nicbench command on an input: a script, an object, an EEPROM description or image, lines of hex. The input's
    first byte selects the command, and the rest is its standard input. The program is part of this process
    (program_object compiles it, with the counters for a fuzzer): its `main` and the calls that read and write are
-   renamed. It returns its status, and has freed all memory by then; a panic ends the process. */
+   renamed. `main` frees all memory and returns the exit status; a panic ends the process. */
 #define _DEFAULT_SOURCE
 #include <sys/types.h>
 #include <unistd.h>
@@ -37,7 +37,7 @@ ssize_t fuzz_read(int file, void *to, size_t size)
     return (ssize_t)taken;
 }
 
-/* Checks that no answer is endless. Only a panic writes to another file. */
+/* Checks that the command's output isn't endless. Only a panic writes to another file. */
 ssize_t fuzz_write(int file, const void *from, size_t size)
 {
     if (file != STDOUT_FILENO)

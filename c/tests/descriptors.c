@@ -35,7 +35,7 @@ static void frame_of(const kind *it, uint8_t *frame, size_t length)
     frame[12] = (uint8_t)(it->ether_type >> 8);
     frame[13] = (uint8_t)it->ether_type;
     frame[14] = it->ether_type == 0x0800 ? 0x45 : 0x60;
-    frame[20] = frame[21] = 0; /* IPv4: not a fragment; IPv6: position of the protocol */
+    frame[20] = frame[21] = 0; /* IPv4: not a fragment; IPv6: next header (set below) and hop limit */
     frame[it->ether_type == 0x0800 ? 23 : 20] = it->protocol;
 }
 

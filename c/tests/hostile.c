@@ -12,7 +12,8 @@ static void allowed(const char *call, uint8_t status, const uint8_t *list)
     for (; *list != 255; list++)
         if (*list == status)
             return;
-    fprintf(stderr, "hostile: %s returns %u, %s\n", call, status, nic_status_name(status));
+    fprintf(stderr, "hostile: %s returns %u (%s), which the header doesn't list for it\n", call, status,
+            nic_status_name(status));
     exit(1);
 }
 

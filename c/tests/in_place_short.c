@@ -1,4 +1,4 @@
-/* Memory lent by the caller when memory runs out: each allocation of nic_lend_memory and of nic_restore fails in turn.
+/* Memory lent by the caller when memory runs out, in turn at each allocation of nic_lend_memory and of nic_restore.
    A refused call changes nothing, and keeps no memory. */
 #include <string.h>
 

@@ -23,7 +23,7 @@ static bool is_text(const char *text, const char *form)
     snprintf(want, sizeof want, "%.*s%s%s", edition ? (int)(edition - form) : 0, form, edition ? nic_edition() : "",
              edition ? edition + 2 : form);
     if (strcmp(text, want) != 0)
-        fprintf(stderr, "it has:\n%s\nand not:\n%s\n", text, want);
+        fprintf(stderr, "found:\n%s\nexpected:\n%s\n", text, want);
     return strcmp(text, want) == 0;
 }
 

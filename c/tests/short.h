@@ -1,11 +1,12 @@
-/* Makes memory run out: an allocation fails when the test requests it. Link with -Wl,--wrap=malloc and so on. */
+/* Makes memory run out: after as many allocations as the test allows, all fail. Link with -Wl,--wrap=malloc and so
+   on. */
 #ifndef SHORT_H
 #define SHORT_H
 
 #include <stdbool.h>
 #include <stdlib.h>
 
-/* Number of allocations that succeed before one fails; below 0: all do. */
+/* Number of allocations that still succeed; all later ones fail. Below 0: none fails. */
 static long left = -1;
 
 void *__real_malloc(size_t size);

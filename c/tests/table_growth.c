@@ -186,7 +186,7 @@ static void grows(const char *what, unsigned long long few, unsigned long long m
 {
     if (many <= MOST_TIMES * few)
         return;
-    fprintf(stderr, "%s: %llu steps, and %d times as many take %llu\n", what, few, TIMES, many);
+    fprintf(stderr, "%s: %llu steps, but with %d times as many: %llu steps\n", what, few, TIMES, many);
     exit(1);
 }
 

@@ -153,7 +153,7 @@ static void try_case(FILE *out)
     if (out)
         fprintf(out, "case %s\n%s\n", name, text);
     else if (strcmp(text, want)) {
-        fprintf(stderr, "case %s:\n%sand not:\n%s", name, text, want);
+        fprintf(stderr, "case %s: nic_why says:\n%sexpected:\n%s", name, text, want);
         exit(1);
     }
     is_cut(&n, text);

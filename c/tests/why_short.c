@@ -1,4 +1,4 @@
-/* Tests nic_why when memory runs out: each allocation fails in turn. It still reports what registers show, the last
+/* Tests nic_why when memory runs out, in turn at each allocation. nic_why still reports what registers show, the last
    line says what is missing, and nothing changes. */
 #include <string.h>
 

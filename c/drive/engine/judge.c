@@ -170,8 +170,8 @@ static void tell_waiting(uint16_t number)
     nicd_note("frame %u is still waiting inside the idle device: %.190s", number, *why ? why : "nothing receives it");
 }
 
-/* Whether a frame was dropped as the driver requested: DROP_EN is set, the ring was full when the frame arrived, and it
-   has room again. */
+/* Whether a frame was dropped as the driver requested: DROP_EN is set, and the device owned no slot for the frame but
+   owns one now. */
 static bool is_dropped_by_choice(const struct frame_now *frame)
 {
     return frame->why == NIC_WHY_NO_SLOT && nicd_peek(NIC_SRRCTL(frame->queue)) & NIC_SRRCTL_DROP_EN &&

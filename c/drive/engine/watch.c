@@ -101,7 +101,7 @@ static void see_arrival(const nicxo_step *step)
         nicd.waiting[nicd.let_in++] = step->of;
 }
 
-/* The oldest waiting frame leaves the device. */
+/* Removes the oldest frame from the waiting ones, and sets its state. */
 static void leave(uint8_t state)
 {
     struct frame_now *frame = oldest();
@@ -167,7 +167,7 @@ static bool is_reset(const nicxo_step *step)
     return step->kind == STEP_WRITE && step->address == NIC_CTRL && step->word & (NIC_CTRL_RST | NIC_CTRL_LRST);
 }
 
-/* Whether a step resets the virtual function, requested by its own driver or by the PF's driver. A reset discards the
+/* Whether a step is a write with which the function's own driver or the PF's driver resets it. A reset discards the
    frames waiting for the virtual function's pool, the destination of all frames in the scenario. */
 static bool is_pool_reset(const nicxo_step *step)
 {

@@ -11,7 +11,7 @@ static struct {
     uint32_t highs[2]; /* bit masks of the queues whose RDBAH or TDBAH was written */
 } seen;
 
-/* Whether an address is a queue's instance of the register with first address `first`. Stores the queue. */
+/* Whether an address belongs, for one of the queues, to the register that begins at `first`. Stores the queue. */
 static bool is_of_queue(uint32_t address, uint32_t first, unsigned *queue)
 {
     *queue = (address - first) / 0x40;

@@ -85,7 +85,7 @@ enum {
     NICX_FRAMES = 256,  /* limit on frames, and on link changes */
     NICX_VALUES = 256,  /* limit on the bound of nicx_choose */
     NICX_STORES = 8,    /* weak memory: limit on a processor's pending stores */
-    NICX_OLDER = 3,     /* weak memory: limit on the changes that an old load misses */
+    NICX_OLDER = 3,     /* weak memory: limit on the changes that a stale load misses */
     NICX_AT_REST = 0,   /* the timer fires when no other actor can run */
     NICX_ANYWHERE = -1, /* the handler interrupts any task, or runs beside all of them */
     NICX_BESIDE = -2    /* the handler runs beside all tasks, as its own thread */
@@ -269,8 +269,8 @@ int nicx_main(int argc, char **argv, const nicx_scenario *scenario);
 
 enum nicx_outcome {
     NICX_FINE = 0,
-    NICX_END = 1,      /* `end` returned a fault */
-    NICX_ALWAYS = 2,   /* `always` returned a fault */
+    NICX_END = 1,      /* `end` returned an error */
+    NICX_ALWAYS = 2,   /* `always` returned an error */
     NICX_DEADLOCK = 3, /* tasks wait, and no actor can run */
     NICX_ENDLESS = 4,  /* more points than a schedule may have */
     NICX_FAULT = 5,    /* a queue fault */
@@ -284,7 +284,7 @@ enum nicx_outcome {
 
 typedef struct nicx_result {
     uint8_t outcome;   /* enum nicx_outcome */
-    uint32_t points;   /* the number of choices */
+    uint32_t points;   /* number of choices in the schedule */
     uint32_t switches; /* number of points at which the actor differs from the previous point's */
     char words[256];   /* what is wrong; "" if nothing is */
 } nicx_result;

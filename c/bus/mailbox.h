@@ -7,8 +7,8 @@
 
 struct bus;
 
-/* How often a request was acknowledged, and how often refused, since bus_open. A request's number is bits 15:0 of its
-   first word. */
+/* How often a request was sent, acknowledged and refused since bus_open. A request's number is bits 15:0 of its first
+   word. */
 struct mailbox_counts {
     uint64_t asked, acknowledged, refused;
 };

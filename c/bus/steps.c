@@ -83,7 +83,7 @@ static void turn(const struct bus_calls *calls, const nic_outcome *outcome)
         *last ^= 1;
 }
 
-/* Returns whether further steps may have something to do. */
+/* Reports to the user of the bus what a receive step wrote. Returns whether to run the next step. */
 static bool wrote(struct bus *it, const nic_outcome *outcome)
 {
     const struct bus_calls *calls = &it->options.calls;

@@ -22,8 +22,8 @@ enum { NOTE_BYTES = 200, LINE = 64 };
 /* A handle that was never opened, or that nic_close closed. */
 #define IS_CLOSED(n) __builtin_expect(!(n)->device, 0)
 #define COLD static __attribute__((noinline, cold))
-/* If nothing is recorded or reported, only makes the call. Otherwise the code after the macro makes the call and writes
-   its line. */
+/* Returns CLOSED for a closed controller. If nothing is recorded or reported, makes the call and returns its status.
+   Otherwise the code after the macro makes the call and writes its line. */
 #define UNLESS_WATCHED(n, call)                                                                                        \
     do {                                                                                                               \
         if (IS_CLOSED(n))                                                                                              \
@@ -391,7 +391,7 @@ uint8_t nic_lend_all(nic *n)
     return lend_all(n);
 }
 
-/* Returns the first 16-byte unit of a range that isn't lent; the range's first unit if all of them are lent. */
+/* Returns a range's first 16-byte unit that isn't lent, or the range's first unit if all of them are lent. */
 static uint64_t not_lent(nic *n, uint64_t bus, size_t length)
 {
     uint8_t unit[UNIT];
@@ -416,7 +416,7 @@ static void peeked(struct recording *it, uint64_t at, unsigned word, const uint8
     nicl_add_text(it, "\n");
 }
 
-/* A read peeks at each 16-byte unit that it touches; the first four are recorded. */
+/* A successful read is recorded as a peek of each 16-byte unit that it touches, up to the fourth. */
 COLD uint8_t read_memory(nic *n, uint64_t bus, uint8_t *bytes, size_t length)
 {
     uint8_t unit[UNIT];

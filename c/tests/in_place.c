@@ -151,7 +151,7 @@ static void step_by_step(struct twins *t)
     ANSWERS(NIC_DONE, nic_next_step(&t->place, &where[1], &outcomes[1]));
 }
 
-/* Disables a side of the queue and requests its enable again. The next settle runs that step, and reads its slots. */
+/* Disables a side of the queue and requests its enable again. The next settle enables it and reads the ring's slots. */
 static void restart(struct twins *t)
 {
     nic_outcome outcome;

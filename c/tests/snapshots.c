@@ -96,7 +96,7 @@ static void course(nic *n, uint64_t seed, uint64_t *answers)
 
 /* --- a busy controller --- */
 
-/* Two frames are waiting and a third was written, half a frame is staged, and two frames were sent. */
+/* Opens a controller in which two frames are waiting, one was written, half a frame is staged, and two were sent. */
 static void set_off(nic *n)
 {
     static const uint8_t frame[60] = {2, 0, 0, 0, 0, 1, 2, 0, 0, 0, 0, 2, 8, 0};
@@ -228,7 +228,7 @@ static void lend_others(nic *n)
     ANSWERS(NIC_DONE, nic_put64(n, 0, 99));
 }
 
-/* Blocks 1 and 3 have their words again, the other blocks are free again, and a newly lent block is filled with
+/* Blocks 1 and 3 have their words again, the other blocks are no longer lent, and a newly lent block is filled with
    zeros. */
 static void has_two_blocks(nic *n)
 {
@@ -247,7 +247,7 @@ static void has_two_blocks(nic *n)
 }
 
 /* A controller with the same number of blocks keeps its packet memory: blocks get their bytes back, and blocks lent
-   later are free again. */
+   after the snapshot are no longer lent. */
 static void keeps_its_blocks(void)
 {
     nic n;
@@ -261,7 +261,7 @@ static void keeps_its_blocks(void)
     uint64_t before = looked(&n);
     for (unsigned round = 0; round < 3; round++) {
         lend_others(&n);
-        /* (if one of its blocks is missing, it gets other packet memory) */
+        /* (if a block lent in the snapshot isn't lent now, the controller gets new packet memory) */
         if (round == 2)
             ANSWERS(NIC_DONE, nic_take(&n, 3));
         ANSWERS(NIC_DONE, nic_restore(&n, &kept));

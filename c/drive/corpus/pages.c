@@ -1,7 +1,7 @@
-/* A driver designed differently from driver.c, plugged into the card. Its receive ring has spare pages, its indexes run
-   freely, and it assembles frames as their parts arrive. It moves tails for several slots at a time, sends a header and
-   pages, and reclaims according to the head write-back. One vector serves everything, masked through EIMC, with EICR
-   cleared by hand. Multicast addresses go through the table.
+/* A driver designed differently from driver.c, plugged into the card. It keeps spare pages for its receive ring, its
+   ring indexes are free-running, and it assembles frames as their parts arrive. It moves tails for several slots at a
+   time, sends a frame as a header and pages, and reclaims according to the head write-back. One vector serves all
+   causes; the handler masks them through EIMC and clears EICR itself. Multicast addresses are accepted through MTA.
 
    It is correct. planted.txt lists the faults that check.py plants in it. */
 #include <string.h>

@@ -21,7 +21,7 @@ static bool says(const char *begin, const char *end)
     return false;
 }
 
-/* Runs a step on a copy of the controller, each from the same state. */
+/* Runs a step, and restores the snapshot if the step did anything. So each step starts from the same state. */
 static uint8_t step(nic *n, const nic_kept *kept, uint8_t kind, uint16_t of)
 {
     nic_outcome outcome;

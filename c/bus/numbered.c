@@ -5,7 +5,7 @@
 
 #include "frames.h"
 
-/* Hashes the bytes with FNV-1a, then the length. */
+/* Hashes the length and the bytes, in the style of FNV-1a. */
 static uint64_t print_of(const uint8_t *bytes, size_t length)
 {
     uint64_t print = UINT64_C(0xCBF29CE484222325) ^ length;

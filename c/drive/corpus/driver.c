@@ -1139,7 +1139,7 @@ static void moderate(void)
     }
 }
 
-/* Resets a queue if its head doesn't move. It reclaims before the queue is disabled, which is too early. */
+/* Restarts queue 0 if its head doesn't move. The bug: slots are reclaimed before the queue is disabled. */
 static void watch(void)
 {
     struct transmit *tx = &driver.rings.tx[0];

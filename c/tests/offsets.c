@@ -64,7 +64,7 @@ static const struct line {
 
 enum { LINES = sizeof lines / sizeof *lines };
 
-/* The other bits of GCR_EXT don't matter. */
+/* Compares nic_vf_address with the table. `others` are further bits of GCR_EXT, which must not matter. */
 static void answers_the_table(uint32_t others)
 {
     for (size_t k = 0; k < LINES; k++) {
@@ -91,8 +91,8 @@ static void is_stray(nic *n, uint8_t function, uint32_t offset, uint8_t status)
     CHECK(status == (word ? NIC_NO_GROUP : NIC_STRAY) && (word == 0 || word == UINT32_MAX));
 }
 
-/* Checks that both show the same word after a write by the virtual function. Returns whether the offset has a
-   register. */
+/* Checks that the offset and the physical function's address of the register show the same word after a write by the
+   virtual function. Returns whether the offset has a register. */
 static bool is_one_register(nic *n, uint32_t mode, uint8_t function, uint32_t offset)
 {
     uint32_t address = UNTOUCHED, own = 1, word = 2;
@@ -109,7 +109,7 @@ static bool is_one_register(nic *n, uint32_t mode, uint8_t function, uint32_t of
     return true;
 }
 
-/* Returns the number of registers of all virtual functions, at multiples of 4 and the offsets after them. */
+/* Counts the registers of all virtual functions. Tries each multiple of 4, and the offset after it. */
 static unsigned registers_in(nic *n, uint32_t mode)
 {
     unsigned count = 0;

@@ -13,7 +13,7 @@
 #include "names.h"
 #include "reply.h"
 
-/* The maximum number of kinds counted for a controller; all further kinds share one count. */
+/* MOST_KINDS: how many kinds of events are counted for a controller. After that, all events count as "others". */
 enum { MOST_KINDS = 64, NAME = 96, TEXT = 1024 };
 
 /* A kind of event that is reported once and only counted after that. */

@@ -247,7 +247,7 @@ static void tx_switch(struct nicl_why *it, uint16_t queue)
         nicl_why_tx_queue_off(it, queue);
 }
 
-/* Returns the number of queues in a queue's pool according to GCR_EXT; 0 without pools. */
+/* Returns the number of queues in each pool according to GCR_EXT; 0 without pools. */
 static unsigned queues_of_pool(struct nicl_why *it)
 {
     return nic_pool_queues((uint32_t)WORD(NIC_GCR_EXT));

@@ -1,6 +1,6 @@
 /* Checks what nic_why says about the setups in rust/nic82599/tests/why.cases: `why CASES`. For each setup it
-   also checks that an explanation that is too long for the buffer is cut at the end of a line, and that the call changes
-   nothing. `why CASES FILE` writes the explanations into a file, in the format of the cases. */
+   also checks that the call changes nothing, and that an explanation too long for the buffer is cut at the end of a
+   line. `why CASES FILE` writes the explanations into a file, in the format of the cases. */
 #include <string.h>
 
 #include "check.h"

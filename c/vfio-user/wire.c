@@ -59,7 +59,7 @@ static const char *open_stream(struct wire *it)
     connector_ask(&it->connector);
     has_end(it, connector_wait(&it->connector));
     if (it->file < 0)
-        log_line(LOG_WIRE, "%s: nothing is listening there yet; frames are lost until something does",
+        log_line(LOG_WIRE, "%s: nothing is listening there yet; frames are lost until a program listens",
                  it->options.path);
     return NULL;
 }

@@ -7,7 +7,7 @@
 
 enum { ROOM = 4096, MOST = 2000 };
 
-static const char whole[] = "rx: 1 frame is waiting, the first for queue 0\n"
+static const char whole[] = "rx: 1 frame is waiting; the oldest is for queue 0\n"
                             "rx 0: RXDCTL[0].ENABLE 1: a disable request is pending, but no `qstep rx 0` followed\n"
                             "rx 0: RDH[0] 0, RDT[0] 0: head and tail meet, so the device owns no slot until the "
                             "driver advances the tail\n"

@@ -88,7 +88,7 @@ ABSENT: tuple[tuple[str, tuple[tuple[int, int, int, str], ...]], ...] = (
         (0x0E600, 0x0E7FC, 0x04, "FTQF"),
         (0x0EC30, 0x0EC30, 0x04, "SYNQF"),
     )),
-    ("skip: DPDK's poll runs to its bound", (
+    ("skip: DPDK's poll ends at its retry limit", (
         (0x08D00, 0x08D00, 0x04, "SECRXCTRL"),
         (0x08D04, 0x08D04, 0x04, "SECRXSTAT"),
         (0x08800, 0x08800, 0x04, "SECTXCTRL"),
@@ -97,7 +97,7 @@ ABSENT: tuple[tuple[str, tuple[tuple[int, int, int, str], ...]], ...] = (
         (0x0102C, 0x01FEC, 0x40, "RSCCTL"),
         (0x0D02C, 0x0DFEC, 0x40, "RSCCTL"),
     )),
-    ("skip: all writes of a step are in memory when it returns", (
+    ("skip: all writes of a step are in memory when the step returns", (
         (0x0100C, 0x01FCC, 0x40, "DCA_RXCTRL"),
         (0x0D00C, 0x0DFCC, 0x40, "DCA_RXCTRL"),
         (0x02200, 0x0223C, 0x04, "DCA_RXCTRL"),

@@ -1,5 +1,5 @@
-/* Measures the CPU time of a C library's calls, because other load on the machine affects CPU time little: register
-   accesses at all addresses and at tails, frames received and sent, snapshots and restores, and the hash.
+/* Measures a C library's calls in CPU time, which other load on the machine hardly affects: register accesses at all
+   addresses and at tails, frames received and sent, snapshots and restores, and the hash.
    benchmarks/editions links this with several libraries and runs the programs alternately. */
 #define MEASURE_CLOCK CLOCK_PROCESS_CPUTIME_ID
 #include "measure.h"

@@ -108,7 +108,7 @@ def check_causes(name: str, out: Path, wanted: int) -> None:
     causes = re.findall(r"^  (\S+) +\d+ points? lost: (.+)$", said(out), re.MULTILINE)
     for row, cause in causes:
         if NO_NAME.search(cause):
-            raise Wrong(f"the skeleton {name} loses {row} by: {cause}")
+            raise Wrong(f"the skeleton {name} loses {row} because of: {cause}")
     if len(causes) != wanted:
         raise Wrong(f"the skeleton {name} loses {len(causes)} rows, not {wanted}:\n{said(out)}")
 
@@ -199,7 +199,7 @@ def check_points(kit: Kit) -> str:
         "receive-empty ",
     ):
         if wanted not in printed:
-            raise Wrong(f'--require: it isn\'t said that "{wanted}":\n{printed}')
+            raise Wrong(f'--require: the output lacks "{wanted}":\n{printed}')
     suites = ElementTree.parse(out / "points.xml").getroot()
     found = [(it.get("name"), it.find("failure") is None) for it in suites.iter("testcase")]
     if found != [("receive-one", True), ("setup-crc", False), ("send-one", False)]:

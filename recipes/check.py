@@ -86,13 +86,13 @@ def of_github(name: str, text: dict[str, Any]) -> Job:
     steps = job["steps"]
     for step in steps:
         if bool(step.get("run")) == bool(step.get("uses")):
-            raise Wrong(f"{name}: a step neither runs nor uses something, or does both: {step}")
+            raise Wrong(f"{name}: a step must contain either `run` or `uses`: {step}")
     kept = [step["with"]["path"] for step in steps if step.get("uses", "").startswith("actions/upload-artifact@")]
     return Job(name, job["env"], [step["run"] for step in steps if "run" in step], kept)
 
 
 def of_gitlab(name: str, text: dict[str, Any]) -> Job:
-    """A runner runs before_script and script together."""
+    """Returns the job of a recipe for GitLab, whose runner runs before_script and script together."""
     (job,) = text.values()
     lines = "\n".join([*job["before_script"], *job["script"]])
     return Job(name, job["variables"], [lines], job["artifacts"]["paths"], [job["artifacts"]["reports"]["junit"]])

@@ -34,7 +34,7 @@ allowed() {
     local refused
     need gcc:gcc
     mkdir -p "$WORK"
-    gcc -std=c11 -O1 -o "$WORK/allowed.$$" "$ROOT/drivers/common/allowed.c" || die "compiling failed"
+    gcc -std=c11 -O1 -o "$WORK/allowed.$$" "$ROOT/drivers/common/allowed.c" || die "allowed.c doesn't compile"
     refused=$("$WORK/allowed.$$" "$@") || refused=${refused:-what it asks for}
     rm -f "$WORK/allowed.$$"
     [ -z "$refused" ] || die "this needs $refused"
@@ -45,7 +45,7 @@ allowed() {
 compare_sums() {
     local changed
     if [ "$(head -n 1 "$1")" != "# $2" ]; then
-        echo "not compared: ${1#"$ROOT/"} has the sums of $(head -n 1 "$1" | cut -c 3-)"
+        echo "not compared: ${1#"$ROOT/"} has the checksums of $(head -n 1 "$1" | cut -c 3-)"
         return
     fi
     changed=$(diff <(sed 1d "$1" | LC_ALL=C sort) \
@@ -114,8 +114,8 @@ update() {
     at=$(apt_folder)
     write_sources
     [ -n "$(find "$at/updated" -mmin -1440 2>/dev/null)" ] && return
-    say "reading Debian's lists${SUITE:+ of $SUITE}"
-    apt-get -qq update || die "Debian's lists${SUITE:+ of $SUITE} can't be read"
+    say "reading Debian's lists${SUITE:+ for $SUITE}"
+    apt-get -qq update || die "Debian's lists${SUITE:+ for $SUITE} can't be read"
     touch "$at/updated"
 }
 
@@ -133,7 +133,7 @@ get_source() {
         rm -rf "$to"
         mkdir -p "$to"
         say "getting the source of $1 $2"
-        (cd "$to" && apt-get -qq source "$1=$2" >"$to/log" 2>&1) || die "no source of $1 $2: see $to/log"
+        (cd "$to" && apt-get -qq source "$1=$2" >"$to/log" 2>&1) || die "can't fetch the source of $1 $2: see $to/log"
         mv "$to"/*/ "$to/source" || die "the source of $1 isn't a single folder: see $to"
         touch "$to/unpacked"
     fi
@@ -150,13 +150,14 @@ get_package() {
         mkdir -p "$to"
         say "getting the package $1"
         (cd "$to" && apt-get -qq download "$1" >"$to/log" 2>&1 && dpkg-deb -x ./*.deb . && rm ./*.deb) \
-            || die "no package $1: see $to/log"
+            || die "can't fetch or unpack the package $1: see $to/log"
         touch "$to/unpacked"
     fi
     echo "$to"
 }
 
-# Prints the package of the newest Linux source. Its name contains the kernel's version; linux-source depends on it.
+# Prints the name of the package with the newest Linux source, which linux-source depends on. The name contains the
+# kernel's version.
 linux_package() {
     apt-cache depends --important linux-source | sed -n 's/^ *Depends: \(linux-source-[0-9.]*\)$/\1/p' | head -n 1
 }
@@ -188,7 +189,7 @@ find_library() {
     INCLUDE=${NIC82599_INCLUDE:-$ROOT/c/include}
     LIBRARY=${NIC82599_ARCHIVE:-$ROOT/c/out/libnic82599.a}
     if [ -z "${NIC82599_ARCHIVE-}" ]; then
-        make -s -C "$ROOT/c" >&2 || die "make -C c doesn't build the library"
+        make -s -C "$ROOT/c" >&2 || die "make -C c failed to build the library"
     fi
     [ -f "$LIBRARY" ] || die "$LIBRARY doesn't exist"
     [ -f "$INCLUDE/nic82599.h" ] || die "$INCLUDE/nic82599.h doesn't exist"

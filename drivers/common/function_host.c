@@ -30,7 +30,7 @@ static void put(uint32_t address, uint32_t word)
     bus_write(run_bus, BUS_PHYSICAL, address, word);
 }
 
-/* Sets the receive address that follows the physical function's own. Only the virtual function's pool accepts it. */
+/* Sets receive address v + 1, for virtual function v. Only the virtual function's pool accepts it. */
 static void set_address(const uint8_t mac[6])
 {
     unsigned int entry = host.vf + 1, pair = 2 * entry;

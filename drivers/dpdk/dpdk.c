@@ -96,7 +96,7 @@ bool dpdk_start(const struct dpdk_options *options)
     rte_srand(SEED);
     rte_delay_us_callback_register(seam_wait);
     if (!bench_open(&bus) || !window_open(bus.functions)) {
-        problem("can't open the bench: out of memory, or its EEPROM's source text was refused");
+        problem("can't open the bench: out of memory, or the source of its EEPROM image was refused");
         return false;
     }
     if (rte_memseg_list_walk(lend, &lent) != 0) {

@@ -378,7 +378,7 @@ int main(int count, char **arguments)
 {
     struct words words;
     if (!read_words(count, arguments, &words)) {
-        fprintf(stderr, "functions: unknown arguments; its source file lists the valid ones\n");
+        fprintf(stderr, "functions: unknown arguments; drivers/dpdk/functions.c lists the valid ones\n");
         return 3;
     }
     FILE *trace = words.trace ? fopen(words.trace, "w") : NULL;

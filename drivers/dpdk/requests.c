@@ -214,8 +214,8 @@ static void block(const char *what, unsigned int at_once)
     waited += port_drain(F0);
     printf("  %-36s the host gets %u of %u immediately, %u after VF0 polls; VF0 gets %u of %u\n", what, came,
            AFTER_FLOOD, later, waited, FLOOD);
-    same("frames to the host after a full ring", came, at_once);
-    same("frames to the host, and later", came + later, AFTER_FLOOD);
+    same("frames to the host while VF0's ring is full", came, at_once);
+    same("frames to the host, before and after VF0 polls", came + later, AFTER_FLOOD);
     same("frames to a virtual function that doesn't poll", waited + (bus_counts(run_bus)->drops - drops), FLOOD);
 }
 
@@ -238,8 +238,8 @@ static void between(unsigned int from, unsigned int to)
     unsigned int got = port_drain(to);
     printf("  %s sends to %s's address: %u on the wire, %s receives %u\n", port_name(from), port_name(to), sent,
            port_name(to), got);
-    same("frames between pools, on the wire", sent, 1);
-    same("frames between pools, inside", got, 0);
+    same("frames between pools, sent on the wire", sent, 1);
+    same("frames between pools, delivered inside the device", got, 0);
 }
 
 static void stop_sending(void)

@@ -165,7 +165,7 @@ compile() {
     mkdir -p "$2"
     forget_changed "$2"
     make -s -j "${JOBS:-$(nproc)}" -f "$1" "${words[@]}" EXPLORER="${LIBRARY%.a}_explore.a" "${@:3}" && return
-    [ -n "$WHERE" ] || die "compiling failed"
+    [ -n "$WHERE" ] || die "the driver and its runs don't compile: see the compiler's messages above"
     local tree=
     [ -n "$TREE" ] || tree=$(tree_of "$DRIVER")
     uncompiled "$PLACE doesn't compile against DPDK $VERSION: see the compiler's messages above" \

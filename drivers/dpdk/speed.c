@@ -111,7 +111,7 @@ int measure(uint16_t card, uint16_t null)
         nothing[round] = round_of(null, false);
     }
     tell("ixgbe's driver, the bench", bench);
-    tell("the null driver, nothing", nothing);
+    tell("the null driver, no device", nothing);
     if (gone == 0)
         problem("no frame was sent");
     rte_eth_dev_stop(null);

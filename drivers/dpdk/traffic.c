@@ -224,7 +224,7 @@ static uint64_t frames_of_queue(uint16_t port, const struct rte_eth_stats *stats
     (void)stats;
     snprintf(name, sizeof name, "%s_q%u_packets", sends ? "tx" : "rx", queue);
     if (rte_eth_xstats_get_id_by_name(port, name, &id) != 0 || rte_eth_xstats_get_by_id(port, &id, &count, 1) != 1)
-        problem("no counter %s", name);
+        problem("the driver reports no counter %s", name);
     return count;
 }
 #endif
@@ -234,7 +234,7 @@ void counters(uint16_t port)
     struct rte_eth_stats stats;
     uint64_t all_in = 0, all_out = 0;
     if (rte_eth_stats_get(port, &stats) != 0) {
-        problem("no counters");
+        problem("the driver reports no counters");
         return;
     }
     for (unsigned int queue = 0; queue < QUEUES; queue++) {

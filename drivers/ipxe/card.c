@@ -39,7 +39,7 @@ static void nap(void)
 
 static bool fails(const char *what)
 {
-    fprintf(stderr, "card: %s: %s\n", what, errno ? strerror(errno) : "it isn't available");
+    fprintf(stderr, "card: %s: %s\n", what, errno ? strerror(errno) : "the system reported no error");
     return false;
 }
 
@@ -71,11 +71,11 @@ bool card_open(const struct card_setting *given)
         return fails(setting.trace);
     legacy_begin();
     if (!open_bus() || !window_open(setting.is_virtual))
-        return fails("the bench");
+        return fails("can't open the bench or its windows");
     if (!low_open())
-        return fails("memory at its address");
+        return fails("can't reserve the shared memory at its address");
     if (!trap_open(&privileged))
-        return fails("the process's signals");
+        return fails("can't handle the process's signals");
     if (setting.is_virtual)
         function_host_begin(0, function_mac);
     pci_open(card_function());

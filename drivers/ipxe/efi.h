@@ -65,7 +65,7 @@ void pools_serve(EFI_BOOT_SERVICES *services);
 void console_open(const char *keys, bool is_silent);
 /* Returns whether a key is available. There is a pause between keys. */
 bool console_has_key(void);
-/* Returns the event that a key signals. */
+/* Its address is the event that a key signals. */
 extern char console_event;
 
 /* ---- PCI (pci.c) ---- */

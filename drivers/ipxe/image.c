@@ -38,7 +38,7 @@ static bool read_whole(const char *name, struct bytes *whole)
     whole->length = whole->at ? fread(whole->at, 1, FILE_MOST, file) : 0;
     bool is_read = whole->at && !ferror(file) && whole->length > 0 && whole->length < FILE_MOST;
     if (!is_read)
-        fprintf(stderr, "efi: %s can't be read: %s\n", name, errno ? strerror(errno) : "its length");
+        fprintf(stderr, "efi: %s can't be read: %s\n", name, errno ? strerror(errno) : "it is empty or too long");
     if (file)
         fclose(file);
     return is_read;

@@ -71,7 +71,7 @@ static bool read_words(int count, char **given, struct words *words)
 
 static void tell(const struct words *words)
 {
-    printf("%" PRIu64 " trapped register accesses, %" PRIu64 " of configuration space;\n"
+    printf("%" PRIu64 " trapped register accesses, %" PRIu64 " accesses to configuration space;\n"
            "  translated legacy descriptors: %" PRIu64 " received, %" PRIu64 " sent\n",
            trap_count(), pci_accesses(), legacy_received(), legacy_sent());
     run_tell_counts();

@@ -67,7 +67,7 @@ static CALL attributes(EFI_PCI_IO_PROTOCOL *io, unsigned int operation, UINT64 a
     return EFI_SUCCESS;
 }
 
-/* One range of memory, with addresses equal to the bus's, and an end tag. */
+/* Returns one range of memory, whose addresses equal bus addresses, and an end tag. */
 static CALL bar_attributes(EFI_PCI_IO_PROTOCOL *io, UINT8 bar, UINT64 *supported, void **resources)
 {
     enum { RANGE = 0x8A, RANGE_BYTES = 0x2B, END_AT = 46, END = 0x79, BYTES = 48 };
@@ -119,8 +119,8 @@ static CALL unsupported(void)
 
 /* ---- the root bridge ---- */
 
-/* An address contains register, function, device and bus, from its low byte up. A register number above 255 is in the
-   high half. */
+/* Whether a configuration address is the device's. From its low byte up, an address contains register, function, device
+   and bus. A register number above 255 is in the high half. */
 static bool is_the_device(UINT64 address)
 {
     return (address >> 8 & 0xFFFFFF) == BUS_NUMBER << 16;
@@ -146,7 +146,7 @@ static CALL write_root(void *io, unsigned int width, UINT64 address, UINTN count
     return is_the_device(address) ? write_config(NULL, width, register_of(address), count, buffer) : EFI_SUCCESS;
 }
 
-/* One range of bus numbers, 0 to 255, and an end tag. */
+/* Returns one range of bus numbers, 0 to 255, and an end tag. */
 static CALL configuration(void *io, void **resources)
 {
     static uint8_t list[48] = {[0] = 0x8A, [1] = 0x2B, [3] = 2, [22] = 255, [39] = 1, [46] = 0x79};

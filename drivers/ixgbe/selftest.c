@@ -5,8 +5,8 @@
 
      selftest [--turn]        --turn: one bit of one value read is changed, to test the report
 
-   Status 0: exactly the registers known to fail (docs/CARD.md) do; 1: others do, or one of these passes; 2: no device;
-   3: unknown argument. */
+   Status 0: the registers known to fail (docs/CARD.md) fail, and no others; 1: another register fails, or one of these
+   passes; 2: the device can't be created; 3: unknown argument. */
 #include <inttypes.h>
 #include <stdbool.h>
 #include <stdio.h>
@@ -28,7 +28,7 @@ struct test {
 
 /* the result for a row in the table */
 struct result {
-    unsigned int passed, failed, absent; /* absent: failed registers at addresses without a register */
+    unsigned int passed, failed, absent; /* absent: those of the failed whose address has no register */
     uint32_t address, got, wanted;       /* the first failure's address and values */
     uint32_t more, fewer;                /* bits that read 1 but should be 0, and the reverse */
     bool without;                        /* no address of the row has a register */

@@ -5,7 +5,7 @@
 
 FOLDER contains ixgbe_ethtool.c and ixgbe_type.h. The header has the registers' names, the test types' numbers, the
 82599's table, the patterns and the tested bits of STATUS. Keep it in the run's folder and never add it to the
-repository: it is Linux's text.
+repository: its contents are copied from Linux.
 """
 
 from __future__ import annotations

@@ -201,7 +201,7 @@ static void set_functions(unsigned int count)
     snprintf(text, sizeof text, "%u", count);
     int error = put_text(FUNCTION_COUNT, text);
     if (error)
-        problem("%u virtual functions: %s", count, strerror(error));
+        problem("can't set the number of virtual functions to %u: %s", count, strerror(error));
 }
 
 static bool find_function(struct interface *it, unsigned int vf)
@@ -217,7 +217,8 @@ static unsigned int function_queues(void)
     return queues < FUNCTION_QUEUES ? queues : FUNCTION_QUEUES;
 }
 
-/* The PF's driver spreads the redirection table over four queues, regardless of how many the virtual functions have. */
+/* Spreads the redirection table over as many queues as a virtual function has, unless `reta` is given. The PF's driver
+   spreads it over four, regardless of how many they have. */
 static void redirect(const struct interface *host)
 {
     if (!(wanted & RETA))

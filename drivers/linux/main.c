@@ -99,7 +99,7 @@ static bool open_all(const struct words *words, FILE *trace)
         .turn_out = words->turn_out,
     };
     if (!run_open(&options, true)) {
-        problem("can't open the bench: out of memory, or its EEPROM's source text was refused");
+        problem("can't open the bench: out of memory, or the source of its EEPROM image was refused");
         return false;
     }
     bus_send_to(run_bus, peer_takes, NULL);

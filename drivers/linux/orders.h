@@ -19,12 +19,12 @@ enum order {
     ORDER_PHASE = 1, /* enters phase `count` of the run */
     ORDER_LINK,      /* link up (count 1) or down (0) */
     ORDER_EXPECT,    /* expects `count` frames from MAC, numbered from `first` */
-    ORDER_SENT,      /* frames that arrived unchanged and in order; all frames that arrived */
+    ORDER_SENT,      /* results: frames that arrived unchanged and in order; all frames that arrived */
     ORDER_SEND,      /* sends `count` frames to MAC, numbered from `first`; to `function`, by RSS */
     ORDER_ONE,       /* sends frame `first` to MAC; result 1 if the device accepted it */
-    ORDER_MESSAGES,  /* MSI-X messages that `function` has sent */
-    ORDER_ECHOES,    /* datagrams sent back */
-    ORDER_FAULTS,    /* faults so far; expects `count`, one for each offload, at the end */
+    ORDER_MESSAGES,  /* result: MSI-X messages that `function` has sent */
+    ORDER_ECHOES,    /* result: datagrams sent back */
+    ORDER_FAULTS,    /* result: faults so far; at the end, expects `count` faults, one for each offload */
     ORDER_VERDICT    /* end of the guest: `count` problems in `first` comparisons */
 };
 

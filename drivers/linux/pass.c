@@ -300,7 +300,7 @@ void pass_offloaded(const struct interface *it, unsigned int count)
     close_datagrams(it, file);
     equal("datagrams that were sent, none expected", order(ORDER_ECHOES, 0) - echoes, 0);
     equal("faults, and datagrams", order(ORDER_FAULTS, count) - faults, count);
-    printf("guest: %s: %u UDP datagrams through the kernel's stack with the driver's offloads: each is a fault\n",
+    printf("guest: %s: %u UDP datagrams through the kernel's stack with the driver's offloads: each causes a fault\n",
            it->name, count);
 }
 
@@ -313,8 +313,8 @@ static const uint8_t group_mac[6] = {0x01, 0x00, 0x5e, 0x01, 0x02, 0x03};
 static const uint8_t other_group_mac[6] = {0x01, 0x00, 0x5e, 0x11, 0x22, 0x33};
 static const uint8_t everybody_mac[6] = {0xff, 0xff, 0xff, 0xff, 0xff, 0xff};
 
-/* The membership that a socket requests, and which of these it should then receive: own, other, group, other group,
-   broadcast. */
+/* The membership that a socket requests, and the destinations of the frames that it should then receive: own, other,
+   group, other group, broadcast. */
 static const struct {
     const char *what;
     int kind; /* kind of membership; -1 for none */
@@ -362,7 +362,7 @@ void pass_filters(const struct interface *it)
             request.mr_type = (unsigned short)filters[i].kind;
             memcpy(request.mr_address, filters[i].address, 6);
             if (setsockopt(file, SOL_PACKET, PACKET_ADD_MEMBERSHIP, &request, sizeof request) != 0)
-                problem("%s: no membership: %s", it->name, strerror(errno));
+                problem("%s: the kernel refused the membership: %s", it->name, strerror(errno));
         }
         for (unsigned int k = 0; k < DESTINATIONS; k++) {
             bool comes = comes_in(file, to[k], 7 * k);

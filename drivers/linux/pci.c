@@ -268,7 +268,8 @@ static void access_memory(struct function *it, const struct operation_header *he
     else if (header->bar == TABLE_BAR && header->address + header->size <= TABLE_BYTES)
         access_table(it, header, data, to);
     else
-        problem("an access to BAR %u at 0x%" PRIx64 ", %u bytes", header->bar, header->address, header->size);
+        problem("an unsupported access to BAR %u at 0x%" PRIx64 ", %u bytes", header->bar, header->address,
+                header->size);
 }
 
 /* Serves one message. Returns true if the guest waits for a reply. */
@@ -277,13 +278,13 @@ static bool answer(struct function *it, const struct vhost_chain *chain)
     struct operation_header header;
     const uint8_t *data = chain->out + sizeof header;
     if (chain->out_length < sizeof header) {
-        problem("a short message from the guest's bus");
+        problem("a message from the guest's bus is shorter than its header");
         return chain->in != NULL;
     }
     memcpy(&header, chain->out, sizeof header);
     bool is_read = header.operation == CONFIG_READ || header.operation == MEMORY_READ;
     if (header.size > (is_read ? chain->in_length : chain->out_length - sizeof header)) {
-        problem("a message from the guest's bus with too few bytes");
+        problem("a message from the guest's bus has fewer bytes than its header specifies");
         return chain->in != NULL;
     }
     switch (header.operation) {
@@ -398,7 +399,7 @@ void pci_tell(void)
     for (unsigned int i = 0; i < function_count; i++) {
         const struct function *it = &functions[i];
         printf(i ? "virtual function %u" : "physical function ", i - 1);
-        printf(": %" PRIu64 " register accesses, %" PRIu64 " of configuration space; messages",
+        printf(": %" PRIu64 " register accesses, %" PRIu64 " accesses to configuration space; messages",
                bus_counts(run_bus)->accesses[i], it->config_reads + it->config_writes);
         for (unsigned int vector = 0; vector < VECTORS; vector++)
             if (it->by_vector[vector])

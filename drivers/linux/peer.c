@@ -94,7 +94,7 @@ static bool send_one(uint32_t number)
     return true;
 }
 
-/* Sends frames while the rings have room. When they are full, the guest's next tail write continues this. */
+/* Sends frames while the rings have room. When they are full, sending continues at the guest's next tail write. */
 static void go_on(void)
 {
     while (now.left && bus_least_room(run_bus) > ROOM_KEPT) {
@@ -142,7 +142,7 @@ static bool is_echo(const uint8_t *frame, size_t length)
            frame[37] == ECHO_PORT;
 }
 
-/* Swaps source and destination in each header, which leaves the checksums valid. */
+/* Sends a datagram back, with source and destination swapped in each header. The checksums stay valid. */
 static void echo(const uint8_t *frame, size_t length)
 {
     static uint8_t back[FRAME_JUMBO];
@@ -214,7 +214,7 @@ void peer_orders(uint32_t what, struct order_words *words)
 {
     bool needs_most = what == ORDER_EXPECT || what == ORDER_SEND || what == ORDER_ONE;
     if (needs_most && (words->most < FRAME_MIN || words->most > FRAME_JUMBO)) {
-        problem("an order for %" PRIu32 "-byte frames", words->most);
+        problem("an order for frames of up to %" PRIu32 " bytes, which is out of range", words->most);
         return;
     }
     switch (what) {

@@ -53,7 +53,7 @@ def started(words: Sequence[str | Path], **how: Any) -> subprocess.Popen[bytes]:
 
 
 def end_all() -> None:
-    """Makes QEMU exit by itself, so that it restores the terminal."""
+    """Ends the processes. Asks each to exit first, so that QEMU restores the terminal."""
     for process in processes:
         if process.poll() is None:
             process.terminate()
@@ -413,7 +413,7 @@ def arm64(place: Place) -> str:
     with running(server, guest):
         text, output = guest.end(), server.end()
     if len(re.findall("4 packets received", text)) != 2:
-        raise Wrong("8 pings weren't answered:\n" + text[-1500:])
+        raise Wrong("not all 8 pings were answered:\n" + text[-1500:])
     clean(output)
     return f"8 of 8 pings, {seconds_of(text)}"
 
@@ -519,7 +519,7 @@ def iommu(place: Place) -> str:
 
 @contextmanager
 def function_guest(place: Place, script: str) -> Iterator[tuple[Server, Guest]]:
-    """The physical function in one guest, and a script in another guest with a virtual function."""
+    """Boots a guest with the physical function, and then a guest with a virtual function that runs a script."""
     server = Server(place, "host", "--functions=2", "--hairpin")
     host = Machine(place, "kernel-6.1", (HERE / "guest/host.sh").read_text())
     shadows = [device(Path(f"{server.path}.shadow{v}"), addr=f"0.{v + 1}") for v in range(2)]
@@ -599,7 +599,7 @@ def vlan(place: Place) -> str:
     text, output, other = back_to_back(place, "vlan", scripts)
     has(text, "guest", r"^MTU: 1500 1500$")
     if len(re.findall(r"^10 packets transmitted, 10 packets received", text, re.MULTILINE)) != 2:
-        raise Wrong("20 pings weren't answered:\n" + text[-2000:])
+        raise Wrong("not all 20 pings were answered:\n" + text[-2000:])
     has(text, "guest", r"^checksums match$")
     has(text, "guest", r"^fragments made: 0$")
     longer: list[str] = []
@@ -619,7 +619,7 @@ def two_guests(mtu: int) -> Callable[[Place], str]:
         has(text, "guest", r"^checksums match$")
         took = re.search(r"^real\s+(\S.*)$", text, re.MULTILINE)
         has(other, "server", r"[1-9]\d* TSO sends in [1-9]\d* segments, dropped 0, given up 0;")
-        return f"8 MiB over HTTP, sums equal, in {took[1] if took else '?'}; " + other.splitlines()[-1]
+        return f"8 MiB over HTTP, checksums match, in {took[1] if took else '?'}; " + other.splitlines()[-1]
 
     return run
 

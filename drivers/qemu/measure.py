@@ -146,7 +146,7 @@ def none_wrong(text: str, card: Card) -> None:
     guest only lower the rate."""
     for end in (rf"^control: \d+ of {FRAMES}, twice 0, wrong 0", rf"^frames: received \d+ of {FRAMES} .* wrong 0$"):
         if len(re.findall(end, text, re.MULTILINE)) != 2:
-            raise Wrong(f"{card.name}: frames are wrong:\n" + "\n".join(text.splitlines()[-20:]))
+            raise Wrong(f"{card.name}: frames arrived twice or changed:\n" + "\n".join(text.splitlines()[-20:]))
 
 
 def rates_in(text: str, begin: str) -> list[float]:

@@ -7,7 +7,7 @@
 
      frames COUNT MOST   sends COUNT frames of 60 to MOST bytes to the card
      expect COUNT MOST   expects COUNT frames of 60 to MOST bytes from the card
-     came                prints how many of them have arrived, and in which time
+     came                prints how many of these have arrived, and within what time
 
    Each answer ends with "ok". The program ends when standard input does. */
 #define _POSIX_C_SOURCE 200809L

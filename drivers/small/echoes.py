@@ -92,7 +92,7 @@ class Wire:
         while len(came) < count:
             part = self.socket.recv(count - len(came))
             if not part:
-                raise Wrong("the card hung up")
+                raise Wrong("the card closed the connection")
             came += part
         return came
 

@@ -206,7 +206,7 @@ def expect(what: str, is_so: bool, detail: object = "") -> None:
 
 
 def try_access(program: str) -> None:
-    """Configuration space, registers, posted writes, the shim's answers."""
+    """Tests configuration space, registers, posted writes and the shim's answers."""
     card = Card(program, 1)
     host, function = card.guests
     expect("vendor and device", host.read(CONFIG_READ, 0) == 0x10F78086)
@@ -231,7 +231,7 @@ def try_access(program: str) -> None:
 
 
 def try_interrupts(program: str) -> None:
-    """A message waits for a buffer, for MSI-X and for its mask bit."""
+    """Tests that a message waits for a buffer, until MSI-X is enabled, and until its vector is unmasked."""
     card = Card(program)
     host = card.guests[0]
     for at, word in enumerate((0xFEE00000, 0, 77, 1)):
@@ -253,7 +253,7 @@ def try_interrupts(program: str) -> None:
 
 
 def try_frames(program: str) -> None:
-    """Frames each way: unchanged, changed, unexpected, and one that the device doesn't accept."""
+    """Tests frames each way: unchanged, changed, unexpected, and one that the device doesn't accept."""
     card = Card(program)
     host = card.guests[0]
     host.drive()
@@ -283,7 +283,7 @@ def try_frames(program: str) -> None:
 
 
 def try_faults(program: str) -> None:
-    """The number of offload faults must be the one that the guest expects."""
+    """Tests that the number of offload faults must be the one that the guest expects."""
     for expected, wanted in ((1, 0), (0, 1), (2, 1)):
         card = Card(program)
         host = card.guests[0]
@@ -297,7 +297,7 @@ def try_faults(program: str) -> None:
 
 
 def try_turns(program: str) -> None:
-    """One byte of the tenth frame is changed, each way."""
+    """Tests that --turn changes one byte of the tenth frame, each way."""
     for way in ("in", "out"):
         card = Card(program, 0, "--turn", way)
         host = card.guests[0]
@@ -311,11 +311,11 @@ def try_turns(program: str) -> None:
             alike += host.received(slot) == frame(number, CARD_MAC, PEER_MAC)
         host.verdict(0, 12)
         status, said = card.end()
-        expect(f"--turn {way} turns one frame", (alike, status) == ((11, 0) if way == "in" else (12, 1)), said)
+        expect(f"--turn {way} changes one frame", (alike, status) == ((11, 0) if way == "in" else (12, 1)), said)
 
 
 def try_ends(program: str) -> None:
-    """Checks what ends with status 1: a missing verdict, a bad one, malformed messages."""
+    """Tests that a missing verdict, a bad verdict and malformed messages end with status 1."""
     for what, wrong in (("no verdict", None), ("a bad verdict", 3)):
         card = Card(program)
         if wrong is not None:
@@ -340,7 +340,7 @@ def try_ends(program: str) -> None:
 
 
 def try_words(program: str) -> None:
-    """Unknown arguments."""
+    """Tests that unknown arguments are refused with status 3."""
     for words in (["--what"], ["--functions", "8", "--socket", "x"], ["--socket"], ["--without", "X", "--socket", "x"]):
         ended = subprocess.run([program, *words], capture_output=True, check=False)
         expect(f"status 3: {' '.join(words)}", ended.returncode == 3, ended.stderr)

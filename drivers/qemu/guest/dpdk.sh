@@ -31,6 +31,6 @@ usleep 300000
 kill -INT $!
 wait
 head -30 /tmp/output
-echo "guest: and at last"
+echo "guest: the last lines:"
 tail -20 /tmp/output
 counts

@@ -55,7 +55,7 @@ static bool open_interface(struct interface *it, const char *name)
     return bind(it->file, (const struct sockaddr *)&at, sizeof at) == 0;
 }
 
-/* Frames, each after its length. All of them are built before the first is sent, or compared after the last has
+/* Frames, each preceded by its length. All of them are built before the first is sent, or compared after the last has
    arrived, so neither affects the timing. */
 struct store {
     uint8_t *bytes;
@@ -118,7 +118,7 @@ static int send_frames(const struct interface *it, unsigned int count, unsigned 
         if (!send_one(it, bytes, length))
             return 1;
     }
-    printf("frames: sent %u of at most %u bytes in %.3f s\n", count, most, now() - began);
+    printf("frames: sent %u frames of at most %u bytes in %.3f s\n", count, most, now() - began);
     free(store.bytes);
     return 0;
 }
@@ -155,8 +155,8 @@ static int receive_frames(const struct interface *it, unsigned int count, unsign
         const uint8_t *bytes = next_of(&store, &at, &length);
         numbered_take(&numbered, bytes, length);
     }
-    printf("frames: received %u of %u of at most %u bytes in %.3f s, twice %u, wrong %u\n", numbered.good, count, most,
-           store.last - store.first, numbered.twice, numbered.wrong);
+    printf("frames: received %u of %u frames of at most %u bytes in %.3f s, twice %u, wrong %u\n", numbered.good, count,
+           most, store.last - store.first, numbered.twice, numbered.wrong);
     free(store.bytes);
     return numbered.good == count && !numbered.twice && !numbered.wrong ? 0 : 1;
 }

@@ -33,7 +33,7 @@ COUNTS = ["device: received 5 frames in 5 descriptors, sent 5 from 5; faults {fa
 GOOD = """@search carrier 1
 @search answered 1
 control: 300 of 300, twice 0, wrong 0
-frames: received 300 of 300 of at most 1400 bytes in 0.1 s, twice 0, wrong 0
+frames: received 300 of 300 frames of at most 1400 bytes in 0.1 s, twice 0, wrong 0
 @search pings 10 10""".splitlines()
 RECORD = """w 0x03000 0x00000001         # done
 w 0x06018 0x00000002         # done

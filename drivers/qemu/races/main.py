@@ -150,7 +150,7 @@ class Search:
 
     def run(self) -> int:
         many = min(self.words.jobs, len(self.tasks))
-        print(f"{NAME}: {many} guests at a time over {len(self.tasks)} seeds; each boots first", flush=True)
+        print(f"{NAME}: {many} guests at a time try {len(self.tasks)} seeds; each guest boots first", flush=True)
         threads = [threading.Thread(target=self.work, daemon=True) for _ in range(many)]
         for thread in threads:
             thread.start()

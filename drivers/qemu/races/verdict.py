@@ -35,7 +35,7 @@ KINDS = {
     "tail outside": "a tail was moved outside its ring",
     "tail off": "the tail of a disabled ring was moved",
     "fault": "the device met a fault",
-    "refused": "the server refused another access",
+    "refused": "the server refused an access for another reason",
     "not tried": "the reporter's script reported that its test can't be run here",
     "slow": "a processor or a process was stuck for seconds, and recovered",
 }

@@ -30,7 +30,7 @@ class Access:
 
     @property
     def family(self) -> str:
-        return f"{self.way} " + (self.name.split("[")[0] if not self.name.startswith("0x") else "of no register")
+        return f"{self.way} " + (self.name.split("[")[0] if not self.name.startswith("0x") else "unknown registers")
 
     @property
     def gives(self) -> bool:

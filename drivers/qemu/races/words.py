@@ -63,7 +63,8 @@ def parser() -> Words:
     it.add_argument("--seeds", type=seeds_of, default="1-20", metavar="A-B", help="seeds to try (1-20)")
     it.add_argument("--rounds", type=positive, help="rounds of operations per seed (4, or 2 with --case)")
     it.add_argument("--processors", type=positive, default=4, help="the guest's processors (4)")
-    it.add_argument("--jobs", type=positive, default=max(1, (os.cpu_count() or 2) // 2), help="guests at a time")
+    it.add_argument("--jobs", type=positive, default=max(1, (os.cpu_count() or 2) // 2),
+                    help="guests to run at the same time (half the number of processors)")
     it.add_argument("--seeds-a-boot", type=positive, default=8, metavar="N",
                     help="seeds to try in a guest before it is replaced (8)")
     it.add_argument("--again", choices=("each", "new", "none"),
@@ -93,7 +94,7 @@ def add_own(it: Words) -> None:
                      help="a program from this machine for the guest's /bin, with its libraries, or another file")
     sought = it.add_argument_group("what to search for")
     sought.add_argument("--match", type=pattern, metavar="PATTERN",
-                        help="count only matches: a finding or, after a fatal finding, a console line")
+                        help="count a seed only if a finding matches or, after a fatal finding, a console line")
     sought.add_argument("--bisect", action="store_true",
                         help="exit with a status for `git bisect run`, and stop at the first failing seed")
 

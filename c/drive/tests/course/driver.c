@@ -408,7 +408,7 @@ static bool mailbox_send(uint8_t vf, const uint32_t *words, uint32_t count)
 {
     /* TODO 6: take the mailbox. If it contains a request from the virtual function (is_asked), release it (write 0) and
        return false. Otherwise write the words, starting at PFMBMEM(16 * vf). PFMAILBOX.STS announces them and releases
-       it. */
+       the mailbox. */
     if (!take_mailbox(vf))
         return false;
     if (is_asked(vf)) {

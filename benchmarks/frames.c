@@ -61,7 +61,7 @@ static void write_register(uint32_t address, uint32_t word)
     must(nic_write32(&n, address, word) == NIC_DONE, "nic_write32");
 }
 
-/* TCP over IPv4 from a different address and port for each flow, to 02:00:00:00:00:01. */
+/* Builds the frames: TCP over IPv4 from a different address and port for each flow, to 02:00:00:00:00:01. */
 static void make_frames(void)
 {
     static const uint8_t head[] = {2, 0, 0,  0, 0, 1, 2,  0, 0, 0,  0,  9, 8, 0,  0x45, 0, 5, 0xdc, 0, 0, 0, 0, 64,  6,

@@ -86,7 +86,8 @@ static bool is_for_us(const uint8_t *frame)
     return false;
 }
 
-/* Returns the first half of a frame's descriptors, and its queue, which depends on the IPv4 addresses and ports. */
+/* Returns the first half of a frame's descriptors. Stores the frame's queue, which depends on the IPv4 addresses and
+   ports. */
 static uint64_t sorted(const uint8_t *frame, size_t length, uint16_t *queue)
 {
     const uint8_t *packet = frame + 14;
@@ -335,7 +336,7 @@ MINE uint8_t nic_write32(nic *n, uint32_t address, uint32_t word)
     return NIC_DONE;
 }
 
-/* 32 bits of the key, starting at a bit. */
+/* Returns the 32 bits of the key that start at this bit. */
 static uint32_t key_from(uint32_t bit)
 {
     uint32_t window = 0;

@@ -59,7 +59,7 @@ static bool is_output(uint8_t code)
     return code == 0xEE || code == 0xEF || code == 0xE6 || code == 0xE7;
 }
 
-/* No device answers at any port, so a read returns all ones. */
+/* Emulates a read from a port, where no device answers: it returns all ones. */
 static void read_port(struct instruction *it, uint8_t code, bool is_short)
 {
     if (!(code & 1))

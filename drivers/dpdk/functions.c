@@ -189,8 +189,8 @@ static bool differs(void (*expect)(unsigned int gets[2]))
     return end_all();
 }
 
-/* Without RSS and with up to 31 virtual functions, DPDK's PF driver selects MRQC 0xC or 0xD. The bench then uses only
-   the first queue, which belongs to VF0. */
+/* Expects all frames at VF0. Without RSS and with up to 31 virtual functions, DPDK's PF driver selects MRQC 0xC or 0xD.
+   The bench then uses only the first queue, which belongs to VF0. */
 static void all_to_one(unsigned int gets[2])
 {
     gets[0] = 0;
@@ -202,8 +202,8 @@ static bool without_rss(void)
     return differs(all_to_one);
 }
 
-/* RSS spreads a pool's frames over the pool's queues. A virtual function with one queue never gets the frames of the
-   second queue. */
+/* Expects at VF0 only the frames of its pool's first queue. RSS spreads a pool's frames over the pool's queues, so a
+   virtual function with one queue never gets the frames of the second queue. */
 static void first_queue_alone(unsigned int gets[2])
 {
     gets[0] = DIFFERENT;

@@ -17,7 +17,8 @@ static bool is_said(void)
     return count++ < SAID_MOST;
 }
 
-/* DPDK hashes words in the machine's byte order; on the wire they are big-endian. */
+/* Returns rte_softrss's hash of an input in wire order. rte_softrss takes words in the machine's byte order; on the
+   wire they are big-endian. */
 static uint32_t soft_hash(const uint8_t *input, size_t length, const uint8_t *key)
 {
     uint32_t words[HASH_INPUT_MAX / 4];

@@ -60,7 +60,7 @@ static void receive(struct lcore *it)
     atomic_fetch_add(&passed, count);
 }
 
-/* The two queues share the frame numbers: each sends every second frame. */
+/* Builds the next packet that an lcore sends. The two queues share the frame numbers: each sends every second frame. */
 static struct rte_mbuf *next_packet(struct lcore *it)
 {
     struct frame frame;

@@ -27,7 +27,7 @@ static uint64_t all_in[BUS_FUNCTIONS], all_out[BUS_FUNCTIONS];
 static uint64_t alike_in, alike_out, hashes;
 static unsigned int gone; /* frames that were sent without being compared */
 
-/* Each port has a separate range of frame numbers. */
+/* Returns the number of a port's frame in a pass. Each port has a separate range of numbers. */
 static uint32_t number_of(unsigned int which, unsigned int frame)
 {
     return which * setting.frames + frame;

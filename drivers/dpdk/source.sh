@@ -74,7 +74,7 @@ build_tree() {
         rm -rf "$at"
         mkdir -p "$at"
         meson setup "$at/build" "$TREE" --prefix="$at/installed" --libdir=lib -Ddefault_library=static \
-            "${options[@]}" >"$at/log" 2>&1 || { grep -a ERROR "$at/log" >&2; uncompiled "meson fails: $at/log"; }
+            "${options[@]}" >"$at/log" 2>&1 || { grep -a ERROR "$at/log" >&2; uncompiled "meson fails: see $at/log"; }
         echo "${options[*]}" >"$at/options"
     fi
     [ ! -f "$at/done" ] || [ "$(ninja -C "$at/build" -n | tail -n 1)" != "ninja: no work to do." ] || return 0
@@ -82,9 +82,9 @@ build_tree() {
     say "building the libraries of $TREE"
     ninja -C "$at/build" -j "${JOBS:-$(nproc)}" >"$at/log" 2>&1 || {
         grep -aE -A 8 'error:|^FAILED' "$at/log" | head -n 40 >&2
-        uncompiled "the libraries of $TREE don't compile: $at/log"
+        uncompiled "the libraries of $TREE don't compile: see $at/log"
     }
-    meson install -C "$at/build" --no-rebuild --quiet >"$at/log" 2>&1 || die "meson install fails: $at/log"
+    meson install -C "$at/build" --no-rebuild --quiet >"$at/log" 2>&1 || die "meson install fails: see $at/log"
     touch "$at/done"
 }
 

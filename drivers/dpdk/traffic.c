@@ -216,7 +216,7 @@ static uint64_t frames_of_queue(uint16_t port, const struct rte_eth_stats *stats
     return sends ? stats->q_opackets[queue] : stats->q_ipackets[queue];
 }
 #else
-/* Queues have only extended statistics. */
+/* Since 25.11, only the extended statistics count frames by queue. */
 static uint64_t frames_of_queue(uint16_t port, const struct rte_eth_stats *stats, bool sends, unsigned int queue)
 {
     char name[RTE_ETH_XSTATS_NAME_SIZE];

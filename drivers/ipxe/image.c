@@ -9,7 +9,7 @@
 enum { FILE_MOST = 8 << 20, MACHINE_X64 = 0x8664, FORMAT_64 = 0x20B, HEADER = 24, SECTION = 40, RELOCATIONS = 5 };
 enum { FIX_32 = 3, FIX_64 = 10, FIX_HEADER = 8 };
 
-/* A complete file, or the part of it that starts at `at` and is `left` bytes long. */
+/* The `length` bytes at `at`: a file, or an image in memory. */
 struct bytes {
     uint8_t *at;
     size_t length;

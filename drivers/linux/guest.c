@@ -160,7 +160,7 @@ static void down_and_up(const struct interface *it)
     pass(it, FEW, FRAME_MAX, queues);
 }
 
-/* docs/CARD.md lists the expected results. */
+/* Sends datagrams with the driver's offloads on. docs/CARD.md lists the expected results. */
 static void with_offloads(const struct interface *it)
 {
     bring_up(it);

@@ -52,15 +52,15 @@ suite() {
 # Removes the lists when the run ends for any reason.
 forget_lists() { rm -rf "$FETCHED/lists"; }
 
-# archives NAME SUITE WORDS..: prints the size of the packages that apt-get fetches for these words, fetches and unpacks
-# them. NAME/packages lists the packages with their checksums.
+# archives NAME SUITE WORDS..: prints the size of the packages that apt-get fetches for these words, then fetches and
+# unpacks them. NAME/packages lists the packages with their checksums.
 archives() {
     local name=$1 from=$2 at=$FETCHED/$1 deb count total
     shift 2
     mkdir -p "$at/archives/partial" "$at/root"
     APT+=(-o "Dir::Cache::archives=$at/archives")
     apt-get "${APT[@]}" -y --print-uris "$@" 2>"$at/log" | sed -n "/^'/p" >"$at/uris" ||
-        die "$name: the packages can't be determined: see $at/log"
+        die "$name: apt-get can't list the packages: see $at/log"
     count=$(wc -l <"$at/uris")
     total=$(awk '{ bytes += $3 } END { printf "%d", bytes / 1048576 + 1 }' "$at/uris")
     say "$name: fetching $count $([ "$count" = 1 ] && echo package || echo packages) from $from, $total MB"

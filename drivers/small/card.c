@@ -115,7 +115,7 @@ static void put(struct slot *slot, nic_desc d)
     slot->words[3] = (uint32_t)(d.second >> 32);
 }
 
-/* Reads the second half, its low word (with DD) first. */
+/* Reads the second half of a descriptor, its low word (with DD) first. */
 static nic_desc get(const struct slot *slot)
 {
     uint64_t low = slot->words[2];

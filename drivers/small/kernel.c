@@ -17,7 +17,7 @@ static void say_link(void)
     say(card_has_link() ? "kernel: link up\n" : "kernel: link down\n");
 }
 
-/* Swaps the frame's addresses: its sender becomes its destination. */
+/* Addresses a frame to its sender, from the card's own address. */
 static void turn_round(uint8_t *frame)
 {
     for (unsigned k = 0; k < ADDRESS; k++) {
@@ -29,7 +29,7 @@ static void turn_round(uint8_t *frame)
 /* Sends the received frames back until none is left or no slot is free. A frame without a slot stays in its buffer. */
 static void echo(void)
 {
-    static bool is_swapped; /* the oldest frame has its addresses swapped but found no free slot */
+    static bool is_swapped; /* the oldest frame has its new addresses, but found no free slot */
     uint16_t length;
     for (uint8_t *frame = card_frame(&length); frame; frame = card_frame(&length)) {
         if (!is_swapped)

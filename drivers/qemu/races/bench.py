@@ -186,7 +186,7 @@ class Relay(Guest):
 
 
 def is_locked(lines: Sequence[str]) -> bool:
-    """Returns whether a lockup was reported, and no operation has begun since the first such report."""
+    """Returns whether a lockup was reported, and no operation has begun since the last such report."""
     for line in reversed(lines):
         if line.startswith("@search doing"):
             return False

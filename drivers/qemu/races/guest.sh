@@ -169,7 +169,7 @@ sent() {
     done
 }
 
-# The physical function's check: frames from the wire are sent to its address.
+# The physical function's check: numbered frames go both ways. Frames from the wire are sent to its address.
 exchange() {
     doing exchange
     neighbour

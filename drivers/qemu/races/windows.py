@@ -131,7 +131,7 @@ def with_tails(lines: Iterable[str]) -> list[Window]:
 
 def text_of(found: list[Window], most: int = 3) -> str:
     """Returns the last windows as text."""
-    text = f"the card was given a frame {len(found)} times while it was down\n"
+    text = f"periods in which the card was given a frame while it was down: {len(found)}\n"
     for window in found[-most:]:
         text += "\n" + "\n".join(rows_of(window)) + "\n"
     return text

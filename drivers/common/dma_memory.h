@@ -32,7 +32,7 @@ struct dma_memory {
     uint64_t to_device, to_driver, refusals;
 };
 
-/* Starts with no memory lent. Set `bus` first. */
+/* Starts with no memory lent and without a bus. Set `bus` afterwards, before memory is lent. */
 void memory_begin(struct dma_memory *it, bool is_copied);
 
 /* Sets the bus callbacks that the memory needs, with `it` as their `of`. An existing `writing` or `reset` stays; with

@@ -8,10 +8,11 @@
 
 #include "bus.h"
 
-/* By messages (nic_int_step): vector 0 calls the function's handler. `by_line`: virtual functions still use messages,
-   but the PF's handler is called when the card's line is up for a cause other than a queue's. The PF's driver assigns
-   no vector to such causes unless its queues have vectors. `late`: handlers are called only at every `late`-th read of
-   a function's VFMAILBOX, which its driver polls; 0 calls them after each write. */
+/* What calls the handlers. By default, messages do (nic_int_step): vector 0 calls the function's handler. `by_line`:
+   virtual functions still use messages, but the PF's handler is called when the card's line is up for a cause other
+   than a queue's. The PF's driver assigns no vector to such causes unless its queues have vectors. `late`: handlers are
+   called only at every `late`-th read of a function's VFMAILBOX, which its driver polls; 0 calls them after each
+   write. */
 struct handlers_way {
     bool by_line;
     unsigned int late;

@@ -1,5 +1,5 @@
 /* Compares the hash that DPDK's driver reports with three others: DPDK's rte_softrss, the library's nic_hash, and the
-   one in drivers/common. Also sets queues. */
+   one in drivers/common. Also sets the redirection table. */
 #ifndef HASHES_H
 #define HASHES_H
 

@@ -11,7 +11,8 @@ void turns_share(void);
 void turns_enter(void);
 void turns_leave(void);
 
-/* Acquires the device exclusively, waiting until no thread is in the driver, and releases it. */
+/* turns_take acquires the device exclusively, after waiting until no thread is in the driver. turns_give_back releases
+   it. */
 void turns_take(void);
 void turns_give_back(void);
 

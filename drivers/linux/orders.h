@@ -20,7 +20,7 @@ enum order {
     ORDER_LINK,      /* link up (count 1) or down (0) */
     ORDER_EXPECT,    /* expects `count` frames from MAC, numbered from `first` */
     ORDER_SENT,      /* results: frames that arrived unchanged and in order; all frames that arrived */
-    ORDER_SEND,      /* sends `count` frames to MAC, numbered from `first`; to `function`, by RSS */
+    ORDER_SEND,      /* sends `count` frames to MAC, numbered from `first`; RSS selects the queue in `function` */
     ORDER_ONE,       /* sends frame `first` to MAC; result 1 if the device accepted it */
     ORDER_MESSAGES,  /* result: MSI-X messages that `function` has sent */
     ORDER_ECHOES,    /* result: datagrams sent back */

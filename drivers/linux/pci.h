@@ -8,15 +8,15 @@
 
 #include "orders.h"
 
-/* Creates the functions and waits for a guest at PATH, and at PATH.v for virtual function v. Returns false, and reports
-   a problem, if it can't. Open the bus first. */
+/* Creates the functions, and listens for a guest at PATH, and at PATH.v for virtual function v. Returns false, and
+   reports a problem, if it can't. Open the bus first. */
 bool pci_open(const char *path, uint16_t device, unsigned int functions);
 
 /* Serves the guest until it exits. */
 void pci_serve(void);
 void pci_close(void);
 
-/* The handler for writes to ORDER_WHAT, which the run sets. */
+/* An order's arguments and results. The run sets the handler for writes to ORDER_WHAT (pci_order_to). */
 struct order_words {
     uint32_t count, first, most;
     uint16_t function;

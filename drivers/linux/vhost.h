@@ -39,7 +39,7 @@ void *vhost_memory(uint64_t address, uint64_t length);
 uint64_t vhost_memory_first(void);
 uint64_t vhost_memory_bytes(void);
 
-/* Waits for a guest at this path. Returns false and reports a problem if it can't. */
+/* Listens for a guest at this path. Returns false and reports a problem if it can't. */
 bool vhost_listen(struct vhost *vhost, const char *path);
 bool vhost_accept(struct vhost *vhost);
 void vhost_close(struct vhost *vhost);

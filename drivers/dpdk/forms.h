@@ -29,8 +29,8 @@ typedef struct ixgbe_tx_queue transmit_queue;
 uint16_t ixgbe_recv_pkts_vec(void *queue, struct rte_mbuf **packets, uint16_t count);
 uint16_t ixgbe_recv_scattered_pkts_vec(void *queue, struct rte_mbuf **packets, uint16_t count);
 
-/* Returns the mailbox functions. Older versions have a single struct; later ones have an array of two structs, the first
-   of which is for a virtual function. */
+/* Returns the mailbox functions. Older versions have a single struct; later ones have an array of two structs, the
+   first of which is for a virtual function. */
 static inline const struct ixgbe_mbx_operations *mailbox_calls(const struct ixgbe_hw *hw)
 {
     return (const struct ixgbe_mbx_operations *)&hw->mbx.ops;

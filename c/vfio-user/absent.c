@@ -36,8 +36,8 @@ static void count_one(void *of, unsigned int function, uint32_t offset, uint64_t
     it->unnamed += accesses;
 }
 
-/* Returns the index of the most accessed name and removes it from the counts; COUNT(absent) if none remain. Several
-   runs of registers with the same name count as one. */
+/* Finds the run of registers with the most accesses, and returns its index; COUNT(absent) if no counts remain. Sets
+   *accesses to the count for all runs with the same name, and removes these runs from the counts. */
 static size_t take_most(struct touched *it, uint64_t *accesses)
 {
     size_t most = COUNT(absent);

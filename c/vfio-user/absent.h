@@ -1,4 +1,5 @@
-/* Reports registers that guests' drivers accessed but the device doesn't have, with their names on a card. */
+/* Reports registers that guests' drivers accessed but the device doesn't have, with the names that they have on
+   silicon. */
 #ifndef VFU_ABSENT_H
 #define VFU_ABSENT_H
 
@@ -6,8 +7,8 @@
 
 struct bus;
 
-/* Prints a line for the physical function and one for all virtual functions, each with the most accessed names. Prints
-   nothing if there were no such accesses. */
+/* Prints a line for the physical function, which names the most accessed registers, and a line for all virtual
+   functions together. Omits a line if there were no such accesses. */
 void absent_tell(const struct bus *bus, FILE *to);
 
 #endif

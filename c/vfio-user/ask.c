@@ -76,7 +76,7 @@ int ask(const char *path, int count, char **requests)
         worst = one > worst ? one : worst;
     }
     if (worst == GONE)
-        fprintf(stderr, "the server at %s is gone\n", path);
+        fprintf(stderr, "the server at %s disconnected before it answered\n", path);
     fclose(control);
     return worst;
 }

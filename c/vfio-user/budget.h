@@ -25,7 +25,7 @@
 #define BUDGET_RESET 32768u        /* cost of a card reset, or of a function reset by its client */
 #define BUDGET_EXPECTED (1u << 20) /* bytes of expected frames built in each turn */
 #define BUDGET_INTERRUPTS 64u      /* interrupt messages of a function in each turn */
-#define BUDGET_MICROSECONDS 5000u  /* in each turn, for a client's messages, a function's interrupts, frames */
+#define BUDGET_MICROSECONDS 5000u  /* time limit per turn: a client's messages, a function's interrupts, wire frames */
 
 /* The payers: clients by their sockets (dma_socket), rings without an owner and the wire, requests at the control
    socket. */
@@ -45,7 +45,7 @@ static inline void budget_begin_turn(struct budget *it)
         it->left[payer] = BUDGET_PIECE;
 }
 
-/* After this call, charges a request at the control socket. */
+/* Gives a request at the control socket a new budget, and charges the work from now on to it. */
 static inline void budget_ask(struct budget *it)
 {
     it->payer = BUDGET_CONTROL;

@@ -21,7 +21,7 @@ static inline const uint8_t *buffer_front(const struct buffer *it)
     return it->bytes + it->at;
 }
 
-/* Appends two pieces, or returns false and appends neither if memory runs out. */
+/* Appends the head, then the bytes. If memory runs out, returns false and appends neither. */
 bool buffer_put(struct buffer *it, const void *head, size_t head_length, const void *bytes, size_t length);
 /* Removes this many bytes from the front. They must be in the buffer. */
 void buffer_take(struct buffer *it, size_t length);

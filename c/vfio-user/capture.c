@@ -102,7 +102,7 @@ static uint32_t half(const struct capture_reader *it, const uint8_t *at)
 }
 
 /* Finds the length of the frame in an enhanced or simple packet block. Returns whether the block contains a whole
-   Ethernet frame. */
+   Ethernet frame of at most `room` bytes. */
 static bool is_frame(const struct capture_reader *it, uint32_t type, const uint8_t *head, size_t body, size_t room,
                      size_t *length)
 {
@@ -119,7 +119,7 @@ static bool skip(FILE *file, size_t length)
     return fseek(file, (long)length - 1, SEEK_CUR) == 0 && fgetc(file) != EOF;
 }
 
-/* Returns the number of bytes at the start of a block's body that are read together. */
+/* Returns the length of the fixed fields at the start of a block's body; 0 for blocks whose body is skipped. */
 static size_t head_of(uint32_t type)
 {
     return type == ENHANCED ? 20 : type == INTERFACE ? 8 : type == SIMPLE ? 4 : 0;

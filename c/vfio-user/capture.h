@@ -28,9 +28,10 @@ struct capture_reader {
 
 enum capture_next { CAPTURE_FRAME, CAPTURE_END, CAPTURE_BROKEN };
 
-/* Reads a file's header. Returns false if it isn't a capture of Ethernet frames. */
+/* Reads a file's header. Returns false if the file isn't a capture of Ethernet frames. */
 bool capture_open(struct capture_reader *it, FILE *file);
-/* Reads the next frame, of at most `room` bytes. A longer frame, or a partly captured one, is broken. */
+/* Reads the next frame. Returns CAPTURE_BROKEN if the file is damaged, or if the frame is longer than `room` bytes or
+   was only partly captured. */
 enum capture_next capture_next(struct capture_reader *it, uint8_t *frame, size_t room, size_t *length);
 
 #endif

@@ -14,7 +14,7 @@
 #define TAG_HIGH 0x81u /* first byte of the type; the second is 0 */
 #define TAG_BYTES 4u
 #define CHECK_BYTES 4u     /* the frame check sequence, which frames on this wire don't have */
-#define USUAL_LENGTH 1518u /* maximum length including it, without jumbo frames */
+#define USUAL_LENGTH 1518u /* maximum length with the check sequence, without jumbo frames */
 
 /* ---- reports ---- */
 
@@ -37,7 +37,7 @@ static void refused(void *of, const char *what, struct dma by, uint16_t queue, s
 {
     const struct card *it = of;
     log_client(dma_socket(by), it->options.has_check ? LOG_CHECK : LOG_ACCESS,
-               "card: function %u, queue %u: %s, 0x%" PRIx64 ", %zu bytes", dma_function(where.of), queue, what,
+               "card: function %u, queue %u: %s at 0x%" PRIx64 ", %zu bytes", dma_function(where.of), queue, what,
                where.at, length);
     if (it->options.has_check)
         tell_accesses(it, dma_socket(by));
@@ -208,7 +208,7 @@ static void follow_causes(const struct card *it, struct function *function)
         function_line_after_access(function, card_causes(it));
 }
 
-/* Performs a client's register access, and charges the client for all work that it causes. */
+/* Begins a client's register access: charges the client for the access, and for all work that it causes. */
 static void begin_access(struct card *it, struct function *function)
 {
     it->active[function->number] = function;
@@ -232,7 +232,8 @@ uint32_t card_read(struct card *it, struct function *function, uint32_t offset)
     return word;
 }
 
-/* A write while the card is being reset has no effect. */
+/* Counts a register write that has no effect because the card is being reset. Reports each client's first such
+   write. */
 static void lose(struct card *it, const struct function *function, uint32_t offset)
 {
     const struct dma_address where = {dma_of(function), offset};
@@ -324,7 +325,7 @@ bool card_may_go_on(struct card *it, const struct function *function)
 
 /* ---- steps ---- */
 
-/* Returns whether a frame is longer than the device accepts only because of its tag. */
+/* Returns whether only its tag makes a frame longer than the device accepts. */
 static bool is_long_by_its_tag(const struct card *it, const uint8_t *frame, size_t length)
 {
     bool is_tagged = length > TAG_AT + 1 && frame[TAG_AT] == TAG_HIGH && frame[TAG_AT + 1] == 0;
@@ -388,7 +389,7 @@ uint32_t card_causes(const struct card *it)
     return bus_peek(it->bus, NIC_EICR) & bus_peek(it->bus, NIC_EIMS);
 }
 
-/* Returns whether the function may have a due message: a cause and its mask are set. Usually none are. */
+/* Returns whether the function may have a due message, because an enabled cause is raised. Usually none is. */
 static bool has_cause(const struct card *it, unsigned int function)
 {
     if (function == BUS_PHYSICAL)
@@ -448,7 +449,7 @@ bool card_has_left_some(const struct card *it)
 }
 
 /* Sends the descriptors that tails handed over, even if the queue or the link was off at that time. Returns whether
-   some remain. Each client pays for its queues. The first queue is the one at which the last turn's budget ended. */
+   some remain. Each client pays for its queues. Begins with the queue after the one that was served last. */
 static bool transmit_due(struct card *it)
 {
     struct stepper *stepper = &it->stepper;
@@ -486,7 +487,8 @@ bool card_enable(struct card *it, bool is_transmit, uint16_t queue)
     return is_done;
 }
 
-/* Enables and disables some of the requested queues. Returns whether requests remain. */
+/* Enables or disables some of the queues for which a driver requested that, chosen at random. Returns whether requests
+   remain. */
 static bool enable_asked(struct card *it)
 {
     struct stepper *stepper = &it->stepper;

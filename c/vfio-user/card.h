@@ -61,8 +61,8 @@ struct card {
     struct dma writer;  /* during a register write: the client that writes */
     bool is_busy;       /* work remains, but only because this turn's budget is spent */
     struct watch watch; /* accesses at which to hold the device */
-    /* by function number: its sockets, first the one for its own guest, then the shadow in the PF's guest; and the
-       socket that accessed it last */
+    /* by function number: the function's sockets (first its own guest's, then the shadow in the PF's guest), and the
+       socket that accessed the function last */
     struct function *sockets[1 + CARD_FUNCTIONS_MOST][CARD_SOCKETS];
     struct function *active[1 + CARD_FUNCTIONS_MOST];
     card_sink *sink;
@@ -117,8 +117,8 @@ unsigned int card_messages(struct card *it);
 void card_transmit(struct card *it, uint16_t queue);
 /* Enables or disables a side of a queue as requested. Returns false if nothing was requested. */
 bool card_enable(struct card *it, bool is_transmit, uint16_t queue);
-/* Returns whether the last of these calls stopped because the budget was spent. Another request then does the remaining
-   work. */
+/* Returns whether the last request's steps stopped because the request's budget was spent. Repeating the request does
+   the remaining work. */
 bool card_has_left_some(const struct card *it);
 
 /* Plugs the cable in or unplugs it. Returns the device's status. */

@@ -38,7 +38,8 @@ static void settle(struct channel *it)
     it->in_at = 0;
 }
 
-/* Keeps files that arrived with the last of the bytes up to in_end. Closes the files for which no room is left. */
+/* Keeps the files that arrived with the bytes just read, which end at in_end. Closes the files for which no room is
+   left. Returns false if a file was lost. */
 static bool take_files(struct channel *it, struct msghdr *head)
 {
     bool fits = !(head->msg_flags & MSG_CTRUNC);
@@ -84,8 +85,8 @@ enum channel_state channel_receive(struct channel *it)
     return take_files(it, &head) ? CHANNEL_OPEN : CHANNEL_WRONG;
 }
 
-/* Attaches to the message the files that belong to it: those that arrived before `end`, where it ends. Returns false if
-   there are too many. */
+/* Gives a message its files: those that arrived up to byte `end`, where the message ends. If there are too many, closes
+   the surplus and returns false. */
 static bool give_files(struct channel *it, struct message *message, size_t end)
 {
     unsigned int left = 0;

@@ -14,7 +14,7 @@
 #define CHANNEL_ROOM (4 * VFU_MESSAGE_MOST)
 #define CHANNEL_KEPT (64u << 10)
 #define CHANNEL_FILES (2 * VFU_FILES_MOST)
-#define CHANNEL_FILES_AT_ONCE 253 /* the kernel's limit: with less room it would close the rest, which takes time */
+#define CHANNEL_FILES_AT_ONCE 253 /* the kernel's limit: with less room, it would close some files, which takes time */
 
 /* A message. For each file, the receiver either closes it, or keeps it and sets its entry to -1. */
 struct message {

@@ -9,7 +9,7 @@
 #include <sys/socket.h>
 #include <unistd.h>
 
-#define FILES_AT_ONCE 253 /* the kernel's limit: with less room the kernel closes the others immediately */
+#define FILES_AT_ONCE 253 /* the kernel's limit: with less room, the kernel would close some immediately */
 
 struct waiting {
     int file;
@@ -66,7 +66,7 @@ static void await(struct queue *it)
     pthread_mutex_unlock(&it->lock);
 }
 
-/* The first thread handles signals. */
+/* Starts a queue's thread, which blocks all signals: the process's first thread handles them. */
 static bool start(struct queue *it)
 {
     pthread_t thread;
@@ -127,7 +127,7 @@ static void give(struct queue *it, int file, unsigned int owner)
         close(file);
 }
 
-/* Only memory files have seals, and the kernel itself answers. */
+/* Only memory files have seals. The kernel itself answers this query, without asking a file system. */
 bool closer_is_memory(int file)
 {
     return fcntl(file, F_GET_SEALS) >= 0;

@@ -1,8 +1,8 @@
-/* Closes files received from clients, in separate threads. Closing the last file of a gigabyte of memory takes a while.
-   Closing a foreign file (of a FUSE file system, a terminal, a network) can take as long as its owner likes. Each
-   owner's foreign files have their own thread, so they don't wait for another owner's files. Files of kernel memory
-   don't wait for any foreign file. Sockets count as foreign because their other end may have sent files that were never
-   received. So do eventfds, because a process that watches one with epoll can delay its close. */
+/* Closes files received from clients, in separate threads. Closing the last descriptor for a gigabyte of memory takes a
+   while. Closing a foreign file (on a FUSE file system, a terminal, a network connection) can take as long as its owner
+   likes. Each owner's foreign files have their own thread, so they don't wait for another owner's files. Files in
+   kernel memory don't wait for any foreign file. Sockets count as foreign because their other end may have sent files
+   that were never received. So do eventfds, because a process that watches one with epoll can delay its close. */
 #ifndef VFU_CLOSER_H
 #define VFU_CLOSER_H
 

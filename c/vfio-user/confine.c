@@ -67,7 +67,7 @@ static void lock_files(void)
     size_t size = version >= 6 ? sizeof rights : version >= 4 ? 2 * sizeof rights.files : sizeof rights.files;
     int rules = version > 0 ? (int)syscall(LANDLOCK_CREATE, &rights, size, 0) : -1;
     if (rules < 0 || syscall(LANDLOCK_RESTRICT, rules, 0) != 0)
-        log_line(LOG_SERVER, "this kernel has no Landlock (%s), so only the system call filter restricts files",
+        log_line(LOG_SERVER, "this kernel has no Landlock (%s), so only the system call filter limits access to files",
                  strerror(errno));
     if (rules >= 0)
         close(rules);
@@ -199,8 +199,8 @@ static void put_jump(struct program *it, uint16_t test, uint32_t value, uint8_t 
     put(it, (struct sock_filter)BPF_JUMP((uint16_t)(BPF_JMP | test | BPF_K), value, if_so, if_not));
 }
 
-/* Adds the rule of one call. The call's number is loaded before the rule, and stays loaded if the rule is for another
-   call. */
+/* Adds the rule for one system call. The number of the call to check is loaded before the rule, and stays loaded if the
+   rule is for another call. */
 static void put_rule(struct program *it, const struct rule *rule)
 {
     uint8_t arguments = (uint8_t)(rule->kind == ANY ? 0 : 1 + rule->count + 1);
@@ -248,7 +248,7 @@ static void make(struct program *it, enum confine_as what)
     put(it, (struct sock_filter)ANSWER(SECCOMP_RET_ERRNO | EPERM));
 }
 
-/* Returns false with errno set if it can't. */
+/* Installs the system call filter in all threads. Returns false with errno set if it can't. */
 static bool filter(enum confine_as what)
 {
     struct program program;

@@ -70,7 +70,7 @@ static const char *expect(struct request *it)
         for (int i = 0; i < 6; i++)
             from[i] = (uint8_t)mac[i];
     if (!end || it->rest[after ? after : end] || count > TRAFFIC_MOST || most < FRAME_MIN || most > FRAME_JUMBO)
-        return "expect COUNT MOST [FROM]: at most 1000000 frames of 60 to 9014 bytes, from this address";
+        return "expect COUNT MOST [FROM]: at most 1000000 frames of 60 to 9014 bytes, from MAC address FROM";
     return traffic_expect(&it->server->traffic, count, (uint16_t)most, from) ? NULL : short_of_memory;
 }
 
@@ -79,7 +79,7 @@ static const char *turn(struct request *it)
     struct traffic *traffic = &it->server->traffic;
     int end = 0;
     if (sscanf(it->rest, "%7u %7u%n", &traffic->turn_in, &traffic->turn_out, &end) != 2 || it->rest[end])
-        return "turn IN OUT: the numbers of a frame to the card and one from it, 0 for none";
+        return "turn IN OUT: the number of a frame to the card, and of a frame from the card; 0 for none";
     traffic->taken = 0;
     return NULL;
 }
@@ -245,12 +245,14 @@ static const struct {
     {"link", link_up_or_down, "link up, link down: plugs or unplugs the cable"},
     {"frames", frames, "frames COUNT MOST: sends COUNT numbered frames of 60 to MOST bytes to the card"},
     {"expect", expect, "expect COUNT MOST [FROM]: from now on, compares the card's frames with these numbered frames"},
-    {"turn", turn, "turn IN OUT: corrupts a byte in frame IN to the card and OUT from it, to test the comparison"},
+    {"turn", turn, "turn IN OUT: corrupts a byte in frame IN to the card and in frame OUT from it, to test comparing"},
     {"came", came, "prints how many of the expected frames have arrived"},
     {"hold", hold,
-     "holds the device, which then runs only requested steps; hold at PLACE: holds it at an access; hold at off"},
+     "holds the device, which then runs only requested steps; hold at PLACE: holds it at an access; "
+     "hold at off: clears these places"},
     {"go", go, "ends the hold: the device runs its steps by itself again"},
-    {"seed", seed, "seed N: from now on, each step runs immediately or late, at random with this seed; seed off"},
+    {"seed", seed,
+     "seed N: from now on, each step runs immediately or late, at random with this seed; seed off: immediately"},
     {"snapshot", snapshot, "snapshot NAME: saves the device's state; without a name: lists the snapshots"},
     {"restore", restore, "restore NAME: restores the device's state, but not the guest's"},
     {"due", due, "lists the steps that are due"},
@@ -258,7 +260,7 @@ static const struct {
     {"tx", transmit, "tx QUEUE: runs all of the queue's transmit steps, about 8 MB at a time"},
     {"rx", receive, "runs receive steps until none is due"},
     {"int", interrupt, "sends all messages that are due"},
-    {"qstep", queue_step, "qstep rx QUEUE, qstep tx QUEUE: turns the queue on or off as requested"},
+    {"qstep", queue_step, "qstep rx QUEUE, qstep tx QUEUE: turns the queue on or off as its driver requested"},
     {"eestep", eeprom, "completes an EEPROM read"},
     {"peek", peek, "peek ADDRESS: prints a register's value, without the side effects of a read"},
     {"help", help, "prints this list"},
@@ -327,7 +329,7 @@ static bool is_for_thread(const struct control_client *it, const struct server *
     return !it->is_long && strcmp(it->line, "why") == 0 && explain_file() >= 0 && !server->card.options.is_recorded;
 }
 
-/* Sends the answer to `why`; null if there was no memory for it. */
+/* Sends the answer to `why`, or an error if `text` is null because memory ran out. */
 static void say_answer(struct control_client *it, const char *text)
 {
     static const char last[] = "ok\n";

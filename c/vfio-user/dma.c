@@ -29,8 +29,9 @@ unsigned int dma_socket(struct dma it)
     return it.function ? it.function->socket : DMA_NOBODY;
 }
 
-/* Returns a pointer into a client's memory; no other function does. *length is the wanted number of bytes, and becomes
-   the number that is contiguous here. */
+/* Returns a pointer into a client's memory; null if the client has left or may not access the address. Every access to
+   a client's memory goes through this function. *length is the wanted number of bytes, and becomes the number that is
+   contiguous here. */
 static void *run(struct dma_address at, size_t *length, bool write)
 {
     return dma_is_alive(at.of) ? memory_map_run(&at.of.function->session.map, at.at, length, write) : NULL;

@@ -22,7 +22,7 @@ struct dma_address {
     uint64_t at;
 };
 
-/* Returns the right of the function's current client. */
+/* Returns the capability for the memory of the function's current client. */
 struct dma dma_of(const struct function *function);
 bool dma_is(struct dma it, struct dma other);
 /* Returns whether its client is still connected. */

@@ -5,11 +5,11 @@
 
 #include <stdbool.h>
 
-/* Installs the handlers. Returns false with errno set if it can't. Also ignores SIGPIPE and SIGXFSZ, so that the write
-   itself reports the error. */
+/* Installs the handlers. Returns false with errno set if it can't. Also ignores SIGPIPE and SIGXFSZ, so that a write
+   that fails returns an error instead. */
 bool ending_open(void);
 bool ending_is_asked(void);
-/* Returns a file that is readable when an end was requested. */
+/* Returns a file that becomes readable when a signal requests the server's exit. */
 int ending_file(void);
 
 #endif

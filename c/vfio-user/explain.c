@@ -84,7 +84,7 @@ static void *answer_all(void *nothing)
     return NULL;
 }
 
-/* The first thread handles signals. */
+/* Starts the thread with all signals blocked: the process's first thread handles them. */
 bool explain_start(void)
 {
     pthread_t thread;

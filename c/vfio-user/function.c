@@ -96,8 +96,8 @@ static void reset_registers(struct function *it)
     card_reset_function(it->card, it);
 }
 
-/* QEMU removes the SR-IOV capability if it finds one, and leaves extended space to the device if it finds none. So
-   there is none before the first reset, which comes after QEMU has looked. */
+/* QEMU removes the SR-IOV capability if it finds one, and leaves extended space to the device if it finds none. So the
+   capability is hidden until the first reset, which comes after QEMU has looked. */
 static bool is_hidden(const struct function *it, uint64_t at)
 {
     return at >= PCI_EXTENDED && !it->shows_sriov;
@@ -129,8 +129,9 @@ static void access_registers(struct function *it, uint64_t offset, uint8_t *byte
     if (offset % 4 || length % 4) {
         if (it->counts.odd_accesses++ == 0)
             log_client(it->socket, LOG_ACCESS,
-                       "%s: a %" PRIu32 "-byte access at 0x%05" PRIx64 ", but registers are 4 bytes long", it->path,
-                       length, offset);
+                       "%s: a %" PRIu32 "-byte access at 0x%05" PRIx64
+                       ", but register accesses must be aligned and 4 bytes long",
+                       it->path, length, offset);
         if (!write)
             memset(bytes, 0xFF, length);
         return;
@@ -327,7 +328,7 @@ static void gone(struct function *it)
     it->client++;
 }
 
-/* Whether the client has disconnected: it neither sends nor reads. */
+/* Returns whether the client counts as disconnected: it sends no more, and leaves too many replies unread. */
 static bool is_gone(const struct function *it)
 {
     return it->is_leaving && channel_waiting(&it->session.channel) > CHANNEL_KEPT;

@@ -54,7 +54,7 @@ bool function_has_more(const struct function *it);
 bool function_is_busy(const struct function *it);
 /* Accepts the client that waits at the socket, or rejects it if there is a client already. */
 void function_accept(struct function *it);
-/* Serves its client after these poll events of the socket. */
+/* Serves the function's client. `events` is what poll reported for the client's socket. */
 void function_serve(struct function *it, short events);
 /* Checks whether the client has unmasked the line through its eventfd. */
 void function_unmask(struct function *it);
@@ -74,7 +74,7 @@ void function_message(struct function *it, unsigned int vector);
 bool function_has_line(const struct function *it);
 /* Signals these pending enabled causes. Returns whether the client was notified. */
 bool function_line(struct function *it, uint32_t causes);
-/* Takes the pending enabled causes after a register access, which may have cleared some. */
+/* Notes the pending enabled causes after a register access, which may have cleared some. */
 void function_line_after_access(struct function *it, uint32_t causes);
 /* Disconnects its client and closes its socket. */
 void function_end(struct function *it);

@@ -36,7 +36,7 @@ bool janitor_start(bool is_confined)
     return helper_start(&helper, &job);
 }
 
-/* A name fits into one message of the line. */
+/* Sends the name in one message, so it arrives whole. */
 void janitor_adopt(const struct local_given *given)
 {
     if (helper.line >= 0 && send(helper.line, given, sizeof *given, MSG_NOSIGNAL) != (ssize_t)sizeof *given)

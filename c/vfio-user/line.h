@@ -1,5 +1,5 @@
-/* The interrupts of a function while its MSI-X is off: the line (INTx), with a level that its client has to follow, or
-   the one vector of MSI, which is sent for each new cause. The public source is the PCI Local Bus Specification 3.0. */
+/* The interrupts of a function while its MSI-X is off: the line (INTx), with a level that the client follows, or MSI's
+   only vector, whose message is sent for each new cause. The public source is the PCI Local Bus Specification 3.0. */
 #ifndef VFU_LINE_H
 #define VFU_LINE_H
 
@@ -8,12 +8,12 @@
 
 #include "vectors.h"
 
-#define LINE_FILES 3u /* files to poll for each line */
+#define LINE_FILES 3u /* eventfds for each line: pin, msi, unmask */
 
 struct line {
     struct vectors pin, msi; /* at most one eventfd each; virtual functions have neither */
     struct vectors unmask;   /* an eventfd that the client signals when it unmasks the line, as KVM does */
-    bool is_masked;          /* the client was notified or masked the line: next notified after it unmasks */
+    bool is_masked;          /* the client was notified, or masked the line: not notified again until it unmasks */
     uint32_t seen;           /* causes for which MSI was sent and which have been pending since */
     uint64_t unmasked;       /* how often the client unmasked the line through its eventfd */
 };
@@ -25,9 +25,9 @@ void line_clear(struct line *it);
 void line_clear_pin(struct line *it);
 /* Masks the line for the client, or unmasks it, as the client does after handling an interrupt. */
 void line_mask(struct line *it, bool is_masked);
-/* Sets the eventfd that unmasks the line whenever the client signals it, and immediately if it is already signalled.
-   The line then owns it. -1 removes it. Returns false, and the caller keeps the file, if it isn't an eventfd or this
-   kernel can't read it without blocking. */
+/* Sets the eventfd with which the client unmasks the line. If the eventfd is already signalled, unmasks the line now.
+   The line then owns the eventfd. With -1, removes the current one. Returns false, and the caller keeps the file, if
+   the file isn't an eventfd or this kernel can't read it without blocking. */
 bool line_unmask_by(struct line *it, int file);
 /* Returns the file to poll; -1: none. */
 int line_unmask_file(const struct line *it);

@@ -160,7 +160,7 @@ int local_connect(const char *path)
 
 /* ---- accepting a connection ---- */
 
-static uint64_t rests_until; /* milliseconds that the listeners rest; 0: they don't */
+static uint64_t rests_until; /* time in milliseconds until which the listeners rest; 0: they don't */
 
 static uint64_t now(void)
 {

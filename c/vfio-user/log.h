@@ -6,7 +6,7 @@
 #include <stdbool.h>
 #include <stdint.h>
 
-#define LOG_AT_ONCE 20          /* lines of a kind and client in a burst */
+#define LOG_AT_ONCE 20          /* lines of one kind about one client in a burst */
 #define LOG_A_SECOND 2          /* lines in each second after a burst */
 #define LOG_CHECKS_AT_ONCE 2000 /* the burst of --iommu-check, which should show all accesses */
 

@@ -77,7 +77,7 @@ static bool get_ready(const struct options *options)
 {
     log_open();
     if (!janitor_start(!options->is_unconfined)) {
-        log_line(LOG_SERVER, "can't start a process: %s", strerror(errno));
+        log_line(LOG_SERVER, "can't start the process that removes the sockets: %s", strerror(errno));
         return false;
     }
     if (!ending_open() || !memory_map_guard()) {
@@ -105,7 +105,7 @@ static bool settle(const struct options *options)
     return true;
 }
 
-/* Writes the output of `tell`. */
+/* Writes what `tell` prints to an output. */
 static void tell_to(struct output *it, struct server *server, void (*tell)(const struct server *, FILE *))
 {
     FILE *stream = output_stream(it);
@@ -120,7 +120,7 @@ static void tell_strays(const struct server *server, FILE *to)
     strays_write(server->card.bus, to);
 }
 
-/* Returns false if an output wasn't written. */
+/* Writes the last output, and closes everything. Returns false if the file for --strays couldn't be written. */
 static bool end(struct server *server, struct written *written)
 {
     if (!server->options.is_quiet)
@@ -141,7 +141,7 @@ static bool end(struct server *server, struct written *written)
     return is_written;
 }
 
-/* Starts the server. If it can't, says why and leaves no socket's name. */
+/* Starts the server. If it can't, says why, removes the sockets and returns false. */
 static bool start(struct server *server, struct written *written)
 {
     if (open_files(server, written) && server_open(server) && settle(&server->options))

@@ -76,7 +76,7 @@ static bool enroll(struct memory_map *it)
 
 /* ---- ranges ---- */
 
-/* Returns the first range that ends above the address; it->count if there is none. */
+/* Returns the index of the first range whose last byte is at or above the address; it->count if there is none. */
 static unsigned int first_after(const struct memory_map *it, uint64_t address)
 {
     unsigned int low = 0, high = it->count;
@@ -229,7 +229,7 @@ static bool has_room(const struct memory_map *it, struct extent extent)
            it->window_bytes <= most - bytes;
 }
 
-/* Reserves no memory: the pages are the client's, and if huge pages run out, the window is cut off. */
+/* Maps a window. Reserves no memory: the pages are the client's, and if huge pages run out, the window is cut off. */
 static int make_window(struct memory_map *it, struct memory_file *of, int file, struct extent extent, bool is_writable,
                        struct memory_window **made)
 {
@@ -465,8 +465,8 @@ static struct memory_window *window_at(uintptr_t place)
     return NULL;
 }
 
-/* Replaces a window with zeros from the first page that the file has lost. A window then has at most two mappings, as
-   the limits assume. The zeros take no memory, because nothing accesses them afterwards. */
+/* Replaces the rest of a window with zeros, from the page that contains this address. A window then has at most two
+   mappings, as the limits assume. The zeros take no memory, because nothing accesses them afterwards. */
 static bool cut(struct memory_window *window, uintptr_t place)
 {
     uint64_t whole = (place - (uintptr_t)window->at) / window->file->page * window->file->page;

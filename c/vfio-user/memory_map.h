@@ -1,4 +1,4 @@
-/* A client's memory as it mapped it for the device: ranges of DMA addresses. Each range is part of a file mapped into
+/* The memory that a client mapped for the device: ranges of DMA addresses. Each range is part of a file mapped into
    this process, or can't be accessed, such as a ROM's range. A file is mapped in a few large pieces, the windows, which
    all ranges of the file share: each further mapping would make the kernel slower when it maps, truncates or unmaps the
    file. An unmapped range can't be accessed any longer. Its memory is returned to the kernel piece by piece, because
@@ -71,9 +71,9 @@ void memory_map_end(struct memory_map *it);
    becomes the number that is contiguous here. */
 void *memory_map_run(const struct memory_map *it, uint64_t address, size_t *length, bool write);
 
-/* Survives a client that truncates its file: an access beyond the file's end would end this process with SIGBUS. After
-   this call, such an access reads zeros instead, and the window from there on can't be accessed any longer. Ranges
-   added later get another window. */
+/* Makes this process survive a client that truncates its file: an access beyond the file's end would end this process
+   with SIGBUS. After this call, such an access reads zeros instead, and the window from there on can't be accessed any
+   longer. Ranges added later get another window. */
 bool memory_map_guard(void);
 /* Returns how many windows were cut off because a client truncated the file. */
 unsigned long memory_map_cuts(void);

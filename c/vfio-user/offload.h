@@ -61,7 +61,7 @@ void offload_free(struct offload *it);
 struct offload *offload_copy(const struct offload *it);
 void offload_become(struct offload *it, struct offload *copy);
 
-/* Reads a context descriptor on its way to the device. */
+/* Stores a context descriptor that is on its way to the device. */
 void offload_context(struct offload *it, unsigned int queue, uint64_t first, uint64_t second);
 /* Processes a data descriptor with its bytes. Returns the second half of the descriptor for the device, and sets
    *length to the number of bytes for the device. `legacy` is null, or the checksum that a legacy descriptor requests;

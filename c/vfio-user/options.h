@@ -27,7 +27,7 @@ struct options {
 enum options_status { OPTIONS_GO, OPTIONS_END, OPTIONS_WRONG };
 
 /* Reads the command line. OPTIONS_END: the requested output (help, version) is printed, and nothing remains to be done.
-   OPTIONS_WRONG: a line on standard error names the unknown word. */
+   OPTIONS_WRONG: a line on standard error says what is wrong. */
 enum options_status options_read(struct options *it, int count, char **words);
 
 #endif

@@ -23,8 +23,8 @@ struct output {
 /* Creates the file with this name, or truncates it. Returns false with errno set if it can't (ENXIO: a FIFO without a
    reader). */
 bool output_create(struct output *it, const char *name);
-/* Writes to a file of this process, such as standard error. Its flags, which are shared with other processes, don't
-   change. */
+/* Begins output to a file that this process already has open, such as standard error. The file's flags, which other
+   processes share, don't change. */
 void output_begin(struct output *it, int file);
 /* Writes, keeps, or loses a record. */
 void output_put(struct output *it, const void *bytes, size_t length);

@@ -94,7 +94,7 @@ struct vfu_irq_info {
 #define VFU_MSIX 2u
 
 struct vfu_irq_set {
-    uint32_t argsz, flags, index, start, count; /* followed by a byte for each, with VFU_SET_BOOL */
+    uint32_t argsz, flags, index, start, count; /* with VFU_SET_BOOL, a byte for each interrupt follows */
 };
 #define VFU_SET_NONE 0x1u
 #define VFU_SET_BOOL 0x2u

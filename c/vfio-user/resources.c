@@ -20,7 +20,7 @@
 #define MAPPINGS_USUAL 65530u
 #define ADDRESSES (UINT64_C(1) << 46) /* bytes for clients' memory, half of a process's address space */
 
-/* Raises the number of files that this process may have to the limit, and returns that number. */
+/* Raises this process's limit for open files to the hard limit, at most FILES_MOST, and returns the new limit. */
 static uint64_t all_files(void)
 {
     struct rlimit limit;
@@ -52,7 +52,7 @@ static unsigned int between(uint64_t number, unsigned int least, unsigned int mo
     return number < least ? least : number > most ? most : (unsigned int)number;
 }
 
-/* Returns the ranges that each client may have. Counts each range as a window of at most two mappings, and reserves
+/* Returns how many ranges each client may have. Counts each range as a window of at most two mappings, and reserves
    mappings for windows waiting to be unmapped. */
 static unsigned int ranges_of(unsigned int clients)
 {
@@ -61,8 +61,8 @@ static unsigned int ranges_of(unsigned int clients)
     return between(each > MEMORY_RETIRED_MOST ? each - MEMORY_RETIRED_MOST : 0, MEMORY_RETIRED_MOST, VFU_MAPS_MOST);
 }
 
-/* Returns the bytes that a client may map if `asked` is requested. Removed memory counts a second time until it is
-   unmapped. */
+/* Returns how many bytes each client may map: `asked`, or (0) as much as the machine has, but at most a share of the
+   addresses. The share is halved, because removed memory takes addresses until it is unmapped. */
 static uint64_t bytes_of(unsigned int clients, uint64_t asked)
 {
     struct sysinfo machine;

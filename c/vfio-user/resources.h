@@ -6,9 +6,9 @@
 #include <stdbool.h>
 #include <stdint.h>
 
-/* Raises the number of open files to the limit (ulimit -Hn), and limits the memory of each client to `bytes`, or (0) to
-   as much as the machine has. `vectors` is the total number of their vectors. If there are too few files, prints how
-   many are needed and returns false. */
+/* Raises the limit for open files to the hard limit (ulimit -Hn), and limits the memory of each client to `bytes`, or
+   (0) to as much as the machine has. `vectors` is the total number of the clients' vectors. If there are too few files,
+   prints how many are needed and returns false. */
 bool resources_share(unsigned int clients, unsigned int vectors, uint64_t bytes, bool trusts_files);
 
 #endif

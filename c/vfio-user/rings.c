@@ -8,7 +8,7 @@
 #define LEGACY_BUFFER_KB 2u /* the card's SRRCTL after a reset */
 
 /* The layout of the device's memory, in blocks. Block 0 is never lent: a pointer to it is a fault. */
-#define HEADS 1u /* heads written back by transmit queues, 16 bytes each */
+#define HEADS 1u /* block for the heads that transmit queues write back, 16 bytes each */
 #define HEAD_BYTES 16u
 #define RECEIVE_FIRST 16u
 #define RECEIVE_BLOCKS 16u /* for a queue's buffer: SRRCTL's maximum is 31 KB */
@@ -43,7 +43,7 @@ struct ring {
     uint32_t slot;
     struct dma_address buffer;       /* receive: the buffer of that slot */
     struct dma sizes_of;             /* receive: the client that set the buffer size in SRRCTL */
-    struct ahead ahead[RINGS_AHEAD]; /* a slot is at its number modulo this */
+    struct ahead ahead[RINGS_AHEAD]; /* slot s is at index s % RINGS_AHEAD */
     uint32_t next_ahead;
 };
 
@@ -189,7 +189,7 @@ static void take_place(struct rings *it, enum side side, uint16_t queue, uint32_
 
 /* ---- recordings ---- */
 
-/* Notes in a recording the guest's address of a slot and its buffer, which the device gets at other addresses. */
+/* Notes in a recording the guest's addresses of a slot and its buffer. The device gets other addresses for both. */
 static void note_slot(struct rings *it, enum side side, uint16_t queue, uint32_t slot, uint64_t buffer)
 {
     const struct ring *ring = &it->rings[side][queue];
@@ -238,7 +238,7 @@ static bool is_nobody(struct dma client)
     return dma_is(client, (struct dma){0});
 }
 
-/* Discards the offload's state for the side's queue, so that the next client can't see it. */
+/* Discards the offload state of a transmit queue, so that the next client can't see it. */
 static void forget_offload(struct rings *it, enum side side, uint16_t queue)
 {
     if (it->options.offload && side == TRANSMIT)
@@ -344,7 +344,7 @@ static void enable(struct rings *it, enum side side, uint16_t queue, struct dma 
         forget_ahead(ring);
         ring->next_ahead = peek(it, side == TRANSMIT ? NIC_TDH(queue) : NIC_RDH(queue));
         if (word & NIC_RXDCTL_ENABLE)
-            check_owner(it, side, queue, client, "start of another client's ring, which is now stopped: ring");
+            check_owner(it, side, queue, client, "attempt to enable another client's ring, which is now stopped: ring");
         if (it->options.offload && side == TRANSMIT)
             offload_give_up(it->options.offload, queue);
     }
@@ -366,7 +366,8 @@ static uint32_t set_control(struct rings *it, uint16_t queue, struct dma client,
     return add_drop(ring, client, ring->is_legacy ? legacy_receive(word) : word);
 }
 
-/* Sets a base or a length while the queue is off. The device's base follows the length. */
+/* Sets a base or a length while the queue is off. A new length gives the ring new blocks, and so sets the device's base
+   too. */
 static uint32_t set_place(struct rings *it, const struct bus_access *at, uint32_t word)
 {
     struct ring *ring = &it->rings[at->is_transmit][at->queue];
@@ -494,7 +495,7 @@ static uint32_t slots_between(const struct ring *ring, uint32_t from, uint32_t t
     return to >= from ? to - from : ring->slots - from + to;
 }
 
-/* Discards old descriptors of slots that are handed over, and reads as many of the new ones as fit. */
+/* Discards old descriptors of slots that are handed over. If `fetches`, reads as many of the new ones as fit. */
 static void read_ahead(struct rings *it, struct ring *ring, uint32_t from, uint32_t to, bool fetches)
 {
     uint32_t given = slots_between(ring, from, to), reads = given < RINGS_AHEAD ? given : RINGS_AHEAD;
@@ -527,8 +528,8 @@ void rings_tail(struct rings *it, struct dma client, bool is_transmit, uint16_t 
     }
     if (!is_on(it, is_transmit, queue) && tail != peek(it, is_transmit ? NIC_TDH(queue) : NIC_RDH(queue))) {
         it->counts.tails_off++;
-        const char *what = is_transmit ? "tail write to a disabled transmit ring (only the first is reported)"
-                                       : "tail write to a disabled receive ring (only the first is reported)";
+        const char *what = is_transmit ? "tail write to a disabled transmit ring (only the first is reported): ring"
+                                       : "tail write to a disabled receive ring (only the first is reported): ring";
         remark(it, &it->reported_off, what, client, ring, queue);
     }
     budget_spend(it->options.budget, BUDGET_STEP);
@@ -571,7 +572,7 @@ static bool take_slot(struct rings *it, struct ring *ring, uint16_t queue, uint3
         *descriptor = ahead->descriptor;
         ahead->is_there = false;
     } else if (!read_slot(ring, slot, descriptor)) {
-        refuse(it, "reading a descriptor", slot_at(ring, slot), queue, NIC_DESC_BYTES);
+        refuse(it, "can't read a descriptor", slot_at(ring, slot), queue, NIC_DESC_BYTES);
         return false;
     }
     if (!descriptor->first && !descriptor->second) {
@@ -612,7 +613,7 @@ static nic_desc data_for_device(struct rings *it, struct ring *ring, uint16_t qu
     uint32_t place = TRANSMIT_FIRST + TRANSMIT_BLOCKS * queue;
     const struct dma_address buffer = {ring->base.of, guest.first};
     if (!dma_read(buffer, it->copy, length)) {
-        refuse(it, "reading a frame's bytes", buffer, queue, length);
+        refuse(it, "can't read a frame's bytes", buffer, queue, length);
         return (nic_desc){0, guest.second & ~(NIC_TXD_POPTS | NIC_TXD_TSE | NIC_TXD_VLE)};
     }
     budget_spend(it->options.budget, length);
@@ -725,7 +726,7 @@ static void filled(struct rings *it, uint64_t bus)
         return;
     uint64_t *to = dma_whole(slot_at(ring, slot), NIC_DESC_BYTES);
     if (!to) {
-        refuse(it, "writing back a descriptor", slot_at(ring, slot), queue, NIC_DESC_BYTES);
+        refuse(it, "can't write back a descriptor", slot_at(ring, slot), queue, NIC_DESC_BYTES);
         return;
     }
     if (ring->is_legacy) {
@@ -754,7 +755,7 @@ void rings_written(struct rings *it, uint64_t bus, size_t length)
     budget_spend(it->options.budget, length);
     it->counts.frames_bytes += length;
     if (!dma_write(to, it->copy, length))
-        refuse(it, "writing a received frame", to, queue, length);
+        refuse(it, "can't write a received frame", to, queue, length);
 }
 
 static void head_written_back(struct rings *it, uint16_t queue, uint64_t bus)
@@ -771,7 +772,7 @@ static void head_written_back(struct rings *it, uint16_t queue, uint64_t bus)
     if (to)
         __atomic_store_n(to, head, RELEASE);
     else
-        refuse(it, "writing back the head", address, queue, sizeof bytes);
+        refuse(it, "can't write back the head", address, queue, sizeof bytes);
 }
 
 /* Only DD is set in a transmit descriptor. */
@@ -788,7 +789,7 @@ void rings_written_back(struct rings *it, uint16_t queue, uint64_t bus)
     if (to)
         __atomic_fetch_or(&to[1], NIC_TXWB_DD, RELEASE);
     else
-        refuse(it, "writing back a descriptor", slot_at(ring, slot), queue, NIC_DESC_BYTES);
+        refuse(it, "can't write back a descriptor", slot_at(ring, slot), queue, NIC_DESC_BYTES);
 }
 
 /* ---- creation and copies ---- */

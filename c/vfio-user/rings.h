@@ -1,7 +1,7 @@
 /* Maps guests' memory of any size into the device's 128 MiB of bus addresses. The guest sees its own addresses in base
-   registers and descriptors; the device sees the device's addresses. Each ring has blocks for its length in the
-   device's memory, and each queue has blocks for its current buffer. The first descriptors that a tail hands over are
-   read immediately, as the card prefetches; later ones are read when the device reaches them. A buffer is read when the
+   registers and descriptors; the device sees the device's addresses. In the device's memory, each ring has blocks for
+   its length, and each queue has blocks for its current buffer. The first descriptors that a tail hands over are read
+   immediately, as the card prefetches; later ones are read when the device reaches them. A buffer is read when the
    device acts on it.
 
    A ring belongs to the client that set it up: its descriptors and buffers are in that client's memory. When another
@@ -32,8 +32,8 @@
 #define RING_BYTES_MOST 0x80000u /* 32,768 descriptors: the card's maximum */
 #define RINGS_AHEAD 64u          /* descriptors of a ring that are read ahead */
 
-/* Reports a failed access or a driver's mistake. `what` is a noun, `by` is the client whose driver did it, and `where`
-   is an address in the memory of the ring's client. */
+/* Reports a failed access or a driver's mistake. `what` says what happened; the report continues with "at" and the
+   address. `by` is the client whose driver did it, and `where` is an address in the memory of the ring's client. */
 typedef void rings_refused(void *of, const char *what, struct dma by, uint16_t queue, struct dma_address where,
                            size_t length);
 

@@ -98,7 +98,7 @@ bool server_open(struct server *it)
 {
     if (!share_resources(&it->options))
         return false;
-    if (!wire_open(&it->wire, &it->options.wire)) /* its process is a copy of this one */
+    if (!wire_open(&it->wire, &it->options.wire)) /* early: its helper process is a copy of this one */
         return false;
     if (!card_open(&it->card, &it->options.card)) {
         log_line(LOG_SERVER, "out of memory");
@@ -205,7 +205,7 @@ static void serve_functions(struct server *it, const struct events *events)
     }
 }
 
-/* Unmaps removed memory of clients, some of each client's memory in each turn. */
+/* Unmaps part of each client's removed memory. Returns whether some remains. */
 static bool give_back(struct server *it)
 {
     bool left = false;
@@ -281,7 +281,7 @@ void server_run(struct server *it)
     while (!ending_is_asked() && !has_ended(it)) {
         struct events events;
         bool gives_back = give_back(it);
-        int wait = patience(it, is_late); /* checked first: a file closed after this check doesn't wake the loop */
+        int wait = patience(it, is_late); /* before fill: a file closed between the two doesn't wake the loop */
         fill(it, &events);
         wait_for(&events, gives_back || has_more(it) ? 0 : wait);
         card_begin_turn(&it->card);

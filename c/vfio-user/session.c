@@ -35,7 +35,7 @@ static void *body(struct work *it)
     return it->message->body.bytes;
 }
 
-/* Takes ownership of a file of the message. */
+/* Takes ownership of a file in the message. Returns -1 if the message has no such file. */
 static int take_file(struct message *message, unsigned int index)
 {
     int file = index < message->file_count ? message->files[index] : -1;
@@ -61,8 +61,8 @@ static int version(struct work *it)
     return 0;
 }
 
-/* The server can't access RAM that isn't shared. Other memory without a file, such as a display's, is refused too,
-   which clients tolerate. */
+/* Reports, once for each client, memory without a file, because the server can't access RAM that isn't shared. Other
+   memory without a file, such as a display's, is refused too, which clients tolerate. */
 static void tell_of_memory(struct session *it, const struct vfu_dma_map *asked)
 {
     if (it->has_reported_memory)
@@ -170,7 +170,8 @@ static struct vectors *vectors_of(struct session *it, uint32_t index)
     }
 }
 
-/* Errors and release requests are never raised, so their files are dropped. */
+/* Returns the number of interrupts of a kind. Errors and release requests count as one, but are never raised, so their
+   files are dropped. */
 static unsigned int irq_count(struct session *it, uint32_t index)
 {
     const struct vectors *vectors = vectors_of(it, index);
@@ -223,7 +224,7 @@ static int set_files(struct work *it, struct vectors *to, uint32_t start, uint32
     return session->error;
 }
 
-/* Sends messages to all vectors in the range, or only to those that the request names. */
+/* Raises all vectors in the range, or only those that the request names. */
 static int raise_each(struct work *it, struct vectors *to, uint32_t start, uint32_t count, const uint8_t *named)
 {
     uint64_t *done = &it->session->done;
@@ -366,7 +367,8 @@ static int device_reset(struct work *it)
     return 0;
 }
 
-/* The minimum length of a command's body, and its function; null if it isn't supported. */
+/* The minimum length of a command's body, and the C function that executes the command; null if the command isn't
+   supported. */
 static const struct {
     unsigned int least;
     int (*answer)(struct work *it);

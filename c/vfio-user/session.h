@@ -62,8 +62,8 @@ bool session_serve(struct session *it);
 bool session_flush(struct session *it);
 /* Reads the eventfd with which the client unmasks the line, once and without blocking. */
 void session_unmask(struct session *it);
-/* Returns whether the session receives more now. It doesn't while replies are waiting to be read, or while much of its
-   client's removed memory is still mapped. */
+/* Returns whether the session receives more now. It doesn't while too many replies are waiting to be read, too much of
+   its client's removed memory is still mapped, or too many files are waiting to be closed. */
 bool session_is_ready(const struct session *it);
 /* Returns whether received messages are waiting for the next turn, in which session_serve continues. */
 bool session_is_paused(const struct session *it);

@@ -54,7 +54,8 @@ const char *snapshots_take(struct snapshots *it, const struct card *card, const 
     return NULL;
 }
 
-/* Restores no hold or seed: whether the device is held or its steps are delayed follows the last request. */
+/* Restores neither a hold nor a seed: the last request determines whether the device is held and whether its steps are
+   delayed. */
 static void restore_stepper(struct card *card, const struct snapshot *from)
 {
     struct stepper now = card->stepper;
@@ -70,7 +71,7 @@ const char *snapshots_restore(struct snapshots *it, struct card *card, const cha
 {
     const struct snapshot *from = find(it, name);
     if (!from)
-        return "no snapshot has this name: snapshot without a name lists them";
+        return "no snapshot has this name: the request \"snapshot\" without a name lists all";
     struct rings *rings = rings_copy(from->rings);
     struct offload *offload = from->offload ? offload_copy(from->offload) : NULL;
     if (!rings || (from->offload && !offload) || nic_restore(bus_device(card->bus), &from->device) != NIC_DONE) {

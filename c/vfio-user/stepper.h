@@ -32,8 +32,8 @@ void stepper_tail(struct stepper *it, uint16_t queue);
 /* Notes a request to enable or disable a side of a queue. */
 void stepper_ask(struct stepper *it, bool is_transmit, uint16_t queue);
 
-/* Begins a reset with this value of CTRL. Returns whether an earlier reset is pending that should already have
-   ended. */
+/* stepper_reset begins a reset with this value of CTRL. stepper_is_reset returns whether a reset is pending that should
+   have ended by now. */
 void stepper_reset(struct stepper *it, uint32_t word, uint64_t now);
 bool stepper_is_reset(const struct stepper *it, uint64_t now);
 

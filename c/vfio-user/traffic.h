@@ -25,9 +25,9 @@ struct traffic {
 
 void traffic_begin(struct traffic *it, const uint8_t card[6]);
 void traffic_end(struct traffic *it);
-/* traffic_send sends `count` frames of FRAME_MIN to `most` bytes to the card. traffic_expect expects them from it, and
-   returns false if memory runs out. Expected frames are built in pieces: while traffic_is_busy, each traffic_prepare
-   builds about `bytes` bytes of frames. */
+/* traffic_send sends `count` frames of FRAME_MIN to `most` bytes to the card. traffic_expect expects such frames from
+   the card, and returns false if memory runs out. Expected frames are built in pieces: while traffic_is_busy, each
+   traffic_prepare builds about `bytes` bytes of frames. */
 void traffic_send(struct traffic *it, unsigned int count, uint16_t most);
 bool traffic_expect(struct traffic *it, unsigned int count, uint16_t most, const uint8_t from[6]);
 void traffic_prepare(struct traffic *it, size_t bytes);

@@ -59,8 +59,7 @@ static const char *open_stream(struct wire *it)
     connector_ask(&it->connector);
     has_end(it, connector_wait(&it->connector));
     if (it->file < 0)
-        log_line(LOG_WIRE, "%s: nothing is listening there yet; frames are lost until a program listens",
-                 it->options.path);
+        log_line(LOG_WIRE, "%s: no program listens there yet; frames are lost until one does", it->options.path);
     return NULL;
 }
 
@@ -434,7 +433,7 @@ static bool open_played(struct wire *it, const char *name)
         close(file);
     if (it->played && capture_open(&it->play, it->played))
         return true;
-    log_line(LOG_SERVER, "%s isn't a capture of Ethernet frames", name);
+    log_line(LOG_SERVER, "%s can't be opened, or isn't a capture of Ethernet frames", name);
     return false;
 }
 

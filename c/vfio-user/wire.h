@@ -37,7 +37,7 @@ struct wire_options {
 struct wire_counts {
     uint64_t out, out_bytes, in, in_bytes; /* frames and bytes from the card, and to it */
     uint64_t replies, hairpins, played;    /* included in `in`, by origin */
-    /* frames lost: no other end; more than WIRE_KEPT bytes were waiting; not a frame */
+    /* frames lost: there was no other end; too many bytes were waiting; the frame was too long */
     uint64_t lost_nobody, lost_full, too_long;
 };
 

@@ -36,7 +36,7 @@ static void reads(struct peer *it, unsigned long count)
         peer_read(it, NIC_STATUS);
 }
 
-/* Waits until all posted writes have arrived, by a read after them. */
+/* Posts writes, and waits until all have arrived: a read after them is answered last. */
 static void writes(struct peer *it, unsigned long count)
 {
     for (unsigned long i = 0; i < count; i++)

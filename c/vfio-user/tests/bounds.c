@@ -252,7 +252,7 @@ static void pass_both_ways(struct peer *host)
     peer_write(host, NIC_FCTRL, NIC_FCTRL_BAM | NIC_FCTRL_UPE | NIC_FCTRL_MPE);
     start(host, NIC_RDBAL(0), receives, 8);
     peer_write(host, NIC_RDT(0), 1);
-    until(host, NIC_RDT(0), 1); /* then the card receives; the wire may be served before a client */
+    until(host, NIC_RDT(0), 1); /* else the frame could reach the card before this write does */
     memset(frame, 0xFF, 60);
     CHECK(peer_put_frame(wire, frame, 60));
     until(host, NIC_TDH(100), 1);

@@ -29,7 +29,7 @@ static void wait_for_link(bool up)
             return;
         usleep(10000);
     }
-    CHECK(!"the link doesn't follow");
+    CHECK(!"the link doesn't follow the wire");
 }
 
 /* Returns whether the server has closed this connection. */
@@ -51,7 +51,8 @@ static void arrives(int file, int control)
     CHECK(peer_count(control, "; in ") == before + 1);
 }
 
-/* Checks that the link is up before the first connection, as if the cable's other end were unknown. */
+/* Checks that the link is up before the first connection, as if the cable's other end were unknown, and then follows
+   each connection. Returns the second connection. */
 static int comes_and_goes(void)
 {
     CHECK(is_up());

@@ -120,8 +120,8 @@ static void bad_accesses(struct peer *it)
     CHECK(reply[16] == 0xFF && reply[17] == 0xFF);
 }
 
-/* Keeps neither end of the socket open in this process. The server closes received files later; until then, an open end
-   here would hide that the socket's client has left. */
+/* Checks that a socket can't be mapped. Uses a new one: the server closes received files later, and until then its copy
+   of the client's socket would hide that the client has left. */
 static void map_socket(struct peer *it)
 {
     int other = socket(AF_UNIX, SOCK_STREAM | SOCK_CLOEXEC, 0);
@@ -337,7 +337,7 @@ static void connect_control(const char *path)
     CHECK(connect(control, (const struct sockaddr *)&name, sizeof name) == 0);
 }
 
-/* A client with enabled queues. */
+/* Connects a client and enables its queues. */
 static void open_started(struct peer *it, const char *path)
 {
     peer_open(it, path);
@@ -647,7 +647,7 @@ static void with_a_cut_file(const char *path)
     peer_close(&peer);
 }
 
-/* Records a driver's run, for the test that reads it. */
+/* Records a driver's run, for recorded.py. */
 static void recorded(const char *file)
 {
     static char word[256];

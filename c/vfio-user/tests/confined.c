@@ -242,7 +242,8 @@ int main(void)
             _exit(try(&trials[i]) ? 0 : 1);
         CHECK(waitpid(child, &status, 0) == child && WIFEXITED(status));
         if (WEXITSTATUS(status))
-            fprintf(stderr, "%s, as %d: it %s\n", trials[i].name, trials[i].what, trials[i].may ? "can't" : "can");
+            fprintf(stderr, "trial \"%s\", process of kind %d: %s\n", trials[i].name, trials[i].what,
+                    trials[i].may ? "failed, but is allowed" : "succeeded, but is forbidden");
         CHECK(WEXITSTATUS(status) == 0);
     }
     janitor_keeps_others();
@@ -250,7 +251,7 @@ int main(void)
     local_forget_all();
     CHECK(rmdir(folder) == 0);
     printf("confined: passed%s%s\n",
-           has_filter ? "" : "; not tried, since this kernel filters no system calls: refusals",
-           has_reads ? "" : "; not tried, since it has no asynchronous reads: a notification");
+           has_filter ? "" : "; not tried, since this kernel can't filter system calls: refused calls",
+           has_reads ? "" : "; not tried, since this kernel has no asynchronous reads: reading an eventfd");
     return 0;
 }

@@ -207,8 +207,8 @@ static int lingering(int *other)
     return file;
 }
 
-/* Sends a message with this file, and keeps no copy of the file, before the server reads it. Returns the file's other
-   end, or -1 without a network. */
+/* Sends a message with such a connection as its file, and closes this process's copy before the server reads the
+   message. Returns the connection's other end, or -1 without a network. */
 static int send_lingering(struct peer *it, pid_t server)
 {
     static const uint8_t bytes[8000];
@@ -326,7 +326,7 @@ static unsigned int next_file(pid_t process)
     }
 }
 
-/* Connects a client while the process has no free file descriptor. */
+/* Connects a client while the server has no free file descriptor. */
 static void no_file_left(void)
 {
     struct peer peer, next;
@@ -388,7 +388,7 @@ static void full_listener(void)
     unlink(name.sun_path);
 }
 
-/* Causes faults endlessly, each of which prints a line. Standard error is a pipe that isn't read before the end. */
+/* Causes many faults, each of which prints a line. Standard error is a pipe that isn't read before the end. */
 static void unread_errors(void)
 {
     struct peer peer;
@@ -512,7 +512,7 @@ static void confined(void)
     CHECK(program_number(server, "NoNewPrivs", 10) == 1);
     CHECK(program_number(server, "CapEff", 16) == 0 && program_number(server, "CapPrm", 16) == 0);
     if (program_number(server, "Seccomp", 10) != 2)
-        not_tried = "; not tried, since this kernel has none: system calls that are filtered";
+        not_tried = "; not tried, since this kernel can't filter system calls: the filter";
     end(&peer, server);
     server = begin(&peer, "--unconfined", NULL);
     CHECK(program_number(server, "NoNewPrivs", 10) == program_number(getpid(), "NoNewPrivs", 10));

@@ -1,5 +1,5 @@
-/* The program itself, with a socket passed as a file: files PROGRAM. It must exit with the status that its manual page
-   specifies. */
+/* Tests the program itself, with a socket passed as a file. The program must exit with the status that its manual page
+   specifies. files PROGRAM */
 #define _GNU_SOURCE
 #include <fcntl.h>
 #include <signal.h>

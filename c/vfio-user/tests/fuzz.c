@@ -1,6 +1,6 @@
 /* Sends random messages to a server, shaped as in the protocol and some of them corrupted, from three clients at the
-   same time, while random input also arrives from the wire's other end and at the control socket. It runs with the
-   sanitizers. At the end the server must still run, with no more open files than at the beginning.
+   same time, while random input also arrives from the wire's other end and at the control socket. The server runs with
+   the sanitizers. At the end the server must still run, with no more open files than at the beginning.
 
      fuzz SEED MESSAGES FOLDER */
 #define _GNU_SOURCE
@@ -113,7 +113,8 @@ static void make_irqs(void)
         add_file();
 }
 
-/* Returns a useful value for a queue register: a base, a length, an enable or a tail. */
+/* Chooses a register that drivers write, such as a base, a length, an enable or a tail, and a value that is useful for
+   one of these registers. */
 static void make_register(struct vfu_access *access, uint32_t *word)
 {
     const uint32_t registers[] = {
@@ -440,7 +441,8 @@ static void reconnect(void)
     CHECK(peer_version(peer) == 0);
 }
 
-/* Waits, because the server closes files in separate threads. Leaked files stay open. */
+/* Checks that the server has the same files open as at the beginning. Waits, because the server closes files in
+   separate threads. Leaked files stay open. */
 static void check_open_files(const struct open_files *first)
 {
     static struct open_files now;
@@ -450,9 +452,9 @@ static void check_open_files(const struct open_files *first)
             return;
         usleep(10000);
     }
-    print_open_files("in the beginning", first);
-    print_open_files("in the end", &now);
-    CHECK(!"the server has the files open that it had in the beginning");
+    print_open_files("at the beginning", first);
+    print_open_files("at the end", &now);
+    CHECK(!"the server's open files differ from those at the beginning");
 }
 
 /* ---- the run ---- */
@@ -493,6 +495,6 @@ int main(int count, char **words)
     check_open_files(&first);
     peer_close(&clients[0].peer);
     server_stop();
-    printf("fuzz: %lu messages of %lu clients\n", sent, came);
+    printf("fuzz: %lu messages from %lu clients\n", sent, came);
     return 0;
 }

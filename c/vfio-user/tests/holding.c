@@ -1,5 +1,5 @@
-/* Checks that guests are answered during slow operations: closing a client's eventfd and connecting the wire, both
-   blocked in the kernel, and `why` for a large device. Runs against the program itself: holding PROGRAM FOLDER */
+/* Checks that guests are answered during slow operations: closing a client's eventfd and connecting the wire, both of
+   which block, and `why` for a large device. Runs against the program itself: holding PROGRAM FOLDER */
 #define _GNU_SOURCE
 #include <dirent.h>
 #include <errno.h>
@@ -131,7 +131,7 @@ static void eventfd_that_does_not_close(void)
 
 /* ---- connecting the wire ---- */
 
-/* Returns the process that started this one; 0 if this one has exited. */
+/* Returns a process's parent; 0 if the process has exited. */
 static pid_t parent_of(const char *process)
 {
     char name[300], line[512];
@@ -191,7 +191,7 @@ static bool has_answer(int control)
     return poll(&answer, 1, 0) == 1;
 }
 
-/* Fills all slots of the rings of a held card. */
+/* Sets up a held card's rings, and hands over as many slots as possible. */
 static void set_up_rings(struct peer *it)
 {
     for (uint32_t queue = 0; queue < RINGS; queue++) {

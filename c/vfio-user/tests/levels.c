@@ -184,7 +184,7 @@ static void unmask_comes_and_goes(void)
     signal_unmask(1);
     CHECK(informed() == 0);
     uint64_t count = 0;
-    CHECK(read(unmask, &count, sizeof count) == (ssize_t)sizeof count && count == 1); /* it hasn't been read */
+    CHECK(read(unmask, &count, sizeof count) == (ssize_t)sizeof count && count == 1); /* not read by the server */
 }
 
 /* A client that passes one eventfd for the pin and for unmasking is notified again and again, once in each turn, and is

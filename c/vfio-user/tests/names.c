@@ -28,7 +28,7 @@ static const struct way {
 
 static const char *path;
 
-/* Starts a server that creates its socket with this name in this way. */
+/* Starts a server with this option, which creates a socket at `path`. */
 static pid_t start(const struct way *way, int errors)
 {
     static char word[300];
@@ -154,7 +154,7 @@ static void is_no_client(void)
     for (ssize_t got = 1; got > 0; length += got > 0 ? (size_t)got : 0)
         got = read(ends[0], said + length, sizeof said - 1 - length);
     const char *first = strstr(said, "a client connected");
-    CHECK(first && !strstr(first + 1, "a client connected") && !strstr(said, "turned away"));
+    CHECK(first && !strstr(first + 1, "a client connected") && !strstr(said, "is rejected"));
     close(ends[0]);
 }
 

@@ -51,7 +51,7 @@ class Packet:
     padding: bytes = b""  # after the packet; no sum includes it
 
     def with_sum_of_zero(self) -> Packet:
-        """Returns a UDP datagram with a sum of 0, so that the field becomes all ones."""
+        """Returns this UDP datagram with a payload for which the checksum is 0, so that its field becomes all ones."""
         payload = self.payload[: len(self.payload) // 2 * 2]
         length = len(self.l4) + len(payload) + 2
         head = self.l4[:4] + struct.pack(">H", length) + self.l4[6:]
@@ -112,8 +112,8 @@ class Packet:
         return found
 
     def as_given(self, is_large: bool) -> bytes:
-        """Returns the bytes that a driver sends: no IP checksum, and the pseudo header's sum, without the length if
-        it is large."""
+        """Returns the bytes that a driver sends: no IP checksum, and the pseudo header's sum, for TSO without
+        the length."""
         length = len(self.l4) + len(self.payload)
         head = bytearray(self.l4)
         if self.protocol == UDP:
@@ -246,9 +246,9 @@ def main(words: list[str]) -> int:
     got = ran.stdout.split()
     for number, (left, right) in enumerate(zip(got + ["(the end)"], wanted + ["(the end)"])):
         if left != right:
-            print(f"offloads: line {number}:\n  {left}\nand not\n  {right}\n{ran.stderr}")
+            print(f"offloads: line {number} is\n  {left}\ninstead of\n  {right}\n{ran.stderr}")
             return 1
-    print(f"offloads: {len(wanted) - count} frames of {count} packets, each byte")
+    print(f"offloads: {len(wanted) - count} frames from {count} packets, equal in each byte")
     return ran.returncode
 
 

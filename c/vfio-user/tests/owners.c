@@ -1,4 +1,4 @@
-/* Runs three guests of one card, each with its own memory: one has the physical function, one a virtual function, and
+/* Runs three guests on one card, each with its own memory: one has the physical function, one a virtual function, and
    one the shadow of that virtual function. At random they set up rings, even for each other's queues, use each other's
    addresses, disconnect and connect. No byte of one guest's memory may be sent in another guest's frame or arrive in
    another guest's memory.
@@ -84,7 +84,8 @@ static bool is_filled(const uint8_t *at, uint8_t byte, size_t length)
     return at[0] == byte && memcmp(at, at + 1, length - 1) == 0;
 }
 
-/* Checks that these bytes are unchanged, because no client uses them in its memory. */
+/* Checks that the bytes to send and the secret bytes in each memory are unchanged, because no client receives frames
+   there. */
 static void check_memories(void)
 {
     for (unsigned int memory = 0; memory < MEMORIES; memory++) {
@@ -397,7 +398,7 @@ int main(int count, char **words)
     for (unsigned int guest = 0; guest < GUESTS; guest++)
         peer_close(&peers[guest]);
     server_stop();
-    printf("owners: %lu steps, %llu, %llu and %llu frames of three guests, %llu to them\n", steps,
+    printf("owners: %lu steps; %llu, %llu and %llu frames from three guests, %llu to them\n", steps,
            (unsigned long long)(frames_of[0] + frames_of[3]), (unsigned long long)(frames_of[1] + frames_of[4]),
            (unsigned long long)(frames_of[2] + frames_of[5]), (unsigned long long)frames_in);
     return 0;

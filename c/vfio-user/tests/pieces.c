@@ -54,7 +54,7 @@ static unsigned int pieces(void)
     return count;
 }
 
-/* Returns how often this process has these files mapped. */
+/* Returns the number of this process's mappings of the test's memory files. */
 static unsigned int mappings(void)
 {
     char line[300];
@@ -208,7 +208,7 @@ static void cut(void)
     close(file);
 }
 
-/* Pages of 2 MiB, if the machine reserves some. */
+/* Checks a file with 2 MiB pages. Returns false if the machine reserves none. */
 static bool huge(void)
 {
     const uint64_t bytes = 2 * MEBIBYTE;

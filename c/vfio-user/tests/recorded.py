@@ -41,7 +41,7 @@ def main(words: list[str]) -> int:
     traced = json.loads(perfetto.trace(run))["traceEvents"]
     assert sum(it.get("args", {}).get("note") == WANTED[3] for it in traced) >= 2
     assert sum(it.get("name", "").startswith("frame out") and it["ph"] == "b" for it in traced) == 40
-    print(f"recorded: {len(run.steps)} events, of which idle {idle}")
+    print(f"recorded: {len(run.steps)} events, {idle} of them idle")
     return 0
 
 

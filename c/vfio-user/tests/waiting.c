@@ -98,7 +98,7 @@ static void host_gets_one(void)
     for (unsigned int i = 0; i < 60000 && peer_read(&host, at + 0x10) == head; i++)
         usleep(1000);
     CHECK(peer_read(&host, at + 0x10) == (head + 1) % SLOTS);
-    peer_write(&host, at + 0x18, head); /* posts one more slot than the test uses in total */
+    peer_write(&host, at + 0x18, head); /* posts one more slot, to replace the one just used */
 }
 
 /* Returns whether frames are waiting in front of the queues, according to the control socket. */
@@ -172,7 +172,8 @@ static void nothing_posted(uint32_t control_word)
     CHECK(!some_wait());
 }
 
-/* Checks that the physical function's own queues behave as its driver configures them. */
+/* Checks that the physical function's own queues behave as its driver configures them: without DROP_EN, a frame waits
+   until the driver posts slots. */
 static void host_waits(void)
 {
     begin();

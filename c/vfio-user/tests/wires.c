@@ -111,7 +111,7 @@ static void bad_lengths(int peer)
     in_two_pieces(peer, 65540, 3);
     CHECK(wire_next(&wire, false) == 0 && wire.counts.too_long == 1);
     in_two_pieces(peer, WIRE_LENGTH_MOST, 0);
-    memcpy(bytes, "\0\0\0\0\0\0\0\74", 8); /* an empty one, then one of 60 */
+    memcpy(bytes, "\0\0\0\0\0\0\0\74", 8); /* an empty frame, then a frame of 60 bytes */
     CHECK(send(peer, bytes, 68, 0) == 68);
     for (unsigned int i = 0; i < 100 && !wire_next(&wire, false); i++)
         serve(true);
@@ -171,8 +171,8 @@ static void streams(void)
     wire_close(&wire);
 }
 
-/* Checks an other end that doesn't read: a limited number of bytes is kept and arrives in whole frames; the remaining
-   frames are lost and counted. */
+/* Checks what happens if the other end doesn't read: a limited number of bytes is kept and arrives in whole frames; the
+   remaining frames are lost and counted. */
 static void a_full_end(void)
 {
     const struct wire_options listens = {.kind = WIRE_LISTEN, .path = first_path};
@@ -200,7 +200,7 @@ static void a_full_end(void)
 
 /* ---- datagrams ---- */
 
-/* Waits until the wire has found the owner of the other end's name. */
+/* Waits until the wire's socket is connected to the other end. */
 static void wait_for_other(void)
 {
     struct sockaddr_un name;
@@ -302,7 +302,7 @@ static void captures(void)
     CHECK(wire.counts.hairpins == 50);
     wire_close(&wire);
     CHECK(wire_open(&wire, &in) && wire_next(&wire, false) == 0 && wire_has_more(&wire, true));
-    for (unsigned int i = 0; i < 100; i++) { /* each way */
+    for (unsigned int i = 0; i < 100; i++) { /* each frame was captured in both directions */
         make_frame(frame, 60 + i / 2, i / 2);
         CHECK(wire_next(&wire, true) == 60 + i / 2 && memcmp(wire.frame, frame, 60 + i / 2) == 0);
     }

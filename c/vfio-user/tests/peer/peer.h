@@ -28,8 +28,7 @@ void peer_close(struct peer *it);
 /* Sends a message. Returns its number. */
 uint16_t peer_send(struct peer *it, uint16_t command, uint32_t flags, const void *body, size_t length, const int *files,
                    unsigned int count);
-/* Sends a message with this size in its header, or with its actual size if that is 0. Returns false if the server has
-   hung up. */
+/* Sends a message with `size` in its header, or (0) with its actual size. Returns false if the server has hung up. */
 bool peer_try(struct peer *it, uint16_t command, uint32_t flags, const void *body, size_t length, const int *files,
               unsigned int count, uint32_t size);
 /* Receives a reply, with up to `room` bytes of its body. Returns the error in the reply. */

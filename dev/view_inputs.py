@@ -104,7 +104,7 @@ USES = [
     (["niclint", "-"], "data x 0\npoke 0 x\narrive y\n", 2, "^\n-:3:8: refused UnknownLabel: no data y; near: x"),
     (["niclint", "-"], "a: rx\njmp a\nb:\nb:\n", 2, "^\n-:4:1: refused TwoLabels"),
     (["niclint", "-"], "rx\n" * 4_097 + "w RDTX 1\n", 2, "^\n-:4098:3: refused UnknownName: no register RDTX"),
-    (["niclint", "-"], "nope\n" * 150, 2, "-: further lines may be refused; the first 100 are shown"),
+    (["niclint", "-"], "nope\n" * 150, 2, "-: further lines may be refused; only the first 100 refusals are shown"),
     (["niclint", "-"], "#: nic vfs 2 fifo 64 blocks 256\nw x\nrx\nrz\n", 2, "-:4: this line of a recording"),
     (["niclint", "-"], "w 0x10140 1\n", 1, "0x10140 is SWSM, which the bench doesn't model"),
     (["niclint", "-"], "w RDT[1] 1\nw RXDCTL[1] 0x02000000\n", 1, "RDT[1] is written before RXDCTL[1].ENABLE reads 1"),

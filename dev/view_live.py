@@ -296,8 +296,10 @@ def check_guest(folder: Path, expect: Expect) -> None:
             "hold": ("hold", [], ""), "step": ("tx 3", ["3 descriptors"], ""),
             "why": ("why", ["CTRL.Master 0 <b>"], ""),
             "link down": ("link down", ["done"], ""), "rx": ("rx", [], "unknown request"),
-            "frames 5 60": ("", [], "a page may not send this"), "hold\ngo": ("", [], "a page may not send this"),
-            "snapshot x": ("", [], "a page may not send this"), "tx ٣": ("", [], "a page may not send this"),
+            "frames 5 60": ("", [], "a page may not send this request"),
+            "hold\ngo": ("", [], "a page may not send this request"),
+            "snapshot x": ("", [], "a page may not send this request"),
+            "tx ٣": ("", [], "a page may not send this request"),
         }  # fmt: skip
         for request, wanted in rows.items():
             made = json.loads(it.ask("ask", "POST", request.encode().decode("latin-1"))[1])

@@ -1037,8 +1037,8 @@ class Nic(_Registers, _OneOwner):
 
     def settle(self, queues: int = QUEUES) -> list[Event]:
         """Runs steps for the queues below `queues` until no step has work, and returns the events in order. Each round
-        runs the enables of each queue, the EEPROM step, a transmit step per queue, a receive step, and the messages of
-        each group. A new round begins after every 256 events. Raises NoQueue if `queues` is above 128, and
+        runs each queue's receive and transmit enables, the EEPROM step, a transmit step per queue, a receive step, and
+        one message per group. A new round begins after every 256 events. Raises NoQueue if `queues` is above 128, and
         OutOfMemory."""
         events: list[Event] = []
         outcomes, count = (_Outcome * 256)(), ctypes.c_size_t()
@@ -1059,7 +1059,7 @@ class Nic(_Registers, _OneOwner):
         >>> with Nic() as nic:
         ...     nic["EIMS"] = nic["EICS"] = 3
         ...     for event in nic.steps(1):
-        ...         nic["EIMC"] = 3         # the handler masks both, so the second has no message
+        ...         nic["EIMC"] = 3         # the handler masks both causes, so the second sends none
         ...         event
         Message(function=None, vector=0)
         """

@@ -1,7 +1,8 @@
 """Runs C calls that no other thread or signal handler can interrupt, and keeps the buffers that these calls lend.
 
 CPython runs signal handlers and switches threads only between two bytecodes, and a library call holds the GIL. C
-functions chained without bytecode in between therefore run as a unit: a handler raises before all of them or after.
+functions chained without bytecode in between therefore run as a unit: a handler can raise only before the first or
+after the last.
 """
 
 from __future__ import annotations
@@ -74,7 +75,9 @@ def _refuse_movable(buffer: object) -> None:
     while (below := _below(owner)) is not None:
         owner = below
     if type(owner).__name__ == _WRAPPER:
-        raise TypeError("with a Python `__buffer__` can't be lent: lend the underlying object, such as a bytearray")
+        raise TypeError(
+            "an object with a Python `__buffer__` can't be lent: lend the underlying object, such as a bytearray"
+        )
     if _of_ctypes(owner, "_b_needsfree_"):
         raise TypeError(
             f"ctypes.resize can move the memory of {type(owner).__name__} while it is lent: lend a bytearray, "

@@ -2,7 +2,7 @@
 
 Both are searched for at the path in an environment variable (NIC82599_LIBRARY, NICBENCH); next to this package, where a
 wheel installs them; in the clone or the prefix that contains the package; and in the system, the library by its soname
-and the program on the PATH. If the variable is set, only it is used.
+and the program on the PATH. If the variable is set, only the path in it is tried.
 """
 
 from __future__ import annotations

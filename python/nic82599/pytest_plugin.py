@@ -2,9 +2,9 @@
 searched.
 
 A failed test may have created controllers, or received them from fixtures. If something is waiting in one of these
-controllers, or it dropped a frame, the test's report has a section for it with the output of `nic.why()`. A controller
-that was closed earlier has a section only if the failure itself closed it, for example by leaving a `with` block.
-pytest's option `-p no:nic82599` disables the plugin.
+controllers, or one of them dropped a frame, the test's report has a section with the output of `nic.why()` for that
+controller. A controller that was closed earlier has a section only if the failure itself closed it, for example by
+leaving a `with` block. pytest's option `-p no:nic82599` disables the plugin.
 
     @pytest.mark.nic_schedules(1000)
     def test_poll():

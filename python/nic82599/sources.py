@@ -68,5 +68,5 @@ class Source:
 
 
 def places_of(lines: Iterable[tuple[str, int]]) -> str:
-    """"race.py:31", or with a helper "card.py:110 < race.py:42"."""
+    """Formats source lines: "race.py:31", or if a helper made the call, "card.py:110 < race.py:42"."""
     return " < ".join(f"{os.path.basename(file)}:{line}" for file, line in lines)

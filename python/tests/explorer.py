@@ -749,7 +749,7 @@ class Plugin(unittest.TestCase):
             self.assertIn("test_nothing returns no Scenario", output)
             self.assertIn("nic_schedules: walks isn't one of runs, seed", output)
             self.assertIn("nic_schedules: depth: 17 isn't a whole number from 1 to 16", output)
-            self.assertIn("--nic-jobs: 0 is no whole number", self.pytest(folder, "--nic-jobs", "0"))
+            self.assertIn("--nic-jobs: 0 isn't a whole number", self.pytest(folder, "--nic-jobs", "0"))
             self.assertIn("--nic-shard: (3, 2) isn't (K, N)",
                           self.pytest(folder, "--nic-shard", "3/2"))  # fmt: skip
             self.assertIn("1 passed", self.pytest(folder, "--nic-shard", "1/2", "-k", "fixed"))

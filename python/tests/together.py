@@ -188,7 +188,7 @@ for _ in range(ROUNDS):
 
 FORK = """
 import os
-# (at most forks, another thread holds the lock: the children must not wait for it)
+# (during most forks, another thread holds the lock: the children must not wait for it)
 nic, other, ends = Nic(blocks=2), Nic(blocks=2), []
 def lend():
     while not ends:

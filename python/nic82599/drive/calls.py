@@ -236,7 +236,7 @@ class Card:
         return answer(name, getattr(self._driver, name)(*numbers[:count]))
 
     def _begin(self, _a: int, _b: int, _c: int) -> int:
-        assert self._make, "a driver is already running on the card"
+        assert self._make, "the card has no driver"
         self._conditions.clear()
         self._driver = self._make()
         return 0

@@ -38,7 +38,7 @@ MOST_SHARDS = 65_536
 
 
 class BadSchedule(ValueError):
-    """A schedule file is invalid or doesn't fit; the message says where and why."""
+    """A schedule file is invalid or doesn't fit the scenario; the message says where and why."""
 
     def __init__(self, words: str) -> None:
         super().__init__(printable(words))

@@ -186,8 +186,8 @@ class Scenario(Points):
         self._call("fail", MISUSE, f"{thread.name} {words}".encode())
 
     def dma_read(self, bus: int, length: int) -> bytes:
-        """Reads bytes of lent memory. If one of them isn't lent, returns zeros instead, no more than the size of packet
-        memory. That is a failure unless `allowed` permits it."""
+        """Reads bytes of lent memory. If one of them isn't lent, returns that many zeros instead, but no more than
+        packet memory has bytes. Such a read fails the schedule unless `allowed` permits it."""
         most = self._nic._most_memory
         count = min(length, most + 1)  # if one byte isn't lent, none is read
         room = ctypes.create_string_buffer(max(count, 1))

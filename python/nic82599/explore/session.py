@@ -1,5 +1,5 @@
-"""Runs a scenario in the engine of c/explore. c/explore/python runs its stacks as threads and calls the scenario's
-functions through ctypes.
+"""Runs a scenario in the engine of c/explore. c/explore/python runs the engine's stacks as threads and calls the
+scenario's functions through ctypes.
 
 A process has one open scenario. Each task, handler and timer is a thread that the library created, and only one of them
 runs at any time. If the schedule ends during a call, the call raises `Over`, which unwinds the driver's function. A

@@ -20,8 +20,8 @@ from .script import Instruction, Op, Script
 
 @dataclass(frozen=True, order=True)
 class Warning:
-    """A warning and its line. For a stray access, `family` is what was accessed: one line is printed for all accesses
-    to a family."""
+    """A warning and its line. For a stray access, `family` is the register family or the address: niclint prints one
+    line for all accesses with the same `family`."""
 
     line: int
     text: str
@@ -75,7 +75,7 @@ def _of_word(register: Register, word: int) -> Iterator[str]:
     rest = 0 if word in ALL and row.name in CLEARED else regs.reserved(row, word)
     if rest:
         yield f"{name}: bits 0x{rest:08x} are reserved: write 0, because later cards may use them"
-    # Bits that read 1 after reset aren't lost: code that changes another bit writes them back unchanged.
+    # Bits that read 1 after a reset get no warning: a driver that changes another bit writes them back unchanged.
     lost = word & ~row.mask & ~row.reset & ~rest & 0xFFFF_FFFF
     if row.kind in ("Rw", "Held") and lost:
         why = {
@@ -114,7 +114,8 @@ class Advice:
             self.rows.setdefault(one.register.row.name, []).append(one)
 
     def _read_accesses(self) -> None:
-        """Collects the writes. The last write to GCR_EXT before them determines how pools divide the queues."""
+        """Collects the writes, the stray accesses and the steps. For a virtual function's access, the last write to
+        GCR_EXT before it determines how the pools divide the queues."""
         k, which = 0, (Op.WRITE, Op.READ, Op.VF_WRITE, Op.VF_READ, *self.steps)
         for pc, one in self.script.only(*which):
             if one.op in (Op.WRITE, Op.READ):

@@ -2,8 +2,8 @@
 can't reproduce.
 
 Each block of a lent range has its own line, equal data strings are merged, and restoring a snapshot removes the lines
-since the snapshot was taken. The program then runs the script, which is cut before the first reply that differs from
-the recorded one. The remaining lines therefore get the replies that their comments show.
+since the snapshot was taken. `nicbench` then runs the script, and the script is cut before the first line whose reply
+differs from the recorded one. The remaining lines therefore get the replies that their comments show.
 """
 
 from __future__ import annotations
@@ -34,8 +34,8 @@ class Past:
 
 @dataclass
 class Made:
-    """The script so far: its lines, and for each instruction its index in them, its reply, and its line in the
-    recording."""
+    """The script so far: its lines, and for each instruction the index of its line, its reply, and its line number in
+    the recording."""
 
     lines: list[str] = field(default_factory=list)
     instructions: list[tuple[int, str, int]] = field(default_factory=list)
@@ -115,7 +115,7 @@ def _add(made: Made, recording: Recording, event: int) -> None:
 
 
 def _compared(made: Made, bench: Bench) -> None:
-    """Cuts the script before the first line whose reply from the program differs from the recorded one."""
+    """Runs the script with `nicbench`, and cuts it before the first line whose reply differs from the recorded one."""
     printed = bench.run("\n".join(made.lines) + "\n", INSTRUCTIONS)[:-1] if made.instructions else []
     for count, (line, (_, reply, number)) in enumerate(zip(printed, made.instructions)):
         answer = line.partition(" ")[2]

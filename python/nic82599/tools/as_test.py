@@ -44,7 +44,7 @@ def filled(text: str, places: dict[str, str]) -> str:
 
 
 def number_of(reply: str, word: str) -> int:
-    """Returns the number after a word of a reply."""
+    """Returns the number that follows a word in a reply."""
     words = reply.split(" ")
     return int(words[words.index(word) + 1])
 
@@ -132,7 +132,7 @@ class InC(Lines):
         self.lines.append(f"    IS({number}, {have}, {want});")
 
     def step(self, number: int, one: Instruction, reply: str) -> None:
-        """Adds a call with a check of its answer."""
+        """Adds a call and a check of its result."""
         self.lines.append(f"    /* {said(self.script.lines[number - 1])} */")
         if reply == MISALIGNED:
             self.lines.append("    /* (nicbench refuses this address; the library accepts any address) */")
@@ -282,7 +282,7 @@ class InPython(Lines):
     """The lines of a test in Python."""
 
     def step(self, number: int, one: Instruction, reply: str) -> None:
-        """Adds a call with a check of its answer."""
+        """Adds a call and a check of its result."""
         self.lines.append(f"        # {number}: {said(self.script.lines[number - 1])}")
         if reply == MISALIGNED:
             self.lines.append("        # (nicbench refuses this address; the library accepts any address)")
@@ -294,7 +294,7 @@ class InPython(Lines):
             self.lines.append(f"        {self.answered(one, reply)}")
 
     def answered(self, one: Instruction, reply: str) -> str:
-        """Returns a line that makes the call and checks its answer."""
+        """Returns a line that makes the call and checks its result."""
         call, words = self.call(one)
         made = f"{call}({', '.join(words)})"
         first, _, rest = reply.partition(" ")

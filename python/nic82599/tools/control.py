@@ -68,7 +68,8 @@ def recording_of(path: str) -> str:
 
 
 def ask(path: str, request: str) -> tuple[list[str], str]:
-    """Sends a request. Returns the lines of the reply, and the request's fault, or "". Raises Fault."""
+    """Sends a request. Returns the lines of the reply, and the server's error message, or "" if there is none. Raises
+    Fault."""
     with connected(path) as it, it.makefile("rb") as lines:
         return _asked(path, it, lines, request)
 
@@ -104,6 +105,6 @@ def asked(path: str, request: str) -> dict[str, object]:
             return {"asked": "due", "lines": due or ["no step is due"], "wrong": wrong}
         request = found
     if not MAY_ASK.fullmatch(request):
-        return {"asked": "", "lines": [], "wrong": "a page may not send this"}
+        return {"asked": "", "lines": [], "wrong": "a page may not send this request"}
     lines, wrong = ask(path, request)
     return {"asked": request, "lines": lines or ["nothing"] if request in ("due", "why") else lines, "wrong": wrong}

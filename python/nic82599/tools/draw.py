@@ -110,7 +110,7 @@ def ring_lines(ring: Ring, state: Slots) -> list[str]:
 
 
 def _runs(slots: list[tuple[int, str]]) -> list[str]:
-    """Returns a line for each slot, or one for several consecutive slots that aren't read."""
+    """Returns a line for each slot, or one line for several consecutive slots that aren't read or aren't lent."""
     lines, at = [], 0
     while at < len(slots):
         end = at + 1
@@ -253,8 +253,8 @@ def _svg_ring(ring: Ring, state: State) -> list[str]:
 
 
 def _svg_mark(ring: Ring, which: str, name: str) -> list[str]:
-    """Draws the arrow of a head or a tail. If it is outside the ring, the arrow is where the ring's ends meet and
-    points away from the ring, opposite to the other arrow."""
+    """Draws the arrow for the head or the tail. If the head or tail is outside the ring, its arrow is where the ring's
+    ends meet and points away from the ring. It is on the side away from the other arrow."""
     place, other = (ring.head, ring.tail) if which == "head" else (ring.tail, ring.head)
     if place < ring.slots:
         angle = (place + 0.5) / ring.slots

@@ -54,8 +54,8 @@ _MAP = "*Q_MAP[0] 3:0, *Q_MAP[1] 11:8, *Q_MAP[2] 19:16, *Q_MAP[3] 27:24"
 _POOLS = "*pools 31:0 bits"
 _COUNT = "*count 31:0"
 
-# The fields of each row. A row that isn't listed has one 32-bit field. `..` at the end: the card's register has more
-# bits that aren't listed, so no other bit counts as reserved.
+# The fields of each row. A row that isn't listed has one 32-bit field. `..` at the end means that the card's register
+# has more fields than the row lists, so no bit counts as reserved.
 _LINES = {
     "CTRL": "*Master_Disable 2, *LRST 3, *RST 26",
     "STATUS": "LAN_ID 3:2, LinkUp 7, Num_VFs 17:10, IOV_Active 18, *Master_Enable_Status 19",

@@ -31,7 +31,8 @@ def _number(octets: bytes) -> int:
 
 
 def headers(frame: bytes) -> list[Header]:
-    """Returns the complete headers of a frame."""
+    """Decodes a frame's headers: Ethernet, a VLAN tag, IP, and TCP or UDP. A header that is cut off or malformed is the
+    last."""
     if len(frame) < 14:
         return [Header("Ethernet", [("cut off", f"{len(frame)} bytes")])]
     kind = _number(frame[12:14])
@@ -88,7 +89,7 @@ def _protocol(number: int) -> str:
 
 
 def _transport(protocol: int, segment: bytes) -> list[Header]:
-    """Returns a TCP or UDP header, or only its ports if the rest is cut off."""
+    """Returns a TCP or UDP header, or only its ports if the header is cut off after them."""
     if protocol not in (6, 17) or len(segment) < 4:
         return []
     fields = [("from port", str(_number(segment[:2]))), ("to port", str(_number(segment[2:4])))]

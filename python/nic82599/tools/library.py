@@ -171,8 +171,8 @@ def accumulated(one: Instruction, reply: str, acc: int) -> int:
 
 
 class Library(Bench):
-    """Runs scripts of any length on the library, starting from a snapshot, and debugs one of them. It replaces the
-    program for a trace."""
+    """Runs scripts of any length on the library, starting from a snapshot, and debugs one of them. Traces use it
+    instead of `nicbench`."""
 
     most = 1 << 40
 
@@ -183,7 +183,7 @@ class Library(Bench):
         self.earlier: dict[int, bytes] = {}
 
     def before(self, unit: int) -> bytes:
-        """Returns 16 bytes of lent memory from before the first step."""
+        """Returns 16 bytes of lent memory as they were before the first step."""
         block, at = divmod(unit, nic82599.BLOCK_BYTES)
         if block not in self.earlier:
             self.nic.restore(self.kept)

@@ -1,4 +1,5 @@
-"""A long file as lines. Only the start of each line is kept in memory; the lines are read from the file on demand.
+"""A long file as lines. Only the file offset of each line is kept in memory; the lines themselves are read from the
+file on demand.
 
 A recording of ten million lines is 500 MB of text; as Python objects it would be several GB.
 """
@@ -108,7 +109,7 @@ class Lines(Sequence[str]):
                 lines = (self.rest + piece.decode("ascii")).split("\n")
             except UnicodeDecodeError as error:
                 where = f"{self.source.path} isn't ASCII at byte {at + error.start}"
-                raise Fault(f"{where}: a recording is text") from None
+                raise Fault(f"{where}: a recording is ASCII text") from None
             self.rest = lines.pop()
             for line in lines:
                 begin += len(line) + 1

@@ -3,7 +3,7 @@ sent.
 
 The debugger has no command for memory, so the script is run again with `peek` lines between its own lines; a peek
 changes nothing in the device. The instructions of this run are in the order in which they ran, without jumps and tests.
-If they don't fit into one script, several are run, each from the start to its own peeks.
+If the instructions don't fit into one script, several scripts are run, each from the start up to its own peeks.
 """
 
 from __future__ import annotations
@@ -120,12 +120,12 @@ def _leaves_memory(one: Instruction, step: Step) -> bool:
 
 
 def _below(steps: list[Step], count: int) -> int:
-    """Returns how many of the steps have a lower number."""
+    """Returns how many of the steps have a number below `count`."""
     return bisect_left(steps, count, key=lambda step: step.number)
 
 
 class Replay:
-    """Runs of a trace's steps in order, with further lines between and after them."""
+    """Runs a trace's steps again in order, with further lines between and after them."""
 
     def __init__(self, trace: Trace) -> None:
         self.trace = trace
@@ -162,7 +162,7 @@ class Replay:
         odd = [step for step, answer in own if answer != step.reply]
         if odd:
             self.trace.notes.append(
-                f"the run that reads memory has another reply at step {odd[0].number}; its memory isn't shown"
+                f"some memory isn't shown: in the run that reads it, the reply at step {odd[0].number} differed"
             )
             return []
         return [*asked.values(), answers[count:]]
@@ -253,7 +253,7 @@ class Watch:
         return unit >> 11 in self.lent and any(0 <= unit - ring.base < 16 * ring.slots for ring in self.long)
 
     def _changed(self, step: Step, before: dict[int, int]) -> set[int]:
-        """Returns the units that a step may have written, or lost."""
+        """Returns the units that a step may have written, and updates which blocks are lent."""
         one = self.trace.instruction(step)
         if one.op == Op.LEND and step.reply == "done":
             self.lent.update(one.blocks)
@@ -371,8 +371,8 @@ NOTHING = bytes(16)
 
 def _unread(trace: Trace) -> None:
     """Marks memory with unknown contents. For memory lent in place, a recording has only what the device read or wrote.
-    In the rest of it, and in slots posted to the device since, the program may have written anything. These units are
-    shown as not read."""
+    The program may have written anything to the rest of that memory, and to slots that it has posted to the device
+    since. These units are shown as not read."""
     if not trace.in_place:
         return
     words, read = dict(trace.start), set(trace.read)
@@ -482,7 +482,7 @@ class _Frames:
             step.waiting.append(("-", [self.waiting.pop(0)]))
 
     def _forget(self, step: Step) -> None:
-        """Accounts for another step that may discard waiting frames."""
+        """Accounts for any other step, which may discard waiting frames."""
         front = self.arrived[self.waiting[0]] if self.waiting and not self.earlier else None
         places = _forgotten(self.trace, self.replay, step, self.earlier + len(self.waiting), front)
         gone = [self.waiting[place - self.earlier] for place in places if place >= self.earlier]
@@ -552,11 +552,12 @@ def _waiting_queues(trace: Trace, replay: Replay, count: int, frames: int) -> li
     """Returns the queues of the frames waiting after `count` steps, in order; fewer or none if there is no room for the
     run.
 
-    The run enables all queues with a tail outside their rings. A receive step then faults on the first frame: its reply
-    names the queue, which is disabled. If disabling a queue hides another of its frames, the named queues are enabled
-    again for each frame."""
+    The run enables all queues with a tail outside their rings. A receive step for the first frame then faults: the
+    reply names the frame's queue, and the fault disables that queue. Further frames for that queue would then be
+    dropped, by replies that don't name the queue. If that happens, the named queues are enabled again before each
+    receive step."""
     if replay.asked == 2 * RUNS:
-        trace.notes.append(f"the waiting frames and their queues are queried only before step {count}")
+        trace.notes.append(f"the waiting frames and their queues were determined only before step {count}")
     replay.asked += 1
     if replay.asked > 2 * RUNS:
         return []

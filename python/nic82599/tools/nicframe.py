@@ -113,7 +113,10 @@ def arguments() -> argparse.Namespace:
     add("kind", choices=("tcp", "udp", "ip", "arp", "ether"), metavar="KIND", help="tcp, udp, ip, arp or ether")
     add("ends", nargs="*", metavar="ADDRESS", help="two addresses, with ports for tcp and udp")
     add("--to", type=mac_word, metavar="MAC", help="the destination (02:00:00:00:00:01; ARP requests: broadcast)")
-    add("--from", dest="source", type=mac_word, default=frames.SOURCE, metavar="MAC", help="(02:00:00:00:00:02)")
+    add(
+        "--from", dest="source", type=mac_word, default=frames.SOURCE, metavar="MAC",
+        help="the source (02:00:00:00:00:02)",
+    )  # fmt: skip
     add("--tag", type=tag_of, action="append", default=[], metavar="VLAN[:PRIORITY]", help="VLAN tag; may be repeated")
     add("--type", type=read_by(ethertype), default=0x88B5, metavar="N", help="the EtherType for ether (0x88b5)")
     add("--protocol", type=number(0, 255), default=253, metavar="N", help="the protocol number for ip (253)")
@@ -123,7 +126,10 @@ def arguments() -> argparse.Namespace:
     add("--count", type=number(1, MOST_FRAMES), metavar="N", help="number of frames (1)")
     add("--name", default="frame", metavar="NAME", help="the frame's name, with a number if there are several (frame)")
     add("--rss", action="store_true", help="also print each frame's hash, table entry and queue")
-    add("--key", type=hexadecimal, default=frames.KEY, metavar="HEX", help="80 hex digits (the verification suite's)")
+    add(
+        "--key", type=hexadecimal, default=frames.KEY, metavar="HEX",
+        help="RSS key, 80 hex digits (the verification suite's)",
+    )  # fmt: skip
     add("--table", type=table_of, default=(0,), metavar="N,N,..", help="the queues in RETA's entries, repeated (0)")
     form = parser.add_mutually_exclusive_group()
     form.add_argument("--hex", action="store_true", help="print only the frames' bytes, in hex")

@@ -43,7 +43,7 @@ def words() -> argparse.Namespace:
 
 
 def refusal(path: str, text: str, refused: Refused, place: Place) -> None:
-    """Prints a refusal, with the line and the word in it."""
+    """Prints a refusal and the refused line, and marks the wrong word in that line."""
     where = f"{path}:{place.line}:{place.column + 1}" if place.line else path
     close = f"; near: {', '.join(place.near)}" if place.near else ""
     print(f"{where}: refused {refused.name}: {place.text}{shortened(close, MOST_DESCRIPTION)}")
@@ -89,7 +89,8 @@ def tell_warnings(path: str, warnings: list[Warning]) -> None:
 
 
 def tell_strays(path: str, strays: list[Warning]) -> None:
-    """Prints a line for each family of absent registers: the first access, and how many lines access it."""
+    """Prints a line for each family of absent registers: the first access, and how many further lines access the
+    family."""
     families: dict[str, list[Warning]] = {}
     for one in strays:
         families.setdefault(one.family, []).append(one)
@@ -119,7 +120,7 @@ def of_script(asked: argparse.Namespace, source: Source) -> int:
         for refused, place in sorted(found, key=lambda one: one[1].line or len(text)):
             refusal(asked.script, text, refused, place)
         if len(found) == most_of(text):
-            print(f"{asked.script}: further lines may be refused; the first {len(found)} are shown")
+            print(f"{asked.script}: further lines may be refused; only the first {len(found)} refusals are shown")
         return 2
     return lint(asked.script, script, (lambda: of_trace(trace_of(bench, script, text, most))) if asked.trace else None)
 

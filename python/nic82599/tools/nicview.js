@@ -166,14 +166,14 @@ function showNow(n, state) {
   const answer = make("code", { className: tone, title: reply }, cut(reply, 80) || `acc ${hex(acc)}`);
   element("answer").replaceChildren(make("code", {}, run.shown[pc]), " → ", answer);
   const reasons = (more.y || []).map(([held, text]) => make("li", { className: held ? "held" : "" }, run.texts[text]));
-  // The conditions depend on the machine before the step; everything else on the page is the machine after it.
+  // The conditions depend on the machine before the step; everything else on the page describes the machine after it.
   const decided = () => [faint("Before this step:"), make("ul", { className: "why" }, ...reasons)];
   const warned = warningsOf(run.steps[n - 1]).map((text) => make("li", {}, text));
   now.replaceChildren(...(reasons.length ? decided() : []));
   if (warned.length) now.append(faint("niclint warning on this line:"), make("ul", { className: "warned" }, ...warned));
   if (more.s === "ended") now.append(faint(`The run ended here: ${run.last}`));
   const words = { "w+": "Waiting", "w-": "No longer waiting", "o+": "Out", "o-": "Collected" }, moved = [];
-  for (const [key, all, way] of [["w", run.arrived, "came"], ["o", run.sent, "sent"]])
+  for (const [key, all, way] of [["w", run.arrived, "arrived"], ["o", run.sent, "sent"]])
     for (const [sign, frames] of more[key] || [])
       moved.push(...frames.map((frame) => frameDetails(all[frame], way, words[key + sign] + ": ")));
   element("moved").replaceChildren(...some(moved, 3, "frames"));
@@ -265,7 +265,7 @@ function showFrames(state, before) {
   const most = (state.waiting.length ? `, of at most ${run.fifo}` : "") + waited;
   const out = counted(state.out.length, "is waiting to be collected", "are waiting to be collected");
   element("frames-part").hidden = !run.arrived.length && !run.sent.length;
-  element("frames").replaceChildren(...list(waiting + most, state.waiting, run.arrived, "came"),
+  element("frames").replaceChildren(...list(waiting + most, state.waiting, run.arrived, "arrived"),
     ...(run.sent.length ? list(out, state.out, run.sent, "sent") : []));
 }
 
@@ -365,7 +365,7 @@ function showFinding() {
   const found = run.finding, line = element("finding");
   line.hidden = !found;
   if (!found) return;
-  const button = make("button", { title: "goes to the step that failed" }, `step ${found.step}`);
+  const button = make("button", { title: "go to the step that failed" }, `step ${found.step}`);
   button.addEventListener("click", () => show(found.step + 1));
   const cut = found.cut ? [faintly(`The script ends before the failure: ${found.cut}.`)] : [];
   line.replaceChildren(make("strong", {}, `FAILED ${found.outcome}`), make("span", {}, found.words),
@@ -414,8 +414,8 @@ function nameStep(at) {
   changes -= 1;
   history.replaceState(null, "", `#${at}`);
 }
-// Returns the position that the URL names: `#15` is step 15. Without a number, it is the first step in trouble, or the
-// last step.
+// Returns the position that the URL names: `#15` is step 15. Without a number, it is the step at which the page opens
+// (`Run.opening` in run.py).
 function placeOf(hash) {
   if (hash === "#start") return 0;
   return /^#\d+$/.test(hash) ? Number(hash.slice(1)) + 1 : run.opening === null ? 0 : run.opening + 1;

@@ -13,13 +13,15 @@ SCRIPT is a register script, a debugger session (only the part before the `%` li
 It may also be a recording made by the C library (NIC82599_RECORD); its last N events are then replayed on the library
 and shown (--limit N).
 
-A page opens at the first step that failed, faulted, dropped a frame or was refused, or otherwise at the last one. The
+A page opens at the first step that failed, faulted, dropped a frame or was refused. If there is none, it opens at the
+first idle step (for a recording, the last one), otherwise at the first stray access, otherwise at the last step. The
 explorer's script of a failure opens at the step that failed. With #152 after the page's name, it opens at step 152.
 Steps count from 0. Everything shown for a script comes from ./nicbench.
 
 With --live the page is served until ctrl-C, on 127.0.0.1 only, to clients that know its address. FILE need not exist
 yet. A script is shown again when it is rewritten. The last N events of a recording are shown (--limit N, default
-1,024), and earlier ones when the page requests them. A guest's card has buttons: hold, step, why, link up and down.
+1,024), and earlier ones when the page requests them. The page of a guest's card has buttons: hold, step, go, due, why,
+link up and link down.
 
 Exit status: 0 the run is shown, or ctrl-C ended --live; 1 it is shown, but the script failed or didn't end within
 --limit steps; 2 the script is refused or can't be read; 3 the arguments are invalid; 4 ./nicbench can't be
@@ -112,7 +114,7 @@ def as_a_test(asked: argparse.Namespace) -> int:
 
 
 def foot(is_recorded: bool) -> str:
-    """Returns the foot of a page. It names what ran the steps: the library for a recording, otherwise the program with
+    """Returns the foot of a page. It names what ran the steps: the library for a recording, otherwise `nicbench` with
     its edition."""
     if is_recorded:
         return f"Replies from libnic82599 {nic82599.library_version()}, {nic82599.edition()} edition"
@@ -127,7 +129,7 @@ def followed(asked: argparse.Namespace) -> int:
         path, controlled = control.recording_of(path), path
     asked_for = LIVE_STEPS if asked.limit == STEPS else asked.limit
     following = Following(path, limit_of_script(asked_for), (asked.vfs, asked.fifo))
-    return live.serve(following, controlled, asked.port or 0, f"Followed by nicview {VERSION}")
+    return live.serve(following, controlled, asked.port or 0, f"Served by nicview {VERSION}")
 
 
 def main() -> int:

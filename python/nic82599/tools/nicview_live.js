@@ -12,7 +12,7 @@ const GUEST = {
 const GUEST_TITLES = {
   Hold: "the device takes only requested steps", Go: "the device runs its steps by itself again",
   Step: "takes the first step that is due", Due: "lists the steps that are due",
-  Why: "why pending work doesn't proceed",
+  Why: "reports why pending work doesn't proceed",
 };
 const counted = (n) => n.toLocaleString("en-US");
 const isFollowing = () => live.isLast && !live.isPaused && position === count;
@@ -26,8 +26,9 @@ function liveBar() {
     act("older", "◀ Older", "earlier events"), past, act("newer", "Newer ▶", "later events"));
   const guest = make("div", { id: "guest", className: "bar", role: "toolbar", ariaLabel: "the guest's card", hidden: true },
     make("span", { className: "faint" }, "Card:"),
-    ...Object.keys(GUEST).map((text) => make("button", { title: GUEST_TITLES[text] ?? "the cable" }, text)));
-  const answer = make("pre", { id: "said", hidden: true, tabIndex: 0, ariaLabel: "the card's answer" });
+    ...Object.keys(GUEST).map((text) =>
+      make("button", { title: GUEST_TITLES[text] ?? "plugs or unplugs the cable" }, text)));
+  const answer = make("pre", { id: "said", hidden: true, tabIndex: 0, ariaLabel: "the card's reply" });
   answer.setAttribute("role", "status");
   const notice = make("p", { id: "notice", className: "odd", hidden: true });
   notice.setAttribute("role", "status");
@@ -55,8 +56,8 @@ function sayLive(text) {
   element("notice").hidden = !said;
 }
 
-// Requests the last part, or the one that ends at an event, and shows it at its last step. A request made in the
-// meantime follows. If an earlier step was chosen in the meantime, that step stays.
+// Requests the last part, or the part that ends at event `end`, and shows its last step. A request that arrives before
+// the reply is sent afterwards. If the reader has chosen an earlier step by then, the page stays at that step.
 async function ask(end, isChosen = true) {
   if (live.isAsking) {
     if (isChosen) live.next = { end };
@@ -87,7 +88,7 @@ async function ask(end, isChosen = true) {
   else askSoon();
   showLive();
 }
-// Requests what is new after a pause. The pause is twice the time that the last request took, at most 3 seconds.
+// After a pause, requests what is new. The pause is twice as long as the last request took, but at most 3 seconds.
 function askSoon() {
   if (live.isSoon || live.isAsking || !isFollowing() || live.until >= live.total) return;
   live.isSoon = true;

@@ -94,8 +94,8 @@ function circle(state, ring, written) {
   svg.append(drawn("text", { x: 116, y: 136, class: "small", ...middle }, `${ring.slots} slots`));
   return svg;
 }
-// Draws the arrow of a head or a tail. If it is outside the ring, the arrow is where the ring's ends meet and points
-// away from the ring.
+// Draws the arrow for the head or the tail. If the head or tail is outside the ring, its arrow is where the ring's ends
+// meet, and points away from the ring.
 function mark(svg, ring, which, text) {
   const place = ring[which];
   if (place < ring.slots) {
@@ -112,7 +112,7 @@ function mark(svg, ring, which, text) {
   const words = { x: x + (isLeft ? -6 : 6), y: 20, "text-anchor": isLeft ? "end" : "start", class: "bad" };
   svg.append(drawn("text", words, `${text} ${place}: no slot`));
 }
-// Returns whether the arrow of a head or tail outside the ring is on the left, opposite to the other arrow.
+// Returns whether the arrow for a head or tail outside the ring is on the left, away from the other arrow.
 function leftOutside(ring, which) {
   const other = ring[which === "head" ? "tail" : "head"];
   return other >= ring.slots ? which === "head" : other < ring.slots / 2;
@@ -162,7 +162,7 @@ function slots(state, ring, written) {
   all.sort((a, b) => ((distance(a.slot) + 8) % ring.slots) - ((distance(b.slot) + 8) % ring.slots));
   const some = all.slice(0, most).sort((a, b) => a.slot - b.slot);
   const ends = [ring.base, ring.base + 16 * (ring.slots - 1)], areLent = ends.every((at) => isLent(state.lent, blockOf(at)));
-  const none = areLent ? "The device owns no slot, and no slot holds a descriptor." : "Its memory isn't lent.";
+  const none = areLent ? "The device owns no slot, and no slot holds a descriptor." : "The ring's memory isn't lent.";
   if (!some.length) return faint(none);
   const rows = some.map((one) => {
     const fields = one.said ? one.said[2].map(([name, value]) => `${name} ${value}`).join(", ") : "";

@@ -57,8 +57,8 @@ def routes(run: Run, words: dict[int, int], sides: list[tuple[str, int]]) -> lis
 
 
 def vectors(words: dict[int, int]) -> list[int | None]:
-    """Returns the vectors of causes 16 to 29, and of cause 30, of the physical function; None where IVAR_MISC assigns
-    none."""
+    """Returns the physical function's vectors for causes 16 to 29 and for cause 30; None for those to which IVAR_MISC
+    assigns no vector."""
     misc = word_of(words, "IVAR_MISC")
     others, timer = misc >> 8 & 63, misc & 63
     return [others if misc & 0x8000 and others < 16 else None, timer if misc & 0x80 and timer < 16 else None]

@@ -3,7 +3,7 @@ that decide them.
 
 The conditions are the ones that docs/REGISTERS.md and docs/script.md list for the step's kind, in the order in which
 the device tests them. Each condition is shown with the register values before the step, and whether it held. The reply
-itself always comes from the program. The conditions and their texts come from reason_table.py.
+itself always comes from the run. The conditions and their texts come from reason_table.py.
 """
 
 from __future__ import annotations

@@ -76,8 +76,8 @@ def is_recording(source: Source) -> bool:
 
 
 class Names:
-    """The names of data and the lines that define them. The library names them `d0`, `d1` and so on; other names are
-    possible. A name may be redefined."""
+    """The names of data strings, and their numbers in the order of their definitions. The library names them `d0`, `d1`
+    and so on; other names are possible. A name may be redefined."""
 
     def __init__(self) -> None:
         self.count = 0
@@ -443,7 +443,7 @@ class Player:
 
     def __init__(self, recording: Recording) -> None:
         self.recording = recording
-        nic82599.record(None)  # otherwise the environment may name this very file
+        nic82599.record(None)  # otherwise NIC82599_RECORD may name the file being read
         try:
             self.nic = Nic(recording.vfs, recording.fifo, recording.blocks)
         except BAD as fault:

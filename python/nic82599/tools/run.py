@@ -1,7 +1,7 @@
 """A run as the page and the drawings show it, independent of the source of its steps.
 
 A source of steps fills a `Run`; `of_script` does so for a script on the bench. The page (page.py) and the drawings
-(draw.py) use only this: neither the program nor the instructions of a script.
+(draw.py) use only the `Run`: they start no program and read no instructions of a script.
 
 A source numbers its steps from 0. It gives each step (`trace.Step`) the reply that `nicbench run` would print, what the
 step changed, wrote, lent, received and sent, and the ring that it concerns. `start` needs every register that a step

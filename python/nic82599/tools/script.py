@@ -353,6 +353,6 @@ def of_text(bench: Bench, path: str, text: str) -> Script:
             line_of.append(number)
     if len(line_of) != len(instructions) or len(names) != len(data):
         raise Fault(
-            f"{path} has {len(instructions)} instructions, but {len(line_of)} lines with them: please report this"
+            f"{path} has {len(instructions)} instructions, but on {len(line_of)} lines: please report this"
         )
     return Script(path, lines, instructions, data, line_of, labels, names)

@@ -180,7 +180,7 @@ TABLE: tuple[Row, ...] = (
 # fmt: on
 
 
-# The numbers of queues per pool, over all modes.
+# The numbers of queues that a pool can have, depending on the mode.
 POOL_SIZES = (2, 4, 8)
 
 
@@ -207,11 +207,11 @@ class Place:
         return {"k": 0x40, "k/2": 4, "16": 4}.get(self.of, 0)
 
     def scale(self, k: int) -> int:
-        """Returns the distance between the indices of two consecutive functions, in pools of k queues."""
+        """Returns the distance between the indices of two consecutive functions' registers, if a pool has k queues."""
         return {"0": 0, "v": 1, "k": k, "k/2": k // 2, "16": 16}[self.of]
 
     def count(self, k: int) -> int:
-        """Returns the number of registers, in pools of k queues."""
+        """Returns the number of registers, if a pool has k queues."""
         return max(1, self.scale(k))
 
 

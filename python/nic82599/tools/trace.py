@@ -2,8 +2,8 @@
 
 Everything comes from the program: the instructions from `asm`, the replies from `run`, the registers from `debug`.
 Showing every register after every step would take millions of lines. So only the registers that the step's instruction
-and reply can change, according to docs/REGISTERS.md, are shown after it. At the end all registers are shown; a second
-run shows the registers that were missed at every step.
+and reply can change, according to docs/REGISTERS.md, are shown after it. At the end all registers are shown. If some of
+them turn out to have changed unnoticed, a second run shows these at every step.
 """
 
 from __future__ import annotations
@@ -115,7 +115,7 @@ def word_of(words: dict[int, int], name: str, index: int = 0) -> int:
 
 
 def number_after(reply: str, word: str) -> int | None:
-    """Returns the number after a word of a reply such as `wrote queue 3 slot 0 end`."""
+    """Returns the number that follows a word in a reply such as `wrote queue 3 slot 0 end`."""
     found = re.search(rf"\b{word} (\d+)", reply)
     return int(found[1]) if found else None
 
@@ -251,7 +251,10 @@ def _trace(bench: Bench, script: Script, printed: list[str], limit: int) -> Trac
                 break
             always |= missed
     if always:
-        result.notes.append(f"read at every step: {', '.join(regs.name_at(a) for a in sorted(always))}")
+        result.notes.append(
+            "these registers changed unexpectedly, so they were read at every step: "
+            f"{', '.join(regs.name_at(a) for a in sorted(always))}"
+        )
     if last.startswith("limit"):
         result.notes.append(f"the script continues after the {len(steps)} steps shown; --limit shows more")
     return result

@@ -100,7 +100,7 @@ USES = [
     (["niclint", "-"], "jmp on\nonn:\n", 2, "no label on; near: onn"),
     (["niclint", "-"], "w GPIE\nrx\nw RDTX 1\ndata x 0\narrive x\n", 2, "-:1:7: refused Syntax: w needs TARGET"),
     (["niclint", "-"], "w GPIE\nrx\nw RDTX 1\ndata x 0\narrive x\n", 2, "^\n-:3:3: refused UnknownName: no"),
-    (["niclint", "-"], "jmp on\nw RDTX 1\ndata x 0\narrive x\n", 2, "expected two digits per byte, but there are 1"),
+    (["niclint", "-"], "jmp on\nw RDTX 1\ndata x 0\narrive x\n", 2, "digits per byte, but the number of digits is 1"),
     (["niclint", "-"], "data x 0\npoke 0 x\narrive y\n", 2, "^\n-:3:8: refused UnknownLabel: no data y; near: x"),
     (["niclint", "-"], "a: rx\njmp a\nb:\nb:\n", 2, "^\n-:4:1: refused TwoLabels"),
     (["niclint", "-"], "rx\n" * 4_097 + "w RDTX 1\n", 2, "^\n-:4098:3: refused UnknownName: no register RDTX"),

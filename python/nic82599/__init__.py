@@ -525,7 +525,7 @@ def rss_hash(key: HasBytes, data: HasBytes) -> int:
 def vf_address(gcr_ext: int, function: int, offset: str | int) -> int:
     """Returns the address at which the physical function sees a virtual function's register. The register is a name
     such as `VFRDT[1]` or an offset; `gcr_ext`, a value of GCR_EXT, selects the mode. Raises NoGroup if the mode has no
-    pool for the function or its number is above 62, and Stray if the function has no register there.
+    pool for the function or the function's number is above 62. Raises Stray if the function has no register there.
 
     >>> vf_address(3, 3, "VFRDT[1]") == address_of("RDT[7]")  # 64 pools of two queues
     True
@@ -797,8 +797,8 @@ _watcher: Callable[[Nic], None] | None = None
 
 
 class Nic(_Registers, _OneOwner):
-    """A controller in its power-up state, with `vfs` virtual functions (at most 63), room for `fifo` frames waiting to
-    be received (1 to 4,096), and `blocks` blocks of packet memory (1 to 65,536), none of them lent. Freed by `close`,
+    """A controller in its power-up state. It has `vfs` virtual functions (at most 63), room for `fifo` frames waiting
+    to be received (1 to 4,096), and `blocks` blocks of packet memory (1 to 65,536). No block is lent. Freed by `close`,
     or at the end of a `with` block. Raises TooManyVfs, BadFifo, BadBlocks, OutOfMemory or LibraryMissing."""
 
     _names = REGISTERS

@@ -1,10 +1,10 @@
 """The pytest plugin: the report of a failed test says why nothing happens, and a test that returns a scenario is
 searched.
 
-A failed test may have created controllers, or received them from fixtures. If something is waiting in one of these
-controllers, or one of them dropped a frame, the test's report has a section with the output of `nic.why()` for that
-controller. A controller that was closed earlier has a section only if the failure itself closed it, for example by
-leaving a `with` block. pytest's option `-p no:nic82599` disables the plugin.
+A failed test may have created controllers, or received them from fixtures. The test's report has a section for each of
+these controllers in which something is waiting or that dropped a frame. The section contains the output of `nic.why()`.
+A controller that was closed earlier has a section only if the failure itself closed it, for example by leaving a `with`
+block. pytest's option `-p no:nic82599` disables the plugin.
 
     @pytest.mark.nic_schedules(1000)
     def test_poll():
@@ -56,7 +56,7 @@ def pytest_addoption(parser: pytest.Parser) -> None:
     group = parser.getgroup("nic82599")
     group.addoption("--nic-out", metavar="FOLDER", help="folder for each failure's schedule, script and page")
     group.addoption("--nic-jobs", metavar="N", type=int, help="number of processes for each search")
-    group.addoption("--nic-shard", metavar="K/N", help="which part of each search to run: machine K's of N")
+    group.addoption("--nic-shard", metavar="K/N", help="run only machine K's part of searches that N machines share")
     group.addoption("--nic-replay", metavar="FILE", help="replay this schedule file instead of searching")
 
 

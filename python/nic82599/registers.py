@@ -1,8 +1,8 @@
 """The registers of the controller by name, from the lists in tools/tables.py and tools/fields.py.
 
-REGISTERS maps a name to the runs of its addresses: first index, first address, stride, count. OFFSETS maps a name in a
-virtual function to its offset, the stride between its queues (0 if it isn't per queue) and the maximum count. FIELDS
-maps a name to its fields (highest bit, lowest bit), unless its only field is the whole register.
+REGISTERS maps a name to the runs of its addresses: first index, first address, stride, count. OFFSETS maps the name of
+a virtual function's register to its offset, the stride between queues (0 if the register isn't per queue) and the
+maximum count. FIELDS maps a name to its fields (highest bit, lowest bit), unless its only field is the whole register.
 """
 
 from .tools import fields

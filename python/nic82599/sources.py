@@ -1,4 +1,5 @@
-"""Places in a driver's source, for the C libraries: the lines that led to a call, and the traceback of an exception."""
+"""Finds lines in a driver's source for the C libraries: the lines that led to a call, and the traceback of an
+exception."""
 
 from __future__ import annotations
 
@@ -57,8 +58,8 @@ class Source:
             trace = trace.tb_next
 
     def traceback_of(self, fault: BaseException) -> str:
-        """Returns the traceback, starting at the driver's own function; "" if the exception comes from the package
-        alone, such as for a wrong result."""
+        """Returns the traceback, starting at the driver's own function; "" if none of the driver's lines is in it, for
+        example if the package rejects a result."""
         trace = fault.__traceback__
         while trace is not None and self._is_own(trace.tb_frame.f_code.co_filename):
             trace = trace.tb_next

@@ -135,7 +135,7 @@ class Points(Dma):
     # --- memory ---
 
     def dma_write(self, bus: int, data: bytes) -> bool:
-        """Writes bytes to lent memory. Returns whether all of them are lent; if not, that is a failure."""
+        """Writes bytes to lent memory. Returns whether all of them are lent; if not, the schedule fails."""
         given = bytes_of(data)
         return self._call("dma_write", bus, given, len(given)) == DONE
 
@@ -194,6 +194,7 @@ class Points(Dma):
     # --- values ---
 
     def choose(self, bound: int) -> int:
-        """Returns a value below the bound (1 to 256) that is part of the schedule, for example whether an allocation
-        fails or which input arrives. All strategies explore it, and shrinking tries lower values."""
+        """Returns a value below the bound (1 to 256). The value is part of the schedule; it may decide, for example,
+        whether an allocation fails or which input arrives. All strategies explore it, and shrinking tries lower
+        values."""
         return self._call("choose", bound)

@@ -154,7 +154,7 @@ class Run:
         self.put(line, answered(call))
 
     def settle(self) -> None:
-        """Adds the steps that settle ran to the script. Idle steps within a round aren't included."""
+        """Adds to the script the steps that `settle` ran. Idle steps within a round aren't included."""
         for event in self.nic.settle(QUEUES):
             match event:
                 case Done("eestep", _):

@@ -120,7 +120,7 @@ class Looking(Faulty):
 
 
 class Vector(Fixed):
-    """A cause whose vector isn't the vector of its handler, or a filter that rejects all frames."""
+    """A cause that is assigned another vector than its handler's, or a filter that rejects all frames."""
 
     def __init__(self, is_filtered: bool) -> None:
         self.is_filtered = is_filtered
@@ -318,8 +318,8 @@ class Found(unittest.TestCase):
         search(Faulty("pause", "pause"), 50)
 
     def test_never(self) -> None:
-        """What never ran in a scenario is reported in the same words as in C; a strict search raises Vacuous with
-        it."""
+        """What never ran in a scenario is reported in the same words as in C; a strict search raises Vacuous with these
+        words."""
         unsent = "handler isr never started: no message pf vector 5 was sent"
         wrong = ["task poll never got past its first wait", unsent]
         filtered = "no frame was ever written to memory: dropped filter"

@@ -64,8 +64,8 @@ def names_of(code: CodeType) -> dict[int, str]:
 
 
 class Tracer:
-    """Raises before the `at`-th of the package's bytecodes that a call executes, or the `at`-th of those before which
-    CPython runs handlers."""
+    """Raises before the `at`-th of the package's bytecodes that a call executes. With `only_where_handlers_run`, counts
+    only the bytecodes before which CPython runs handlers."""
 
     def __init__(self, at: int, only_where_handlers_run: bool) -> None:
         self.left, self.only, self.has_raised = at, only_where_handlers_run, False

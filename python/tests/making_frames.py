@@ -52,8 +52,8 @@ class Made(unittest.TestCase):
         self.assertEqual(frames.made("udp", *FOUR, port, 80)[40:42], b"\xff\xff")
 
     def test_as_the_explorers(self) -> None:
-        """Addresses given as text and as numbers yield the same flow, and its IP header matches the one of
-        nic82599.frames."""
+        """Addresses given as text and as numbers yield the same flow, and its IP header matches the one that
+        nic82599.frames builds."""
         flow = Flow("10.0.0.1", "10.0.0.2", 1000, 80)
         self.assertEqual(flow, Flow(0x0A000001, 0x0A000002, 1000, 80))
         self.assertEqual(frames.made("tcp", *FOUR, 1000, 80, length=60)[:34], flow.frame(60, 0)[:34])

@@ -301,7 +301,7 @@ class Kit(unittest.TestCase):
         self.assertRaises(ValueError, Flow(1, 2).frame, 1_519, 0)
 
     def test_queue(self) -> None:
-        """The frames of a flow arrive in the queue, and with the hash, that `rss` returns."""
+        """A flow's frames arrive in the queue that `rss` returns, with the hash that it returns."""
         with Nic(blocks=8) as nic:
             for block in range(8):
                 nic.lend(block)

@@ -160,7 +160,7 @@ class Driver(Points):
         CARD.call("free", piece)
 
     def dma_read(self, bus: int, length: int) -> bytes:
-        """Reads bytes of DMA memory. It is a failure if one of them isn't lent."""
+        """Reads bytes of DMA memory. The schedule fails if one of them isn't lent."""
         return CARD.dma_read(bus, length)
 
     def wait_until(self, condition: Callable[[], object]) -> None:

@@ -222,9 +222,9 @@ class Scenario(Points):
         super().lock(mutex)
 
     def choose(self, bound: int) -> int:
-        """Returns a value below the bound (1 to 256) that is part of the schedule, for example whether an allocation
-        fails or which input arrives. All strategies explore it, and shrinking tries lower values. For use in
-        `begin`, tasks and handlers."""
+        """Returns a value below the bound (1 to 256). The value is part of the schedule; it may decide, for example,
+        whether an allocation fails or which input arrives. All strategies explore it, and shrinking tries lower values.
+        For use in `begin`, tasks and handlers."""
         if not 1 <= bound <= VALUES:
             self._call("fail", MISUSE, f"a choice has 1 to {VALUES} values, not {bound}".encode())
             return 0

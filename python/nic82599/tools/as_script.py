@@ -1,7 +1,7 @@
 """Converts a recording to a script that `nicbench` reads, from its beginning up to the first event that the script
 can't reproduce.
 
-Each block of a lent range has its own line, equal data strings are merged, and restoring a snapshot removes the lines
+Each block of a lent range has its own line, and equal data strings are merged. Restoring a snapshot removes the lines
 since the snapshot was taken. `nicbench` then runs the script, and the script is cut before the first line whose reply
 differs from the recorded one. The remaining lines therefore get the replies that their comments show.
 """
@@ -70,7 +70,8 @@ class Made:
 
 
 def _history(recording: Recording, made: Made) -> list[int]:
-    """Returns the numbers of the events that lead to the end, without the events that restoring a snapshot undid."""
+    """Returns the numbers of the events that produce the recording's final state, without those that restoring a
+    snapshot undid."""
     here: Past | None = None
     kept: dict[str, Past | None] = {}
     at = 0

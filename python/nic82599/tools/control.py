@@ -97,7 +97,8 @@ def _asked(path: str, it: socket.socket, lines: object, request: str) -> tuple[l
 
 
 def asked(path: str, request: str) -> dict[str, object]:
-    """Sends a page's request. Returns the reply as the page expects it: the request, the lines, and what was wrong."""
+    """Sends a page's request. Returns the reply as the page expects it: the request, the lines, and the error
+    message."""
     if request == STEP:
         due, wrong = ask(path, "due")
         found = next((it[1] for line in due if (it := DUE.match(line))), None)

@@ -25,7 +25,7 @@ class Field:
         return (word & self.mask) >> self.low
 
     def shown(self, word: int) -> str:
-        """Returns the field's value as it is shown."""
+        """Formats the field's value, given a register's value."""
         value = self.of(word)
         if self.form == "bits":
             return " ".join(str(bit) for bit in range(self.high - self.low + 1) if value >> bit & 1) or "none"
@@ -162,5 +162,5 @@ OPEN = {name for name, line in _LINES.items() if line.endswith("..")}
 
 
 def parts_of(name: str) -> list[Field]:
-    """Returns a register's fields, except one that covers all its bits, which needs no name."""
+    """Returns a register's fields, except a field that covers the whole register, which needs no name."""
     return [field for field in FIELDS.get(name, []) if field.mask != 0xFFFF_FFFF]

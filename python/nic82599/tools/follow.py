@@ -38,7 +38,7 @@ SAME_BYTES = 4_096
 
 
 class NotThere(Exception):
-    """The file is missing, or not complete enough to identify."""
+    """The file doesn't exist, or its first line isn't complete yet."""
 
 
 @dataclass
@@ -78,7 +78,7 @@ class KeepingPlayer(Player):
         self.held, self.snapshots = copy.deepcopy(mark.held), dict(mark.snapshots)
 
     def bring(self, before: int, begin: int) -> None:
-        """Moves to an event and a line from the nearest mark, and adds marks on the way."""
+        """Replays from the nearest earlier mark up to an event and a line, and adds marks on the way."""
         made = self.recording
         done = bisect_right([number for number, _ in made.directives], begin)
         near = [mark for mark in self.marks if mark.at <= before and mark.directed <= done]
@@ -296,7 +296,7 @@ class Following:
             return all(file.seek(at) == at and file.read(len(some)) == some for at, some in self.state.same.items())
 
     def _open(self, found: os.stat_result) -> bool:
-        """Starts to follow a file, and reads what is written so far."""
+        """Starts to follow a file, and reads what has been written so far."""
         source = Source(self.path)
         source.grow(0)
         if not source.size or (b"#: nic ".startswith(source.head[:7]) and b"\n" not in source.head):

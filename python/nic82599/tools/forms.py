@@ -158,7 +158,7 @@ class Looker:
             if not re.fullmatch(r"[0-9a-fA-F]*", word):
                 odd = next(letter for letter in word if letter not in "0123456789abcdefABCDEF")
                 return f"expected hex digits without 0x, not {odd}"
-            return f"expected two digits per byte, but there are {len(word)} in all" if len(word) % 2 else None
+            return f"expected two digits per byte, but the number of digits is {len(word)}" if len(word) % 2 else None
         return None if number_of(word) is not None else f"expected a number, decimal or 0x and hex digits, not {word}"
 
     def _unknown_name(self) -> Place:

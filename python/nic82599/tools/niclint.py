@@ -55,8 +55,8 @@ def refusal(path: str, text: str, refused: Refused, place: Place) -> None:
 
 
 def lint(path: str, script: Script, run: Callable[[], Run] | None) -> int:
-    """Prints the warnings for a script, then what its run reports: failures first, stray accesses last because they
-    seldom matter. Returns the status."""
+    """Prints what is wrong with a script, in this order: failures of its run, warnings, stray accesses (which seldom
+    matter), and the run's other steps that did nothing. Returns the status."""
     warnings = Advice(script).all()
     strays = [one for one in warnings if one.family]
     made = run() if run else None

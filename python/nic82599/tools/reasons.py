@@ -212,7 +212,7 @@ class Reasons:
         if step.reply == "misaligned":
             return self._why("misaligned", one.a)
         if one.op in (Op.LEND, Op.UNLEND):
-            state = "is lent already" if one.x in self.lent else "isn't from 0 to 255" if one.x > 255 else "isn't lent"
+            state = "is lent already" if one.x in self.lent else "is above 255" if one.x > 255 else "isn't lent"
             return self._why("block_is", one.x, state)
         return self._why("block_not_lent", one.a)
 
@@ -292,7 +292,7 @@ class Reasons:
         if why == "pool off":
             return [self._why("frame_pool_off", pool, whence)]
         sixteen = _value(words, "GCR_EXT", "VT_Mode") == 1 and _value(words, "MRQC", "MRQE") in (8, 10, 11)
-        where = "an address to which MPSAR assigns no pool" if found else "no receive address"
+        where = "an address to which MPSAR assigns no pool" if found else "not a receive address"
         return [
             self._why("no_default_pool", address(to), where, pair),
             self._why("pool_of_16", pool, whence, sixteen),

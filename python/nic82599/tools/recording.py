@@ -1,10 +1,10 @@
 """Replays a recording made by the library (NIC82599_RECORD, nic_record) as a run.
 
-A recording is a script of the calls that a program made on a controller, with the replies as comments, and without the
-limits of a script. Lines that begin with `#:` contain what a script can't express: the sizes, ranges of lent blocks,
-snapshots, EEPROM images. The whole recording is replayed, but only the last steps after the last restored snapshot or
-installed image are shown. If there were earlier steps, the first step shown reads STATUS, which changes nothing and
-shows the state at that point.
+A recording is a script of the calls that a program made on a controller, with the replies as comments. A script's
+limits don't apply to it. Lines that begin with `#:` contain what a script can't express: the sizes, ranges of lent
+blocks, snapshots, EEPROM images. The whole recording is replayed, but only the last steps after the last restored
+snapshot or installed image are shown. If there were earlier steps, the first step shown reads STATUS, which changes
+nothing and shows the state at that point.
 """
 
 from __future__ import annotations

@@ -3,9 +3,10 @@
 A source of steps fills a `Run`; `of_script` does so for a script on the bench. The page (page.py) and the drawings
 (draw.py) use only the `Run`: they start no program and read no instructions of a script.
 
-A source numbers its steps from 0. It gives each step (`trace.Step`) the reply that `nicbench run` would print, what the
-step changed, wrote, lent, received and sent, and the ring that it concerns. `start` needs every register that a step
-changes, and the rings' registers. A step's `pc` is an index into `line_of`; several steps may share one.
+A source numbers its steps from 0. It gives each step (`trace.Step`) the reply that `nicbench run` would print, and the
+ring that the step concerns. It also notes what the step changed, wrote, lent, received and sent. `start` needs every
+register that a step changes, and the rings' registers. A step's `pc` is an index into `line_of`; several steps may
+share one.
 """
 
 from __future__ import annotations

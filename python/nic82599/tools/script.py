@@ -253,7 +253,7 @@ class Script:
         return any(one.op in JUMPS for one in self.instructions)
 
     def text(self) -> str:
-        """Returns the same program with numbers only, which the bench reads faster than names."""
+        """Returns the script with numbers instead of names, which the bench reads faster."""
         targets = {one.x for one in self.instructions if one.op in JUMPS}
         lines = [f"data d{n} {data.hex()}" for n, data in enumerate(self.data)]
         for pc, one in enumerate(self.instructions):

@@ -879,7 +879,7 @@ class Nic(_Registers, _OneOwner):
         return cast(int, getattr(self._library, name)(self._handle, *words))
 
     def _answer(self, name: str, words: tuple[object, ...], status: int) -> None:
-        """Raises the exception of a call that was refused."""
+        """Raises the exception for a call's status, unless the call succeeded."""
         if status == statuses.CLOSED:
             self._refuse_closed()
         if status != statuses.DONE:

@@ -99,7 +99,7 @@ def _bytes(words: str) -> bytes:
 
 
 class _Engine:
-    """The library's calls and the controller's, by name."""
+    """The functions of the engine's library and of the controller, by name."""
 
     def __init__(self) -> None:
         try:

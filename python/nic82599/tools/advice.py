@@ -196,7 +196,7 @@ class Advice:
                     yield self._at(pc, text)
 
     def _queues(self, bank: str) -> Iterator[Warning]:
-        """Warns if a side of a queue lacks something that it needs, or gets it in the wrong order."""
+        """Warns if a side of a queue is set up incompletely or in the wrong order."""
         letter, side = ("R", "rx") if bank == "Receive" else ("T", "tx")
         enables = {one.register.index: one for one in reversed(self._of(letter + "XDCTL")) if one.word & ENABLE}
         switched: dict[int, list[int]] = {}
@@ -223,7 +223,7 @@ class Advice:
                 yield from self._buffers(queue, enable)
 
     def _tails(self, letter: str, queue: int, enable: Access, on: int | None) -> Iterator[Warning]:
-        """Warns about writes to a queue's tail: there must be at least one, but none before the queue is enabled."""
+        """Warns if a queue's tail is never written, or is written before the queue is enabled."""
         mine = self._of_queue(letter + "DT", queue)
         if not mine:
             text = f"{letter}DT[{queue}] is never written: the device owns no slot of the ring"
@@ -284,7 +284,7 @@ class Advice:
             yield self._at(steps[0], f"GPIE.Multiple_MSIX isn't set: {rows()['no_msix'].why}")
 
     def _causes(self) -> Iterator[Warning]:
-        """Warns about causes without a vector or a mask, and about causes that nothing raises."""
+        """Warns about causes that have no vector, are never enabled, or are never raised."""
         masks = self._of("EIMS")
         entries = [(one, byte, one.word >> 8 * byte & 0xFF) for one in self._of("IVAR") for byte in range(4)]
         masked = raised = 0
@@ -314,7 +314,8 @@ class Advice:
                 yield self._at(one.pc, f"{names}: IVAR_MISC assigns no vector to these causes, so they send no message")
 
     def _unreported(self, one: Access, byte: int, entry: int, masked: int) -> Iterator[Warning]:
-        """Warns about an IVAR entry that is invalid, names no cause, or has a masked cause."""
+        """Warns about an IVAR entry that isn't valid, or names a cause that doesn't exist or that EIMS never
+        enables."""
         queue, side = 2 * one.register.index + byte // 2, "tx" if byte & 1 else "rx"
         named = one.register.index, byte, side, queue
         if not entry & 0x80:

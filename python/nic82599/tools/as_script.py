@@ -99,7 +99,7 @@ def _history(recording: Recording, made: Made) -> list[int]:
 
 
 def _add(made: Made, recording: Recording, event: int) -> None:
-    """Adds the lines of an event. Raises End."""
+    """Adds the script's lines for an event. Raises End."""
     (one, reply), number = recording.instructions.both(event), recording.line_of[event]
     if one.op == Op.LEND and reply == "done":
         first, last = one.blocks[0], one.blocks[-1]

@@ -135,7 +135,7 @@ def _pointer(ring: Ring, slot: int) -> str:
 
 
 def text(run: Run) -> Iterator[str]:
-    """Yields the lines of a run."""
+    """Yields a run as lines of text."""
     state = State(run)
     drawn: dict[str, list[str]] = {}
     yield from finding_lines(run)

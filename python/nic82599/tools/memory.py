@@ -391,7 +391,7 @@ def _unread(trace: Trace) -> None:
 
 
 def _given(words: dict[int, int], step: Step) -> set[int]:
-    """Returns the slots that a step posts to the device by moving a tail, given the registers before it."""
+    """Returns the slots that a step posts to the device by moving a tail; `words` are the registers before the step."""
     units: set[int] = set()
     for address, old, new in step.changes:
         register = REGISTERS[address]
@@ -552,7 +552,7 @@ def _waiting_queues(trace: Trace, replay: Replay, count: int, frames: int) -> li
     """Returns the queues of the frames waiting after `count` steps, in order; fewer or none if there is no room for the
     run.
 
-    The run enables all queues with a tail outside their rings. A receive step for the first frame then faults: the
+    The run enables all queues and moves each tail outside its ring. A receive step for the first frame then faults: the
     reply names the frame's queue, and the fault disables that queue. Further frames for that queue would then be
     dropped, by replies that don't name the queue. If that happens, the named queues are enabled again before each
     receive step."""
@@ -572,12 +572,12 @@ def _waiting_queues(trace: Trace, replay: Replay, count: int, frames: int) -> li
 
 
 def _named(answers: list[str]) -> list[int]:
-    """Returns the queues that the faults name."""
+    """Returns the queues that fault replies name."""
     return [int(answer.split()[2]) for answer in answers if answer.startswith("fault queue")]
 
 
 def _armed(queues: list[int]) -> list[str]:
-    """Returns lines that enable queues with a tail outside their rings."""
+    """Returns lines that enable these queues and move each tail outside its ring."""
     lines = []
     for queue in queues:
         control, tail = first("RXDCTL", queue), first("RDT", queue)

@@ -66,7 +66,8 @@ def _track(track: int, name: str) -> Iterator[Event]:
 
 
 def _spans(run: Run, way: str) -> Iterator[Event]:
-    """Yields the spans of received (`in`) or sent frames, each from its step to the one that takes it or to the end."""
+    """Yields the spans of received (`in`) or sent frames. A span begins at the frame's step, and ends after the step
+    that takes the frame, or at the end of the run."""
     frames: list[Frame] = run.seen.arrived if way == "in" else run.seen.sent
     ends: dict[int, Step] = {}
     for step in run.steps:
@@ -117,6 +118,6 @@ def events(run: Run) -> Iterator[Event]:
 
 
 def trace(run: Run) -> str:
-    """Returns the file's text."""
+    """Returns a run's trace as a JSON file's contents."""
     made = {"traceEvents": list(events(run)), "displayTimeUnit": "ns", "otherData": {"run": run.name, "last": run.last}}
     return json.dumps(made, separators=(",", ":")) + "\n"

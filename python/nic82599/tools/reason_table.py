@@ -261,7 +261,7 @@ def number(name: str, words: Words, *given: int) -> int:
 
 
 def reason(name: str, words: Words, *given: int | str) -> Reason:
-    """Returns whether the reason of a row holds, and its text."""
+    """Evaluates a row's reason: whether it holds, and its text."""
     row = rows()[name]
     it = asked(row, words, given)
     held = bool(it.number(parsed(row.condition))) if row.condition else True

@@ -174,7 +174,7 @@ class Reasons:
         return [*reasons, self._why("tx_empty", queue)]
 
     def _message(self, function: int | None) -> list[Reason]:
-        """Explains why a group has no message."""
+        """Explains why a group sends no message."""
         words, reasons = self.words, [self._why("disabled")]
         group, of = ("pf", []) if function is None else ("vf", [function])
         names = ("EICR", "EIMS") if group == "pf" else ("PVTEICR", "PVTEIMS")

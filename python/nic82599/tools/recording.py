@@ -570,7 +570,7 @@ def _shown(recording: Recording) -> tuple[Script, list[str]]:
 
 
 def _waiting(nic: Nic) -> int:
-    """Returns how many frames are waiting to be received. Enables all queues with a tail outside their rings, and
+    """Returns how many frames are waiting to be received. Enables all queues, moves each tail outside its ring, and
     counts the receive steps that take a frame. This changes the controller."""
     nic.write32(first("CTRL"), 0)
     count = 0

@@ -140,13 +140,13 @@ def finding_of(run: Trace) -> Finding | None:
 
 
 def sizes_of(lines: list[str]) -> tuple[int, int] | None:
-    """Returns the device's sizes in the second line of a script from the explorer."""
+    """Returns the device's sizes from the second line of a script from the explorer; None if the line has none."""
     match = SIZES.fullmatch(lines[1]) if len(lines) > 1 and lines[0].startswith("#") else None
     return (int(match[1]), int(match[2])) if match else None
 
 
 def bench_of(bench: Bench, text: str) -> Bench:
-    """Returns the bench for a script. A script from the explorer names its sizes; options override them."""
+    """Returns the bench for a script. A script from the explorer names its device's sizes; options override these."""
     sizes = None if bench.options else sizes_of(text.split("\n", 2))
     return Bench(*sizes) if sizes else bench
 

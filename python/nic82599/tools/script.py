@@ -335,7 +335,7 @@ def load(bench: Bench, path: str) -> Script:
 
 
 def of_text(bench: Bench, path: str, text: str) -> Script:
-    """Loads a script from its text. `nicbench asm` assembles the instructions; this function finds their lines."""
+    """Loads a script from its source. `nicbench asm` assembles the instructions; this function finds their lines."""
     instructions, data = instructions_of(bench.call(["asm"], text.encode())[1])
     line_of: list[int] = []
     labels: dict[str, int] = {}

@@ -60,7 +60,7 @@ class Step:
 
     @property
     def is_trouble(self) -> bool:
-        """Whether it is a failed expect, a fault, a drop or a refusal. A stray access seldom matters."""
+        """Whether the step is a failed expect, a fault, a drop or a refusal. A stray access seldom matters."""
         return self.kind in TROUBLE
 
     @property

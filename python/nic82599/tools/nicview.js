@@ -80,7 +80,7 @@ function machine(n) {
   [state.routes, state.vectors] = [state.routes[0].map((text) => run.texts[text]), state.routes[1]];
   return state;
 }
-// Returns a register's value after n steps, searching backwards. The next function returns the contents of 16 bytes of
+// Returns a register's value after n steps, found by searching backwards. `contentAfter` does the same for 16 bytes of
 // memory.
 function wordAfter(address, n) {
   for (let k = n - 1; k >= 0; k--) for (const [at, word] of run.steps[k][3]) if (at === address) return word;
@@ -204,8 +204,8 @@ function showInterrupts(state, before) {
   element("interrupts-part").hidden = !run.groups.length;
   element("interrupts").replaceChildren(...(parts.length ? parts : [faint("No cause, mask or vector is set.")]));
 }
-// Returns the mailboxes that the run touches, by virtual function: the registers of both sides, and the words that
-// aren't 0.
+// Returns the mailboxes that the run uses, by virtual function: the registers of both sides that the run changes, and
+// the words that it changes or that aren't 0 at the start.
 function mailboxesOf({ steps, vfs }) {
   const found = new Map(), touched = new Set(steps.flatMap((step) => step[3].map(([address]) => address)));
   for (const [address, [name, kind]] of registers) {
@@ -330,7 +330,7 @@ function keepLine() {
   const most = box.scrollHeight - box.clientHeight;
   if (!isSeen) box.scrollTop = wholeRow(box.children, Math.min(most, Math.max(0, top - box.clientHeight / 2)));
 }
-// Resizing may rewrap lines and move the script above everything else. Keeps its line in view.
+// Keeps the step's line in view after a resize, which may rewrap lines and move the script above everything else.
 function resized() {
   keepLine();
   if (!lastLine) return;
@@ -462,8 +462,8 @@ function keys(event) {
   else return;
   event.preventDefault();
 }
-// Draws the marks below the slider, each wide enough to click. If several steps share a mark, it shows the first of the
-// worst kind.
+// Draws the marks below the slider, each wide enough to click. If several steps share a mark, the mark shows the first
+// step of the worst kind.
 function drawMarks() {
   const marks = element("marks"), width = marks.clientWidth, wide = 14, ranks = [...TROUBLE, "message", "idle", "stray", "warning"];
   const markOf = (step) => kindOf(step) || (warningsOf(step).length ? "warning" : "");

@@ -6,7 +6,7 @@ const ON = 1 << 25, CIRCLE = 64;
 const WHOSE = { device: "the device's", done: "done", driver: "the driver's", nobody: "nobody's" };
 WHOSE["unread device"] = "the device's, not read";
 WHOSE["unread driver"] = "the driver's, not read";
-// The ring that was clicked, by name; and the slot that was clicked, by its ring's name and index.
+// The name of the clicked ring, and the clicked slot as `name/index`, with its ring's name.
 let pinned = null, picked = null;
 
 function drawn(tag, attributes, text) {
@@ -29,7 +29,7 @@ function ringOf(state, side, number) {
 // Returns the rings that have slots or are enabled.
 const ringsOf = (state) =>
   run.sides.map((side, number) => ringOf(state, side, number)).filter((ring) => ring.slots || ring.on);
-// Returns the ring with a slot at an address; `wanted` if several rings have one.
+// Returns the ring with a slot at an address. If several rings have one, prefers the ring with number `wanted`.
 function ringAt(state, address, wanted) {
   const found = ringsOf(state).filter(({ base, slots }) => address >= base && address < base + 16 * slots);
   return found.find((ring) => ring.number === wanted) ?? found[0];

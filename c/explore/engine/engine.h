@@ -266,7 +266,7 @@ struct engine {
 
 extern struct engine nicxi;
 
-/* Fails the schedule with these words; the first failure is kept. */
+/* Fails the schedule with this message. If it has already failed, the first failure is kept. */
 void nicxi_failed(uint8_t outcome, const char *form, ...);
 
 /* Leaves a failed schedule: a running thread is abandoned where it is, and doesn't continue. Returns only if no thread

@@ -95,7 +95,10 @@ pub extern "C" fn nic_exchange(
     ensures kept { result ≡ NOT_LENT → nic.new.card ≡ nic.old.card }
     ensures back { result ≡ NOT_LENT → former.new.bytes ≡ Some memory.bytes }
 {
-    match nic.get_mut().exchange(block, memory.into_parts().into_box()) {
+    match nic
+        .get_mut()
+        .exchange(block, memory.into_parts().into_box())
+    {
         Ok(boxed) => {
             *former = BlockHandleOut::of(Parts::of(boxed));
             DONE

@@ -25,7 +25,7 @@ void nicxi_script_begin(struct script *script, FILE *file, const struct origin *
     script->file = file;
     nicxi_plain(origin->result->words, words, sizeof words);
     fprintf(file, "# %s: %s\n", nicxi_outcome_name(origin->result->outcome), words);
-    fprintf(file, "# The device's events in a schedule of scenario %s; run with: nicbench run --vfs %u --fifo %u\n",
+    fprintf(file, "# The device's events in a schedule of scenario %s, by: nicbench run --vfs %u --fifo %u\n",
             scenario->name, scenario->vfs, scenario->fifo);
     if (scenario->blocks > MOST_BLOCKS)
         refuse(script, "a script has at most 256 blocks, but the scenario uses more");

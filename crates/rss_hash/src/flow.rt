@@ -37,8 +37,8 @@ pub fn classify(frame: &[u8]) -> Flow
     }
 }
 
-/// A frame with the EtherType of a VLAN tag, 0x8100, is neither IPv4 nor IPv6, whatever the frame carries, so the frame
-/// isn't a flow.
+/// A frame with the EtherType of a VLAN tag, 0x8100, is neither IPv4 nor IPv6, whatever follows the tag. So the frame
+/// belongs to no flow.
 pub fn tagged_frames_are_no_flow()
     ensures { (frame : List ℕ) → ether_type frame ≡ 0x8100 → flow_of frame ≡ no_flow }
 {}

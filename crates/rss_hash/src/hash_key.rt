@@ -40,6 +40,24 @@ impl HashKey {
         }
     }
 
+    /// Returns a copy of the key.
+    pub fn copy(&self) -> HashKey
+        ensures { result ≡ self.now }
+    {
+        HashKey {
+            words: self.words,
+            tables: self.tables,
+        }
+    }
+
+    /// Makes this key a copy of another.
+    pub fn copy_from(&mut self, other: &HashKey)
+        ensures { self.new ≡ other.now }
+    {
+        self.words = other.words;
+        self.tables = other.tables;
+    }
+
     /// Returns the words of RSSRK.
     pub fn words(&self) -> &[u32; 10]
         ensures { result.now ≡ self.now }

@@ -3,7 +3,6 @@
 ghost use Rattle.std.specs.Prelude.{◌≡◌};
 
 use crate::register_file::RegisterFile;
-use rss_hash::HashKey;
 
 impl RegisterFile {
     /// Returns a copy of all registers, including the enable requests and the causes that messages have reported.
@@ -19,20 +18,23 @@ impl RegisterFile {
             counters: self.counters,
             tables: self.tables,
             mailboxes: self.mailboxes,
-            key: copied(&self.key),
+            key: self.key.copy(),
         }
     }
-}
 
-/// Returns a copy of the hash key.
-fn copied(key: &HashKey) -> HashKey
-    ensures { result ≡ key.now }
-{
-    let words: &[u32] = key.words();
-    prove!(words.len() == 10);
-    let mut copy = HashKey::zero();
-    for index in 0..10 {
-        copy.set_word(index, words[index]);
+    /// Makes all registers copies of another file's, including the enable requests and the causes that messages have
+    /// reported.
+    pub fn copy_from(&mut self, other: &RegisterFile)
+        ensures { self.new ≡ other.now }
+    {
+        self.cells = other.cells;
+        self.settings = other.settings;
+        self.groups = other.groups.copy();
+        self.receive = other.receive;
+        self.transmit = other.transmit;
+        self.counters = other.counters;
+        self.tables = other.tables;
+        self.mailboxes = other.mailboxes;
+        self.key.copy_from(&other.key);
     }
-    copy
 }

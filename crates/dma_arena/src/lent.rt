@@ -94,6 +94,14 @@ impl LentMemory {
         self.blocks.lowest()
     }
 
+    /// Returns a number above those of all lent blocks. It is at most 65,536.
+    pub fn end(&self) -> u32
+        ensures above { (number : ℕ) → has_block self.now number ≡ true → number < result }
+        ensures small { result ≤ 65536 }
+    {
+        self.blocks.slots()
+    }
+
     /// Whether each of the `len` bytes starting at a bus address is in a lent block. An empty range is always lent. Any
     /// other range that would extend past block 65,535 isn't lent.
     pub fn is_lent(&self, address: u64, len: usize) -> bool

@@ -91,6 +91,14 @@ impl Table {
         Some(self.first)
     }
 
+    /// Returns the number of slots. Each lent block has a lower number.
+    pub(crate) fn slots(&self) -> u32
+        ensures above { (number : ℕ) → has_block self.now number ≡ true → number < result }
+        ensures small { result ≤ 65536 }
+    {
+        self.places.len() as u32
+    }
+
     /// Copies bytes into a lent block, starting at index `offset`. They must fit: a block is 2,048 bytes long.
     pub(crate) fn put(&mut self, number: u32, offset: usize, bytes: &[u8])
         requires lent { has_block self.old number ≡ true }

@@ -60,12 +60,6 @@ pub record IsFrom (whole part : Memory) (start : ℕ) : Type 0 where
   pub below : (number : ℕ) → number < start → map.get part number ≡ None
   pub above : (number : ℕ) → start ≤ number → map.get part number ≡ map.get whole number
 
--- A whole block has a number below 65,536.
-pub below-whole : (m : Memory) → IsWhole m → AreBelow m 65536
-below-whole m whole n has =
-    let there : (bytes : List ℕ) × (map.get m n ≡ Some bytes) = of_some (map.get m n) has in
-    (whole.block n there.0 there.1).small
-
 past-none : (m : Memory) (n end : ℕ) → AreBelow m end → end ≤ n → map.get m n ≡ None
 past-none m n end below past = none_of (map.get m n) (λ bytes is.
     let small : n < end = below n (ap is_some is) in omega arith)

@@ -5,20 +5,13 @@ use Rattle.std.specs.FinMap as map
 use Rattle.std.specs.Cmp.{nat_cmp_total}
 use Rattle.std.proofs.lemmas.Bool.{cases_eq, cases_lt}
 use Rattle.rx_ring.specs.DmaArena.Memory.{Memory, has_block, is_lent, write_at, IsWhole}
-use Rattle.rx_ring.specs.DmaArena.Numbers.{Numbers, count_of, is_own, is_free}
-use Rattle.rx_ring.proofs.DmaArena.Arenas.{own_within}
+use Rattle.rx_ring.specs.DmaArena.Numbers.{Numbers, is_own, is_free}
 use Rattle.rx_ring.proofs.DmaArena.Blocks.{is_lent_in, write_at_in}
 use Rattle.rx_ring.proofs.DmaArena.Bus.{get-insert_same, get-insert_other, get-remove_same, get-remove_other, is_lent_first, of_some}
 use Rattle.rx_ring.proofs.DmaArena.Moves.{IsWhole-insert, IsWhole-remove}
 use Rattle.nic_device.specs.Blocks.{memory_of, AreAmong, AreAway, AreBelow, AreRising, HaveLeft, StillLeft}
 use Rattle.nic_device.proofs.BlockCopies.{IsFrom, IsNext, copy-of_none, from_none, from_past, from_some, get-drop, has-insert_same, memory-past}
 use Rattle.nic_device.proofs.Leaving.{has-empty, has-insert_other, write-all}
-
--- An arena's blocks are below its end.
-
-pub below-away : (a : Numbers) (m : Memory) (end : ℕ) → AreAway a m → end ≡ a.first + count_of a → AreBelow m end
-below-away a m end away is n has =
-    let within = own_within a n (away n has).0 in omega (arith, within.1, is)
 
 -- A block with a lent range is lent.
 
@@ -144,10 +137,8 @@ among-below : (m some : Memory) (end : ℕ) → AreAmong m some → AreBelow m e
 among-below m some end among below k has = below k (among k has)
 
 pub start-return : (copies : List (ℕ × List ℕ)) (a : Numbers) (m : Memory) (at end : ℕ) → length copies ≡ at
-    → end ≡ a.first + count_of a → AreAmong m (memory_of copies) → IsWhole m → AreAway a m
-    → IsReturned copies a m at end a m
-start-return copies a m at end all is among whole away =
-    let below = below-away a m end away is in
+    → AreBelow m end → AreAmong m (memory_of copies) → IsWhole m → AreAway a m → IsReturned copies a m at end a m
+start-return copies a m at end all below among whole away =
     let copied = among-below m (memory_of copies) end among below in
     record {
       inside = omega arith;

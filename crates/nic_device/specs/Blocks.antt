@@ -1,5 +1,5 @@
 -- Copies of blocks, and blocks that leave an arena to be lent.
-use Rattle.std.specs.Prelude.{ℕ, ◌≡◌, ◌<◌, ◌≤◌, true, false, List, [], ◌∷◌, length, ⊤, Option, Some, None}
+use Rattle.std.specs.Prelude.{ℕ, ◌≡◌, ◌<◌, true, false, List, [], ◌∷◌, length, ⊤, Option, Some, None}
 use Rattle.std.specs.FinMap as map
 use Rattle.rx_ring.specs.DmaArena.Memory.{Memory, has_block}
 use Rattle.rx_ring.specs.DmaArena.Numbers.{Numbers, is_own, is_free}

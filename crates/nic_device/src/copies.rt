@@ -1,10 +1,10 @@
 //! Copies of lent blocks, and how a restore lends blocks again with the copied bytes.
 
-ghost use Rattle.std.specs.Prelude.{◌≡◌, ◌↔◌, ◌+◌, ◌<◌, ◌≤◌, ℕ, true, false, length, IsTrue, Some, None, IfOk, OnOk, OnErr};
+ghost use Rattle.std.specs.Prelude.{◌≡◌, ◌↔◌, ℕ, true, false, length, IsTrue, Some, None, IfOk, OnOk, OnErr};
 ghost use Rattle.std.specs.FinMap as map;
 ghost use Rattle.rx_ring.specs.DmaArena.Memory.{Memory, has_block, IsWhole};
-ghost use Rattle.rx_ring.specs.DmaArena.Numbers.{Numbers, count_of, is_free, with_free};
-ghost use Rattle.nic_device.specs.Blocks.{AreFree, AreAway, AreAmong, AreBelow, TellsTaken, HaveLeft, StillLeft, memory_of, AreRising};
+ghost use Rattle.rx_ring.specs.DmaArena.Numbers.{Numbers, is_free, with_free};
+ghost use Rattle.nic_device.specs.Blocks.{AreFree, AreAway, AreAmong, TellsTaken, HaveLeft, StillLeft, memory_of, AreRising};
 
 use rx_ring::{Arena, BLOCK_BYTES, LendRefused, LentMemory, Octets};
 use std::alloc::{AllocError, Global};
@@ -33,14 +33,22 @@ impl Model for Blocks {
 }
 
 impl Blocks {
-    /// Returns copies of all lent blocks. Each lent block must have a number below `end`.
-    pub(crate) fn copied(alloc: Global, memory: &LentMemory, end: u32) -> Result<Blocks, AllocError>
-        requires whole { IsWhole memory.now }
-        requires below { AreBelow memory.now end }
+    /// Returns no copies.
+    pub(crate) fn none(alloc: Global) -> Blocks
+        ensures { result ≡ map.empty }
+    {
+        Blocks {
+            copies: Vec::new(alloc),
+        }
+    }
+
+    /// Returns copies of all lent blocks.
+    pub(crate) fn copied(alloc: Global, memory: &LentMemory) -> Result<Blocks, AllocError>
+        requires { IsWhole memory.now }
         ensures { IfOk result (λ blocks. blocks ≡ memory.now) }
     {
         let mut copies = VecDeque::new(alloc);
-        let mut number = end;
+        let mut number = memory.end();
         'each: while number > 0 {
             number -= 1;
             if let Some(bytes) = copy_of(alloc, memory, number)? {
@@ -110,17 +118,6 @@ impl Blocks {
     }
 }
 
-/// Returns the number after the arena's highest block.
-pub(crate) fn end_of(arena: &Arena) -> u32
-    ensures end { result ≡ arena.now.first + count_of arena.now }
-    ensures small { result ≤ 65536 }
-{
-    let first = arena.first();
-    // `owns` shows that the arena's numbers are below 65,536.
-    let _ = arena.owns(first);
-    first + arena.count()
-}
-
 /// Returns a copy of a lent block, or `None` if no block with that number is lent.
 fn copy_of(alloc: Global, memory: &LentMemory, number: u32) -> Result<Option<Octets>, AllocError>
     ensures { IfOk result (λ copy. copy ≡ map.get memory.now number) }
@@ -162,7 +159,7 @@ fn put_all_back(copies: &[(u32, Octets)], memory: &mut LentMemory, arena: &mut A
     ensures left { StillLeft arena.old memory.old arena.new memory.new }
 {
     let mut at = copies.len();
-    let mut number = end_of(arena);
+    let mut number = memory.end();
     'each: while number > 0 {
         number -= 1;
         if at > 0 && copies[at - 1].0 == number {

@@ -138,6 +138,13 @@ impl Device {
         self.engine.peek(Port::Vf(v), offset)
     }
 
+    /// Returns the number of virtual functions that the device has.
+    pub fn vfs(&self) -> u8
+        ensures { result ≡ self.now.vfs }
+    {
+        self.engine.config.vfs
+    }
+
     /// Returns the length in bytes of the frame that `Collect` would return, or 0 if there is none.
     pub fn next_out(&self) -> usize
         ensures { result ≡ next_out_of self.now.out }

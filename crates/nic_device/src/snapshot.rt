@@ -2,18 +2,16 @@
 
 ghost use Rattle.std.specs.Prelude.{◌≡◌, ◌↔◌, IsTrue, IfOk, IfErr, OnOk, OnErr};
 ghost use Rattle.std.specs.FinMap as map;
-ghost use Rattle.nic_device.specs.Blocks.{AreFree, AreAmong, AreAway, AreBelow, HaveLeft, StillLeft};
+ghost use Rattle.nic_device.specs.Blocks.{AreFree, AreAmong, AreAway, HaveLeft, StillLeft};
 ghost use Rattle.nic_device.specs.Restoring.{IsWhy};
 ghost use Rattle.nic_device.specs.Sound.{IsSound};
 
-use crate::copies::{Blocks, end_of};
+use crate::copies::Blocks;
 use crate::device::Device;
-use crate::engine::Engine;
 use crate::state_copy::StateCopy;
-use rx_ring::{Arena, BLOCK_NUMBERS, LentMemory};
+use rx_ring::Arena;
 use std::alloc::AllocError;
 use std::marker::Model;
-use std::mem;
 
 /// The state of a device as plain data: its registers, the bytes of the blocks lent to it, the receive list, the staged
 /// bytes, the transmitted frames, the link, the image and the configuration. A snapshot is sound, like a device. It can
@@ -52,16 +50,19 @@ impl Device {
     pub fn snapshot(&self) -> Result<Snapshot, AllocError>
         ensures { IfOk result (λ snapshot. snapshot ≡ self.now) }
     {
-        self.engine.snapshot(BLOCK_NUMBERS)
+        let state = self.engine.state_copy()?;
+        let blocks = Blocks::copied(state.alloc, &self.engine.memory)?;
+        Ok(Snapshot { state, blocks })
     }
 
-    /// Like `snapshot`, for a device whose lent blocks all belong to this arena and aren't free there. The call checks
-    /// block numbers only up to the arena's highest block.
-    pub fn snapshot_within(&self, arena: &Arena) -> Result<Snapshot, AllocError>
-        requires { AreAway arena.now self.now.memory }
-        ensures { IfOk result (λ snapshot. snapshot ≡ self.now) }
+    /// Returns a snapshot of the device as if no block were lent. Taking it copies no packet memory. The device is
+    /// unchanged. Fails with `AllocError` if there isn't enough memory for the snapshot.
+    pub fn snapshot_without_memory(&self) -> Result<Snapshot, AllocError>
+        ensures { IfOk result (λ snapshot. snapshot ≡ record self.now { memory = map.empty }) }
     {
-        self.engine.snapshot(end_of(arena))
+        let state = self.engine.state_copy()?;
+        let blocks = Blocks::none(state.alloc);
+        Ok(Snapshot { state, blocks })
     }
 
     /// Whether each block that was lent when the snapshot was taken is lent now.
@@ -84,11 +85,8 @@ impl Device {
         ensures unchanged { OnErr result (self.new ≡ self.old) }
         ensures kept { OnErr result (arena.new ≡ arena.old) }
     {
-        let state = snapshot.state.copy()?;
-        let none = LentMemory::new(state.alloc);
+        self.engine.copy_from(&snapshot.state)?;
         snapshot.blocks.put_back(&mut self.engine.memory, arena);
-        let memory = mem::replace(&mut self.engine.memory, none);
-        end(mem::replace(&mut self.engine, state.with_memory(memory)));
         Ok(())
     }
 
@@ -128,39 +126,5 @@ impl Snapshot {
             }),
             Err(_) => Err(RestoreRefused::OutOfMemory),
         }
-    }
-}
-
-impl Engine {
-    /// Takes a snapshot. Each lent block must have a number below `end`.
-    fn snapshot(&self, end: u32) -> Result<Snapshot, AllocError>
-        requires sound { IsSound self.now }
-        requires below { AreBelow self.now.memory end }
-        ensures { IfOk result (λ snapshot. snapshot ≡ self.now) }
-    {
-        let state = self.state_copy()?;
-        let blocks = Blocks::copied(self.alloc, &self.memory, end)?;
-        Ok(Snapshot { state, blocks })
-    }
-}
-
-/// Ends a device to which no block is lent.
-fn end(engine: Engine)
-    requires { engine.memory ≡ map.empty }
-{
-    let Engine {
-        registers: _,
-        memory,
-        waiting: _,
-        staged: _,
-        out: _,
-        link: _,
-        image: _,
-        config: _,
-        alloc: _,
-    } = engine;
-    match memory.finish() {
-        Ok(()) => {}
-        Err(_memory) => unreachable!(),
     }
 }

@@ -1,6 +1,6 @@
 //! A copy of a device's state, without packet memory, as plain data.
 
-ghost use Rattle.std.specs.Prelude.{◌≡◌, ◌++◌, length, IfOk, OnOk};
+ghost use Rattle.std.specs.Prelude.{◌≡◌, ◌++◌, length, IfOk, OnOk, OnErr};
 ghost use Rattle.std.specs.FinMap as map;
 
 use crate::config::Config;
@@ -72,6 +72,27 @@ impl Engine {
             config: self.config,
             alloc,
         })
+    }
+
+    /// Makes the device's state, except for the packet memory, a copy of this state. After `AllocError` nothing has
+    /// changed.
+    pub(crate) fn copy_from(&mut self, state: &StateCopy) -> Result<(), AllocError>
+        ensures copied { OnOk result (self.new ≡ record state.now { memory = self.old.memory }) }
+        ensures unchanged { OnErr result (self.new ≡ self.old) }
+    {
+        let alloc = self.alloc;
+        let waiting = copied_waiting(alloc, &state.waiting)?;
+        let staged = copied_staged(alloc, &state.staged)?;
+        let out = copied_out(alloc, &state.out)?;
+        let image = state.image.copy()?;
+        self.registers.copy_from(&state.registers);
+        self.waiting = waiting;
+        self.staged = staged;
+        self.out = out;
+        self.link = state.link;
+        self.image = image;
+        self.config = state.config;
+        Ok(())
     }
 }
 

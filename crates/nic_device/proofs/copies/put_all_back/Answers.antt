@@ -8,8 +8,8 @@ use Rattle.nic_device.proofs.copies.put_all_back.Goals.{else-at-gt0-via-then-at-
 
 pub each-init : goal.each-init
 each-init c =
-    start-return c.args.copies.now c.args.arena.now c.args.memory.now (length c.args.copies.now) c.end_of-number.result
-    refl c.end_of-number.ensures.end c.requires.lent c.requires.blocks c.requires.away
+    start-return c.args.copies.now c.args.arena.now c.args.memory.now (length c.args.copies.now) c.end-number.result
+    refl c.end-number.ensures.above c.requires.lent c.requires.blocks c.requires.away
 
 pub write_block-requires-clause-lent : goal.write_block-requires-clause-lent
 write_block-requires-clause-lent c =

@@ -6,8 +6,8 @@ use Rattle.nic_device.proofs.copies.Blocks.copied.Goals as goal
 pub each-init : goal.each-init
 each-init c =
     let none = sym c.new-copies.ensures.items in record {
-      from = subst (λ (es : List (ℕ × List ℕ)). IsFrom c.args.memory.now (memory_of es) c.args.end) none
-          (from_past c.args.memory.now c.args.end c.requires.below);
+      from = subst (λ (es : List (ℕ × List ℕ)). IsFrom c.args.memory.now (memory_of es) c.end-number.result) none
+          (from_past c.args.memory.now c.end-number.result c.end-number.ensures.above);
       rising = subst AreRising none tt;
     }
 

@@ -1,9 +1,8 @@
 -- A card's blocks when its device is kept or restored.
-use Rattle.std.proofs.Common.{◌≡◌, refl, sym, subst, ◌∙◌, ap, ℕ, ◌+◌, ◌-◌, ◌<◌, ◌≤◌, Bool, true, false, not, List, length, map, get_or, Result, Ok, Err, OnOk, OnErr, arith}
-use Rattle.std.specs.List.{range_with_len}
+use Rattle.std.proofs.Common.{◌≡◌, refl, sym, subst, ◌∙◌, ap, ℕ, ◌-◌, ◌<◌, ◌≤◌, Bool, true, false, not, length, get_or, Result, Ok, Err, OnOk, OnErr, arith}
 use Rattle.std.proofs.lemmas.List.{ext_get_or, length-replicate}
 use Rattle.std.proofs.lemmas.List.FromFn.{get_or-map-range_with_len, length-map-range_with_len}
-use Rattle.nic_device.specs.Blocks.{AreAway, HaveLeft, IsLowestTaken, StillLeft}
+use Rattle.nic_device.specs.Blocks.{HaveLeft, IsLowestTaken, StillLeft}
 use Rattle.nic_device.specs.DmaArena.Memory.{Memory, has_block}
 use Rattle.nic_device.specs.DmaArena.Numbers.{Numbers, all_free, are_all_free, count_of, is_free, is_own}
 use Rattle.nic_device.specs.State.{State}
@@ -45,10 +44,6 @@ pub kept-is : (d s : State) (a : Numbers) (count : ℕ) → AreShared d.memory a
     ≡ record { device = d; arena = a }
 kept-is d s a count h is all =
     rw (is, all) (ap (λ x. let c : Holdings = record { device = d; arena = x } in c) (beside-is d.memory a h))
-
--- A lent block belongs to the arena and isn't free there.
-pub shared-away : (m : Memory) (a : Numbers) → AreShared m a → AreAway a m
-shared-away m a h n has = (h.few n has, lent_away m a n h has)
 
 -- Each lent block has a number below the count.
 

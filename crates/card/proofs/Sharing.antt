@@ -1,11 +1,11 @@
 -- Each block of a card is free or lent, and remains free or lent through each operation.
-use Rattle.std.proofs.Common.{◌≡◌, refl, sym, ◌∙◌, ap, ℕ, zero, suc, ◌-◌, ◌<◌, Bool, true, false, not, is_some, List, [], ◌∷◌, get_or, slice_set, arith, inl, inr}
+use Rattle.std.proofs.Common.{◌≡◌, refl, sym, ◌∙◌, ap, ℕ, zero, suc, ◌-◌, Bool, true, false, not, is_some, List, [], ◌∷◌, get_or, slice_set, inl, inr}
 use Rattle.std.specs.FinMap as map
 use Rattle.std.specs.Ordering.{nat_cmp}
 use Rattle.std.proofs.lemmas.Bool.Decides.{eqb_tells}
 use Rattle.nic_device.specs.DmaArena.Memory.{Memory, has_block, SameLent}
-use Rattle.nic_device.specs.DmaArena.Numbers.{Numbers, is_own, is_free, are_all_free, with_free, all_free}
-use Rattle.nic_device.proofs.DmaArena.Arenas.{own_within, is_own-of_free, is_free_from, is_own-with_free, is_free-with_free_same, is_free-with_free_other, is_own-all_free, own_within-all_free, is_free-all_free, CountsFree-numbers}
+use Rattle.nic_device.specs.DmaArena.Numbers.{Numbers, is_free, are_all_free, with_free, all_free}
+use Rattle.nic_device.proofs.DmaArena.Arenas.{own_within, is_own-of_free, is_free_from, is_own-with_free, is_free-with_free_same, is_free-with_free_other, is_free-all_free, CountsFree-numbers}
 use Rattle.nic_device.proofs.DmaArena.Bus.{get-insert_same, get-insert_other, get-remove_same, get-remove_other}
 use Rattle.card.specs.Card.{AreShared}
 

@@ -301,6 +301,13 @@ impl Card {
         }
     }
 
+    /// Returns the number of virtual functions that the device has.
+    pub fn vfs(&self) -> u8
+        ensures { result ≡ self.now.device.vfs }
+    {
+        self.device.vfs()
+    }
+
     /// Returns the length in bytes of the frame that the next `Collect` would return, or 0 if there is no such frame.
     pub fn next_out(&self) -> usize
         ensures { result ≡ next_out_of self.now.device.out }

@@ -2,6 +2,7 @@
 
 ghost use Rattle.std.specs.Prelude.{◌≡◌, IsTrue, IfOk, OnOk, OnErr};
 ghost use Rattle.nic_device.specs.DmaArena.Numbers.{are_all_free};
+ghost use Rattle.card.specs.Kept.{without_memory};
 
 use crate::card::Card;
 use nic_device::{Arena, Device, RestoreRefused, Snapshot};
@@ -46,11 +47,21 @@ impl Card {
     pub fn keep(&self) -> Result<Kept, AllocError>
         ensures { IfOk result (λ kept. kept ≡ self.now) }
     {
-        match self.device.snapshot_within(&self.arena) {
+        match self.device.snapshot() {
             Ok(device) => Ok(Kept {
                 device,
                 blocks: self.arena.count(),
             }),
+            Err(_) => Err(AllocError),
+        }
+    }
+
+    /// Like `keep`, for the card as if it had a single block, which is free. Copies no packet memory.
+    pub fn keep_without_memory(&self) -> Result<Kept, AllocError>
+        ensures { IfOk result (λ kept. kept ≡ without_memory self.now) }
+    {
+        match self.device.snapshot_without_memory() {
+            Ok(device) => Ok(Kept { device, blocks: 1 }),
             Err(_) => Err(AllocError),
         }
     }

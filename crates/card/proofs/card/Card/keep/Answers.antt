@@ -1,9 +1,6 @@
 use Rattle.std.proofs.Common.{◌∙◌}
-use Rattle.card.proofs.Restoring.{kept-shared, kept-is, shared-away}
+use Rattle.card.proofs.Restoring.{kept-shared, kept-is}
 use Rattle.card.proofs.card.Card.keep.Goals as goal
-
-pub snapshot_within-requires : goal.snapshot_within-requires
-snapshot_within-requires c = shared-away c.self.inside.device.memory c.self.inside.arena c.self.invariant
 
 pub invariant_of-result : goal.invariant_of-result
 invariant_of-result c =

@@ -1,6 +1,6 @@
 use Rattle.std.proofs.Common.{◌∙◌, sym, ap, is_some}
 use Rattle.nic_device.specs.DmaArena.Memory.{has_block}
-use Rattle.card.specs.Card.{Holdings, given_back, with_taken}
+use Rattle.card.specs.Card.{Holdings, given_back}
 use Rattle.card.proofs.Moves.{taken-away, taken-shared, taken-tells}
 use Rattle.card.proofs.card.Card.take.Goals as goal
 

@@ -1,4 +1,4 @@
-use Rattle.std.proofs.Common.{◌≡◌, true, false, refl, ap, subst, ◌∙◌}
+use Rattle.std.proofs.Common.{◌≡◌, true, false, ap, subst, ◌∙◌}
 use Rattle.nic_device.specs.Blocks.{IsLowestTaken}
 use Rattle.nic_device.specs.DmaArena.Numbers.{Numbers, are_all_free}
 use Rattle.card.proofs.Restoring.{new-unused, never-taken, restored-shared, restored-is}

@@ -6,7 +6,7 @@
 
 __typeof__(nic_new) nicl_new;
 __typeof__(nic_free) nicl_free;
-__typeof__(nic_snapshot) nicl_snapshot;
+__typeof__(nic_snapshot) nicl_snapshot, nicl_snapshot_without_memory;
 __typeof__(nic_restore) nicl_restore;
 __typeof__(nic_free_snapshot) nicl_free_snapshot;
 __typeof__(nic_read32) nicl_read32, nicl_peek32;

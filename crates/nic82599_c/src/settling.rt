@@ -1,7 +1,8 @@
 //! Runs the device's own steps, in rounds, until no step has anything left to do.
 
-ghost use Rattle.std.specs.Prelude.{◌≡◌, ◌≢◌, ◌<◌, ◌≤◌, length};
-ghost use Rattle.nic_device.specs.Step.{TakesMemory};
+ghost use Rattle.std.specs.Prelude.{◌≡◌, ◌≢◌, ◌<◌, ◌≤◌, true, length};
+ghost use Rattle.nic_device.specs.Step.{after, reply_to, TakesMemory};
+ghost use Rattle.nic_device.specs.declared.event.Reply.TheVariants.{NoGroup};
 ghost use Rattle.nic82599_c.specs.Settling.{event_of, named, is_quiet, round_of};
 ghost use Rattle.nic82599_c.specs.Settling.{course, is_over, stepped, walked, rounds, settled};
 ghost use Rattle.nic82599_c.specs.Settling.{Stops, StopsIn};
@@ -99,6 +100,17 @@ fn round_of(queues: u16) -> ArrayVec<Step, STEPS>
     steps
 }
 
+/// Whether a step belongs to a virtual function that the card doesn't have. Such a step does nothing.
+fn is_absent(card: &Card, step: Step) -> bool
+    ensures quiet { result ≡ true → reply_to card.now.device (event_of step) ≡ NoGroup }
+    ensures kept { result ≡ true → after card.now.device (event_of step) ≡ card.now.device }
+{
+    match step {
+        Step::Interrupt(group) => group > card.vfs(),
+        _ => false,
+    }
+}
+
 /// Runs a step and reports it if the step did something. Returns MORE, without running the step, if the array is full;
 /// OUT_OF_MEMORY if memory ran out and the step didn't run; otherwise DONE.
 fn make(card: &mut Card, step: Step, outcome: &mut [Outcome], count: &mut usize) -> u8
@@ -113,6 +125,9 @@ fn make(card: &mut Card, step: Step, outcome: &mut [Outcome], count: &mut usize)
 {
     if *count >= outcome.len() {
         return MORE;
+    }
+    if is_absent(card, step) {
+        return DONE;
     }
     match card.make(event_of(step)) {
         Ok(reply) => {

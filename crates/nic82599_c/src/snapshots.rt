@@ -1,12 +1,30 @@
 //! Snapshots of a card.
 
 ghost use Rattle.std.specs.Prelude.{◌≡◌, ◌≢◌, Some};
+ghost use Rattle.card.specs.Kept.{without_memory};
 
 use crate::handed::KeptHandleOut;
 use crate::handle::{Handle, KeptHandle};
 use crate::parts::Parts;
 use crate::status::{DONE, OUT_OF_MEMORY};
+use card::Kept;
 use std::alloc::Global;
+
+/// Moves a kept card to the heap, and stores its pointer in `kept`. Returns DONE, or OUT_OF_MEMORY, which leaves `kept`
+/// unchanged.
+fn hand_out(alloc: Global, card: Kept, kept: &mut KeptHandleOut) -> u8
+    ensures status { result ≢ OUT_OF_MEMORY → result ≡ DONE }
+    ensures kept { result ≢ OUT_OF_MEMORY → kept.new.kept ≡ Some card }
+    ensures refused { result ≡ OUT_OF_MEMORY → kept.new ≡ kept.old }
+{
+    match Box::new(alloc, card) {
+        Ok(boxed) => {
+            *kept = KeptHandleOut::of(Parts::of(boxed));
+            DONE
+        }
+        Err(_) => OUT_OF_MEMORY,
+    }
+}
 
 /// Takes a snapshot of the card, and stores a pointer to the snapshot in `kept`. The snapshot contains the device, with
 /// the bytes of the lent blocks, the receive list, the staged bytes and the transmitted frames. It also records which
@@ -20,14 +38,30 @@ pub extern "C" fn nic_snapshot(alloc: Global, nic: &mut Handle, kept: &mut KeptH
     ensures unchanged { nic.new.card ≡ nic.old.card }
     ensures refused { result ≡ OUT_OF_MEMORY → kept.new ≡ kept.old }
 {
-    let Ok(card) = nic.get_mut().keep() else {
-        return OUT_OF_MEMORY;
-    };
-    match Box::new(alloc, card) {
-        Ok(boxed) => {
-            *kept = KeptHandleOut::of(Parts::of(boxed));
-            DONE
-        }
+    match nic.get_mut().keep() {
+        Ok(card) => hand_out(alloc, card, kept),
+        Err(_) => OUT_OF_MEMORY,
+    }
+}
+
+/// Takes a snapshot of the card as if it had a single block, which is free, and stores a pointer to the snapshot in
+/// `kept`. No packet memory is copied, so the time and memory that this takes don't depend on the number of lent
+/// blocks. The card is unchanged.
+///
+/// Returns DONE, or OUT_OF_MEMORY, which leaves `kept` unchanged.
+#[unsafe(no_mangle)]
+pub extern "C" fn nic_snapshot_without_memory(
+    alloc: Global,
+    nic: &mut Handle,
+    kept: &mut KeptHandleOut,
+) -> u8
+    ensures status { result ≢ OUT_OF_MEMORY → result ≡ DONE }
+    ensures kept { result ≢ OUT_OF_MEMORY → kept.new.kept ≡ Some (without_memory nic.old.card) }
+    ensures unchanged { nic.new.card ≡ nic.old.card }
+    ensures refused { result ≡ OUT_OF_MEMORY → kept.new ≡ kept.old }
+{
+    match nic.get_mut().keep_without_memory() {
+        Ok(card) => hand_out(alloc, card, kept),
         Err(_) => OUT_OF_MEMORY,
     }
 }

@@ -792,7 +792,7 @@ abbrev pub is_cell : RowId → Bool
 # The functions of words.rt that match on all rows. Each has a proof for the rows that are in no other field.
 WORDS = "register_file/RegisterFile"
 AMONG_HEAD = f"""{GENERATED}
--- Lemmas: the words of the rows among the cells, and of the rows that hold no word.
+-- Lemmas about the rows whose words are among the cells, and about the rows that have no word.
 use Rattle.std.proofs.Common.{{◌≡◌, ◌≢◌, ℕ, suc, zero, ◌<◌, true, replicate, refl, ◌⊎◌, inl, inr, arith}}
 use Rattle.reg_table.specs.Rows.{{row_of}}
 use Rattle.reg_table.specs.declared.rows.RowId.{{RowId}}

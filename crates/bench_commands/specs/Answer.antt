@@ -10,7 +10,7 @@ pub record Answer : Type 0 where
   pub text : List ℕ
   pub status : ℕ
 
--- The answer that refuses an input with this name, and with this number if there is one.
+-- The answer to a refused input: the refusal's name, followed by its number if there is one.
 abbrev pub refused : List ℕ → Option ℕ → Answer
 refused name number = record { text = refusal_line name number; status = 2 }
 

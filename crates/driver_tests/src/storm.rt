@@ -167,7 +167,7 @@ impl Storm {
         }
     }
 
-    /// Stops both drivers if they run.
+    /// Stops each of the two drivers that is running.
     fn stop(&mut self, rt: &impl Hand, bench: &Bench) {
         for driver in self.drivers.iter_mut() {
             driver.stop(rt, bench);

@@ -33,7 +33,7 @@ abbrev pub AreStepped : AtLock → AtLock → List (Event Block) → Type 0
 AreStepped old new events =
     (steps : List Call) × (events_in steps ≡ events) × (new ≡ with_calls old steps)
 
--- Only the first of the queue's device steps ran, possibly none.
+-- The first few of the queue's device steps ran, or none of them.
 abbrev pub StopsStepping : AtLock → AtLock → Type 0
 StopsStepping old new = (count : ℕ) × AreStepped old new (take count (steps_of_queue old.queue))
 

@@ -55,7 +55,7 @@ covers-function mode v =
     (mail_is_the_pools mode v (λ bit. bit == 2)))
     (covers-second (pool_has mode v) (by_sending v))
 
--- The bits that a function sends are at no place of a pool.
+-- No bit that a function sends is in a register of a pool.
 at_devices : (x : RowId) (i : ℕ) (mode : Mode) (w : ℕ) → ((n : ℕ) → is_of_pool_by (row_of x).bank mode w n ≡ false)
     → (p : Place) → is_of_pool mode w p ≡ true → is_place (place x i) p ≡ false
 at_devices x i mode w none p is =

@@ -86,7 +86,7 @@ void nicl_look_inside(nic *of, struct nicl_inside *inside)
     memset(inside, 0, sizeof *inside);
     if (nicl_new(0, 1, 1, &copy.device) != NIC_DONE)
         return;
-    if (nicl_snapshot(of, &kept) == NIC_DONE) {
+    if (nicl_snapshot_without_memory(of, &kept) == NIC_DONE) {
         inside->is_known = look(&copy, &kept, inside);
         nicl_free_snapshot(kept);
     }

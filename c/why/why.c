@@ -555,6 +555,8 @@ size_t nicl_why_fault(nic *n, const nic_outcome *reported, bool transmit, char *
         not_lent(&it, reported->bus, ring.head, address_of(&ring, ring.head));
     else if (!transmit)
         rx_set_up(&it, reported->queue);
+    else if (reported->why == NIC_FAULT_TOO_LONG) /* the device no longer owns the frame's first slots */
+        (void)(nicl_why_tx_too_long(&it, ring.head) || nicl_why_tx_too_long_for_jumbo(&it, ring.head));
     else if (!nicl_why_tx_head_outside(&it, reported->queue) && !nicl_why_tx_tail_outside(&it, reported->queue))
         tx_slots(&it, &ring, reported->queue);
     return end(&it);

@@ -247,7 +247,8 @@ static void tell_fault(nic *n, const nic_outcome *outcome, bool transmit)
     nicl_why_fault(n, outcome, transmit, text, sizeof text);
     join(text);
     nicl_reply(reply, sizeof reply, NIC_FAULT, outcome);
-    say(it, "%s: %s: %s", transmit ? "tx" : "rx", reply, text);
+    say(it, "%s: %s: %s%s", transmit ? "tx" : "rx", reply, text,
+        outcome->why == NIC_FAULT_TOO_LONG ? "; it has all bytes since the last descriptor with EOP" : "");
 }
 
 void nicl_tell_arrival(nic *n, const nic_outcome *outcome, const uint8_t *frame)

@@ -55,6 +55,14 @@ static void settle(nic *n)
     ANSWERS(NIC_DONE, nic_settle(n, 1, events, 8, &count));
 }
 
+static void enable_again(nic *n)
+{
+    nic_write32(n, NIC_TXDCTL(0), 0);
+    settle(n);
+    nic_write32(n, NIC_TXDCTL(0), ON);
+    settle(n);
+}
+
 static void faults(nic *n)
 {
     static const uint8_t one[6] = {2, 0, 0, 0, 0, 9};
@@ -77,10 +85,11 @@ static void faults(nic *n)
     nic_write32(n, NIC_TDT(0), 1);
     CHECK(nic_next_step(n, &where, &outcome) == NIC_MORE && outcome.status == NIC_FAULT);
     nic_put_desc(n, RING, 0, nic_tx_desc(0x8000, 60, 60, NIC_TXD_EOP | NIC_TXD_IFCS));
-    nic_write32(n, NIC_TXDCTL(0), 0);
-    settle(n);
-    nic_write32(n, NIC_TXDCTL(0), ON);
-    settle(n); /* the queue is enabled, and disabled by the fault */
+    enable_again(n); /* and the fault disables the queue */
+    for (uint16_t slot = 0; slot < 2; slot++)
+        nic_put_desc(n, RING, slot, nic_tx_desc(RING + 1024, 1000, 2000, NIC_TXD_IFCS)); /* no EOP */
+    nic_write32(n, NIC_TDT(0), 2);
+    enable_again(n);
 }
 
 static void in_a_child(nic *n)

@@ -5,6 +5,9 @@
 
 #define SWSM 0x10140u
 #define SWSM_SMBI 0x1u /* the semaphore between drivers: a read returns it and sets it */
+#define SW_FW_SYNC 0x10160u
+#define SYNC_SOFTWARE 0x1Fu /* bits 4:0, what drivers own */
+#define SYNC_BITS 0x3FFu    /* also bits 9:5, what the firmware would own */
 #define ANLP1 0x042B0u
 #define FWSM 0x10148u
 #define FWSM_VALID 0x8000u
@@ -38,6 +41,8 @@ static const struct {
      "the register table lacks it, and Linux warns about missing headroom"},
     {"IPSEC", BUS_IPSEC, "reads of SECTXSTAT (0x08804) and SECRXSTAT (0x08D04) with 3: ready, IPsec off",
      "the register table lacks them, and Linux takes 0 for a card that supports IPsec"},
+    {"SW_FW_SYNC", BUS_SYNC, "reads of SW_FW_SYNC (0x10160) with the value last written; a reset clears bits 4:0",
+     "the register table lacks it, and a driver that reads back what it wrote sees 0"},
 };
 
 static bool given(struct bus *it, enum bus_answer answer)
@@ -69,27 +74,58 @@ void bus_tell_answers(unsigned int which)
             printf("the shim answers %s\n", answers[i].what);
 }
 
+/* Returns the answer to reads of a register that the device lacks; 0: none. */
+static enum bus_answer answer_at(uint32_t address)
+{
+    switch (address) {
+    case SWSM: return BUS_SWSM;
+    case SW_FW_SYNC: return BUS_SYNC;
+    case ANLP1: return BUS_ANLP1;
+    case FWSM: return BUS_FWSM;
+    case RXPBSIZE: return BUS_RXPBSIZE;
+    case SECTXSTAT:
+    case SECRXSTAT: return BUS_IPSEC;
+    default: return 0;
+    }
+}
+
+bool bus_answers_at(const struct bus *it, uint32_t address)
+{
+    return (it->options.answers & answer_at(address)) != 0;
+}
+
+static uint32_t take_semaphore(struct bus *it)
+{
+    uint32_t word = it->semaphore;
+    it->semaphore |= SWSM_SMBI;
+    return word;
+}
+
 uint32_t answer_stray(struct bus *it, uint32_t address, uint32_t word)
 {
-    if (address == SWSM && given(it, BUS_SWSM)) {
-        word = it->semaphore;
-        it->semaphore |= SWSM_SMBI;
+    if (!given(it, answer_at(address)))
+        return word;
+    switch (address) {
+    case SWSM: return take_semaphore(it);
+    case SW_FW_SYNC: return it->sync;
+    case ANLP1: return ANLP1_STATE;
+    case FWSM: return FWSM_VALID;
+    case RXPBSIZE: return RXPBSIZE_ALL;
+    default: return SECURITY_READY | SECURITY_OFF;
     }
-    if (address == ANLP1 && given(it, BUS_ANLP1))
-        word = ANLP1_STATE;
-    if (address == FWSM && given(it, BUS_FWSM))
-        word = FWSM_VALID;
-    if (address == RXPBSIZE && given(it, BUS_RXPBSIZE))
-        word = RXPBSIZE_ALL;
-    if ((address == SECTXSTAT || address == SECRXSTAT) && given(it, BUS_IPSEC))
-        word = SECURITY_READY | SECURITY_OFF;
-    return word;
 }
 
 void answer_stray_write(struct bus *it, uint32_t address, uint32_t word)
 {
     if (address == SWSM)
         it->semaphore = word;
+    else if (address == SW_FW_SYNC)
+        it->sync = word & SYNC_BITS;
+}
+
+void answer_reset(struct bus *it)
+{
+    it->sync &= ~SYNC_SOFTWARE;
 }
 
 uint32_t answer_read(struct bus *it, uint32_t address, uint32_t word)

@@ -145,7 +145,7 @@ static void forget_pool(const struct bus *it, unsigned int pool)
     forget(it, pool * each, each);
 }
 
-static void forget_reset(const struct bus *it, unsigned int function, uint32_t offset, uint32_t word)
+static void forget_reset(struct bus *it, unsigned int function, uint32_t offset, uint32_t word)
 {
     bool is_function_reset = offset >= NIC_PVFCTRL(0) && offset < NIC_PVFCTRL(NIC_PVFCTRL_COUNT);
     if (function != BUS_PHYSICAL) {
@@ -153,6 +153,7 @@ static void forget_reset(const struct bus *it, unsigned int function, uint32_t o
             forget_pool(it, function - 1);
     } else if (offset == NIC_CTRL && word & CTRL_RESETS) {
         forget(it, 0, BUS_QUEUES);
+        answer_reset(it);
     } else if (is_function_reset && word & NIC_PVFCTRL_RST) {
         forget_pool(it, (offset - NIC_PVFCTRL(0)) / 4);
     }

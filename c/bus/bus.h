@@ -24,6 +24,7 @@
 #define BUS_FUNCTION_SPACE 0x4000u /* bytes in a virtual function's register window */
 #define BUS_PHASES 24
 #define BUS_SLOT 16 /* bytes of a descriptor */
+#define BUS_NAME 64 /* bytes of a register's name */
 
 struct bus;
 
@@ -37,7 +38,8 @@ enum bus_answer {
     BUS_FWSM = 32,     /* the state of the firmware that the card would have */
     BUS_RXPBSIZE = 64, /* the size of the packet buffer */
     BUS_IPSEC = 128,   /* whether the card encrypts: it doesn't */
-    BUS_ALL = 255
+    BUS_SYNC = 256,    /* the owners of what drivers and the firmware share */
+    BUS_ALL = 511
 };
 
 /* The kind of queue register that an access addresses. */
@@ -97,7 +99,7 @@ struct bus_calls {
     /* A receive descriptor at this bus address was filled; `ends` is set if it is the frame's last descriptor. */
     void (*filled)(void *of, uint16_t queue, uint64_t descriptor, bool ends);
     void (*message)(void *of, unsigned int function, unsigned int vector); /* delivers an interrupt message */
-    /* Called for a device fault. If null, a line on standard error reports it. */
+    /* Called for a device fault, with the slot at the head. If null, a line on standard error reports it. */
     void (*fault)(void *of, bool is_transmit, const nic_outcome *outcome);
     /* Called when the bus can't do something. If null, a line on standard error reports each of the first twenty. */
     void (*problem)(void *of, const char *what);
@@ -127,7 +129,7 @@ struct bus_counts {
     uint32_t vectors[BUS_FUNCTIONS];
     uint64_t receive_steps, transmit_steps, frames_in, frames_out, enables, eeprom_words;
     uint64_t absent_reads, absent_writes; /* accesses by absent virtual functions (bus_is_absent) */
-    uint64_t answered[8];                 /* how often each answer was given, by bit number of enum bus_answer */
+    uint64_t answered[9];                 /* how often each answer was given, by bit number of enum bus_answer */
     uint64_t faults, problems;            /* 0 in a run without problems */
     uint64_t fault_whys[16];              /* faults by enum nic_fault */
     uint64_t drops, not_let_in;           /* frames dropped by receive steps and at arrival; by enum nic_why: */
@@ -164,6 +166,9 @@ bool bus_eeprom(struct bus *it);
 /* Returns the word in the physical function's register at this address, without side effects; 0 if there is no
    register. */
 uint32_t bus_peek(const struct bus *it, uint32_t address);
+
+/* Writes the name and the offset of a function's register to `room`, such as "RDT[3] (0x010d8)", and returns it. */
+const char *bus_register_name(unsigned int function, uint32_t offset, char room[BUS_NAME]);
 
 /* Returns the number of queues in a pool according to GCR_EXT: 8, 4 or 2; 0 without pools. */
 unsigned int bus_pool_queues(const struct bus *it);
@@ -207,6 +212,8 @@ bool bus_line(const struct bus *it);
 /* Returns the set of answers in use, and the bit of the answer with this name (as after --without), 0 if there is
    none. */
 unsigned int bus_answers(const struct bus *it);
+/* Returns whether the bus answers reads of this register, which the device lacks. */
+bool bus_answers_at(const struct bus *it, uint32_t address);
 unsigned int bus_answer_named(const char *name);
 /* Prints a line for each answer in the set. */
 void bus_tell_answers(unsigned int answers);

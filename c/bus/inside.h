@@ -44,6 +44,7 @@ struct bus {
     void *sink_of;
     bool is_held;       /* only the user requests steps */
     uint32_t semaphore; /* value of SWSM, if the bus answers in the device's place */
+    uint32_t sync;      /* and of SW_FW_SYNC */
     struct mailboxes mailboxes;
     struct stray *strays[BUS_FUNCTIONS]; /* by function, an entry for each word */
     struct stray outside;                /* accesses beyond the window */
@@ -61,6 +62,7 @@ uint32_t answer_read(struct bus *it, uint32_t address, uint32_t word);
 bool answer_absent_read(struct bus *it, unsigned int function, uint32_t offset, uint32_t *word);
 void answer_absent_write(struct bus *it, unsigned int function, uint32_t offset, uint32_t word);
 void answer_eeprom(struct bus *it);
+void answer_reset(struct bus *it); /* what a reset of the device changes in these answers */
 
 /* strays.c: accesses outside the register table. */
 bool strays_begin(struct bus *it);

@@ -25,17 +25,30 @@ void bus_problem(struct bus *it, const char *format, ...)
         fprintf(stderr, "wrong: %s\n", what);
 }
 
-static void fault(struct bus *it, bool is_transmit, const nic_outcome *outcome)
+/* Prints a fault. Only `not lent` has an address. */
+static void print_fault(bool is_transmit, const nic_outcome *outcome)
+{
+    char more[96] = "";
+    if (outcome->why == NIC_FAULT_NOT_LENT)
+        snprintf(more, sizeof more, ", bus address 0x%" PRIx64, outcome->bus);
+    else if (outcome->why == NIC_FAULT_TOO_LONG)
+        snprintf(more, sizeof more, ": the bytes since the last descriptor with EOP exceed the frame limit");
+    fprintf(stderr, "bus: a fault in %s, queue %u slot %u: %s%s\n", is_transmit ? "sending" : "receiving",
+            outcome->queue, outcome->slot, nic_fault_name(outcome->why), more);
+}
+
+/* Reports a fault. The device reports no slot; it is the one at the head. */
+static void fault(struct bus *it, bool is_transmit, const nic_outcome *reported)
 {
     const struct bus_calls *calls = &it->options.calls;
+    nic_outcome outcome = *reported;
+    outcome.slot = (uint16_t)bus_peek(it, is_transmit ? NIC_TDH(outcome.queue) : NIC_RDH(outcome.queue));
     it->counts.faults++;
-    it->counts.fault_whys[outcome->why % WHYS]++;
+    it->counts.fault_whys[outcome.why % WHYS]++;
     if (calls->fault)
-        calls->fault(calls->of, is_transmit, outcome);
+        calls->fault(calls->of, is_transmit, &outcome);
     else
-        fprintf(stderr, "bus: a fault in %s, queue %u slot %u: %s, bus address 0x%" PRIx64 "\n",
-                is_transmit ? "sending" : "receiving", outcome->queue, outcome->slot, nic_fault_name(outcome->why),
-                outcome->bus);
+        print_fault(is_transmit, &outcome);
 }
 
 static void collect(struct bus *it, uint16_t queue)

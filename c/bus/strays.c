@@ -48,8 +48,9 @@ void stray_write(struct bus *it, unsigned int function, uint32_t offset, uint32_
 }
 
 static void write_one(const struct bus *it, FILE *file, unsigned int function, uint32_t offset,
-                      const struct stray *stray)
+                      const struct stray *stray, stray_name *name)
 {
+    const char *known = name ? name(function, offset) : NULL;
     if (function == BUS_PHYSICAL)
         fprintf(file, "pf");
     else
@@ -59,15 +60,17 @@ static void write_one(const struct bus *it, FILE *file, unsigned int function, u
     for (unsigned int phase = 0; bus_phase_name(it, phase); phase++)
         if (stray->phases >> phase & 1)
             fprintf(file, " %s", bus_phase_name(it, phase));
+    if (known)
+        fprintf(file, " # %s", known);
     fputc('\n', file);
 }
 
-void strays_write(const struct bus *it, FILE *file)
+void strays_write(const struct bus *it, FILE *file, stray_name *name)
 {
     for (unsigned int function = 0; function <= it->options.functions; function++)
         for (uint32_t word = 0; word < space_of(function) / 4; word++)
             if (it->strays[function][word].phases)
-                write_one(it, file, function, word * 4, &it->strays[function][word]);
+                write_one(it, file, function, word * 4, &it->strays[function][word], name);
 }
 
 void strays_each(const struct bus *it, stray_each *each, void *of)

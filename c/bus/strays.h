@@ -8,9 +8,13 @@
 
 struct bus;
 
+/* Returns the name of a register that the device lacks; null if it isn't known. */
+typedef const char *stray_name(unsigned int function, uint32_t offset);
+
 /* Writes a line for each address: pf, or vf with the function's number; the address, the number of reads and of writes,
-   the last word written, and the phases. drivers/common/strays.py groups them by register family. */
-void strays_write(const struct bus *it, FILE *file);
+   the last word written, the phases, and after `#` the register's name, if `name` isn't null and returns one.
+   drivers/common/strays.py groups them by register family. */
+void strays_write(const struct bus *it, FILE *file, stray_name *name);
 
 /* Calls `each` for each address with the number of its accesses. */
 typedef void stray_each(void *of, unsigned int function, uint32_t offset, uint64_t accesses);

@@ -5,6 +5,7 @@
 #include <pthread.h>
 #include <signal.h>
 #include <stdint.h>
+#include <string.h>
 #include <sys/eventfd.h>
 #include <unistd.h>
 
@@ -14,6 +15,7 @@
 struct copy {
     nic_kept device;
     struct rings *rings;
+    bool has_line; /* the physical function's MSI-X is off */
 };
 
 enum state { FREE, ASKED, ANSWERED };
@@ -36,11 +38,43 @@ static void drop(struct copy *it)
     it->rings = NULL;
 }
 
+/* Returns whether the physical function raises a line or sends one MSI, for all causes. */
+static bool has_line(const struct card *card)
+{
+    const struct function *function = card->sockets[BUS_PHYSICAL][0];
+    return function && function_has_line(function);
+}
+
+/* Removes the reasons that concern only MSI-X messages: neither GPIE nor IVAR_MISC holds back a line or MSI. */
+static void leave_out_messages(char *lines)
+{
+    static const char *const starts[] = {"int pf: GPIE.Multiple_MSIX ", "int pf: IVAR_MISC "};
+    char *to = lines;
+    for (const char *from = lines; *from;) {
+        size_t length = strcspn(from, "\n");
+        length += from[length] == '\n';
+        if (strncmp(from, starts[0], strlen(starts[0])) != 0 && strncmp(from, starts[1], strlen(starts[1])) != 0) {
+            memmove(to, from, length);
+            to += length;
+        }
+        from += length;
+    }
+    *to = 0;
+}
+
+/* Writes to `text` what blocks the device's work. */
+static void find_reasons(nic *device, bool is_line)
+{
+    nic_why(device, text, sizeof text);
+    if (is_line)
+        leave_out_messages(text);
+}
+
 /* Copies everything, or returns false and copies nothing. */
 static bool copy_card(struct copy *it, struct card *card)
 {
     card_give_due(card);
-    *it = (struct copy){.rings = rings_copy(card->rings)};
+    *it = (struct copy){.rings = rings_copy(card->rings), .has_line = has_line(card)};
     if (it->rings && nic_snapshot(bus_device(card->bus), &it->device) == NIC_DONE)
         return true;
     drop(it);
@@ -54,7 +88,7 @@ static void look_at_copy(struct copy *it)
     is_short = nic_open(&device, 0, 1, 1) != NIC_DONE || nic_restore(&device, &it->device) != NIC_DONE;
     if (!is_short) {
         rings_fill(it->rings, &device);
-        nic_why(&device, text, sizeof text);
+        find_reasons(&device, it->has_line);
     }
     nic_close(&device);
     drop(it);
@@ -161,7 +195,7 @@ const char *explain_now(struct card *card)
     if (card->options.is_recorded) {
         card_give_due(card);
         rings_fill(card->rings, bus_device(card->bus));
-        nic_why(bus_device(card->bus), text, sizeof text);
+        find_reasons(bus_device(card->bus), has_line(card));
         return text;
     }
     is_short = !copy_card(&asked, card);

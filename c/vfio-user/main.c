@@ -7,6 +7,7 @@
 #include <sys/stat.h>
 #include <unistd.h>
 
+#include "absent.h"
 #include "ask.h"
 #include "closer.h"
 #include "confine.h"
@@ -117,7 +118,7 @@ static void tell_to(struct output *it, struct server *server, void (*tell)(const
 
 static void tell_strays(const struct server *server, FILE *to)
 {
-    strays_write(server->card.bus, to);
+    strays_write(server->card.bus, to, absent_name);
 }
 
 /* Writes the last output, and closes everything. Returns false if the file for --strays couldn't be written. */

@@ -35,7 +35,7 @@ static const char help[] =
     "  --capture=FILE         write all traffic to a pcapng file\n"
     "  --play=FILE            send the frames in a pcap or pcapng file to the card when it can receive\n"
     "  --without=NAME         turn off one of the server's additions to the bench: offloads, legacy, SWSM, ANLP1,\n"
-    "                         EICS, EERD, ABSENT, FWSM, RXPBSIZE, IPSEC\n"
+    "                         EICS, EERD, ABSENT, FWSM, RXPBSIZE, IPSEC, SW_FW_SYNC\n"
     "  --bare                 turn off all of them\n"
     "  --control=PATH         listen on this socket for requests; the request \"help\" lists them\n"
     "  --seed=N               run each device step and each reset immediately or late, at random with this seed\n"

@@ -78,9 +78,9 @@ void tell_counts(const struct server *it, FILE *to)
     tell_whys(to, "faults", bus->fault_whys, nic_fault_name);
     fprintf(to,
             "answers in the device's place: SWSM %" PRIu64 ", ANLP1 %" PRIu64 ", EICS %" PRIu64 ", EERD %" PRIu64
-            ", ABSENT %" PRIu64 ", FWSM %" PRIu64 ", RXPBSIZE %" PRIu64 ", IPSEC %" PRIu64 "\n",
+            ", ABSENT %" PRIu64 ", FWSM %" PRIu64 ", RXPBSIZE %" PRIu64 ", IPSEC %" PRIu64 ", SW_FW_SYNC %" PRIu64 "\n",
             bus->answered[0], bus->answered[1], bus->answered[2], bus->answered[3], bus->answered[4], bus->answered[5],
-            bus->answered[6], bus->answered[7]);
+            bus->answered[6], bus->answered[7], bus->answered[8]);
     fprintf(to,
             "rings: %" PRIu64 " descriptors, read ahead %" PRIu64 ", %" PRIu64 " bytes of frames; at most %" PRIu32
             " KB of rings; accesses "
@@ -88,7 +88,7 @@ void tell_counts(const struct server *it, FILE *to)
             "; tails in rings that are off %" PRIu64 ", writes lost in resets %" PRIu64 ", rings stopped %" PRIu64 "\n",
             rings->descriptors, rings->ahead, rings->frames_bytes, rings->blocks_most * 2, rings->refused,
             rings->tails_outside, rings->without_room, rings->tails_off, it->card.lost_writes, rings->stopped);
-    absent_tell(it->card.bus, to);
+    absent_tell(it->card.bus, to, " by the host", " (--strays=FILE lists each)");
     if (it->card.offload) {
         const struct offload_counts *offload = &it->card.offload->counts;
         fprintf(to,

@@ -8,6 +8,8 @@
 
 #include "piece.h"
 
+enum { PART = 1024 }; /* bytes that are compared at once */
+
 static struct piece *memory;
 static char *kept;
 static size_t kept_size;
@@ -63,9 +65,15 @@ bool nicxi_heap_keep(void)
     return true;
 }
 
+/* Most parts of the memory don't change during a schedule, and comparing a part takes less time than writing it. */
 void nicxi_heap_back(void)
 {
-    memcpy(memory, kept, kept_size);
+    char *now = (char *)memory;
+    for (size_t at = 0; at < kept_size; at += PART) {
+        size_t length = kept_size - at < PART ? kept_size - at : PART;
+        if (memcmp(now + at, kept + at, length) != 0)
+            memcpy(now + at, kept + at, length);
+    }
 }
 
 size_t nicxi_heap_size(void)

@@ -19,7 +19,8 @@ enum {
 /* What an actor did at a point. */
 enum step_kind {
     STEP_NONE,
-    STEP_LOCAL, /* touches only the driver's own memory: a task begins or continues, a lock, nicx_point */
+    STEP_LOCAL, /* touches only the driver's own memory: a task begins or continues, a lock, nicx_point; also a pointer
+                   store that another thread wrote first */
     STEP_READ,
     STEP_WRITE,
     STEP_VF_READ,
@@ -92,6 +93,8 @@ void nicxo_fail(uint8_t outcome, const char *form, ...) __attribute__((format(pr
 uint8_t nicxo_outcome(void);
 /* Appends words to the failure's message, if there is a failure. */
 void nicxo_add_words(const char *form, ...) __attribute__((format(printf, 1, 2)));
+/* The same, but puts them before the message. */
+void nicxo_put_words_first(const char *form, ...) __attribute__((format(printf, 1, 2)));
 
 /* --- what a driver may do beyond nic82599_explore.h --- */
 
@@ -104,8 +107,8 @@ uint16_t nicxo_let_come(uint16_t count);
    process is in lent memory, and if so, its bus address. */
 typedef bool nicxo_bus_of(uint64_t at, uint64_t *bus);
 void nicxo_has_pointers(nicxo_bus_of *bus_of);
-/* A store that the driver made through a pointer, treated like nicx_dma_write. `source` returns the bytes after the
-   point. */
+/* A store that the driver made through a pointer, treated like nicx_dma_write. After the point, `source` returns the
+   bytes, or null if another thread has written them to the device by then: then nothing is written. */
 typedef const uint8_t *nicxo_bytes_at(uint64_t bus, size_t length);
 uint8_t nicxo_write(uint64_t bus, nicxo_bytes_at *source, size_t length);
 /* Calls the observer's `publish`, as happens before each driver call. */
@@ -117,6 +120,8 @@ void nicxo_publish(void);
 void nicxo_gives(const void *object);
 void nicxo_takes(const void *object);
 bool nicxo_sees_accesses(void);
+/* The parts of the driver whose accesses aren't observed, and what to do about them, if other parts' accesses are. */
+const char *nicxo_unseen(void);
 
 /* --- before nicx_main --- */
 
@@ -130,5 +135,7 @@ typedef struct nicxo_words {
 void nicxo_set_words(const nicxo_words *words);
 /* Whether the driver is written in a language other than C, so that its calls aren't on the stack. */
 bool nicxo_is_foreign(void);
+/* What the author of such a driver can do so that the search sees the driver's own memory; null for a driver in C. */
+const char *nicxo_to_be_seen(void);
 
 #endif

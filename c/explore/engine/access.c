@@ -26,6 +26,7 @@ static struct step *before(uint8_t kind)
     struct thread *self = nicxi.self;
     struct step *step = self ? &self->next : &outside;
     step->kind = kind;
+    step->is_published = step->is_overtaken = false;
     return step;
 }
 
@@ -361,6 +362,15 @@ uint8_t nicx_dma_read(uint64_t bus, uint8_t *bytes, size_t length)
     return step->status;
 }
 
+/* Stores the bytes that the source of a pointer store returns after the point. If it returns none, another thread wrote
+   the store to the device before this step, and the memory may be taken back by now. */
+static uint8_t store_published(struct step *step, nicxo_bytes_at *source)
+{
+    const uint8_t *bytes = source(step->bus, step->length);
+    step->is_overtaken = !bytes;
+    return bytes ? store(step, bytes) : NIC_DONE;
+}
+
 /* Writes `bytes`, or, if there is a `source`, the bytes that it returns after the point. */
 static uint8_t nicxi_write_bytes(uint64_t bus, const uint8_t *bytes, nicxo_bytes_at *source, size_t length)
 {
@@ -371,7 +381,8 @@ static uint8_t nicxi_write_bytes(uint64_t bus, const uint8_t *bytes, nicxo_bytes
     note_change();
     if (!let_others(nicxi.self))
         return NIC_NOT_LENT;
-    step->status = store(step, source ? source(bus, length) : bytes);
+    step->is_kept = false;
+    step->status = source ? store_published(step, source) : store(step, bytes);
     if (!source)
         nicxi_note_stored(bus, length, *call_of(nicxi.self));
     after(step);

@@ -36,6 +36,7 @@ struct step {
     bool is_kept;
     bool is_own;         /* set if the store that reached memory is to own memory */
     bool is_published;   /* a pointer store: race detection saw it when the driver made it (nicxo_write) */
+    bool is_overtaken;   /* a pointer store that another thread wrote before this step, which writes nothing */
     uint8_t older;       /* weak memory: the load reads the value from before this many changes */
     uint16_t of;         /* number of the queue, group, frame or link change; for a value or a store, of the thread */
     uint32_t address;    /* register address, or offset of a virtual function's access; a block lent or taken */

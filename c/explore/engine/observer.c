@@ -29,7 +29,7 @@ static uint8_t thread_of(uint16_t actor)
 void nicxi_observed(uint16_t actor, const struct step *step)
 {
     const nicxo_step seen = {
-        .kind = step->kind,
+        .kind = step->is_overtaken ? STEP_LOCAL : step->kind,
         .status = step->status,
         .vf = step->vf,
         .is_outside = actor == NOBODY,
@@ -113,6 +113,17 @@ void nicxo_add_words(const char *form, ...)
     va_end(list);
 }
 
+void nicxo_put_words_first(const char *form, ...)
+{
+    char words[sizeof nicxi.result.words];
+    va_list list;
+    memcpy(words, nicxi.result.words, sizeof words);
+    va_start(list, form);
+    vsnprintf(nicxi.result.words, sizeof nicxi.result.words, form, list);
+    va_end(list);
+    nicxo_add_words("%s", words);
+}
+
 /* --- what the driver may do --- */
 
 void nicxo_hold_back(uint16_t count)
@@ -151,7 +162,12 @@ void nicxo_takes(const void *object)
 
 bool nicxo_sees_accesses(void)
 {
-    return nicxi_races != NULL;
+    return nicxi_races && !nicxi_races->unseen;
+}
+
+const char *nicxo_unseen(void)
+{
+    return nicxi_races ? nicxi_races->unseen : NULL;
 }
 
 /* --- before nicx_main --- */
@@ -167,4 +183,9 @@ void nicxo_set_words(const nicxo_words *words)
 bool nicxo_is_foreign(void)
 {
     return nicxi_to_be_seen != NULL;
+}
+
+const char *nicxo_to_be_seen(void)
+{
+    return nicxi_to_be_seen;
 }

@@ -39,6 +39,9 @@ struct nicxi_races {
        states an order that the caller promises; it isn't a barrier. */
     void (*gives)(const void *object);
     void (*takes)(const void *object);
+    /* The parts of the driver that aren't instrumented, and what to do about them; null if there are none. If there are
+       some, no race is judged: the order that they make with their own loads, stores and atomics isn't seen. */
+    const char *unseen;
 };
 
 /* The file of linker options for the link form; the report card has a different one. */

@@ -200,8 +200,8 @@ void nicxi_script_step(struct script *script, uint16_t actor, const struct step 
     case STEP_VF_WRITE: access_registers(script, actor, step); break;
     case STEP_PEEK:
     case STEP_POKE:
-        if (step->is_kept || step->older)
-            own_step(script, actor, step); /* the device doesn't see these accesses of weak memory */
+        if (step->is_kept || step->older || step->is_overtaken)
+            own_step(script, actor, step); /* the device doesn't see such an access */
         else if (step->kind == STEP_PEEK)
             peek(script, actor, step);
         else

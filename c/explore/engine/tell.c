@@ -57,6 +57,8 @@ static void tell_unseen(void)
     static const char unseen[] = "the search can't see plain accesses and atomics, so it misses bugs in their order";
     if (!nicxi_races && nicxi_to_be_seen)
         printf("%s: %s: %s\n", nicxi.scenario->name, unseen, nicxi_to_be_seen);
+    else if (nicxi_races && nicxi_races->unseen)
+        printf("%s: %s: %s\n", nicxi.scenario->name, unseen, nicxi_races->unseen);
     else if (!nicxi_races)
         printf("%s: %s: compile with -fsanitize=thread%s%s\n", nicxi.scenario->name, unseen,
                nicxi_form ? "" : " and link with @", nicxi_form ? "" : nicxi_form_options);

@@ -14,6 +14,7 @@ struct store {
     uint32_t length, room;
     uint8_t *bytes;
     bool is_own;       /* to the driver's own memory */
+    bool is_anyones;   /* a pointer store: any thread may have made it, not only the one that writes it (nicxo_write) */
     bool releases;     /* all earlier stores must come before it */
     uint8_t slot;      /* own memory: its number among the processor's pending stores */
     uint32_t barriers; /* barriers made before this store: stores made before such a barrier reach memory first */
@@ -386,6 +387,20 @@ static uint32_t land_first(struct processor *it, uint32_t count)
     return count;
 }
 
+/* Flushes the other processors' pointer stores that overlap the range: this processor's thread may have made them. */
+static uint32_t land_anyones(const struct processor *self, uint64_t at, uint64_t length)
+{
+    uint32_t landed = 0;
+    for (int k = 0; k < MOST_THREADS; k++) {
+        struct processor *it = &weak.processors[k];
+        uint32_t count = it == self ? 0 : it->count;
+        while (count && !(it->stores[count - 1].is_anyones && touches(&it->stores[count - 1], false, at, length)))
+            count--;
+        landed += land_first(it, count);
+    }
+    return landed;
+}
+
 static bool keep_bytes(struct store *store, const void *bytes, uint32_t length)
 {
     if (store->room < length) {
@@ -402,6 +417,10 @@ static bool keep_bytes(struct store *store, const void *bytes, uint32_t length)
 /* Appends a store. Returns false if there is no memory for it. */
 static bool keep_store(struct processor *it, struct store store, const void *bytes)
 {
+    if (store.releases || nicxi.is_tso)
+        land_anyones(it, 0, weak.size);
+    else if (!store.is_own)
+        land_anyones(it, store.bus, store.length);
     if (it->count == NICX_STORES)
         land_oldest(it);
     struct store *last = &it->stores[it->count];
@@ -434,7 +453,8 @@ uint8_t nicxi_store(struct step *step, const uint8_t *bytes)
     step->is_kept = false;
     if (status != NIC_DONE || !step->length)
         return status;
-    step->is_kept = keep_store(it, (struct store){.bus = step->bus, .length = step->length}, bytes);
+    struct store store = {.bus = step->bus, .length = step->length, .is_anyones = step->is_published};
+    step->is_kept = keep_store(it, store, bytes);
     return status;
 }
 
@@ -528,18 +548,19 @@ void nicxi_land(const struct actor *actor, struct step *step)
 uint32_t nicxi_released(const struct thread *thread)
 {
     struct processor *it = processor_of(thread);
-    return land_first(it, it->count);
+    uint32_t others = land_anyones(it, 0, weak.size);
+    return others + land_first(it, it->count);
 }
 
 uint32_t nicxi_ordered(const struct thread *thread)
 {
     struct processor *it = processor_of(thread);
-    uint32_t count = it->count;
+    uint32_t others = land_anyones(it, 0, weak.size), count = it->count;
     while (count && it->stores[count - 1].is_own)
         count--;
     land_first(it, count);
     it->barriers += it->count != 0;
-    return count;
+    return others + count;
 }
 
 void nicxi_acquired(const struct thread *thread)

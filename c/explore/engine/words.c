@@ -50,7 +50,10 @@ static const char *local_words(const struct step *step, char *room)
    pending stores, or be old. */
 static const char *memory_words(const struct step *step, const char *stray, char *room)
 {
-    const char *late = !step->is_kept ? "" : step->kind == STEP_POKE ? ", on its way" : ", with its own pending stores";
+    const char *late = step->is_overtaken        ? ", which another thread already wrote"
+                       : !step->is_kept          ? ""
+                       : step->kind == STEP_POKE ? ", on its way"
+                                                 : ", with its own pending stores";
     int length = snprintf(room, MOST_WORDS, "%s 0x%05llx, %u bytes%s%s", step->kind == STEP_PEEK ? "peek" : "poke",
                           (unsigned long long)step->bus, step->length, stray, late);
     if (step->kind == STEP_PEEK && step->older)

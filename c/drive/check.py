@@ -86,7 +86,7 @@ ADAPTERS = {
     '.name = "a", .close = my_close, .receive = my_receive, .slots = 12': "slots must be 8, 16, .. 64",
     '.name = "a", .close = my_close, .receive = my_receive, .frame = 9': "frame must be 1,514 to 9,724",
     '.name = "a", .close = my_close, .receive = my_receive, .threads = 1': "or thread isn't set",
-    '.name = "a", .close = my_close, .receive = my_receive, .can = 512': "can has bits that enum nicd_can doesn't",
+    '.name = "a", .close = my_close, .receive = my_receive, .can = 1024': "can has bits that enum nicd_can doesn't",
 }
 
 
@@ -195,7 +195,10 @@ PLAIN_WORD = {
 }
 # Rows in which the driver's threads share state other than their rings.
 SEEN = "interrupt-two-queues,interrupt-often,link,stats,reset-during-interrupts,mailbox-ready-once,host-collides"
-UNSEEN = "^the search can't see accesses to the driver's own memory, so it misses bugs in their order: "
+UNSEEN = (
+    "^the search can't see accesses to the driver's own memory, so it judges no data races and misses bugs in their "
+    "order: "
+)
 
 
 # Changes to corpus/driver.c with PLAIN_COUNTS: a single copy accesses both words, with a fence, for which gcc prints a
@@ -251,7 +254,8 @@ def check_accesses(kit: Kit) -> str:
         raise Wrong(f"accesses of {right} aren't seen:\n{passes}")
     check_counts(folder)
     check_blind(kit, wrong, how)
-    return "a race on a plain word, and the notice if accesses aren't observed"
+    check_partly(kit)
+    return "a race on a plain word, and the notice if accesses aren't observed or only partly"
 
 
 def check_seen(kit: Kit, runs: int, rows: str) -> str:
@@ -281,8 +285,26 @@ def check_blind(kit: Kit, wrong: Path, how: list[object]) -> None:
     }.items():
         must_print(nicdrive(folder, [*words, *how], 0), UNSEEN + wanted, str(words))
         must_print((folder / "card.txt").read_text(), UNSEEN + wanted, "card.txt")
-        if "it misses bugs in their order" not in (folder / "card.html").read_text():
+        if "it judges no data races" not in (folder / "card.html").read_text():
             raise Wrong(f"card.html doesn't say that accesses aren't seen: {words}")
+
+
+GLUE = """int driver_main(int argc, char **argv);
+int main(int argc, char **argv) { return driver_main(argc, argv); }
+"""
+
+
+def check_partly(kit: Kit) -> None:
+    """A correct driver in an object without instrumentation has no race, although the search sees its copies: its loads
+    of DD, which order them, aren't seen. The program itself reports that too."""
+    glue, driver, folder = kit.folder / "glue.c", kit.folder / "driver_unseen.o", kit.folder / "partly"
+    glue.write_text(GLUE)
+    words = ["-O2", "-g", "-DIN_PLACE", "-Dmain=driver_main", f"-I{C}/include"]
+    ran([kit.compiler, *words, "-c", HERE / "corpus/driver.c", "-o", driver])
+    how: list[object] = ["--rows", "receive-one,send-one", "--runs", 200, "--every", 200, "--no-pages", *PATIENT]
+    wanted = UNSEEN + "driver_unseen.o: compile with -fsanitize=thread\n"
+    must_print(nicdrive(folder, [glue, driver, *how], 0), wanted, "an object without instrumentation")
+    must_print(nicdrive(kit.folder / "again", [folder / "program", *how], 0), wanted, "its program")
 
 
 def check_kept(kit: Kit, each: int = 1) -> str:
@@ -449,6 +471,37 @@ def check_stores(kit: Kit) -> str:
     return "the source lines of stores through pointers"
 
 
+def check_too_long(kit: Kit) -> str:
+    """For a driver that doesn't refuse a frame above the limit, the cause begins with the frame, before the fault."""
+    changes = {"length > driver.setup.frame || length < 60": "length < 60"}
+    source, folder = changed(HERE / "corpus/driver.c", changes, kit.folder / "too_long.c"), kit.folder / "too-long"
+    how: list[object] = ["--rows", "send-too-long", "--runs", 20, "--every", 20, "--no-pages", *PATIENT]
+    nicdrive(folder, [source, f"--flags=-I{HERE}/corpus", *how], 1)
+    wanted = "^fault: send passed a 1515-byte frame to the device, but the setup's longest is 1514: queue 0: too long "
+    expect(rows_of(folder)["send-too-long"], wanted, "a frame above the limit")
+    return "the cause of a frame that is too long"
+
+
+# Accesses to registers that the bench doesn't model, and what the card prints about them.
+STRAYS = "nicx_write32(0x05088, nicx_read32(0x05088)); nicx_read32(0x0A004); nicx_write32(0x01FFC, 1);"
+UNMODELLED = r"""not modelled: VFTA \(2 rows\), VLNCTRL \(2 rows\): skip: tagged frames .*
+not modelled: 0x01ffc \(2 rows\): no register is at this address
+"""
+
+
+def check_strays(kit: Kit) -> str:
+    """The card lists the registers that the driver accessed but the bench doesn't model, and no others."""
+    right, folder = HERE / "corpus/driver.c", kit.folder / "strays"
+    source = changed(right, {"    start_all();\n": f"    start_all();\n    {STRAYS}\n"}, kit.folder / "strays.c")
+    how: list[object] = ["--rows", "receive-one,send-one", "--runs", 20, "--every", 20, "--no-pages", *PATIENT]
+    must_print(nicdrive(folder, [source, f"--flags=-I{HERE}/corpus", *how], 0), UNMODELLED, "strays")
+    must_print((folder / "card.txt").read_text(), UNMODELLED, "card.txt")
+    must_print((folder / "card.html").read_text(), r"<p>not modelled: VFTA \(2 rows\), VLNCTRL", "card.html")
+    if "not modelled" in (said := nicdrive(folder, [right, *how], 0)):
+        raise Wrong(f"the card of corpus/driver.c lists registers that aren't modelled:\n{said}")
+    return "registers that aren't modelled"
+
+
 ADAPTER_FOLDER = C / "examples/adapter"
 # Changes to the example's driver, flags to compile it with, and what its run then reports.
 MISTAKES: list[tuple[str, str, list[str], str]] = [
@@ -538,6 +591,20 @@ def check_one_piece(kit: Kit) -> str:
     return f"{sum(row['state'] == 'passed' for row in rows)} rows with its memory in one piece"
 
 
+def check_overtaken(kit: Kit) -> None:
+    """A store that another thread already wrote isn't written again, when its memory may be freed."""
+    schedule = HERE / "tests/overtaken.schedule"
+    said = ran([adapter(kit), "--row", "close-during-all", "--replay", schedule])
+    must_print(said, r"task receive0 +# poke 0x\w+, 16 bytes, which another thread already wrote", str(schedule))
+    must_print(said, r"\nclose-during-all: fine\n?$", str(schedule))
+
+
+def check_late_stores(kit: Kit) -> None:
+    """With weak memory, a barrier orders the stores of its thread even if another thread wrote them to the device."""
+    how = ["--rows", "both-ways,close-during-all", "--runs", 500, "--every", 50, "--memory", "weak"]
+    none_failed(kit.card(adapter(kit), None, *how))
+
+
 def check_recorded(kit: Kit) -> None:
     """A recording of the example becomes a page, as port.md describes."""
     recording = kit.folder / "adapter.rec"
@@ -552,6 +619,8 @@ def check_adapter(kit: Kit, sanitized: list[str] | None) -> str:
         raise Wrong("examples/adapter prints something other than adapter.out")
     rows = none_failed(kit.card(kit.folder / "adapter-program", None, "--runs", 2, "--every", 2))
     check_address(kit)
+    check_overtaken(kit)
+    check_late_stores(kit)
     check_recorded(kit)
     one_piece = check_one_piece(kit)
     for old, new, flags, wanted in MISTAKES:
@@ -730,15 +799,53 @@ KEPT = {
     "rings": "by a 128-byte ring, but 16 slots were requested|never reached the caller",
 }
 
-# A program that prints what the command says about pages if a row failed and a compiler exists. Its argument is the
-# path at which the command looks for the compiled ./nicbench.
+# Changes to corpus/driver.c that concern its interrupts: the row, and the failure, or "" if the row passes.
+HANDLER = "        nicx_read32(NIC_EICR);\n    if (BUG == INTERVAL"
+MASKS_ALL = {HANDLER: HANDLER.replace("    if (BUG", "    nicx_write32(NIC_EIMC, 0x7FFFFFFF);\n    if (BUG")}
+SHARES = {".can = ": ".can = NICD_SHARED_DEVICE | "}
+NO_MSIX = {"NIC_GPIE, NIC_GPIE_MULTIPLE_MSIX |": "NIC_GPIE,"}
+NOT_CLEARED = {
+    "bool clears = ": "bool clears = BUG != NONE && ",
+    "NIC_EIAM, own_causes());\n    if": "NIC_EIAM, 0);\n    if",
+}
+INTERRUPTS = {
+    "masks_all": (MASKS_ALL, "neighbour-interrupts", ""),
+    "shares_masks": (MASKS_ALL | SHARES, "neighbour-interrupts", "writes the mask of another driver's cause: 0x7ff"),
+    "no_msix": (NO_MSIX, "setup-gpie", "GPIE.MULTIPLE_MSIX is 0: .* declare NICD_NO_MSIX$"),
+    "not_cleared": (
+        NOT_CLEARED,
+        "interrupt-receive",
+        "enabled in EIMS and raised, but already reported; neither cause nor mask has been 0 since: clear it in EICR",
+    ),
+}
+
+
+def check_interrupts(kit: Kit) -> str:
+    """A driver that has the device for itself may mask all causes in its handler, and one that uses INTx or MSI
+    declares that. If the next message is missing because the cause was never cleared, the row says so."""
+    here = {'"bugs.h"': f'"{HERE}/corpus/bugs.h"'}
+    for name, (changes, row, cause) in INTERRUPTS.items():
+        program = kit.build(changed(HERE / "corpus/driver.c", here | changes, kit.folder / f"{name}.c"))
+        found = kit.card(program, 1 if cause else 0, "--rows", row, "--runs", 200, "--every", 200)[row]
+        if cause:
+            expect(found, cause, name)
+        elif found["state"] != "passed":
+            raise Wrong(f"{name}: row {row} is {found['state']} by \"{found['cause']}\"")
+    own = here | NO_MSIX | {".can = ": ".can = NICD_NO_MSIX | "}
+    program = kit.build(changed(HERE / "corpus/driver.c", own, kit.folder / "says_no_msix.c"))
+    said = nicdrive(kit.folder, [program, "--list", "--rows", "setup-gpie"], 0)
+    must_print(said, r"no separate message for each vector \(NICD_NO_MSIX\)", "NICD_NO_MSIX")
+    return f"{len(INTERRUPTS) + 1} ways to use interrupts"
+
+
+# A program that prints what the command says about pages if a row failed in a clone. Its argument is the path at which
+# the command looks for the compiled ./nicbench.
 PAGES = """import sys
 from pathlib import Path
 sys.path[:0] = [FOLDERS]
 from card import command
 from card.rows import FAILED, Row
 command.NICBENCH = [Path(sys.argv[1])]
-command.shutil.which = lambda name: name
 command.draw = lambda row, folder: print("drawn")
 command.draw_all([Row("a", "b", "", "c", "d", "e", state=FAILED)], Path())
 """
@@ -872,7 +979,10 @@ def check_all(kit: Kit, full: bool) -> list[str]:
         check_seen(kit, 200 if full else 20, "interrupts,rss,link,stats,reset,function,host" if full else SEEN),
         check_faults(kit, few),
         check_stores(kit),
+        check_too_long(kit),
+        check_strays(kit),
         check_reached(kit, 1 if full else 5),
+        check_interrupts(kit),
         check_kept(kit, 1 if full else 14),
         check_bugs(kit, 2000, few),
         check_pages_driver(kit, 100 if full else 3),

@@ -85,7 +85,8 @@ enum nicd_can {
     NICD_SHARED_SEND = 1, /* several threads may call `send` for one queue concurrently */
     NICD_FUNCTIONS = 2,   /* `open` supports the port of a virtual function */
     NICD_HOST = 8,        /* the driver can serve virtual functions: `open` supports `functions` above 0 */
-    /* `open` and `close` don't change what the setup doesn't use, and don't reset the device */
+    /* `open` and `close` don't change what the setup doesn't use, and don't reset the device. No call changes the
+       causes or masks of other vectors */
     NICD_SHARED_DEVICE = 4,
 
     /* What the driver never does, by design. If an action's bit is set, the rows that require the action aren't
@@ -95,8 +96,9 @@ enum nicd_can {
     NICD_ONE_VECTOR = 64,    /* all queues share one vector */
     NICD_ONE_BUFFER = 128,   /* each frame has one descriptor, however long it is */
     NICD_NO_ADDRESS = 256,   /* it writes no receive address: it accepts all frames, or the PF's driver sets it */
+    NICD_NO_MSIX = 512,      /* it uses INTx or a single MSI message, so GPIE.MULTIPLE_MSIX stays 0 */
 
-    NICD_CAN = 511 /* all of these bits */
+    NICD_CAN = 1023 /* all of these bits */
 };
 
 /* A driver's functions. A function that the driver lacks is null. Rows that need a missing function are reported as not

@@ -147,7 +147,8 @@ class Cards(unittest.TestCase):
 
 
     def test_what_a_driver_never_does_is_reported(self) -> None:
-        for flag in (Can.NO_MODERATION, Can.NO_HEADS, Can.ONE_VECTOR, Can.ONE_BUFFER, Can.NO_ADDRESS):
+        nevers = (Can.NO_MODERATION, Can.NO_HEADS, Can.ONE_VECTOR, Can.ONE_BUFFER, Can.NO_ADDRESS, Can.NO_MSIX)
+        for flag in nevers:
             kept = dict(vars(drivers.Everything)) | {"can": drivers.Everything.can | flag}
             lacks = set(rows_of(type("Never", (Driver,), kept)).values()) - {"-", NO_RESET}
             self.assertRegex(", ".join(lacks), rf"^[a-z ]+ \(NICD_{flag.name}\)$")

@@ -8,6 +8,7 @@ without it.
 from __future__ import annotations
 
 import os
+import re
 import shlex
 import subprocess
 import sys
@@ -16,7 +17,7 @@ from dataclasses import dataclass
 from pathlib import Path
 
 from . import where
-from .rows import Refused, accesses_of
+from .rows import Refused, blindness_of
 
 # With these flags, the search observes each access. Otherwise gcc would copy small objects with instructions that the
 # search can't observe, and a tail call would have no source line. gcc warns that its library doesn't support fences;
@@ -92,12 +93,23 @@ def plainly(given: list[Path], program: Path, words: Words) -> str:
     return made([*compiler_of(words), *given, *found(words.libraries, where.ARCHIVES), "-lpthread", "-o", program])
 
 
+def named(blind: str, folder: Path) -> list[object]:
+    """Returns a source that names the parts whose accesses aren't observed. In a program that has one, no data race is
+    judged, because the order that those parts make isn't observed either."""
+    if not blind:
+        return []
+    source = folder / "unseen.c"
+    text = re.sub(r"[^\w ,.:=+-]", "_", blind, flags=re.ASCII)
+    source.write_text(f'extern char nicx_unseen_parts[];\nchar nicx_unseen_parts[] = "{text}";\n')
+    return [source]
+
+
 def seen(given: list[Path], program: Path, words: Words) -> str:
     """Builds a program whose accesses are observed. Returns an empty string, or the error message."""
     found(words.libraries, where.SEEN)
     compiler = compiler_of(words, *SEES)
     with tempfile.TemporaryDirectory() as folder:
-        objects: list[object] = []
+        objects = named(unseen(given), Path(folder))
         for number, path in enumerate(given):
             if path.suffix in OBJECTS:
                 objects.append(path)
@@ -140,7 +152,6 @@ def build(given: list[Path], folder: Path, words: Words) -> Built:
         if not path.exists():
             raise Refused(f"{path}: there is no such file")
     if is_program(given):
-        seen = accesses_of(given[0].resolve())
-        return Built(given[0], "" if seen else "compile it with -fsanitize=thread, and link with @nic82599_drive.opts")
+        return Built(given[0], blindness_of(given[0].resolve()))
     program = folder / "program"
     return Built(program, compile_all(given, program, words))

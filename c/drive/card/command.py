@@ -31,7 +31,6 @@ from __future__ import annotations
 import argparse
 import os
 import resource
-import shutil
 import subprocess
 import sys
 import tempfile
@@ -138,7 +137,7 @@ def draw(row: Row, folder: Path) -> None:
 
 def draw_all(rows: list[Row], folder: Path) -> None:
     """Writes the pages of all failed rows' runs. The first may have to wait until ./nicbench is compiled."""
-    if any(row.state == FAILED for row in rows) and shutil.which("rt") and not any(map(Path.exists, NICBENCH)):
+    if any(row.state == FAILED for row in rows) and where.clone() and not any(map(Path.exists, NICBENCH)):
         notice = "nicdrive: compiling ./nicbench for the pages (only once, takes half a minute)"
         print(notice, file=sys.stderr, flush=True)
     for row in rows:
@@ -160,9 +159,10 @@ def how_of(given: argparse.Namespace) -> Words:
 
 
 def list_all(given: argparse.Namespace) -> int:
-    """Lists the rows without a driver, by building the corpus's driver, which has all functions."""
+    """Lists the rows without a driver of the user's, by building one of the bench's."""
+    lister = next(filter(Path.exists, where.LISTERS), where.LISTERS[0])
     with tempfile.TemporaryDirectory() as folder:
-        rows = listed(build([where.WHOLE], Path(folder), how_of(given)).program)
+        rows = listed(build([lister], Path(folder), how_of(given)).program)
     for row in rows:
         row.lack = ""
     return tell_names(asked_for(rows, given, [require.read(path) for path in given.require]))
@@ -206,7 +206,7 @@ def make(given: argparse.Namespace) -> int:
     (folder / "card.txt").write_text(report.text(card))
     report.write_junit(card, folder / "card.xml")
     (folder / "card.html").write_text(page.page(card))
-    print(report.summary(card))
+    print("\n".join([report.summary(card), *report.unmodelled(card)]))
     print(f"the card is {folder / 'card.html'}; card.txt is its text, card.xml is for CI")
     if milestones:
         return mark(require.results(milestones, rows), folder)

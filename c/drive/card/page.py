@@ -4,7 +4,7 @@ from __future__ import annotations
 
 from html import escape
 
-from .report import Card, blindness, counts, extent
+from .report import Card, blindness, counts, extent, unmodelled
 from .rows import FAILED, NOT_APPLICABLE, NOT_REACHED, PASSED, Row
 
 MARKS = {
@@ -118,6 +118,7 @@ def coverage(card: Card) -> str:
         f"</h2>{chips(registers)}<h2>Distinct device replies: {sum(map(bool, replies.values()))} of "
         f"{len(replies)}</h2>{chips(replies)}<h2>Rules that were tried: {sum(rules.values())} of {len(rules)}</h2>"
         + untried([rule for rule, is_tried in rules.items() if not is_tried])
+        + "".join(f"<p>{escape(line)}</p>" for line in unmodelled(card))
     )
 
 

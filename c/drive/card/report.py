@@ -4,18 +4,24 @@ from __future__ import annotations
 
 import json
 import xml.etree.ElementTree as ElementTree
+from collections import Counter
 from dataclasses import dataclass, fields
 from pathlib import Path
 from typing import Any
 
+from nic82599.tools.advice import absent_at
 from nic82599.tools.printable import shortened
 from nic82599.tools.regs import function_register, register_at
 from nic82599.tools.tables import TABLE
 
 from .rows import FAILED, NOT_APPLICABLE, NOT_REACHED, PASSED, Budget, Refused, Row
 
-UNSEEN = "the search can't see accesses to the driver's own memory, so it misses bugs in their order"
+UNSEEN = (
+    "the search can't see accesses to the driver's own memory, so it judges no data races and misses bugs in their "
+    "order"
+)
 ANY = 1000  # value of `every` if all schedules were run, with any number of preemptions
+NOWHERE = "no register is at this address"
 # Changes that make a card worse, for a row that passed before.
 WORSE = ("fails now", "no longer reached", "no longer applicable")
 
@@ -63,6 +69,15 @@ class Card:
                     counts[found.row.name][kind.endswith("write")] += count
         return counts
 
+    def strays(self) -> dict[str, dict[str, int]]:
+        """Returns the registers that the driver accessed although the bench doesn't model them, each with the number of
+        rows, grouped by what a driver should do about them."""
+        rows = Counter(name for row in self.rows for name in set(map(stray, row.registers)) if name)
+        groups: dict[str, dict[str, int]] = {}
+        for (what, name), count in sorted(rows.items(), key=lambda it: (it[0][0] == NOWHERE, it[0])):
+            groups.setdefault(what, {})[name] = count
+        return groups
+
     def replies(self) -> dict[str, int]:
         counts = dict.fromkeys(REPLIES, 0)
         for row in self.rows:
@@ -80,6 +95,19 @@ class Card:
             "rows": [row.data() for row in self.rows],
         }
         path.write_text(json.dumps(data, indent=1) + "\n")
+
+
+def stray(access: str) -> tuple[str, str] | None:
+    """Returns the advice about a register that the bench doesn't model, and its name; None if the bench models it. The
+    access is a key of Row.registers."""
+    kind, address = access.split()
+    place = int(address, 16)
+    if kind.startswith("vf_"):
+        return None if function_register(2, 0, place) else (NOWHERE, f"a virtual function's offset 0x{place:04x}")
+    if register_at(place):
+        return None
+    found = absent_at(place)
+    return (found.what, found.family) if found else (NOWHERE, f"0x{place:05x}")
 
 
 def read(path: Path) -> Card:
@@ -143,6 +171,15 @@ def summary(card: Card) -> str:
     return f"{card.driver}: {counts(card)}, {card.seconds:.0f} s elapsed, {card.processor:.0f} s CPU"
 
 
+def unmodelled(card: Card) -> list[str]:
+    """Returns a line for each advice about registers that the driver accessed but the bench doesn't model."""
+    lines = []
+    for what, names in card.strays().items():
+        rows = ", ".join(f"{name} ({count} row{'' if count == 1 else 's'})" for name, count in names.items())
+        lines.append(f"not modelled: {rows}: {what}")
+    return lines
+
+
 def text(card: Card) -> str:
     lines = [*([blindness(card.blind)] if card.blind else []), summary(card), ""]
     for family in card.families():
@@ -160,6 +197,7 @@ def text(card: Card) -> str:
         f"registers in the table that the driver accessed: {len(touched)} of {len(registers)}",
         f"distinct device replies: {len(seen)} of {len(replies)}",
         "replies that never occurred: " + ", ".join(name for name, count in replies.items() if not count),
+        *unmodelled(card),
     ]
     return "\n".join(lines) + "\n"
 

@@ -95,12 +95,14 @@ def name_of(program: Path) -> str:
         raise Refused(f"{program} --name doesn't exit: does its main call nicd_main?") from fault
 
 
-def accesses_of(program: Path) -> bool:
-    """Whether accesses to the driver's own memory are observed in its program."""
+def blindness_of(program: Path) -> str:
+    """Returns what its author can do if accesses to the driver's own memory aren't observed in the program; an empty
+    string if they are."""
     try:
-        return ran([program, "--accesses"], LIST_SECONDS).printed.strip() == "seen"
+        printed = ran([program, "--accesses"], LIST_SECONDS).printed.strip()
     except (OSError, TooLong):
-        return False  # if the program can't be run, listing its rows reports it
+        printed = ""  # if the program can't be run, listing its rows reports it
+    return "" if printed == "seen" else printed.removeprefix("not seen: ")
 
 
 class Runner:

@@ -11,8 +11,8 @@ DRIVE = Path(__file__).resolve().parents[1]
 ARCHIVES = ("libnic82599_drive.a", "libnic82599_explore.a", "libnic82599.a")
 # What the program links if accesses are observed: the linker's options, and the files that they name.
 SEEN = ("nic82599_drive.opts", "nic82599_threads.ld", "libnic82599_drive_threads.a", "libnic82599_threads.a")
-# A driver with all functions, used by --list to list the rows.
-WHOLE = DRIVE / "corpus/driver.c"
+# Drivers by which --list lists the rows. A student's copy of the clone (course/copy) lacks the first.
+LISTERS = (DRIVE / "corpus/driver.c", DRIVE / "examples/small.c")
 
 
 def clone() -> Path | None:

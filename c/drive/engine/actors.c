@@ -639,6 +639,7 @@ static void forget(void)
     nicd.links = 0;
     nicd.life = nicd.cards = nicd.calls = nicd.events = 0;
     memset(nicd.sending, 0, sizeof nicd.sending);
+    nicd.too_long = 0;
     nicd.by_card = false;
     sender_count = 0;
     memset(nicd.pollers, 0, sizeof nicd.pollers);

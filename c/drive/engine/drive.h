@@ -43,7 +43,8 @@ enum needs {
     READY_BIT = 1 << 16,
     PHYSICAL = 1 << 17, /* registers that only the physical function can access */
     HOST = 1 << 18,
-    STATS = 1 << 19
+    STATS = 1 << 19,
+    MSIX = 1 << 20
 };
 
 enum ways {
@@ -253,6 +254,7 @@ struct drive {
     uint32_t events;               /* device steps and other events after which a failed call may succeed */
     uint32_t calls;                /* send and reclaim calls in progress */
     uint32_t sending[NICD_QUEUES]; /* send calls in progress, by queue */
+    uint32_t too_long;             /* length of the frame that send must refuse; 0: there is none */
     uint32_t cards;                /* bit k: task k belongs to the card, not to the driver */
     bool by_card;                  /* outside tasks: whether the card is acting */
     const struct reached *reached; /* what the row must reach */

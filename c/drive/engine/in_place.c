@@ -149,14 +149,24 @@ __attribute__((no_sanitize("address"))) static bool is_alike(uint64_t at, uint64
     return at >= end;
 }
 
+/* Returns the driver's bytes, or null if they equal what the device has. */
 __attribute__((no_sanitize("address"))) static const uint8_t *bytes_at(uint64_t bus, size_t length)
 {
     static uint8_t room[NIC_BLOCK_BYTES];
+    if (is_alike(bus, bus + length))
+        return NULL;
     if (!__asan_poison_memory_region)
         return here + bus;
     for (size_t k = 0; k < length; k++)
         room[k] = ((const volatile uint8_t *)here)[bus + k];
     return room;
+}
+
+static void note_written(uint64_t bus, size_t length)
+{
+    const uint8_t *bytes = bytes_at(bus, length);
+    if (bytes)
+        memcpy(known + bus, bytes, length);
 }
 
 static bool differs(uint64_t at, uint64_t end)
@@ -165,7 +175,8 @@ static bool differs(uint64_t at, uint64_t end)
 }
 
 /* Writes a run of changed units in one block. Another thread that runs before this write finds the same change and
-   may write it first: all earlier stores must reach the device before any thread proceeds to its call. */
+   may write it first: all earlier stores must reach the device before any thread proceeds to its call. Then this thread
+   writes nothing: the thread that stored the bytes may have ended its call, and another may have freed the memory. */
 static uint64_t write_run(uint64_t from, uint64_t end)
 {
     uint64_t to = from;
@@ -173,7 +184,7 @@ static uint64_t write_run(uint64_t from, uint64_t end)
         to += UNIT;
     to = to < end ? to : end;
     uint8_t status = nicxo_write(from, bytes_at, (size_t)(to - from));
-    memcpy(known + from, bytes_at(from, (size_t)(to - from)), (size_t)(to - from));
+    note_written(from, (size_t)(to - from));
     if (status != NIC_DONE && !nicxo_is_over())
         nicd_failed("the driver writes through a pointer to 0x%llx, which isn't lent: %s", (unsigned long long)from,
                     nicd_memory_near(from));

@@ -132,10 +132,21 @@ void nicd_deliver(uint16_t queue, const uint8_t *bytes, uint32_t length)
 
 /* --- at rest --- */
 
+/* Returns nic_why's words about raised and enabled causes that a message has already reported, or null. */
+static const char *tell_reported(void)
+{
+    static char why[2000];
+    nic_why(nicx_device(), why, sizeof why);
+    char *words = strstr(why, "already reported");
+    if (words)
+        words[strcspn(words, "\n")] = 0;
+    return words;
+}
+
 /* The state of a queue's cause if messages announce frames: whether it is raised, and whether EIMS enables it. */
 static const char *tell_cause(unsigned queue)
 {
-    static char words[80];
+    static char words[WORDS];
     unsigned port = nicd.setup.port;
     uint32_t byte = nicd_peek(port ? NIC_PVTIVAR(nicd.base / 2u) : NIC_IVAR(queue / 2)) >> 16 * (queue % 2) & 0xFF;
     if (!nicd.setup.interrupts || !nicd.driver->interrupt)
@@ -147,7 +158,9 @@ static const char *tell_cause(unsigned queue)
     bool is_raised = causes >> (byte & 0x1F) & 1, is_enabled = masks >> (byte & 0x1F) & 1;
     static const char *const states[2][2] = {{"masked in EIMS and not raised", "raised but masked in EIMS"},
                                              {"enabled in EIMS but not raised", "enabled in EIMS and raised"}};
-    snprintf(words, sizeof words, ": cause %u is %s", (unsigned)byte & 0x3F, states[is_enabled][is_raised]);
+    const char *reported = is_raised && is_enabled ? tell_reported() : NULL;
+    snprintf(words, sizeof words, ": cause %u is %s%s%s%s", (unsigned)byte & 0x3F, states[is_enabled][is_raised],
+             reported ? ", but " : "", reported ? reported : "", reported ? ": clear it in EICR" : "");
     return words;
 }
 

@@ -141,6 +141,7 @@ static const char *lack_of(const struct scenario *it)
         {SHARED_SEND, d->can & NICD_SHARED_SEND, "no NICD_SHARED_SEND"},
         {HOST, d->can & NICD_HOST, "no NICD_HOST"},
         {SHARED_DEVICE, d->can & NICD_SHARED_DEVICE, "no NICD_SHARED_DEVICE"},
+        {MSIX, !(d->can & NICD_NO_MSIX), "no separate message for each vector (NICD_NO_MSIX)"},
     };
     for (unsigned k = 0; k < sizeof needs / sizeof *needs; k++)
         if (it->needs & needs[k].need && !needs[k].is_there)
@@ -290,6 +291,18 @@ static const nicxo_words words = {
     .for_threads = "use the adapter's threads and locks (docs/report-card.md)",
 };
 
+/* Prints whether accesses to the driver's own memory are observed; if they aren't, what its author can do. */
+static void tell_accesses(void)
+{
+    const char *advice = nicxo_is_foreign() ? nicxo_to_be_seen()
+                         : nicxo_unseen()   ? nicxo_unseen()
+                                            : "compile it with -fsanitize=thread, and link with @nic82599_drive.opts";
+    if (nicxo_sees_accesses())
+        printf("seen\n");
+    else
+        printf("not seen: %s\n", advice);
+}
+
 int nicd_main(int argc, char **argv, const nicd_driver *driver)
 {
     const char *fault = fault_of(driver);
@@ -314,7 +327,7 @@ int nicd_main(int argc, char **argv, const nicd_driver *driver)
         return DONE;
     }
     if (argc == 2 && !strcmp(argv[1], "--accesses")) {
-        printf("%s\n", nicxo_sees_accesses() ? "seen" : "not seen");
+        tell_accesses();
         return DONE;
     }
     if (argc >= 3 && !strcmp(argv[1], "--row"))

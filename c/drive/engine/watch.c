@@ -250,6 +250,9 @@ static void tell_fault(const nicxo_step *step)
     nicxo_add_words(" (%s slot %u, its %s%s)", sends ? "transmit" : "receive", (unsigned)ring.head,
                     is_buffer ? "buffer" : "descriptor",
                     is_new ? ": all 0: the tail was moved past it before it was written" : "");
+    if (sends && step->outcome.why == NIC_FAULT_TOO_LONG && nicd.too_long)
+        nicxo_put_words_first("send passed a %u-byte frame to the device, but the setup's longest is %u: ",
+                              (unsigned)nicd.too_long, (unsigned)nicd.setup.frame);
 }
 
 /* Reports a write that the device ignores because the queue is enabled. */

@@ -36,6 +36,12 @@ static void move_in(void)
     nicd.by_card = false;
 }
 
+/* Whether the driver shares the device's causes and masks. One that doesn't may mask all causes in its handler. */
+static bool shares_causes(void)
+{
+    return nicd.driver->can & NICD_SHARED_DEVICE;
+}
+
 /* Checks at the end that the other driver's queue, interrupt and memory are unchanged. */
 static const char *judge(void)
 {
@@ -50,7 +56,7 @@ static const char *judge(void)
     if ((nicd_peek(NIC_IVAR(queue / 2)) >> shift & 0xFFFF) != (0x80 | VECTOR) * 0x101u)
         return nicd_words("the IVAR bytes of another driver's queue %u changed: IVAR(%u) is 0x%08x", queue, queue / 2,
                           (unsigned)nicd_peek(NIC_IVAR(queue / 2)));
-    if (!(nicd_peek(NIC_EIMS) >> VECTOR & 1))
+    if (shares_causes() && !(nicd_peek(NIC_EIMS) >> VECTOR & 1))
         return nicd_words("another driver's cause %u is masked: EIMS is 0x%08x", VECTOR, (unsigned)nicd_peek(NIC_EIMS));
     nic_dma_read(nicx_device(), RING + NIC_BLOCK_BYTES, &byte, 1);
     return byte == mark ? NULL
@@ -61,6 +67,17 @@ static const char *judge(void)
 static bool is_in_set(uint32_t address, uint32_t first)
 {
     return address >= first && address < first + 0x40;
+}
+
+static void see_causes(const nicxo_step *step)
+{
+    uint32_t address = step->address;
+    if (!shares_causes() || step->kind != STEP_WRITE || !(step->word >> VECTOR & 1))
+        return;
+    if (address == NIC_EICR && step->word != 0x7FFFFFFF)
+        nicd_note("EICR is written with 0x%08x, which clears another driver's cause %u", (unsigned)step->word, VECTOR);
+    if (address == NIC_EIMS || address == NIC_EIMC)
+        nicd_note("the driver writes the mask of another driver's cause: 0x%08x", (unsigned)step->word);
 }
 
 static void see(const nicxo_step *step, bool is_drivers)
@@ -74,10 +91,7 @@ static void see(const nicxo_step *step, bool is_drivers)
         nicd_note("the driver writes %s, which doesn't belong to its queue", nicxo_register(address, name));
     if ((step->kind == STEP_POKE || step->kind == STEP_PEEK || step->kind == STEP_TAKE) && step->bus >= RING)
         nicd_note("the driver accesses 0x%llx, another driver's memory", (unsigned long long)step->bus);
-    if (step->kind == STEP_WRITE && address == NIC_EICR && step->word >> VECTOR & 1 && step->word != 0x7FFFFFFF)
-        nicd_note("EICR is written with 0x%08x, which clears another driver's cause %u", (unsigned)step->word, VECTOR);
-    if (step->kind == STEP_WRITE && (address == NIC_EIMS || address == NIC_EIMC) && step->word >> VECTOR & 1)
-        nicd_note("the driver writes the mask of another driver's cause: 0x%08x", (unsigned)step->word);
+    see_causes(step);
 }
 
 static void close_it(void)
@@ -93,7 +107,8 @@ static void resize_it(void)
     nicd_go_on();
 }
 
-static const char rule[] = "A driver leaves other drivers' resources alone: queues, IVAR bytes, masks and memory";
+static const char rule[] = "A driver leaves other drivers' resources alone: queues, IVAR bytes and memory; if it "
+                           "declares NICD_SHARED_DEVICE, also causes and masks";
 
 const struct scenario nicd_neighbours[] = {
     ROW("neighbour-traffic", "traffic while another driver uses a queue", rule, "the adapter's open",

@@ -67,9 +67,11 @@ static void use_two_queues(void)
 /* Tries to send a frame longer than the setup allows. */
 static void send_too_long(void)
 {
-    if (nicd_send(0, nicd.setup.frame + 1))
-        nicd_failed("send on queue 0 accepts a %u-byte frame, but the setup's longest is %u",
-                    (unsigned)nicd.setup.frame + 1, (unsigned)nicd.setup.frame);
+    nicd.too_long = nicd.setup.frame + 1;
+    if (nicd_send(0, nicd.too_long))
+        nicd_failed("send on queue 0 accepts a %u-byte frame, but the setup's longest is %u", (unsigned)nicd.too_long,
+                    (unsigned)nicd.setup.frame);
+    nicd.too_long = 0;
     nicd_send_surely(0, nicd.setup.frame);
 }
 

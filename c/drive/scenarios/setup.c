@@ -227,8 +227,10 @@ static void check_fixes(void)
 
 static void check_mode(void)
 {
-    nicx_check(nicd_peek(NIC_GPIE) & NIC_GPIE_MULTIPLE_MSIX,
-               "GPIE.MULTIPLE_MSIX is 0: the card then sends no separate message for each vector");
+    nicx_check(
+        nicd_peek(NIC_GPIE) & NIC_GPIE_MULTIPLE_MSIX,
+        "GPIE.MULTIPLE_MSIX is 0: the card then sends no separate message for each vector; if the driver uses INTx "
+        "or MSI, declare NICD_NO_MSIX");
     if (nicd_peek(NIC_EIAM) & NIC_EIAM_RTXQ && !(nicd_peek(NIC_GPIE) & NIC_GPIE_EIAME))
         nicd_failed("EIAM is 0x%08x but GPIE.EIAME is 0: no message masks its cause", (unsigned)nicd_peek(NIC_EIAM));
 }
@@ -385,7 +387,7 @@ const struct scenario nicd_setup_rows[] = {
            "Software sets RSCACKC and FCOE_WRFIX after each reset; RDRXCTL has no effect on the bench",
            "Receive DMA Control", .queues = 1),
     CHECKS(
-        "setup-gpie", INTERRUPTS | PHYSICAL, "GPIE's settings for MSI-X", check_mode,
+        "setup-gpie", INTERRUPTS | PHYSICAL | MSIX, "GPIE's settings for MSI-X", check_mode,
         "GPIE.MULTIPLE_MSIX must be 1 so that each vector has its own message; the bench sends one regardless of GPIE. "
         "With MSI-X, EIAM masks a cause when its message is sent only if EIAME is 1",
         "General Purpose Interrupt Enable", .interrupts = true),

@@ -17,7 +17,7 @@ class Can(Flag):
     NOTHING = 0
     SHARED_SEND = 1  # several threads may call `send` for the same queue concurrently
     FUNCTIONS = 2  # `open` accepts the port of a virtual function
-    SHARED_DEVICE = 4  # `open` and `close` touch only their own queues and never reset the device
+    SHARED_DEVICE = 4  # calls touch only their own queues, causes and masks, and never reset the device
     HOST = 8  # `open` accepts `functions` above 0
 
     # Things that the driver never does, by design. Rows that depend on them aren't applicable.
@@ -26,6 +26,7 @@ class Can(Flag):
     ONE_VECTOR = 64  # all queues share one vector
     ONE_BUFFER = 128  # each frame has one descriptor, whatever its length
     NO_ADDRESS = 256  # it writes no receive address: it accepts all frames, or the PF's driver sets the address
+    NO_MSIX = 512  # it uses INTx or a single MSI message, so GPIE.MULTIPLE_MSIX stays 0
 
 
 @dataclass(frozen=True)

@@ -1,8 +1,8 @@
 //! The report card: a correct driver passes the rows that apply, a faulty driver fails in the row that names the fault,
 //! and a forbidden action fails its row while other rows pass.
 //!
-//! The report card also runs this program: with `--row`, `--list` or `--name` it is the driver that the environment
-//! variable NIC82599_DRIVER names.
+//! The report card also runs this program: with `--row`, `--list`, `--name` or `--accesses` it is the driver that the
+//! environment variable NIC82599_DRIVER names.
 
 use std::cell::{Cell, RefCell};
 use std::env;
@@ -316,8 +316,8 @@ const fn unless<T: Copy>(left_out: bool, function: T) -> Option<T> {
 /// One more than the last function's number: a driver with this number lacks no function, but declares what it never
 /// does.
 const NEVER: usize = 18;
-const NEVER_DOES: Can =
-    Can::NO_MODERATION.and(Can::NO_HEADS).and(Can::ONE_VECTOR).and(Can::ONE_BUFFER).and(Can::NO_ADDRESS);
+const NEVER_WRITES: Can = Can::NO_MODERATION.and(Can::NO_HEADS).and(Can::NO_ADDRESS).and(Can::NO_MSIX);
+const NEVER_DOES: Can = NEVER_WRITES.and(Can::ONE_VECTOR).and(Can::ONE_BUFFER);
 const ALL_CAN: Can = Can::SHARED_SEND.and(Can::FUNCTIONS).and(Can::SHARED_DEVICE).and(Can::HOST);
 const NO_RESET: &str = "no device reset (NICD_SHARED_DEVICE)";
 
@@ -443,11 +443,17 @@ fn what_is_left_out_is_reported(_folder: &Path) {
     }
 }
 
+/// The card's advice fits Rust: no compiler option makes plain accesses visible.
+fn what_it_cannot_see_is_reported(_folder: &Path) {
+    let (status, words) = ran(&format!("without-{NEVER}"), &["--accesses"]);
+    assert_eq!((status, words.trim()), (Some(0), "not seen: in Rust only calls and platform.point() are points"));
+}
+
 /// Rows that need what a driver never does by design aren't on its report card.
 fn what_it_never_does_is_reported(_folder: &Path) {
     let (status, list) = ran(&format!("without-{NEVER}"), &["--list"]);
     assert_eq!(status, Some(0), "{list}");
-    for name in ["NO_MODERATION", "NO_HEADS", "ONE_VECTOR", "ONE_BUFFER", "NO_ADDRESS"] {
+    for name in ["NO_MODERATION", "NO_HEADS", "ONE_VECTOR", "ONE_BUFFER", "NO_ADDRESS", "NO_MSIX"] {
         assert!(lines_of(&list).iter().any(|it| it[2].ends_with(&format!(" (NICD_{name})"))), "{name}: {list}");
     }
 }
@@ -483,13 +489,14 @@ fn what_is_wrong_is_reported(folder: &Path) {
 }
 
 fn main() -> ExitCode {
-    if env::args().any(|it| ["--row", "--list", "--name"].contains(&it.as_str())) {
+    if env::args().any(|it| ["--row", "--list", "--name", "--accesses"].contains(&it.as_str())) {
         return program(&env::var("NIC82599_DRIVER").unwrap_or_default());
     }
     let folder: PathBuf = env::temp_dir().join(format!("nic82599-drive-{}", process::id()));
     std::fs::create_dir_all(&folder).expect("there is room");
-    let tests: [fn(&Path); 4] = [
+    let tests: [fn(&Path); 5] = [
         a_right_driver_passes,
+        what_it_cannot_see_is_reported,
         what_is_left_out_is_reported,
         what_it_never_does_is_reported,
         what_is_wrong_is_reported,

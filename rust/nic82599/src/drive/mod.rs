@@ -197,7 +197,8 @@ impl Can {
     pub const SHARED_SEND: Can = Can(1);
     /// `open` supports the port of a virtual function.
     pub const FUNCTIONS: Can = Can(2);
-    /// `open` and `close` change only what the setup assigns to them, and don't reset the device.
+    /// `open` and `close` change only what the setup assigns to them, and don't reset the device. No call changes the
+    /// causes and masks of other vectors.
     pub const SHARED_DEVICE: Can = Can(4);
     /// `open` supports `functions` above 0.
     pub const HOST: Can = Can(8);
@@ -212,6 +213,8 @@ impl Can {
     pub const ONE_BUFFER: Can = Can(128);
     /// By design, the driver writes no receive address: it accepts all frames, or the PF's driver sets the address.
     pub const NO_ADDRESS: Can = Can(256);
+    /// By design, the driver uses INTx or a single MSI message, so GPIE.MULTIPLE_MSIX stays 0.
+    pub const NO_MSIX: Can = Can(512);
 
     /// The union of two sets, for constants, which can't use `|`.
     #[must_use]

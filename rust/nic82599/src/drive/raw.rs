@@ -15,10 +15,13 @@ use std::slice;
 
 use super::{Driver, Filter, Frame, Platform, Rss, Setup, Stats, MAILBOX_WORDS, MOST_FRAME};
 use crate::explore::raw::{
-    arguments, at_point, c_words, caught, fail, plain_calls, text, unwinding, why_not, within, Driven,
+    advise, arguments, at_point, c_words, caught, fail, plain_calls, text, unwinding, why_not, within, Driven,
 };
 use crate::explore::{self, hook_panics, Bus};
 use crate::nic::Sizes;
+
+/// What the first line of a card advises, because the card sees no access to the driver's own memory.
+const TO_BE_SEEN: &[u8] = b"in Rust only calls and platform.point() are points\0";
 
 /// `struct nicd_setup`.
 #[repr(C)]
@@ -316,7 +319,10 @@ pub(super) fn run<D: Driver>(words: Vec<String>) -> u8 {
     let mut argv = arguments(&words);
     // SAFETY: the arguments are strings followed by a null; the driver and its name outlive the call; no other search
     // is active in the process, because `within` admits one at a time.
-    let status = within(&Device, is_quiet, || unsafe { nicd_main(words.len() as c_int, argv.as_mut_ptr(), &driver) });
+    let status = within(&Device, is_quiet, || unsafe {
+        advise(TO_BE_SEEN);
+        nicd_main(words.len() as c_int, argv.as_mut_ptr(), &driver)
+    });
     DRIVER.with(|it| it.borrow_mut().take());
     u8::try_from(status).unwrap_or(REFUSED)
 }

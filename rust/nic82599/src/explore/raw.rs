@@ -142,7 +142,7 @@ struct RawLock {
     kept: u64,
 }
 
-/// The first line that a search prints, because it sees no access to the driver's own memory.
+/// What the first line of a search advises, because it sees no access to the driver's own memory.
 const TO_BE_SEEN: &[u8] = b"call Bus::point where threads share memory (docs/rust.md)\0";
 
 extern "C" {
@@ -500,9 +500,16 @@ pub(super) fn run(driven: &dyn Driven, settings: &Settings<'_>, words: &[String]
     // SAFETY: the arguments are strings followed by a null; the scenario and everything that it points to outlive the
     // call; no other search is active in the process, because `within` admits one at a time.
     within(driven, is_quiet, || unsafe {
-        nicxi_to_be_seen = TO_BE_SEEN.as_ptr().cast();
+        advise(TO_BE_SEEN);
         nicx_main(words.len() as c_int, argv.as_mut_ptr(), &scenario)
     })
+}
+
+/// Sets what the first line of a search advises. `words` ends with a 0. May be called only in the action of `within`.
+pub(crate) fn advise(words: &'static [u8]) {
+    assert_eq!(words.last(), Some(&0));
+    // SAFETY: the words end with a 0 and are never freed; `within` admits one thread at a time.
+    unsafe { nicxi_to_be_seen = words.as_ptr().cast() };
 }
 
 // --- in `begin` ---

@@ -1,7 +1,8 @@
 """A driver for the 82599 in six milestones. README.md explains how to work on it.
 
-Registers have the datasheet's names, such as `RDT[0]`. docs/REGISTERS.md lists their bits, docs/DESCRIPTORS.md the
-fields of descriptors. The report card provides `self.read32`, `self.write32`, `self.wait` and so on (nic82599.explore).
+Registers have the datasheet's names, such as `RDT[0]`. Their bits have numbers here, which the comments name;
+c/include/nic82599_regs.h lists all bits, docs/DESCRIPTORS.md the fields of descriptors. The report card provides
+`self.read32`, `self.write32`, `self.wait` and so on (nic82599.explore).
 """
 
 from nic82599.descriptors import is_sent, received, rx_descriptor, tx_descriptor  # noqa: F401

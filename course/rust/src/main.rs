@@ -1,8 +1,8 @@
 //! A driver for the 82599 in six milestones. README.md explains how to work on it.
 //!
 //! Registers have the datasheet's names, `CTRL` or `RDT.at(0)`, and their bits are `ctrl::RST` and so on
-//! (nic82599::regs, docs/REGISTERS.md). docs/DESCRIPTORS.md lists the fields of descriptors. During each `platform`
-//! call, other functions of the driver may run, so mutable state is in `Cell`s.
+//! (nic82599::regs, in rust/nic82599/src/regs.rs). docs/DESCRIPTORS.md lists the fields of descriptors. During each
+//! `platform` call, other functions of the driver may run, so mutable state is in `Cell`s.
 
 #![allow(dead_code, unused_assignments, unused_imports, unused_mut, unused_variables)] // until the last hole is filled
 

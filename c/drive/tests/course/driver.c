@@ -1,8 +1,9 @@
 /* A driver for the 82599 in six milestones, with the report card's adapter at the end. README.md explains how to work
    on it.
 
-   Registers have the datasheet's names: NIC_CTRL is CTRL, and NIC_CTRL_RST is one of its bits (nic82599_regs.h,
-   docs/REGISTERS.md). Fields of descriptors are named similarly: NIC_RXWB_DD (nic82599_desc.h, docs/DESCRIPTORS.md). */
+   Registers have the datasheet's names: NIC_CTRL is CTRL, and NIC_CTRL_RST is one of its bits
+   (c/include/nic82599_regs.h). Fields of descriptors are named similarly: NIC_RXWB_DD (c/include/nic82599_desc.h,
+   docs/DESCRIPTORS.md). */
 #include <string.h>
 
 #include "nic82599_drive.h"

@@ -4,9 +4,9 @@
     recipes/check.py        checks all recipes; status 0: all passed; 1: at least one didn't
 
 The commands run in a folder that resembles a runner's folder: a repository with a driver, an `apt-get` that records its
-arguments, and a `git` that provides this clone instead of fetching one. A card is produced, but no search runs:
-drivers/qemu/search checks its arguments and prints the workload of a seed. `make` is recorded, and creates an empty
-module.
+arguments, and a `git` that provides this clone instead of fetching one. A card is produced, but nothing is fetched, no
+module is built and no search runs: drivers/qemu/search checks its arguments and prints the workload of a seed, and the
+kinds of findings are made up. `make` is recorded.
 """
 
 from __future__ import annotations
@@ -30,10 +30,12 @@ from yaml_subset import Refused, read  # noqa: E402
 
 # The packages that recipes install to build the bench, and more for a search and a kernel module.
 FOR_THE_BENCH = {"ca-certificates", "gcc", "git", "libc6-dev", "make", "python3", "rustc"}
-FOR_A_SEARCH = FOR_THE_BENCH | {"binutils", "bzip2", "linux-headers-amd64", "xz-utils"}
+FOR_A_SEARCH = FOR_THE_BENCH | {"binutils", "bzip2", "libelf1", "patch", "xz-utils"}
 
 # Rows of c/drive/examples/small.c: one that it passes, and one that it fails.
 PASSES, FAILS = "receive-one\n", "setup-crc\n"
+# Findings in a driver: those of the unmodified one, and one more.
+USUAL, MORE = "| kernel | ok | tail off |\n", "| kernel | ok | lockup | tail off |\n"
 
 # Inputs that the reader must refuse.
 BAD = [
@@ -47,21 +49,26 @@ APT = """#!/bin/sh
 GIT = """#!/bin/sh
 [ "$1 $2 $3 $4" = "clone --depth 1 https://git.example/nic82599.git" ] || exit 1
 mkdir "$5" "$5/drivers" "$5/drivers/qemu"
-ln -s "$BENCH_HERE/c" "$BENCH_HERE/python" "$BENCH_HERE/tools" "$5"
-cp "$NOTES/search" "$5/drivers/qemu/search"
+ln -s "$BENCH_HERE/c" "$BENCH_HERE/course" "$BENCH_HERE/python" "$BENCH_HERE/tools" "$5"
+cp "$NOTES/search" "$NOTES/run" "$NOTES/module" "$5/drivers/qemu"
 """
+RUN = """#!/bin/sh
+[ "$*" = "--fetch qemu tools kernel-6.1" ] && touch "$NOTES/fetched"
+"""
+MODULE = """#!/bin/sh
+[ "$1" = --from ] && [ -d "$2" ] && [ -e "$NOTES/fetched" ] && touch "$NOTES/ixgbe.ko" && echo "$NOTES/ixgbe.ko"
+"""
+# A search that found something exits with status 1.
 SEARCH = """#!/bin/sh
-"$BENCH_HERE/drivers/qemu/search" "$@" --workload 1 >"$NOTES/workload" || exit
+"$BENCH_HERE/drivers/qemu/search" "$@" --workload 1 >"$NOTES/workload" || exit 2
+case $* in *--module*) kinds=$NOTES/kinds ;; *) kinds=$NOTES/usual ;; esac
 while [ "$1" != --out ]; do shift; done
-mkdir "$2" && echo "| Seed |" >"$2/summary.md" && echo "<testsuite/>" >"$2/junit.xml"
+mkdir -p "$2" && cp "$kinds" "$2/summary.md" && echo "<testsuite/>" >"$2/junit.xml"
+exit 1
 """
 # The bench is already built here; `make` is only recorded.
 MAKE = """#!/bin/sh
 echo "$*" >>"$NOTES/make"
-case $* in *M=*ixgbe*) touch ixgbe/ixgbe.ko ;; esac
-"""
-LS = """#!/bin/sh
-[ "$1" = -d ] && echo /usr/src/linux-headers-6.1.0-0-amd64
 """
 
 
@@ -71,14 +78,15 @@ class Wrong(Exception):
 
 @dataclass
 class Job:
-    """What a runner reads from a recipe: its variables, the scripts of its steps, the files that it keeps, and the
-    files read as JUnit."""
+    """What a runner reads from a recipe: its variables, the scripts of its steps, the files that it keeps, the files
+    read as JUnit, and the scripts that run even after a failure."""
 
     name: str
     variables: dict[str, str]
     pieces: list[str]
     kept: list[str]
     junit: list[str] = field(default_factory=list)
+    always: list[str] = field(default_factory=list)
 
 
 def of_github(name: str, text: dict[str, Any]) -> Job:
@@ -88,7 +96,8 @@ def of_github(name: str, text: dict[str, Any]) -> Job:
         if bool(step.get("run")) == bool(step.get("uses")):
             raise Wrong(f"{name}: a step must contain either `run` or `uses`: {step}")
     kept = [step["with"]["path"] for step in steps if step.get("uses", "").startswith("actions/upload-artifact@")]
-    return Job(name, job["env"], [step["run"] for step in steps if "run" in step], kept)
+    always = [step["run"] for step in steps if "run" in step and step.get("if") == "always()"]
+    return Job(name, job["env"], [step["run"] for step in steps if "run" in step], kept, always=always)
 
 
 def of_gitlab(name: str, text: dict[str, Any]) -> Job:
@@ -120,24 +129,43 @@ def write_program(folder: Path, name: str, text: str) -> None:
     path.chmod(path.stat().st_mode | stat.S_IXUSR)
 
 
-def run_lines(job: Job, folder: Path, rows: str) -> None:
-    """Runs a job's commands in a repository with a driver and required rows. Raises Wrong if one fails."""
+def environment(job: Job, folder: Path) -> dict[str, str]:
+    """Returns a job's variables, and those of the programs that replace a runner's."""
+    how = {**os.environ, "PATH": f"{folder / 'programs'}:{os.environ['PATH']}"}
+    how |= {"NOTES": str(folder / "notes"), "BENCH_HERE": str(ROOT)}
+    how |= {name: str(value) for name, value in job.variables.items()}
+    if "DRIVERS_WORK" in how:
+        how["DRIVERS_WORK"] = str(folder / "work")
+    return how | {"GITHUB_STEP_SUMMARY": str(folder / "notes/summary"), "CI_PROJECT_DIR": str(folder / "repository")}
+
+
+def run_pieces(job: Job, pieces: list[str], folder: Path) -> None:
+    """Runs commands of a job. Raises Wrong if one fails."""
+    for piece in pieces:
+        words = ["bash", "-e", "-o", "pipefail", "-c", piece]
+        how = {"cwd": folder / "repository", "env": environment(job, folder), "capture_output": True, "text": True}
+        made = subprocess.run(words, check=False, **how)
+        if made.returncode:
+            raise Wrong(f"{job.name}: status {made.returncode} of\n{piece}\n{made.stdout}{made.stderr}")
+
+
+def run_lines(job: Job, folder: Path, given: str) -> None:
+    """Runs a job's commands in a repository with a driver. `given` are the required rows, or what a search finds.
+    Raises Wrong if a command fails."""
     notes, programs, repository = (folder / name for name in ("notes", "programs", "repository"))
     for it in (notes, programs, repository, repository / "ixgbe"):
         it.mkdir(parents=True)
-    for name, text in {"apt-get": APT, "git": GIT, "make": MAKE, "ls": LS}.items():
+    for name, text in {"apt-get": APT, "git": GIT, "make": MAKE}.items():
         write_program(programs, name, text)
-    write_program(notes, "search", SEARCH)
+    for name, text in {"search": SEARCH, "run": RUN, "module": MODULE}.items():
+        write_program(notes, name, text)
+    (notes / "usual").write_text(USUAL)
+    (notes / "kinds").write_text(given)
     shutil.copy(ROOT / "c/drive/examples/small.c", repository / "driver.c")
-    (repository / "required.rows").write_text(rows)
-    how = {**os.environ, "PATH": f"{programs}:{os.environ['PATH']}", "NOTES": str(notes), "BENCH_HERE": str(ROOT)}
-    how |= {name: str(value) for name, value in job.variables.items()}
-    how |= {"GITHUB_STEP_SUMMARY": str(notes / "summary"), "CI_PROJECT_DIR": str(repository)}
-    for piece in job.pieces:
-        words = ["bash", "-e", "-o", "pipefail", "-c", piece]
-        made = subprocess.run(words, cwd=repository, env=how, capture_output=True, text=True, check=False)
-        if made.returncode:
-            raise Wrong(f"{job.name}: status {made.returncode} of\n{piece}\n{made.stdout}{made.stderr}")
+    (repository / "required.rows").write_text(given)
+    run_pieces(job, job.always, folder)  # after an earlier step has failed
+    (notes / "summary").unlink(missing_ok=True)
+    run_pieces(job, job.pieces, folder)
     check_left(job, folder)
 
 
@@ -164,6 +192,9 @@ def check_container() -> None:
     kinds = [line.split()[0] for line in lines]
     if kinds != ["FROM", "RUN", "COPY", "RUN", "WORKDIR", "ENTRYPOINT"]:
         raise Wrong(f"Containerfile: unexpected instructions: {kinds}")
+    hidden = (ROOT / ".dockerignore").read_text().splitlines()
+    if missing := {".git", "c/drive/tests/course", "c/drive/corpus"} - set(hidden):
+        raise Wrong(f".dockerignore: the image would contain {', '.join(sorted(missing))}")
     install = re.search(r"install -y --no-install-recommends ([a-z0-9 -]+?) +&&", re.sub(r" +", " ", lines[1]))
     if not install or set(install[1].split()) != FOR_THE_BENCH:
         raise Wrong(f"Containerfile: it installs {install and install[1]}")
@@ -178,22 +209,32 @@ def check_reader() -> None:
         raise Wrong(f"the reader accepts {text!r} as {made}")
 
 
-def check_jobs(path: Path) -> None:
-    """Checks that a recipe's job passes, and that the card's job fails if a required row fails."""
-    name = f"{path.parent.name}/{path.name}"
-    job = (of_github if path.parent.name == "github" else of_gitlab)(name, parsed(path))
-    with tempfile.TemporaryDirectory() as folder:
-        run_lines(job, Path(folder), PASSES)
-    if "card" not in name:
-        return
+def check_failure(job: Job, given: str) -> None:
+    """Checks that a job fails, and that the command that judges the driver is the one that fails."""
     with tempfile.TemporaryDirectory() as folder:
         try:
-            run_lines(job, Path(folder), FAILS)
+            run_lines(job, Path(folder), given)
         except Wrong as fault:
-            if f"status 1 of\n{job.pieces[-1 if 'gitlab' in name else -2]}" in str(fault):
+            if f"status 1 of\n{job.pieces[-1 if 'gitlab' in job.name else -2]}" in str(fault):
                 return
             raise
-    raise Wrong(f"{name}: the job passes although a required row fails")
+    raise Wrong(f"{job.name}: the job passes although {given!r} is required or found")
+
+
+def check_jobs(path: Path) -> None:
+    """Checks that a recipe's job passes; that the card's job fails if a required row fails, also with a course's lists;
+    and that a search's job fails only for kinds of findings that the unmodified driver doesn't have."""
+    name = f"{path.parent.name}/{path.name}"
+    job = (of_github if path.parent.name == "github" else of_gitlab)(name, parsed(path))
+    good, bad = (PASSES, FAILS) if "card" in name else (USUAL, MORE)
+    with tempfile.TemporaryDirectory() as folder:
+        run_lines(job, Path(folder), good)
+    check_failure(job, bad)
+    if "card" in name:
+        # (the list of the first milestone; the others take longer)
+        job.variables |= {"LISTS": "bench/course/milestones/1-*.rows", "MEMORY": "weak"}
+        job.variables["DRIVER"] = "bench/course/c/driver.c"
+        check_failure(job, PASSES)
 
 
 def main() -> int:

@@ -10,17 +10,24 @@ WORK=${DRIVERS_WORK:-${XDG_CACHE_HOME:-${HOME:-/tmp}/.cache}/zinggapul-drivers}
 
 say() { echo "$NAME: $*" >&2; }
 # Ends the script with status 2: something that the run needs is missing.
-die() { say "$@"; exit 2; }
+# shellcheck disable=SC2034 # junit.sh uses SAID
+die() { SAID=$*; say "$@"; exit 2; }
 
 # Ends the script with status 1: a result is wrong.
 fail() { say "$@"; exit 1; }
 
-# usage [MESSAGE]: prints the script's head comment, and ends the script with status 3.
+# Prints the script's head comment.
+head_comment() { sed -n '2,/^$/s/^# \{0,1\}//p' "$0"; }
+
+# usage [MESSAGE]: prints the script's head comment as an error, and ends the script with status 3.
 usage() {
     [ -z "${1-}" ] || say "$1"
-    sed -n '2,/^$/s/^# \{0,1\}//p' "$0" >&2
+    head_comment >&2
     exit 3
 }
+
+# Prints the script's head comment because the user requested it, and ends the script with status 0.
+help() { head_comment; exit 0; }
 
 # is_number WORD: whether WORD is a decimal number from 1 to 99,999,999.
 is_number() { [[ ${1-} =~ ^[1-9][0-9]{0,7}$ ]]; }

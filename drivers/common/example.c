@@ -46,7 +46,7 @@ static void poll(void)
         uint16_t length = nic_rx_length(rx[next]);
         tx[next] = nic_tx_desc(BUS + 2048 + next * BUFFER, length, length, NIC_TXD_EOP | NIC_TXD_IFCS | NIC_TXD_RS);
         bus_write(run_bus, BUS_PHYSICAL, NIC_TDT(0), (next + 1) % SLOTS);
-        while (!nic_tx_is_done(tx[next]))
+        for (unsigned int waited = 0; !nic_tx_is_done(tx[next]) && waited < 1000; waited++)
             bus_wait(run_bus, 1);
         rx[next] = nic_rx_desc(BUS + 2048 + next * BUFFER);
         bus_write(run_bus, BUS_PHYSICAL, NIC_RDT(0), next);
@@ -82,7 +82,7 @@ int main(void)
         bus_receive(run_bus);
         poll();
     }
-    if (same("frames that came back", came_back, FRAMES))
+    if (all_of("frames came back", came_back, FRAMES))
         printf("%u frames came back unchanged\n", came_back);
     run_check_counts(0, 0); /* no drops and no faults expected */
     run_close();

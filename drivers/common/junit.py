@@ -15,6 +15,7 @@ from pathlib import Path
 from xml.etree import ElementTree
 
 NOT_XML = re.compile("[^\t\n\x20-\uD7FF\uE000-\uFFFD]")  # characters that XML 1.0 forbids
+STOPPED = re.compile(r" ended on SIG|hasn't ended after")
 
 
 @dataclass
@@ -28,9 +29,11 @@ class Run:
 
     @property
     def cause(self) -> str:
-        """The first line that names a problem, or the last line."""
+        """The first line that names a problem, or the last line. If the run crashed or hung, also the line before."""
         lines = [line for line in self.said.splitlines() if line.strip()] or [f"status {self.status}"]
-        return next((line for line in lines if line.startswith("wrong")), lines[-1])
+        at = next((k for k, line in enumerate(lines) if line.startswith("wrong")), len(lines) - 1)
+        is_stopped = at > 0 and STOPPED.search(lines[at])
+        return lines[at] + (f"; the line before: {lines[at - 1].strip()}" if is_stopped else "")
 
 
 def run_of(path: Path) -> Run:

@@ -4,8 +4,11 @@
 #include <inttypes.h>
 #include <string.h>
 
+#include "absent.h"
 #include "strays.h"
 #include "verdict.h"
+
+#define REASONS 4096 /* bytes of the text of nic_why */
 
 struct bus *run_bus;
 struct dma_memory run_memory;
@@ -49,12 +52,33 @@ void run_tell_counts(void)
     printf("\n");
 }
 
+/* Prints the lines that begin with `first`, or all others. */
+static void tell_lines(const char *text, const char *first, bool begins)
+{
+    for (size_t length; *text; text += length + (text[length] == '\n')) {
+        length = strcspn(text, "\n");
+        if ((*first && strncmp(text, first, strlen(first)) == 0) == begins)
+            fprintf(stderr, "why: %.*s\n", (int)length, text);
+    }
+}
+
+void run_tell_why(const char *first)
+{
+    static char text[REASONS];
+    nic_why(bus_device(run_bus), text, sizeof text);
+    tell_lines(text, first, true);
+    tell_lines(text, first, false);
+}
+
 void run_check_counts(uint64_t drops_expected, uint64_t faults_expected)
 {
     const struct bus_counts *counts = bus_counts(run_bus);
     if (counts->faults != faults_expected || run_memory.refusals || counts->drops != drops_expected)
         problem("%" PRIu64 " faults, %" PRIu64 " frames dropped, %" PRIu64 " copies refused", counts->faults,
                 counts->drops, run_memory.refusals);
+    if (problems())
+        run_tell_why("");
+    absent_tell(run_bus, stdout, "", "");
     if (!counts->frames_in && !counts->frames_out)
         printf("no frame was received or sent\n");
 }
@@ -63,7 +87,7 @@ bool run_save_strays(const char *name)
 {
     FILE *file = fopen(name, "w");
     if (file)
-        strays_write(run_bus, file);
+        strays_write(run_bus, file, NULL);
     if (!file || fclose(file) != 0)
         problem("can't write %s: %s", name, strerror(errno));
     return file != NULL;

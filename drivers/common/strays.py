@@ -4,9 +4,10 @@
     drivers/common/strays.py FILE
 
 FILE has a line for each address, as c/bus/strays.c writes it: its function (pf, or vf and a number), the address, how
-often it was read and written, the last value written, and the phases of the run that touched it. It prints the families
-that contain these addresses, by the datasheet's names: the physical function's first, then those of virtual functions,
-with addresses as offsets. Status 1: an address is in no family; 3: the arguments or the file are wrong.
+often it was read and written, the last value written, and the phases of the run that touched it, then perhaps a comment
+with `#`. It prints the families that contain these addresses, by the datasheet's names: the physical function's first,
+then those of virtual functions, with addresses as offsets. Status 1: an address is in no family; 3: the arguments or
+the file are wrong.
 """
 
 from __future__ import annotations
@@ -225,7 +226,7 @@ def touched(path: Path) -> tuple[dict[int, Touched], dict[int, Touched]]:
     """Reads the file: accesses of the physical function, and of virtual functions."""
     sides: tuple[dict[int, Touched], dict[int, Touched]] = ({}, {})
     for line in path.read_text(encoding="ascii").splitlines():
-        whose, at, reads, writes, _, *phases = line.split()
+        whose, at, reads, writes, _, *phases = line.partition("#")[0].split()
         side, address = sides[whose != "pf"], int(at, 16)
         side[address] = side.get(address, Touched(0, 0, ())).plus(Touched(int(reads), int(writes), tuple(phases)))
     return sides

@@ -3,26 +3,24 @@
 #endif
 #include "trap.h"
 
+#include <inttypes.h>
 #include <signal.h>
 #include <stdio.h>
 #include <string.h>
 #include <ucontext.h>
 #include <unistd.h>
 
+#include "operate.h"
 #include "run.h"
 #include "window.h"
 
 #define STATUS 4
 #define SHOWN 12 /* instruction bytes to print */
+#define SUBJECT 24
+#define ENDLESS 100000 /* equal reads of one register in a row: some seconds */
 
 #define PREFIX_16 0x66u
 #define HLT 0xF4u
-#define MOV_LOAD 0x8Bu
-#define MOV_STORE 0x89u
-#define MOV_STORE_NUMBER 0xC7u
-#define REX 0x40u
-#define REX_W 0x08u
-#define REX_R 0x04u
 
 static const int registers[16] = {REG_RAX, REG_RCX, REG_RDX, REG_RBX, REG_RSP, REG_RBP, REG_RSI, REG_RDI,
                                   REG_R8,  REG_R9,  REG_R10, REG_R11, REG_R12, REG_R13, REG_R14, REG_R15};
@@ -31,20 +29,31 @@ static struct trap_hooks hooks;
 static struct sigaction former_segv, former_bus;
 static uint64_t count;
 
-/* A faulting instruction, and the part of it that has been decoded. */
+/* A faulting instruction, and the next one. */
 struct instruction {
     const uint8_t *at, *next;
     greg_t *saved;
+    ucontext_t *context;
 };
+
+static void end(void)
+{
+    fflush(NULL);
+    _exit(STATUS);
+}
+
+static void show_bytes(const struct instruction *it)
+{
+    for (unsigned int i = 0; i < SHOWN && (uintptr_t)it->at >= 0x1000 && !window_has(it->at); i++)
+        fprintf(stderr, " %02x", it->at[i]);
+}
 
 static void give_up(const struct instruction *it, const char *why, const void *address)
 {
     fprintf(stderr, "trap: %s: the instruction at %p, accessing %p:", why, (const void *)it->at, address);
-    for (unsigned int i = 0; i < SHOWN && (uintptr_t)it->at >= 0x1000; i++)
-        fprintf(stderr, " %02x", it->at[i]);
+    show_bytes(it);
     fprintf(stderr, "\n");
-    fflush(NULL);
-    _exit(STATUS);
+    end();
 }
 
 /* ---- ring 0 ---- */
@@ -92,62 +101,137 @@ static bool is_privileged(struct instruction *it)
 
 /* ---- registers ---- */
 
-/* Skips the memory operand. Returns false if there is none. */
-static bool skip_operand(struct instruction *it, uint8_t form)
+/* Ends the run at an instruction that can't be performed on a register. */
+static void refuse(const struct instruction *it, const char *what, unsigned int function, uint32_t offset)
 {
-    unsigned int mode = form >> 6, base = form & 7;
-    if (mode == 3)
-        return false;
-    uint8_t index = base == 4 ? *it->next++ : 0;
-    if (mode == 1)
-        it->next += 1;
-    else if (mode == 2 || base == 5 || (base == 4 && (index & 7) == 5))
-        it->next += 4;
-    return true;
+    char name[BUS_NAME], place[32] = "";
+    if (function != BUS_PHYSICAL)
+        snprintf(place, sizeof place, "virtual function %u, ", function - 1);
+    fprintf(stderr, "trap: %s%s: %s: the instruction at %p:", place, bus_register_name(function, offset, name), what,
+            (const void *)it->at);
+    show_bytes(it);
+    fprintf(stderr, "; access registers with volatile 32-bit loads and stores%s\n",
+            decode_may_be_folded(what) ? ", in functions that aren't inlined" : "");
+    end();
 }
 
-static void load(struct instruction *it, int to, unsigned int function, uint32_t offset)
+/* Returns what the reasons about a queue register's queue begin with, such as "rx 0: ". Returns an empty text for other
+   registers. */
+static const char *subject_of(const char *name, char room[SUBJECT])
 {
-    it->saved[to] = (greg_t)(uint64_t)bus_read(run_bus, function, offset);
+    unsigned int queue;
+    *room = 0;
+    if (strchr("RT", name[0]) && strchr("DX", name[1]) && sscanf(name, "%*[A-Z][%u]", &queue) == 1)
+        snprintf(room, SUBJECT, "%s %u: ", name[0] == 'R' ? "rx" : "tx", queue);
+    return room;
 }
 
-static uint32_t number_of(struct instruction *it)
+/* Returns a register's value. Ends the run if the driver reads the same value from one register without end. */
+static uint32_t read_register(const struct instruction *it, unsigned int function, uint32_t offset)
 {
-    uint32_t number;
-    memcpy(&number, it->next, sizeof number);
-    it->next += sizeof number;
-    return number;
+    static struct reading {
+        unsigned int function, repeats;
+        uint32_t offset, word;
+    } last;
+    char name[BUS_NAME], subject[SUBJECT];
+    uint32_t word = bus_read(run_bus, function, offset);
+    if (last.function != function || last.offset != offset || last.word != word)
+        last = (struct reading){.function = function, .offset = offset, .word = word};
+    else if (++last.repeats == ENDLESS) {
+        fprintf(stderr, "trap: %s: %u reads in a row returned 0x%08" PRIx32 ": the driver polls, at %p, without end\n",
+                bus_register_name(function, offset, name), last.repeats, word, (const void *)it->at);
+        run_tell_why(subject_of(name, subject));
+        end();
+    }
+    return word;
+}
+
+static uint32_t *vector_of(ucontext_t *context, unsigned int number)
+{
+    return context->uc_mcontext.fpregs->_xmm[number].element;
+}
+
+/* Loads an XMM register with a word, and clears the rest of it. */
+static void load_vector(ucontext_t *context, unsigned int number, uint32_t word)
+{
+    memset(vector_of(context, number), 0, 16);
+    *vector_of(context, number) = word;
+}
+
+static uint32_t other_operand(const struct instruction *it, const struct decoded *decoded)
+{
+    if (decoded->has_number)
+        return decoded->number;
+    if (decoded->effects & IN_VECTOR)
+        return *vector_of(it->context, decoded->other);
+    return (uint32_t)it->saved[registers[decoded->other]];
+}
+
+/* Writes a 32-bit result to a register, which clears the upper half. */
+static void set_register(const struct instruction *it, int number, uint32_t word)
+{
+    it->saved[number] = (greg_t)(uint64_t)word;
+}
+
+/* Writes the results that aren't in memory. */
+static void keep_results(const struct instruction *it, const struct decoded *decoded, const struct values *values)
+{
+    unsigned int effects = decoded->effects;
+    int other = registers[decoded->other];
+    if (effects & HAS_PAIR) {
+        set_register(it, REG_RAX, values->eax);
+        set_register(it, REG_RDX, values->edx);
+    } else if (effects & COMPARES && values->eax != (uint32_t)it->saved[REG_RAX]) {
+        set_register(it, REG_RAX, values->eax);
+    } else if (effects & SWAPS) {
+        set_register(it, other, values->from);
+    } else if (decoded->is_to_memory || !(effects & STORES)) {
+        ;
+    } else if (effects & IN_VECTOR) {
+        load_vector(it->context, decoded->other, values->to);
+    } else if (effects & WIDENS) {
+        it->saved[other] = (int32_t)values->to;
+    } else {
+        set_register(it, other, values->to);
+    }
+    it->saved[REG_EFL] = (it->saved[REG_EFL] & ~(greg_t)FLAGS_OF_RESULTS) | (greg_t)values->flags;
 }
 
 static void access_register(struct instruction *it, const void *address)
 {
     unsigned int function;
-    uint32_t offset;
-    uint8_t rex = (*it->next & 0xF0) == REX ? *it->next++ : 0;
-    uint8_t code = *it->next++, form = *it->next++;
-    int other = registers[(form >> 3 & 7) | (rex & REX_R) << 1];
-    if (rex & REX_W)
-        give_up(it, "a 64-bit access", address);
-    if (!skip_operand(it, form))
-        give_up(it, "no memory access", address);
+    uint32_t offset, word = 0;
+    struct decoded decoded;
     window_find(address, &function, &offset);
+    const char *what_else = decode(it->at, &decoded);
+    if (what_else)
+        refuse(it, what_else, function, offset);
     count++;
-    if (code == MOV_LOAD)
-        load(it, other, function, offset);
-    else if (code == MOV_STORE)
-        bus_write(run_bus, function, offset, (uint32_t)it->saved[other]);
-    else if (code == MOV_STORE_NUMBER)
-        bus_write(run_bus, function, offset, number_of(it));
-    else
-        give_up(it, "no 32-bit MOV access", address);
+    if (decoded_reads(&decoded))
+        word = read_register(it, function, offset);
+    uint32_t other = other_operand(it, &decoded);
+    struct values values = {
+        .to = decoded.is_to_memory ? word : other,
+        .from = decoded.is_to_memory ? other : word,
+        .eax = (uint32_t)it->saved[REG_RAX],
+        .edx = (uint32_t)it->saved[REG_RDX],
+        .flags = (uint64_t)it->saved[REG_EFL],
+    };
+    operate(&decoded, &values);
+    if (decoded_writes(&decoded))
+        bus_write(run_bus, function, offset, values.to);
+    keep_results(it, &decoded, &values);
+    it->next = it->at + decoded.length;
 }
 
 static void on_fault(int signal_number, siginfo_t *info, void *context)
 {
     greg_t *saved = ((ucontext_t *)context)->uc_mcontext.gregs;
     const uint8_t *at = (const uint8_t *)saved[REG_RIP];
-    struct instruction it = {.at = at, .next = at, .saved = saved};
+    struct instruction it = {.at = at, .next = at, .saved = saved, .context = context};
     (void)signal_number;
+    if (window_has(at))
+        give_up(&it, "a jump into the registers", info->si_addr);
     if (window_has(info->si_addr))
         access_register(&it, info->si_addr);
     else if (!is_privileged(&it))

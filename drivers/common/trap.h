@@ -1,6 +1,7 @@
 /* Trapping register windows (window.h). A compiled driver accesses its registers with plain 32-bit loads and stores.
-   Each such access faults; the bus performs it, and the instruction is skipped. For Linux on x86-64, with one
-   thread. */
+   Each such access faults; the bus performs it, and the instruction is skipped. An instruction into which the compiler
+   folded an access, such as `orl $4, (p)`, becomes one read, the operation, and one write. For Linux on x86-64, with
+   one thread. */
 #ifndef DRIVERS_TRAP_H
 #define DRIVERS_TRAP_H
 
@@ -15,12 +16,13 @@ struct trap_hooks {
 };
 
 /* Handles the process's SIGSEGV and SIGBUS. Returns false if the system refuses. A fault outside the windows, or an
-   access other than a 32-bit MOV, is reported with its instruction and ends the process with status 4. */
+   instruction that decode.h doesn't contain, is reported with its register and ends the process with status 4. The same
+   happens if a driver polls a register without end. */
 bool trap_open(const struct trap_hooks *hooks);
 /* Restores both signal handlers. */
 void trap_close(void);
 
-/* Returns the number of accesses performed this way. */
+/* Returns the number of instructions performed this way. */
 uint64_t trap_count(void);
 
 #endif

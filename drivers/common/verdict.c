@@ -39,8 +39,17 @@ bool same(const char *what, uint64_t reported, uint64_t counted)
     return reported == counted;
 }
 
+bool all_of(const char *what, uint64_t count, uint64_t wanted)
+{
+    if (count != wanted)
+        problem("%" PRIu64 " of %" PRIu64 " %s", count, wanted, what);
+    return count == wanted;
+}
+
 int verdict(void)
 {
+    if (problem_count > PROBLEMS_MOST)
+        fprintf(stderr, "wrong: %u more problems aren't printed\n", problem_count - PROBLEMS_MOST);
     printf(problem_count ? "problems found: %u\n" : "nothing is wrong\n", problem_count);
     fflush(stdout);
     return problem_count ? 1 : 0;

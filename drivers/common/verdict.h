@@ -12,6 +12,9 @@ unsigned int problems(void);
 /* Returns whether a reported count equals the run's own count. If it doesn't, reports a problem. */
 bool same(const char *what, uint64_t reported, uint64_t counted);
 
+/* Returns whether a count is the wanted number. If it isn't, reports a problem: "0 of 20 frames came back". */
+bool all_of(const char *what, uint64_t count, uint64_t wanted);
+
 /* Prints "nothing is wrong", or the number of problems. Returns the run's status, 0 or 1. */
 int verdict(void);
 

@@ -354,10 +354,19 @@ static void put_slots(const struct frame *frame, uint32_t from, uint32_t to)
     memcpy(host_memory + BUFFER, frame->bytes, frame->length);
 }
 
+static uint16_t faulty_slot;
+
+static void on_fault(void *of, bool is_transmit, const nic_outcome *outcome)
+{
+    (void)of;
+    CHECK(is_transmit);
+    faulty_slot = outcome->slot;
+}
+
 static void frames_go_out(uint64_t flipped)
 {
     static struct frame frame, next;
-    open_bus((struct bus_options){.turn_out = flipped});
+    open_bus((struct bus_options){.turn_out = flipped, .calls = {.fault = on_fault}});
     CHECK(memory_lend(&run_memory, bus_of(0), host_memory, BYTES));
     bus_send_to(run_bus, on_sent, NULL);
     bus_write(run_bus, BUS_PHYSICAL, NIC_DMATXCTL, 1);
@@ -376,7 +385,7 @@ static void frames_go_out(uint64_t flipped)
     put64(RING + BUS_SLOT + 8, get64(RING + BUS_SLOT + 8) | CHECKSUM);
     bus_write(run_bus, BUS_PHYSICAL, NIC_TDT(QUEUE), 2);
     CHECK(frames_sent == 9 && bus_counts(run_bus)->faults == 1 &&
-          bus_counts(run_bus)->fault_whys[NIC_FAULT_OFFLOAD] == 1);
+          bus_counts(run_bus)->fault_whys[NIC_FAULT_OFFLOAD] == 1 && faulty_slot == 1);
 #ifdef COPIES
     bus_write(run_bus, BUS_PHYSICAL, NIC_TDT(QUEUE), SLOTS);
     CHECK(run_memory.refusals == 1);
@@ -465,11 +474,16 @@ static void a_held_bus_makes_no_step(void)
 
 static void answers_are_given_where_they_are_asked_for(bool given)
 {
-    open_bus((struct bus_options){.functions = 3, .answers = given ? 127 : 0});
+    open_bus((struct bus_options){.functions = 3, .answers = given ? BUS_ALL : 0});
     uint32_t first = bus_read(run_bus, BUS_PHYSICAL, 0x10140);
     CHECK(first == 0 && bus_read(run_bus, BUS_PHYSICAL, 0x10140) == given);
     bus_write(run_bus, BUS_PHYSICAL, 0x10140, 2);
     CHECK(bus_read(run_bus, BUS_PHYSICAL, 0x10140) == (given ? 2 : 0));
+    bus_write(run_bus, BUS_PHYSICAL, 0x10160, 0xFFFFFFFF);
+    CHECK(bus_read(run_bus, BUS_PHYSICAL, 0x10160) == (given ? 0x3FF : 0));
+    bus_write(run_bus, BUS_PHYSICAL, NIC_CTRL, NIC_CTRL_RST); /* clears the drivers' bits, but not the firmware's */
+    CHECK(bus_read(run_bus, BUS_PHYSICAL, 0x10160) == (given ? 0x3E0 : 0));
+    CHECK(bus_answers_at(run_bus, 0x10160) == given && !bus_answers_at(run_bus, 0x05088));
     CHECK(bus_read(run_bus, BUS_PHYSICAL, 0x042B0) == (given ? 0x10000 : 0));
     CHECK(bus_read(run_bus, BUS_PHYSICAL, 0x10148) == (given ? 0x8000 : 0));
     CHECK(bus_read(run_bus, BUS_PHYSICAL, 0x03C00) == (given ? 0x80000 : 0) &&
@@ -619,6 +633,11 @@ static void windows_are_apart(void)
     window_close();
 }
 
+static const char *name_of(unsigned int function, uint32_t offset)
+{
+    return function == BUS_PHYSICAL && offset == 0x03220 ? "FCRTL" : NULL;
+}
+
 static void strays_are_kept(void)
 {
     char text[256] = "";
@@ -631,10 +650,10 @@ static void strays_are_kept(void)
     bus_write(run_bus, BUS_PHYSICAL, NIC_GCR_EXT, 3);
     bus_write(run_bus, FUNCTION, 0x0820, 1);
     bus_read(run_bus, BUS_PHYSICAL, BUS_SPACE);
-    strays_write(run_bus, file);
+    strays_write(run_bus, file, name_of);
     rewind(file);
     CHECK(fread(text, 1, sizeof text - 1, file) > 0);
-    CHECK(strcmp(text, "pf 03220 1 1 00000abc first second\nvf2 00820 0 1 00000001 second\n") == 0);
+    CHECK(strcmp(text, "pf 03220 1 1 00000abc first second # FCRTL\nvf2 00820 0 1 00000001 second\n") == 0);
     CHECK(bus_counts(run_bus)->in[0].reads == 2 && bus_counts(run_bus)->in[1].writes == 3 &&
           bus_counts(run_bus)->accesses[FUNCTION] == 2);
     fclose(file);

@@ -1,11 +1,15 @@
 /* Tests of the code for runs of compiled drivers: trapping registers, configuration space, a virtual function's PF
    driver, legacy descriptors. */
+#ifndef _POSIX_C_SOURCE
+#define _POSIX_C_SOURCE 200809L /* fileno */
+#endif
 #include <signal.h>
 #include <string.h>
 #include <sys/wait.h>
 #include <unistd.h>
 
 #include "check.h"
+#include "decode.h"
 #include "function_host.h"
 #include "legacy.h"
 #include "pci_config.h"
@@ -81,19 +85,25 @@ static void addresses_are_read_whole(void)
     run_close();
 }
 
-/* Tests that an access that the bus can't serve is reported and ends the process with status 4. */
-static void ends(void (*does)(void))
+/* Checks that an access that the bus can't serve ends the process with status 4, and that its message begins so. */
+static void ends(void (*does)(void), const char *message)
 {
     int status = 0;
+    char line[400] = "";
+    FILE *said = tmpfile();
+    CHECK(said);
     fflush(NULL);
     pid_t child = fork();
     if (child == 0) {
-        if (!freopen("/dev/null", "w", stderr))
+        if (dup2(fileno(said), 2) < 0)
             _exit(1);
         does();
         _exit(0);
     }
     CHECK(child > 0 && waitpid(child, &status, 0) == child && WIFEXITED(status) && WEXITSTATUS(status) == 4);
+    rewind(said);
+    CHECK(fgets(line, sizeof line, said) && strncmp(line, message, strlen(message)) == 0);
+    fclose(said);
 }
 
 static void two_words(void)
@@ -106,6 +116,23 @@ static void one_byte(void)
     *(volatile uint8_t *)at(BUS_PHYSICAL, NIC_LEDCTL) = 1;
 }
 
+static void half_a_word(void)
+{
+    *(volatile uint16_t *)at(1, NIC_VTEIAM) = 1;
+}
+
+static void copied(void)
+{
+    void *to = host_memory, *from = window_of(0);
+    uint64_t count = 1;
+    __asm__ volatile("rep movsl" : "+D"(to), "+S"(from), "+c"(count) : : "memory");
+}
+
+static void jump(void)
+{
+    __asm__ volatile("call *%0" : : "r"(window_of(0)) : "memory");
+}
+
 static void elsewhere(void)
 {
     __asm__ volatile("movl (%0), %%eax" : : "r"(UINT64_C(0x10)) : "eax", "memory");
@@ -113,11 +140,17 @@ static void elsewhere(void)
 
 static void other_accesses_end_it(void)
 {
-    CHECK(run_open(&(struct bus_options){.fifo = 1}, false) && window_open(0) && trap_open(NULL));
+    static const uint8_t vector_load[] = {0xC5, 0xF9, 0x6E, 0x03};
+    struct decoded decoded;
+    CHECK(run_open(&(struct bus_options){.fifo = 1, .functions = 1}, false) && window_open(1) && trap_open(NULL));
     CHECK((uintptr_t)window_of(0) % BUS_SPACE == 0); /* aligned as a BAR is */
-    ends(two_words);
-    ends(one_byte);
-    ends(elsewhere);
+    ends(two_words, "trap: LEDCTL (0x00200): a 64-bit access: the instruction at 0x");
+    ends(one_byte, "trap: LEDCTL (0x00200): an 8-bit access: the instruction at 0x");
+    ends(half_a_word, "trap: virtual function 0, VTEIAM (0x00114): a 16-bit access: the instruction at 0x");
+    ends(copied, "trap: CTRL (0x00000): a string instruction, as in memcpy: the instruction at 0x");
+    ends(jump, "trap: a jump into the registers: the instruction at 0x");
+    ends(elsewhere, "trap: a fault outside the registers: the instruction at 0x");
+    CHECK(strcmp(decode(vector_load, &decoded), "an AVX or BMI instruction") == 0);
     CHECK(!window_has((char *)window_of(0) - 1) && window_has(window_of(0)));
     trap_close();
     window_close();
